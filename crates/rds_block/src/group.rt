@@ -1,0 +1,58 @@
+//! A group by its fields, and its four words.
+
+use crate::Place;
+
+/// A group, by its fields (IEC 62106, group structure). What `c`, `d` and `low` hold depends on the
+/// group's type, that is its number and version.
+#[derive(Clone, Copy, Debug, PartialEq, Eq)]
+pub struct Group {
+    /// The programme identification of the station.
+    pub pi: u16,
+    /// The group type number.
+    pub number: Place<16>,
+    /// The group type version: `false` is A, `true` is B.
+    pub version: bool,
+    /// The traffic programme flag.
+    pub tp: bool,
+    /// The programme type.
+    pub pty: Place<32>,
+    /// The five low bits of block 2.
+    pub low: Place<32>,
+    /// Block 3.
+    pub c: u16,
+    /// Block 4.
+    pub d: u16,
+}
+
+impl Group {
+    ghost use Rattle.rds_block.specs.Words.{AreWordsOf};
+
+    /// The group that the four words carry: every four words carry one.
+    pub fn from_blocks(blocks: [u16; 4]) -> Group
+        ensures words { AreWordsOf blocks result }
+    {
+        let [pi, second, c, d] = blocks;
+        Group {
+            pi,
+            number: Place::new((second >> 12) as u8).unwrap(),
+            version: second & 0x0800 != 0,
+            tp: second & 0x0400 != 0,
+            pty: Place::new((second >> 5 & 0x1F) as u8).unwrap(),
+            low: Place::new((second & 0x1F) as u8).unwrap(),
+            c,
+            d,
+        }
+    }
+
+    /// The four words that carry the group.
+    pub fn to_blocks(&self) -> [u16; 4]
+        ensures words { AreWordsOf result self.now }
+    {
+        let second = u16::from(self.number.get()) << 12
+            | u16::from(self.version) << 11
+            | u16::from(self.tp) << 10
+            | u16::from(self.pty.get()) << 5
+            | u16::from(self.low.get());
+        [self.pi, second, self.c, self.d]
+    }
+}

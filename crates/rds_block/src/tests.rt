@@ -1,0 +1,33 @@
+use super::*;
+use std::test::Fail;
+
+/// The fields of a text segment of PI C201, TP 0, PTY 10, with flag 1 and address 0.
+#[test]
+fn fields_of_a_text_segment(rt: HostRuntime) -> Result<(), Fail> {
+    let words = [0xC201, 0x2150, 0x594F, 0x0D20];
+    let group = Group {
+        pi: 0xC201,
+        number: Place::new(2).ok_or("number")?,
+        version: false,
+        tp: false,
+        pty: Place::new(10).ok_or("pty")?,
+        low: Place::new(16).ok_or("low")?,
+        c: 0x594F,
+        d: 0x0D20,
+    };
+    assert_eq!(rt; Group::from_blocks(words), group);
+    assert_eq!(rt; group.to_blocks(), words);
+    Ok(())
+}
+
+/// Every field at its greatest, and version B.
+#[test]
+fn greatest_fields(rt: HostRuntime) {
+    let group = Group::from_blocks([0xFFFF, 0xFFFF, 0xFFFF, 0xFFFF]);
+    assert_eq!(rt; group.number.get(), 15);
+    assert!(rt; group.version && group.tp);
+    assert_eq!(rt; (group.pty.get(), group.low.get()), (31, 31));
+    assert_eq!(rt; group.to_blocks(), [0xFFFF, 0xFFFF, 0xFFFF, 0xFFFF]);
+    assert_eq!(rt; Place::<16>::new(16), None);
+    words_are_one_to_one();
+}
