@@ -1,0 +1,2 @@
+pub mod CellsLemmas
+pub mod TextLemmas

@@ -1,0 +1,41 @@
+//! RadioText: up to 64 bytes in sixteen segments, ended by a carriage return where it is shorter.
+ghost use Rattle.std.specs.Prelude.{◌≡◌, ℕ, ◌<◌, ◌≤◌, IfSome, IfNone, List, length};
+ghost use Rattle.std.specs.FinMap as map;
+ghost use Rattle.rds_assembly.specs.Cells.{Cells, held_cells, IsSpelled, IsThereBelow};
+
+use crate::Service;
+
+/// The byte that ends a text of fewer than 64 bytes (IEC 62106, RadioText).
+const CARRIAGE_RETURN: u8 = 0x0D;
+
+/// The text of group 2A (IEC 62106, RadioText).
+#[derive(Clone, Copy, Debug, PartialEq, Eq)]
+pub struct RadioText;
+
+impl Service for RadioText {
+    ghost use Rattle.rds_assembly.specs.Whole.{IsWholeText};
+    ghost use Rattle.rds_assembly.specs.ServiceLaws.{sixteen_are_few, no_text_of_none, one_text};
+
+    ghost SEGMENTS = { 16 };
+
+    const SEGMENTS: u8 = 16;
+
+    ghost is_whole = { IsWholeText };
+
+    ghost few = { sixteen_are_few };
+
+    ghost none = { no_text_of_none };
+
+    ghost one = { one_text };
+
+    /// The bytes before the first carriage return, or all 64, as long as no segment is missing.
+    fn length(cells: &[Option<[u8; 4]>; 16]) -> Option<usize> {
+        for place in 0..64 {
+            let cell = cells[place / 4]?;
+            if cell[place % 4] == CARRIAGE_RETURN {
+                return Some(place);
+            }
+        }
+        Some(64)
+    }
+}

@@ -1,0 +1,31 @@
+//! What a text service says of its segments.
+ghost use Rattle.std.specs.Prelude.{◌≡◌, ℕ, ◌<◌, ◌≤◌, IfSome, IfNone, List, length};
+ghost use Rattle.std.specs.FinMap as map;
+ghost use Rattle.rds_assembly.specs.Cells.{Cells, held_cells, IsSpelled, IsThereBelow};
+
+/// A service whose values go out in segments of four bytes, each at an address.
+pub trait Service {
+    ghost SEGMENTS: { ℕ };
+
+    /// How many addresses there are.
+    const SEGMENTS: u8;
+
+    /// The cells make the value whole.
+    ghost is_whole: { Cells → List ℕ → Type 0 };
+
+    /// How many bytes the whole value has, where the cells make one whole.
+    fn length(cells: &[Option<[u8; 4]>; 16]) -> Option<usize>
+        ensures within { IfSome result (λ n. n ≤ 64) }
+        ensures held { IfSome result (λ n. IsThereBelow (held_cells cells.now) n) }
+        ensures found { IfSome result (λ n. (x : List ℕ) → length x ≡ n → IsSpelled (held_cells cells.now) x → is_whole (held_cells cells.now) x) }
+        ensures none { IfNone result ((x : List ℕ) → is_whole (held_cells cells.now) x → ⊥) };
+
+    /// An address has at most four bits.
+    ghost few: { SEGMENTS ≤ 16 };
+
+    /// No cells, no value.
+    ghost none: { (x : List ℕ) → is_whole map.empty x → ⊥ };
+
+    /// At most one value is whole.
+    ghost one: { (cells : Cells) (x y : List ℕ) → is_whole cells x → is_whole cells y → x ≡ y };
+}

@@ -1,0 +1,39 @@
+//! Programme type names: eight bytes in two segments.
+ghost use Rattle.std.specs.Prelude.{◌≡◌, ℕ, ◌<◌, ◌≤◌, IfSome, IfNone, List, length};
+ghost use Rattle.std.specs.FinMap as map;
+ghost use Rattle.rds_assembly.specs.Cells.{Cells, held_cells, IsSpelled, IsThereBelow};
+
+use crate::Service;
+
+/// The bytes of a name.
+const NAME: usize = 8;
+
+/// The name of group 10A (IEC 62106, programme type name).
+#[derive(Clone, Copy, Debug, PartialEq, Eq)]
+pub struct TypeName;
+
+impl Service for TypeName {
+    ghost use Rattle.rds_assembly.specs.Whole.{IsWholeName};
+    ghost use Rattle.rds_assembly.specs.ServiceLaws.{two_are_few, no_name_of_none, one_name};
+
+    ghost SEGMENTS = { 2 };
+
+    const SEGMENTS: u8 = 2;
+
+    ghost is_whole = { IsWholeName };
+
+    ghost few = { two_are_few };
+
+    ghost none = { no_name_of_none };
+
+    ghost one = { one_name };
+
+    /// All eight bytes, where both segments are held.
+    fn length(cells: &[Option<[u8; 4]>; 16]) -> Option<usize> {
+        if cells[0].is_some() && cells[1].is_some() {
+            Some(NAME)
+        } else {
+            None
+        }
+    }
+}
