@@ -1,0 +1,4 @@
+pub mod Shifts
+pub mod OneMessage
+pub mod OneGroup
+pub mod Written

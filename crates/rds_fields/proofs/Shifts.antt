@@ -1,0 +1,100 @@
+-- What shifts and masks read and write.
+use Rattle.std.proofs.Common.{◌≡◌, ℕ, zero, suc, ◌+◌, ◌*◌, ◌<◌, ◌/◌, ◌%◌, ◌^◌, nat_eq, bit_and, bit_or, refl, arith}
+use Rattle.std.specs.Int.{from_bool}
+use Rattle.std.proofs.lemmas.Nat.{or_shifted, and_mask}
+use mathlib.Core.Bool.{not}
+use Rattle.rds_fields.specs.Bits.{Sent, FitsBits, bits_of}
+
+-- bits below those of a number are joined to it by a sum
+or_above : (k a b x : ℕ) → x ≡ a * 2 ^ k → b < 2 ^ k → bit_or x b ≡ x + b
+or_above k a b x e h = rw e (or_shifted a k b h)
+
+-- the three parts of the 37 bits joined
+pub parts_joined : (low c d : ℕ) → low < 32 → c < 65536 → d < 65536 →
+    bit_or (bit_or (low * 2 ^ 32 % 2 ^ 64) (c * 2 ^ 16 % 2 ^ 64)) d ≡ 2 ^ 32 * low + 2 ^ 16 * c + d
+parts_joined low c d hl hc hd =
+    let el : low * 2 ^ 32 % 2 ^ 64 ≡ low * 2 ^ 32 = omega arith in
+    let ec : c * 2 ^ 16 % 2 ^ 64 ≡ c * 2 ^ 16 = omega arith in
+    let e1 = or_above 32 low (c * 2 ^ 16) (low * 2 ^ 32) refl (omega arith) in
+    let e2 = or_above 16 (2 ^ 16 * low + c) d (low * 2 ^ 32 + c * 2 ^ 16) (omega arith) (omega arith) in
+    rw (el, ec, e1, e2) (omega arith)
+
+-- the eight fields of a number
+abbrev pub fields_of : ℕ → Sent
+fields_of n = record {
+  toggle = n / 2 ^ 36 % 2;
+  running = n / 2 ^ 35 % 2;
+  class_one = n / 2 ^ 29 % 64;
+  start_one = n / 2 ^ 23 % 64;
+  extra_one = n / 2 ^ 17 % 64;
+  class_two = n / 2 ^ 11 % 64;
+  start_two = n / 2 ^ 5 % 64;
+  extra_two = n % 32;
+}
+
+pub fields_of-fit : (n : ℕ) → FitsBits (fields_of n)
+fields_of-fit n = record {
+  toggle = omega arith;
+  running = omega arith;
+  class_one = omega arith;
+  start_one = omega arith;
+  extra_one = omega arith;
+  class_two = omega arith;
+  start_two = omega arith;
+  extra_two = omega arith;
+}
+
+pub bits_of-fields_of : (n : ℕ) → n < 2 ^ 37 → n ≡ bits_of (fields_of n)
+bits_of-fields_of n h = omega arith
+
+-- whether a number below 2 is not 0
+from_bool-not_zero : (b : ℕ) → b < 2 → from_bool (not (nat_eq b 0)) ≡ b
+from_bool-not_zero zero h = refl
+from_bool-not_zero (suc zero) h = refl
+from_bool-not_zero (suc (suc b)) h = absurd (omega arith)
+
+-- a test for the lowest bit gives that bit
+pub low_bit : (n : ℕ) → from_bool (not (nat_eq (bit_and n 1) 0)) ≡ n % 2
+low_bit n = rw (and_mask n 1) (from_bool-not_zero (n % 2) (omega arith))
+
+-- the flag above four bits, and the address in them
+pub text_low : (low : ℕ) → low < 32 → low ≡ 16 * from_bool (not (nat_eq (low / 16) 0)) + bit_and low 15
+text_low low h = rw (and_mask low 4, from_bool-not_zero (low / 16) (omega arith)) (omega arith)
+
+-- the flag, three bits that may hold anything, and the address
+pub name_low : (low : ℕ) → low < 32 → low ≡ 16 * from_bool (not (nat_eq (low / 16) 0)) + 2 * (low / 2 % 8) + bit_and low 1
+name_low low h = rw (and_mask low 1, from_bool-not_zero (low / 16) (omega arith)) (omega arith)
+
+-- the eight fields joined
+pub fields_joined : (s : Sent) → FitsBits s →
+    bit_or (bit_or (bit_or (bit_or (bit_or (bit_or (bit_or (s.toggle * 2 ^ 36 % 2 ^ 64) (s.running * 2 ^ 35 % 2 ^ 64)) (s.class_one * 2 ^ 29 % 2 ^ 64)) (s.start_one * 2 ^ 23 % 2 ^ 64)) (s.extra_one * 2 ^ 17 % 2 ^ 64)) (s.class_two * 2 ^ 11 % 2 ^ 64)) (s.start_two * 2 ^ 5 % 2 ^ 64)) s.extra_two
+    ≡ bits_of s
+fields_joined s h =
+    let t : s.toggle * 2 ^ 36 % 2 ^ 64 ≡ s.toggle * 2 ^ 36 = omega arith in
+    let r : s.running * 2 ^ 35 % 2 ^ 64 ≡ s.running * 2 ^ 35 = omega arith in
+    let k1 : s.class_one * 2 ^ 29 % 2 ^ 64 ≡ s.class_one * 2 ^ 29 = omega arith in
+    let s1 : s.start_one * 2 ^ 23 % 2 ^ 64 ≡ s.start_one * 2 ^ 23 = omega arith in
+    let x1 : s.extra_one * 2 ^ 17 % 2 ^ 64 ≡ s.extra_one * 2 ^ 17 = omega arith in
+    let k2 : s.class_two * 2 ^ 11 % 2 ^ 64 ≡ s.class_two * 2 ^ 11 = omega arith in
+    let s2 : s.start_two * 2 ^ 5 % 2 ^ 64 ≡ s.start_two * 2 ^ 5 = omega arith in
+    let a1 = s.toggle * 2 ^ 36 in
+    let a2 = a1 + s.running * 2 ^ 35 in
+    let a3 = a2 + s.class_one * 2 ^ 29 in
+    let a4 = a3 + s.start_one * 2 ^ 23 in
+    let a5 = a4 + s.extra_one * 2 ^ 17 in
+    let a6 = a5 + s.class_two * 2 ^ 11 in
+    let a7 = a6 + s.start_two * 2 ^ 5 in
+    let n2 = 2 * s.toggle + s.running in
+    let n3 = 64 * n2 + s.class_one in
+    let n4 = 64 * n3 + s.start_one in
+    let n5 = 64 * n4 + s.extra_one in
+    let n6 = 64 * n5 + s.class_two in
+    let n7 = 64 * n6 + s.start_two in
+    let e1 : bit_or a1 (s.running * 2 ^ 35) ≡ a2 = or_above 36 s.toggle _ a1 refl (omega arith) in
+    let e2 : bit_or a2 (s.class_one * 2 ^ 29) ≡ a3 = or_above 35 n2 _ a2 (omega arith) (omega arith) in
+    let e3 : bit_or a3 (s.start_one * 2 ^ 23) ≡ a4 = or_above 29 n3 _ a3 (omega arith) (omega arith) in
+    let e4 : bit_or a4 (s.extra_one * 2 ^ 17) ≡ a5 = or_above 23 n4 _ a4 (omega arith) (omega arith) in
+    let e5 : bit_or a5 (s.class_two * 2 ^ 11) ≡ a6 = or_above 17 n5 _ a5 (omega arith) (omega arith) in
+    let e6 : bit_or a6 (s.start_two * 2 ^ 5) ≡ a7 = or_above 11 n6 _ a6 (omega arith) (omega arith) in
+    let e7 : bit_or a7 s.extra_two ≡ a7 + s.extra_two = or_above 5 n7 _ a7 (omega arith) (omega arith) in
+    rw (t, r, k1, s1, x1, k2, s2, e1, e2, e3, e4, e5, e6, e7) (omega arith)

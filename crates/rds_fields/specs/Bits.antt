@@ -1,0 +1,66 @@
+-- The 37 bits of a group of tags: item toggle, item running, then content type, start marker and
+-- length marker of the first tag and of the second, each highest bit first (IEC 62106-6, RadioText
+-- Plus).
+use Rattle.std.specs.Prelude.{◌≡◌, ℕ, ◌+◌, ◌*◌, ◌^◌, ◌<◌}
+use Rattle.std.specs.Int.{from_bool}
+use Rattle.rds_fields.specs.Tag.{TagFields, PairFields}
+
+-- the eight fields as they are sent, in order
+pub record Sent : Type 0 where
+  pub toggle : ℕ
+  pub running : ℕ
+  pub class_one : ℕ
+  pub start_one : ℕ
+  pub extra_one : ℕ
+  pub class_two : ℕ
+  pub start_two : ℕ
+  pub extra_two : ℕ
+
+-- each field has its number of bits
+pub record FitsBits (s : Sent) : Type 0 where
+  pub toggle : s.toggle < 2
+  pub running : s.running < 2
+  pub class_one : s.class_one < 64
+  pub start_one : s.start_one < 64
+  pub extra_one : s.extra_one < 64
+  pub class_two : s.class_two < 64
+  pub start_two : s.start_two < 64
+  pub extra_two : s.extra_two < 32
+
+-- the number that the eight fields are together
+abbrev pub bits_of : Sent → ℕ
+bits_of s =
+    2 ^ 36 * s.toggle + 2 ^ 35 * s.running
+    + 2 ^ 29 * s.class_one + 2 ^ 23 * s.start_one + 2 ^ 17 * s.extra_one
+    + 2 ^ 11 * s.class_two + 2 ^ 5 * s.start_two + s.extra_two
+
+-- the eight fields of a pair as it is written
+abbrev pub sent_of : PairFields → Sent
+sent_of p = record {
+  toggle = from_bool p.toggle;
+  running = from_bool p.running;
+  class_one = p.one.class;
+  start_one = p.one.start;
+  extra_one = p.one.extra;
+  class_two = p.two.class;
+  start_two = p.two.start;
+  extra_two = p.two.extra;
+}
+
+-- the tag of a received class, start and length marker: of class 0 the tag of zeros, whatever the
+-- other two hold (this project's own rule)
+pub record IsRead (k s e : ℕ) (t : TagFields) : Type 0 where
+  pub class : t.class ≡ k
+  pub start : 0 < k → t.start ≡ s
+  pub extra : 0 < k → t.extra ≡ e
+  pub dummy_start : k ≡ 0 → t.start ≡ 0
+  pub dummy_extra : k ≡ 0 → t.extra ≡ 0
+
+-- the number n has these eight fields, and they are read as the pair
+pub record SpellsPair (p : PairFields) (n : ℕ) (s : Sent) : Type 0 where
+  pub fits : FitsBits s
+  pub bits : n ≡ bits_of s
+  pub toggle : from_bool p.toggle ≡ s.toggle
+  pub running : from_bool p.running ≡ s.running
+  pub one : IsRead s.class_one s.start_one s.extra_one p.one
+  pub two : IsRead s.class_two s.start_two s.extra_two p.two

@@ -1,0 +1,4 @@
+pub mod Tag
+pub mod Bits
+pub mod Spells
+pub mod Canonical

@@ -1,0 +1,30 @@
+-- A tag names a piece of the text: its class, the place of its first character from 0, and a length
+-- marker, the number of its characters less one (IEC 62106-6, RadioText Plus).
+use Rattle.std.specs.Prelude.{◌≡◌, ℕ, ◌<◌, Bool}
+
+-- the three numbers of a tag
+pub record TagFields : Type 0 where
+  pub class : ℕ
+  pub start : ℕ
+  pub extra : ℕ
+
+-- the two bits of an item and its two tags
+pub record PairFields : Type 0 where
+  pub toggle : Bool
+  pub running : Bool
+  pub one : TagFields
+  pub two : TagFields
+
+-- each number has six bits, and a tag of class 0 is the dummy, with nothing but zeros
+pub record IsTag (t : TagFields) : Type 0 where
+  pub class : t.class < 64
+  pub start : t.start < 64
+  pub extra : t.extra < 64
+  pub dummy_start : t.class ≡ 0 → t.start ≡ 0
+  pub dummy_extra : t.class ≡ 0 → t.extra ≡ 0
+
+-- the second tag's length marker has five bits
+pub record IsPair (p : PairFields) : Type 0 where
+  pub one : IsTag p.one
+  pub two : IsTag p.two
+  pub short : p.two.extra < 32

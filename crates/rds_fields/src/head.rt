@@ -1,0 +1,46 @@
+//! What every group of a station begins with.
+ghost use Rattle.std.specs.Prelude.{◌≡◌, ◌<◌, false};
+
+use rds_block::{Group, Place};
+
+/// The fields of a group that belong to the station and not to a message (IEC 62106, group
+/// structure).
+#[derive(Clone, Copy, Debug, PartialEq, Eq)]
+pub struct Head {
+    /// The programme identification.
+    pub pi: u16,
+    /// The traffic programme flag.
+    pub tp: bool,
+    /// The programme type.
+    pub pty: Place<32>,
+}
+
+impl Head {
+    /// The group of version A with this head and this content.
+    pub(crate) fn group_of(self, number: u8, low: u8, c: u16, d: u16) -> Group
+        requires number { number < 16 }
+        requires low { low < 32 }
+        ensures pty { result.pty < 32 }
+        ensures fields { result ≡ record {
+          pi = self.pi;
+          number = number;
+          version = false;
+          tp = self.tp;
+          pty = self.pty;
+          low = low;
+          c = c;
+          d = d;
+        } }
+    {
+        Group {
+            pi: self.pi,
+            number: Place::new(number).unwrap(),
+            version: false,
+            tp: self.tp,
+            pty: self.pty,
+            low: Place::new(low).unwrap(),
+            c,
+            d,
+        }
+    }
+}

@@ -1,0 +1,29 @@
+//! What a group of the Radio Data System says: a segment of a text or of a name, an announcement,
+//! tags (IEC 62106, groups 2A, 10A and 3A; IEC 62106-6, RadioText Plus on 11A).
+//!
+//! The one model is the relation `Spells` between messages and groups: sums of fields, by cases; the
+//! code shifts and masks. `Message::of` gives the one message that a group spells, `Message::group`
+//! the one canonical group of a message, which is read as that message again.
+//!
+//! ```text
+//! let message = Message::of(&Group::from_blocks([0xC201, 0x2150, 0x594F, 0x0D20]));
+//! matches!(message, Message::Text { flag: true, bytes: [b'Y', b'O', 0x0D, b' '], .. })
+//! ```
+#![tactic(auto)]
+
+mod dwell;
+mod head;
+mod laws;
+mod message;
+mod pair;
+mod tag;
+
+pub use dwell::Dwell;
+pub use head::Head;
+pub use laws::{one_group, one_message};
+pub use message::Message;
+pub use pair::{TagPair, Which};
+pub use tag::{Tag, TagRefused};
+
+#[cfg(test)]
+mod tests;

@@ -1,0 +1,154 @@
+//! What a group says.
+ghost use Rattle.std.specs.Prelude.{◌≡◌, ℕ, ◌+◌, ◌*◌, ◌<◌, ◌↔◌, IsNone, IfSome};
+ghost use Rattle.std.specs.Int.{from_bool};
+ghost use Rattle.rds_block.specs.declared.group.Group.{Group};
+ghost use Rattle.rds_fields.specs.Spells.{Carries};
+
+use crate::{Head, TagPair};
+use rds_block::{Group, Place};
+
+/// The number of the groups that carry RadioText.
+const RADIOTEXT: u8 = 2;
+
+/// The number of the groups that announce an application.
+const ANNOUNCEMENT: u8 = 3;
+
+/// The number of the groups that carry the name of the programme type.
+const TYPE_NAME: u8 = 10;
+
+/// The number of the groups that carry tags of RadioText Plus.
+const RADIOTEXT_PLUS: u8 = 11;
+
+/// What a group says (IEC 62106, groups 2A, 3A and 10A; IEC 62106-6, RadioText Plus on 11A).
+#[derive(Clone, Copy, Debug, PartialEq, Eq)]
+pub enum Message {
+    /// Four characters of a text, from `4 * address` on, and the flag that changes with the text.
+    Text {
+        flag: bool,
+        address: Place<16>,
+        bytes: [u8; 4],
+    },
+    /// Four characters of the programme type's name, and the flag that changes with it.
+    Name {
+        flag: bool,
+        address: Place<2>,
+        bytes: [u8; 4],
+    },
+    /// The application with this identification stands in groups of the type `code`, twice the
+    /// group's number and one more for version B; `bits` are its own.
+    Announce {
+        code: Place<32>,
+        bits: u16,
+        aid: u16,
+    },
+    /// Pieces of the text.
+    Tags(TagPair),
+    /// Anything else.
+    Other,
+}
+
+impl Message {
+    ghost use Rattle.rds_fields.specs.declared.message.Message.{Message};
+    ghost use Rattle.rds_fields.specs.Spells.{Spells};
+    ghost use Rattle.rds_block.specs.Words.{AreWordsOf, words_of};
+    ghost use Rattle.rds_fields.specs.Canonical.{IsWritten};
+
+    /// What the group says: every group says one thing. Bits 3 to 1 of a name's group may hold
+    /// anything, and so may the other fields of a tag of class 0.
+    pub fn of(group: &Group) -> Message
+        ensures spelled { Spells result group.now }
+        ensures only { (m : Message) → Spells m group.now → m ≡ result }
+    {
+        if group.version {
+            return Message::Other;
+        }
+        let low = group.low.get();
+        match group.number.get() {
+            RADIOTEXT => Message::Text {
+                flag: low >> 4 != 0,
+                address: Place::new(low & 0x0F).unwrap(),
+                bytes: bytes_of(group.c, group.d),
+            },
+            ANNOUNCEMENT => Message::Announce {
+                code: group.low,
+                bits: group.c,
+                aid: group.d,
+            },
+            TYPE_NAME => Message::Name {
+                flag: low >> 4 != 0,
+                address: Place::new(low & 1).unwrap(),
+                bytes: bytes_of(group.c, group.d),
+            },
+            RADIOTEXT_PLUS => Message::Tags(TagPair::from_blocks(low, group.c, group.d)),
+            _ => Message::Other,
+        }
+    }
+
+    /// The group that is written for the message with this head; there is none for `Other`, which
+    /// many groups spell.
+    pub fn group(&self, head: Head) -> Option<Group>
+        ensures written { IfSome result (IsWritten self.now head) }
+        ensures one { IfSome result (λ g. (h : Group) → IsWritten self.now head h → h ≡ g) }
+        ensures read_again { IfSome result (λ g. (m : Message) → Spells m g → m ≡ self.now) }
+        ensures none { IsNone result ↔ (self.now ≡ Message.Other) }
+        ensures places { IfSome result (λ g. AreWordsOf (words_of g) g) }
+    {
+        match *self {
+            Message::Text {
+                flag,
+                address,
+                bytes,
+            } => {
+                let (c, d) = blocks_of(bytes);
+                Some(head.group_of(RADIOTEXT, low_of(flag, address.get()), c, d))
+            }
+            Message::Name {
+                flag,
+                address,
+                bytes,
+            } => {
+                let (c, d) = blocks_of(bytes);
+                Some(head.group_of(TYPE_NAME, low_of(flag, address.get()), c, d))
+            }
+            Message::Announce { code, bits, aid } => {
+                Some(head.group_of(ANNOUNCEMENT, code.get(), bits, aid))
+            }
+            Message::Tags(pair) => {
+                let (low, c, d) = pair.to_blocks();
+                Some(head.group_of(RADIOTEXT_PLUS, low, c, d))
+            }
+            Message::Other => None,
+        }
+    }
+}
+
+/// The five low bits of block 2 with a flag above an address.
+fn low_of(flag: bool, address: u8) -> u8
+    requires { address < 16 }
+    ensures { result ≡ 16 * from_bool flag + address }
+{
+    u8::from(flag) << 4 | address
+}
+
+/// The two words of four bytes, high byte first.
+fn blocks_of(bytes: [u8; 4]) -> (u16, u16)
+    ensures { Carries result.0 result.1 bytes }
+{
+    let [first, second, third, fourth] = bytes;
+    (
+        u16::from(first) << 8 | u16::from(second),
+        u16::from(third) << 8 | u16::from(fourth),
+    )
+}
+
+/// The four bytes of two words, high byte first.
+fn bytes_of(c: u16, d: u16) -> [u8; 4]
+    ensures { Carries c d result }
+{
+    [
+        (c >> 8) as u8,
+        (c & 0xFF) as u8,
+        (d >> 8) as u8,
+        (d & 0xFF) as u8,
+    ]
+}

@@ -1,0 +1,137 @@
+//! One tag of RadioText Plus.
+ghost use Rattle.std.specs.Prelude.{◌≡◌, ℕ, ◌<◌, ◌≤◌, ◌⊎◌, ◌↔◌, IfOk};
+
+use std::error::Error;
+use std::fmt;
+use std::marker::Model;
+
+/// Why a tag or a pair of tags is no such thing.
+#[derive(Clone, Copy, Debug, PartialEq, Eq)]
+pub enum TagRefused {
+    /// The class is over 63.
+    Class,
+    /// The start is over 63.
+    Start,
+    /// The length marker is over 63, or over 31 in the second tag of a pair.
+    Extra,
+    /// The class is 0, and the start or the length marker is not.
+    DummyNotZero,
+}
+
+impl fmt::Display for TagRefused {
+    fn fmt<W: fmt::Write>(&self, f: &mut fmt::Formatter<W>) -> fmt::Result {
+        f.write_str(match self {
+            TagRefused::Class => "the class is over 63",
+            TagRefused::Start => "the start is over 63",
+            TagRefused::Extra => "the length marker is over its bits",
+            TagRefused::DummyNotZero => "class 0 with a start or a length marker",
+        })
+    }
+}
+
+impl Error for TagRefused {}
+
+/// A class, and the piece of the text that it names (IEC 62106-6, RadioText Plus). Class 0 is the
+/// dummy, which names no piece: its other fields are 0.
+#[derive(Clone, Copy, Debug, PartialEq, Eq)]
+pub struct Tag {
+    class: u8,
+    start: u8,
+    extra: u8,
+}
+
+impl Model for Tag {
+    ghost use Rattle.rds_fields.specs.Tag.{TagFields, IsTag};
+
+    ghost Value = { TagFields };
+
+    ghost view = { λ t. record { class = t.class; start = t.start; extra = t.extra } };
+
+    ghost invariant = { λ t. IsTag record { class = t.class; start = t.start; extra = t.extra } };
+
+    ghost inverse = { λ v. record { class = v.class; start = v.start; extra = v.extra } };
+}
+
+impl Tag {
+    ghost use Rattle.rds_fields.specs.Bits.{IsRead};
+
+    /// The tag of this class, from the character at `start` on (counted from 0), `extra` being the
+    /// number of its characters less one.
+    ///
+    /// The fields are tested in the order of the refusals below.
+    pub fn new(class: u8, start: u8, extra: u8) -> Result<Tag, TagRefused>
+        ensures class_over { (result ≡ Err TagRefused.Class) ↔ (63 < class) }
+        ensures start_over { (result ≡ Err TagRefused.Start) ↔ ((class ≤ 63) × (63 < start)) }
+        ensures extra_over { (result ≡ Err TagRefused.Extra)
+            ↔ ((class ≤ 63) × (start ≤ 63) × (63 < extra)) }
+        ensures dummy { (result ≡ Err TagRefused.DummyNotZero)
+            ↔ ((class ≡ 0) × (start ≤ 63) × (extra ≤ 63) × ((0 < start) ⊎ (0 < extra))) }
+        ensures value { IfOk result
+            (λ tag. tag ≡ record { class = class; start = start; extra = extra }) }
+    {
+        if class > 63 {
+            return Err(TagRefused::Class);
+        }
+        if start > 63 {
+            return Err(TagRefused::Start);
+        }
+        if extra > 63 {
+            return Err(TagRefused::Extra);
+        }
+        if class == 0 && (start > 0 || extra > 0) {
+            return Err(TagRefused::DummyNotZero);
+        }
+        Ok(Tag {
+            class,
+            start,
+            extra,
+        })
+    }
+
+    /// What the piece is, as the title or the artist; 0 for no piece.
+    pub fn class(self) -> u8
+        ensures value { result ≡ self.class }
+        ensures below { result < 64 }
+    {
+        self.class
+    }
+
+    /// The place of the piece's first character in the text, from 0.
+    pub fn start(self) -> u8
+        ensures value { result ≡ self.start }
+        ensures below { result < 64 }
+        ensures dummy { self.class ≡ 0 → result ≡ 0 }
+    {
+        self.start
+    }
+
+    /// The length marker: the number of the piece's characters less one.
+    pub fn extra(self) -> u8
+        ensures value { result ≡ self.extra }
+        ensures below { result < 64 }
+        ensures dummy { self.class ≡ 0 → result ≡ 0 }
+    {
+        self.extra
+    }
+
+    /// The tag that three received fields spell: of class 0 there is one, whatever the others hold.
+    pub(crate) fn read(class: u8, start: u8, extra: u8) -> Tag
+        requires class { class < 64 }
+        requires start { start < 64 }
+        requires extra { extra < 64 }
+        ensures { IsRead class start extra result }
+    {
+        if class == 0 {
+            return Tag {
+                class: 0,
+                start: 0,
+                extra: 0,
+            };
+        }
+        Tag {
+            class,
+            start,
+            extra,
+        }
+    }
+}

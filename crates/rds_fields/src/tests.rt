@@ -1,0 +1,176 @@
+use super::*;
+use rds_block::{Group, Place};
+use std::process::Abort;
+use std::test::Fail;
+
+/// The head of PI C201, TP 0, PTY 10.
+fn head() -> Result<Head, Fail> {
+    Ok(Head {
+        pi: 0xC201,
+        tp: false,
+        pty: Place::new(10).ok_or("pty")?,
+    })
+}
+
+fn text(flag: bool, address: u8, bytes: [u8; 4]) -> Result<Message, Fail> {
+    Ok(Message::Text {
+        flag,
+        address: Place::new(address).ok_or("address")?,
+        bytes,
+    })
+}
+
+fn name(flag: bool, address: u8, bytes: [u8; 4]) -> Result<Message, Fail> {
+    Ok(Message::Name {
+        flag,
+        address: Place::new(address).ok_or("address")?,
+        bytes,
+    })
+}
+
+fn announce(code: u8, bits: u16, aid: u16) -> Result<Message, Fail> {
+    Ok(Message::Announce {
+        code: Place::new(code).ok_or("code")?,
+        bits,
+        aid,
+    })
+}
+
+/// The pair of these bits, its tags given by class, start and length marker.
+fn tags(bits: (bool, bool), one: (u8, u8, u8), two: (u8, u8, u8)) -> Result<Message, Fail> {
+    let one = Tag::new(one.0, one.1, one.2)?;
+    let two = Tag::new(two.0, two.1, two.2)?;
+    Ok(Message::Tags(TagPair::new(bits.0, bits.1, one, two)?))
+}
+
+/// Each message is written as these words, and they are read as it.
+fn both_ways(rt: &impl Abort, head: &Head, rows: &[(Message, [u16; 4])]) -> Result<(), Fail> {
+    for (message, words) in rows {
+        let group = message.group(*head).ok_or("no group")?;
+        assert_eq!(rt; group.to_blocks(), *words);
+        assert_eq!(rt; Message::of(&Group::from_blocks(*words)), *message);
+    }
+    Ok(())
+}
+
+/// Each field at an end of its range.
+#[test]
+fn extreme_groups(rt: HostRuntime) -> Result<(), Fail> {
+    let rows = [
+        (announce(22, 0, 0x4BD7)?, [0xC201, 0x3156, 0x0000, 0x4BD7]),
+        (announce(31, 0xFFFF, 0)?, [0xC201, 0x315F, 0xFFFF, 0x0000]),
+    ];
+    both_ways(&rt, &head()?, &rows)?;
+    let greatest = Head {
+        pi: 0xFFFF,
+        tp: true,
+        pty: Place::new(31).ok_or("pty")?,
+    };
+    let rows = [
+        (text(true, 15, *b"AAAA")?, [0xFFFF, 0x27FF, 0x4141, 0x4141]),
+        (
+            tags((true, true), (63, 63, 63), (63, 63, 31))?,
+            [0xFFFF, 0xB7FF, 0xFFFF, 0xFFFF],
+        ),
+    ];
+    both_ways(&rt, &greatest, &rows)
+}
+
+/// The artist and the title of a text.
+#[test]
+fn waterloo_tags(rt: HostRuntime) -> Result<(), Fail> {
+    let one = Tag::new(4, 0, 3)?;
+    let two = Tag::new(1, 7, 7)?;
+    assert_eq!(rt; (two.class(), two.start(), two.extra()), (1, 7, 7));
+    let pair = TagPair::new(true, true, one, two)?;
+    assert_eq!(rt; (pair.toggle(), pair.running()), (true, true));
+    assert_eq!(rt; (pair.one(), pair.two()), (one, two));
+    let words = [0xC201, 0xB158, 0x8006, 0x08E7];
+    both_ways(&rt, &head()?, &[(Message::Tags(pair), words)])
+}
+
+/// What is refused, and the longest tags that are not.
+#[test]
+fn refused_tags(rt: HostRuntime) -> Result<(), Fail> {
+    let rows = [
+        ((64, 64, 64), TagRefused::Class, "the class is over 63"),
+        ((5, 64, 64), TagRefused::Start, "the start is over 63"),
+        (
+            (5, 0, 64),
+            TagRefused::Extra,
+            "the length marker is over its bits",
+        ),
+        (
+            (0, 0, 1),
+            TagRefused::DummyNotZero,
+            "class 0 with a start or a length marker",
+        ),
+    ];
+    for ((class, start, extra), refused, printed) in rows {
+        assert_eq!(rt; Tag::new(class, start, extra), Err(refused));
+        assert_eq!(rt; format!(in rt.alloc(); "{refused}")?.as_str(), printed);
+    }
+    let dummy = Tag::new(0, 0, 0)?;
+    let long = Tag::new(1, 0, 32)?;
+    assert_eq!(rt;
+        TagPair::new(false, true, dummy, long),
+        Err(TagRefused::Extra)
+    );
+    assert_eq!(rt; Dwell::new(0), None);
+    assert_eq!(rt; Dwell::new(65535).ok_or("dwell")?.get(), 65535);
+    assert_ne!(rt; Which::One, Which::Two);
+    Ok(())
+}
+
+/// The name `JAZZ FM `, and its first group with the bits between flag and address set.
+#[test]
+fn jazz_name(rt: HostRuntime) -> Result<(), Fail> {
+    let first = name(false, 0, *b"JAZZ")?;
+    let rows = [
+        (first, [0xC201, 0xA140, 0x4A41, 0x5A5A]),
+        (name(false, 1, *b" FM ")?, [0xC201, 0xA141, 0x2046, 0x4D20]),
+    ];
+    both_ways(&rt, &head()?, &rows)?;
+    let loose = Group::from_blocks([0xC201, 0xA14E, 0x4A41, 0x5A5A]);
+    assert_eq!(rt; Message::of(&loose), first);
+    Ok(())
+}
+
+/// The groups of the project's table.
+#[test]
+fn vectors(rt: HostRuntime) -> Result<(), Fail> {
+    let dummy = (0, 0, 0);
+    let rows = [
+        (text(true, 0, *b"YO\r ")?, [0xC201, 0x2150, 0x594F, 0x0D20]),
+        (text(false, 3, *b"LOO\r")?, [0xC201, 0x2143, 0x4C4F, 0x4F0D]),
+        (name(false, 1, *b" FM ")?, [0xC201, 0xA141, 0x2046, 0x4D20]),
+        (announce(22, 0, 0x4BD7)?, [0xC201, 0x3156, 0x0000, 0x4BD7]),
+        (
+            tags((true, true), (4, 0, 3), (1, 7, 7))?,
+            [0xC201, 0xB158, 0x8006, 0x08E7],
+        ),
+        (
+            tags((false, true), (1, 0, 63), dummy)?,
+            [0xC201, 0xB148, 0x207E, 0x0000],
+        ),
+        (
+            tags((false, true), (1, 0, 1), dummy)?,
+            [0xC201, 0xB148, 0x2002, 0x0000],
+        ),
+    ];
+    both_ways(&rt, &head()?, &rows)
+}
+
+/// A dummy with a length marker, and a group of version B.
+#[test]
+fn lenient_reading(rt: HostRuntime) -> Result<(), Fail> {
+    let pair = Message::of(&Group::from_blocks([0xC201, 0xB148, 0x0002, 0x0000]));
+    assert_eq!(rt; pair, tags((false, true), (0, 0, 0), (0, 0, 0))?);
+    both_ways(&rt, &head()?, &[(pair, [0xC201, 0xB148, 0x0000, 0x0000])])?;
+    let other = Message::of(&Group::from_blocks([0xC201, 0x2940, 0x4849, 0x0D20]));
+    assert_eq!(rt; other, Message::Other);
+    assert_eq!(rt; other.group(head()?), None);
+    one_message();
+    one_group();
+    Ok(())
+}
