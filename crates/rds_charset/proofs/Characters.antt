@@ -1,0 +1,155 @@
+-- The rules of the table, computed over the whole of it, and what each says of one entry.
+use Rattle.std.proofs.Common.{◌≡◌, ◌+◌, ◌-◌, ◌≤◌, ◌<◌, ◌==◌, ℕ, zero, suc, Bool, true, false, not, ◌&&◌, List, [], ◌∷◌, ◌++◌, length, get_or, drop, map, refl, sym, ap, ◌∙◌, nat_le, nat_lt, arith, Option, Some, None, slice_get, eqb-true, if◌then◌else◌}
+use Rattle.std.proofs.lemmas.Bool.Decides.{nat_tests}
+use Rattle.std.proofs.lemmas.List.{at_drop_more}
+use Rattle.std.proofs.lemmas.List.Folds.{list_all-append, list_all-map, list_all_at}
+use Rattle.std.proofs.lemmas.Bool.{and_parts}
+use Rattle.std.proofs.lemmas.List.Quantifiers.{position-Some}
+use Rattle.std.specs.Char.{len_utf8}
+use Rattle.std.specs.List.{list_all, enumerate_from, position}
+use Rattle.std.proofs.lemmas.Option.{slice_get-get_or}
+use Rattle.std.specs.Option.{option_or, option_map}
+use Rattle.rds_charset.specs.declared.table.Run.{Run as HeldRun}
+use Rattle.rds_charset.specs.Runs.{run_of}
+use Rattle.rds_charset.specs.Table.{Run, table, character_in, character_at, character_of, byte_in, byte_at, byte_of, FitsInBytes}
+
+-- the run at hand has the byte, or the ones after it are asked
+pub character_in-found : (runs : List HeldRun) (i : ℕ) (d : HeldRun) (byte character : ℕ) → i < length runs → character_at (run_of (get_or runs i d)) byte ≡ Some character → character_in (map run_of (drop i runs)) byte ≡ Some character
+character_in-found runs i d byte character within here =
+    at_drop_more (λ rest. character_in (map run_of rest) byte) runs i d within ∙ ap (λ found. option_or found (character_in (map run_of (drop (i + 1) runs)) byte)) here
+
+pub character_in-passed : (runs : List HeldRun) (i : ℕ) (d : HeldRun) (byte : ℕ) → i < length runs → character_at (run_of (get_or runs i d)) byte ≡ None → character_in (map run_of (drop i runs)) byte ≡ character_in (map run_of (drop (i + 1) runs)) byte
+character_in-passed runs i d byte within here =
+    at_drop_more (λ rest. character_in (map run_of rest) byte) runs i d within ∙ ap (λ found. option_or found (character_in (map run_of (drop (i + 1) runs)) byte)) here
+
+-- likewise for a character
+pub byte_in-found : (runs : List HeldRun) (i : ℕ) (d : HeldRun) (character byte : ℕ) → i < length runs → byte_at (run_of (get_or runs i d)) character ≡ Some byte → byte_in (map run_of (drop i runs)) character ≡ Some byte
+byte_in-found runs i d character byte within here =
+    at_drop_more (λ rest. byte_in (map run_of rest) character) runs i d within ∙ ap (λ found. option_or found (byte_in (map run_of (drop (i + 1) runs)) character)) here
+
+pub byte_in-passed : (runs : List HeldRun) (i : ℕ) (d : HeldRun) (character : ℕ) → i < length runs → byte_at (run_of (get_or runs i d)) character ≡ None → byte_in (map run_of (drop i runs)) character ≡ byte_in (map run_of (drop (i + 1) runs)) character
+byte_in-passed runs i d character within here =
+    at_drop_more (λ rest. byte_in (map run_of rest) character) runs i d within ∙ ap (λ found. option_or found (byte_in (map run_of (drop (i + 1) runs)) character)) here
+
+-- whether a run's bytes are bytes
+abbrev fits : Run → Bool
+fits run = nat_le (run.0 + length run.1) 256
+
+all_fit : list_all fits table ≡ true
+all_fit = refl
+
+FitsInBytes-from_fits : (run : Run) (b : Bool) → fits run ≡ b → (b ≡ false → list_all fits table ≡ false) → FitsInBytes run
+FitsInBytes-from_fits run true is _ = grind (arith, nat_tests)
+FitsInBytes-from_fits run false is unfit = let e : true ≡ false = sym all_fit ∙ unfit refl in grind arith
+
+pub held-FitsInBytes : (runs : List HeldRun) (i : ℕ) (d : HeldRun) → map run_of runs ≡ table → i < length runs → FitsInBytes (run_of (get_or runs i d))
+held-FitsInBytes runs i d are within = FitsInBytes-from_fits (run_of (get_or runs i d)) (fits (run_of (get_or runs i d))) refl
+    (λ unfit. ap (list_all fits) (sym are) ∙ list_all-map fits run_of runs ∙ list_all_at (λ run. fits (run_of run)) runs i d within unfit)
+
+-- every byte that has a character, with that character
+abbrev entries_in : List Run → List (ℕ × ℕ)
+entries_in [] = []
+entries_in (run ∷ runs) = enumerate_from run.0 run.1 ++ entries_in runs
+
+-- what a test says of all entries, it says of one
+holds_in_run : (test : ℕ → ℕ → Bool) (first : ℕ) (characters : List ℕ) (place character : ℕ) → list_all (λ e. test e.0 e.1) (enumerate_from first characters) ≡ true → slice_get characters place ≡ Some character → test (first + place) character ≡ true
+holds_in_run test first [] place character all here = absurd (cc)
+holds_in_run test first (known ∷ characters) zero character all here =
+    let at_first : test first known ≡ true = (and_parts _ _ all).0 in
+    let same : known ≡ character = cc in
+    let sum : first + 0 ≡ first = omega arith in
+    rw (sum, ← same) at_first
+holds_in_run test first (known ∷ characters) (suc place) character all here =
+    let sum : first + suc place ≡ first + 1 + place = omega arith in
+    rw sum (holds_in_run test (first + 1) characters place character (and_parts _ _ all).1 here)
+
+holds_at_run : (test : ℕ → ℕ → Bool) (run : Run) (runs : List Run) (place character : ℕ) → list_all (λ e. test e.0 e.1) (entries_in (run ∷ runs)) ≡ true → slice_get run.1 place ≡ Some character → test (run.0 + place) character ≡ true
+holds_at_run test run runs place character all here = holds_in_run test run.0 run.1 place character (and_parts _ _ (sym (list_all-append (λ e. test e.0 e.1) (enumerate_from run.0 run.1) (entries_in runs)) ∙ all)).0 here
+
+holds_at_rest : (test : ℕ → ℕ → Bool) (run : Run) (runs : List Run) → list_all (λ e. test e.0 e.1) (entries_in (run ∷ runs)) ≡ true → list_all (λ e. test e.0 e.1) (entries_in runs) ≡ true
+holds_at_rest test run runs all = (and_parts _ _ (sym (list_all-append (λ e. test e.0 e.1) (enumerate_from run.0 run.1) (entries_in runs)) ∙ all)).1
+
+found_at : (test : ℕ → ℕ → Bool) (run : Run) (runs : List Run) (byte character : ℕ) → list_all (λ e. test e.0 e.1) (entries_in (run ∷ runs)) ≡ true → (b : Bool) → nat_le run.0 byte ≡ b → (if b then slice_get run.1 (byte - run.0) else None) ≡ Some character → test byte character ≡ true
+found_at test run runs byte character all true is here =
+    let within : run.0 ≤ byte = grind (arith, nat_tests) in
+    let sum : run.0 + (byte - run.0) ≡ byte = omega arith in
+    let holds : test (run.0 + (byte - run.0)) character ≡ true = holds_at_run test run runs (byte - run.0) character all here in
+    rw sum at holds
+found_at test run runs byte character all false is here = absurd (cc)
+
+holds_at_byte : (test : ℕ → ℕ → Bool) (runs : List Run) (byte character : ℕ) → list_all (λ e. test e.0 e.1) (entries_in runs) ≡ true → character_in runs byte ≡ Some character → test byte character ≡ true
+holds_at_byte test [] byte character all here = absurd (cc)
+holds_at_byte test (run ∷ runs) byte character all here = by_run (character_at run byte) refl here (holds_at_byte test runs byte character (holds_at_rest test run runs all))
+  where
+    by_run : (found : Option ℕ) → character_at run byte ≡ found → option_or found (character_in runs byte) ≡ Some character → (character_in runs byte ≡ Some character → test byte character ≡ true) → test byte character ≡ true
+    by_run None none here later = later here
+    by_run (Some found) some here later = found_at test run runs byte character all (nat_le run.0 byte) refl (some ∙ here)
+
+placed_at : (test : ℕ → ℕ → Bool) (run : Run) (runs : List Run) (character byte : ℕ) → list_all (λ e. test e.0 e.1) (entries_in (run ∷ runs)) ≡ true → byte_at run character ≡ Some byte → test byte character ≡ true
+placed_at test run runs character byte all here = by_place (position (λ known. known == character) run.1) refl here
+  where
+    by_place : (found : Option ℕ) → position (λ known. known == character) run.1 ≡ found → option_map (λ place. run.0 + place) found ≡ Some byte → test byte character ≡ true
+    by_place None none here = absurd (cc)
+    by_place (Some place) some here =
+        let at_place = position-Some (λ known. known == character) run.1 place 0 some in
+        let same : get_or run.1 place 0 ≡ character = eqb-true _ _ at_place.1 in
+        let known : slice_get run.1 place ≡ Some character = slice_get-get_or run.1 place 0 at_place.0 ∙ ap Some same in
+        let sum : run.0 + place ≡ byte = cc in
+        rw sum at (holds_at_run test run runs place character all known)
+
+holds_at_character : (test : ℕ → ℕ → Bool) (runs : List Run) (character byte : ℕ) → list_all (λ e. test e.0 e.1) (entries_in runs) ≡ true → byte_in runs character ≡ Some byte → test byte character ≡ true
+holds_at_character test [] character byte all here = absurd (cc)
+holds_at_character test (run ∷ runs) character byte all here = by_run (byte_at run character) refl here (holds_at_character test runs character byte (holds_at_rest test run runs all))
+  where
+    by_run : (found : Option ℕ) → byte_at run character ≡ found → option_or found (byte_in runs character) ≡ Some byte → (byte_in runs character ≡ Some byte → test byte character ≡ true) → test byte character ≡ true
+    by_run None none here later = later here
+    by_run (Some found) some here later = placed_at test run runs character byte all (some ∙ here)
+
+abbrev is_number : Option ℕ → ℕ → Bool
+is_number None n = false
+is_number (Some m) n = m == n
+
+is_number-Some : (found : Option ℕ) (n : ℕ) → is_number found n ≡ true → found ≡ Some n
+is_number-Some None n is = absurd (cc)
+is_number-Some (Some m) n is = ap Some (eqb-true m n is)
+
+-- the rules: an entry's byte is a byte, its character isn't a backslash and has at most three bytes and isn't half of a pair, and neither stands in another entry
+abbrev is_lawful : ℕ → ℕ → Bool
+is_lawful byte character = (nat_lt byte 256 && not (character == 0x5C)) && (nat_lt character 0xD800 && (is_number (character_in table byte) character && is_number (byte_in table character) byte))
+
+all_lawful : list_all (λ e. is_lawful e.0 e.1) (entries_in table) ≡ true
+all_lawful = refl
+
+-- what they say of a byte and its character
+pub record IsLawful (byte character : ℕ) : Type 0 where
+  pub in_range : byte < 256
+  pub no_backslash : character ≡ 0x5C → ⊥
+  pub in_low_plane : character < 0xD800
+  pub width : len_utf8 character ≤ 3
+  pub of_byte : character_of byte ≡ Some character
+  pub of_character : byte_of character ≡ Some byte
+
+IsLawful-from_test : (byte character : ℕ) → is_lawful byte character ≡ true → IsLawful byte character
+unfolding character_of byte_of
+IsLawful-from_test byte character holds =
+    let parts = and_parts (nat_lt byte 256 && not (character == 0x5C)) (nat_lt character 0xD800 && (is_number (character_in table byte) character && is_number (byte_in table character) byte)) holds in
+    let first = and_parts (nat_lt byte 256) (not (character == 0x5C)) parts.0 in
+    let second = and_parts (nat_lt character 0xD800) (is_number (character_in table byte) character && is_number (byte_in table character) byte) parts.1 in
+    let third = and_parts (is_number (character_in table byte) character) (is_number (byte_in table character) byte) second.1 in
+    let low : character < 0xD800 = grind (arith, nat_tests, second.0) in
+    record {
+      in_range = grind (arith, nat_tests, first.0);
+      no_backslash = λ same. grind (arith, nat_tests, first.1, same);
+      in_low_plane = low;
+      width = grind (arith, nat_tests);
+      of_byte = is_number-Some _ _ third.0;
+      of_character = is_number-Some _ _ third.1;
+    }
+
+pub IsLawful-from_byte : (byte character : ℕ) → character_of byte ≡ Some character → IsLawful byte character
+unfolding character_of
+IsLawful-from_byte byte character here = IsLawful-from_test byte character (holds_at_byte is_lawful table byte character all_lawful here)
+
+pub IsLawful-from_character : (byte character : ℕ) → byte_of character ≡ Some byte → IsLawful byte character
+unfolding byte_of
+IsLawful-from_character byte character here = IsLawful-from_test byte character (holds_at_character is_lawful table character byte all_lawful here)

@@ -1,0 +1,5 @@
+pub mod Appending
+pub mod Characters
+pub mod Outcomes
+pub mod Pieces
+pub mod PrintedText

@@ -1,0 +1,125 @@
+-- The printed form of a text: how long it is, and that it is read as the text.
+use Rattle.std.proofs.KnownBytes.{Appends-trans}
+use Rattle.rds_charset.proofs.Appending.{AppendsPrefix-append, AppendsPrefix-longer}
+use Rattle.std.specs.Io.KnownBytes.{Appends}
+use Rattle.rds_charset.specs.Told.{AppendsPrefix}
+use Rattle.std.proofs.Common.{◌≡◌, ◌+◌, ◌*◌, ◌/◌, ◌%◌, ◌<◌, ◌≤◌, ◌==◌, ℕ, Bool, true, false, inl, inr, List, [], ◌∷◌, ◌++◌, length, length-append, refl, sym, ap, ◌∙◌, arith, Option, Some, None, encode_utf8, if◌then◌else◌, append_assoc, subst}
+use Rattle.std.proofs.lemmas.Bool.Decides.{nat_tests}
+use Rattle.std.proofs.lemmas.Grind.{flat_map-append}
+use Rattle.std.proofs.lemmas.List.Elements.{All-head, All-tail}
+use Rattle.std.proofs.lemmas.Str.{length-encode, len_utf8_bounds, encode_ascii, IsUtf8-append, IsUtf8-encode, IsUtf8-nil}
+use Rattle.std.specs.Char.{digit_value}
+use Rattle.std.specs.List.{All}
+use Rattle.std.specs.Option.{option_map_or}
+use Rattle.std.specs.Str.{IsUtf8}
+use Rattle.rds_charset.proofs.Characters.{IsLawful-from_byte}
+use Rattle.rds_charset.specs.Printed.{escaped, printed, printed_byte, shown_character, upper_digit}
+use Rattle.rds_charset.specs.ReadAs.{IsPiece, IsReadAs}
+use Rattle.rds_charset.specs.Table.{character_of}
+
+-- four bytes hold what one byte is printed as
+shown-length : (byte : ℕ) (shown : Option ℕ) → length (option_map_or encode_utf8 shown (escaped byte)) ≤ 4
+shown-length byte None = omega arith
+shown-length byte (Some character) = rw (length-encode character) (len_utf8_bounds character).1
+
+pub length-printed_byte : (byte : ℕ) → length (printed_byte byte) ≤ 4
+unfolding printed_byte
+length-printed_byte byte = shown-length byte (shown_character byte)
+
+pub length-printed : (bytes : List ℕ) → length (printed bytes) ≤ 4 * length bytes
+length-printed [] = omega arith
+length-printed (byte ∷ bytes) =
+    let one : length (printed_byte byte) ≤ 4 = length-printed_byte byte in
+    let others : length (printed bytes) ≤ 4 * length bytes = length-printed bytes in
+    let sum : length (printed_byte byte ++ printed bytes) ≡ length (printed_byte byte) + length (printed bytes) = length-append (printed_byte byte) (printed bytes) in
+    omega arith
+
+-- the digits that are printed are the digits that are read
+upper_digit-value : (n : ℕ) → n < 16 → digit_value (upper_digit n) ≡ n
+upper_digit-value n small = grind (arith, nat_tests)
+
+upper_digit-ascii : (n : ℕ) → n < 16 → upper_digit n < 128
+upper_digit-ascii n small = grind (arith, nat_tests)
+
+escaped-IsPiece : (byte : ℕ) → byte < 256 → IsPiece (escaped byte) byte
+escaped-IsPiece byte small =
+    let high : byte / 16 < 16 = omega arith in
+    let low : byte % 16 < 16 = omega arith in
+    let high_value : digit_value (upper_digit (byte / 16)) ≡ byte / 16 = upper_digit-value (byte / 16) high in
+    let low_value : digit_value (upper_digit (byte % 16)) ≡ byte % 16 = upper_digit-value (byte % 16) low in
+    inr (record {
+      high = upper_digit (byte / 16);
+      low = upper_digit (byte % 16);
+      high_digit = rw high_value high;
+      low_digit = rw low_value low;
+      spelled = refl;
+      value = rw (high_value, low_value) (omega arith);
+    })
+
+shown-IsPiece : (byte : ℕ) (shown : Option ℕ) → byte < 256 → ((character : ℕ) → shown ≡ Some character → character_of byte ≡ Some character) → IsPiece (option_map_or encode_utf8 shown (escaped byte)) byte
+shown-IsPiece byte None small own = escaped-IsPiece byte small
+shown-IsPiece byte (Some character) small own = inl (record { character = character; in_table = own character refl; spelled = refl })
+
+shown-own : (byte character : ℕ) (b : Bool) → (if b then None else character_of byte) ≡ Some character → character_of byte ≡ Some character
+shown-own byte character true is = absurd (cc)
+shown-own byte character false is = is
+
+printed_byte-IsPiece : (byte : ℕ) → byte < 256 → IsPiece (printed_byte byte) byte
+unfolding printed_byte
+printed_byte-IsPiece byte small = shown-IsPiece byte (shown_character byte) small (λ character is. shown-own byte character (byte == 0x22) is)
+
+pub IsReadAs-printed : (bytes : List ℕ) → All (λ byte. byte < 256) bytes → IsReadAs (printed bytes) bytes
+IsReadAs-printed [] small = refl
+IsReadAs-printed (byte ∷ bytes) small =
+    (printed bytes, record { piece = printed_byte byte; cut = refl; is_piece = printed_byte-IsPiece byte (All-head (λ b. b < 256) byte bytes small) }, IsReadAs-printed bytes (All-tail (λ b. b < 256) byte bytes small))
+
+-- the printed form is UTF-8
+ascii-IsUtf8 : (character : ℕ) → character < 128 → IsUtf8 (character ∷ [])
+ascii-IsUtf8 character small = subst IsUtf8 (encode_ascii character small) (IsUtf8-encode character (grind (arith, nat_tests)))
+
+escaped-IsUtf8 : (byte : ℕ) → byte < 256 → IsUtf8 (escaped byte)
+escaped-IsUtf8 byte small =
+    let high : upper_digit (byte / 16) < 128 = upper_digit-ascii (byte / 16) (omega arith) in
+    let low : upper_digit (byte % 16) < 128 = upper_digit-ascii (byte % 16) (omega arith) in
+    IsUtf8-append (0x5C ∷ []) (0x78 ∷ upper_digit (byte / 16) ∷ upper_digit (byte % 16) ∷ []) (ascii-IsUtf8 0x5C (omega arith))
+    (IsUtf8-append (0x78 ∷ []) (upper_digit (byte / 16) ∷ upper_digit (byte % 16) ∷ []) (ascii-IsUtf8 0x78 (omega arith))
+    (IsUtf8-append (upper_digit (byte / 16) ∷ []) (upper_digit (byte % 16) ∷ []) (ascii-IsUtf8 (upper_digit (byte / 16)) high) (ascii-IsUtf8 (upper_digit (byte % 16)) low)))
+
+shown-IsUtf8 : (byte : ℕ) (shown : Option ℕ) → byte < 256 → ((character : ℕ) → shown ≡ Some character → character_of byte ≡ Some character) → IsUtf8 (option_map_or encode_utf8 shown (escaped byte))
+shown-IsUtf8 byte None small own = escaped-IsUtf8 byte small
+shown-IsUtf8 byte (Some character) small own =
+    let low : character < 0xD800 = (IsLawful-from_byte byte character (own character refl)).in_low_plane in
+    IsUtf8-encode character (grind (arith, nat_tests))
+
+printed_byte-IsUtf8 : (byte : ℕ) → byte < 256 → IsUtf8 (printed_byte byte)
+unfolding printed_byte
+printed_byte-IsUtf8 byte small = shown-IsUtf8 byte (shown_character byte) small (λ character is. shown-own byte character (byte == 0x22) is)
+
+pub IsUtf8-printed : (bytes : List ℕ) → All (λ byte. byte < 256) bytes → IsUtf8 (printed bytes)
+IsUtf8-printed [] small = IsUtf8-nil
+IsUtf8-printed (byte ∷ bytes) small =
+    IsUtf8-append (printed_byte byte) (printed bytes) (printed_byte-IsUtf8 byte (All-head (λ b. b < 256) byte bytes small)) (IsUtf8-printed bytes (All-tail (λ b. b < 256) byte bytes small))
+
+-- a text in two parts
+pub printed-append : (xs ys : List ℕ) → printed (xs ++ ys) ≡ printed xs ++ printed ys
+printed-append xs ys = flat_map-append printed_byte xs ys
+
+-- one more part of a text goes out, whole or up to a fault
+pub Appends-printed : (a b c : Option (List ℕ)) (done piece line : List ℕ) → line ≡ printed piece → Appends a b (printed done) → Appends b c line → Appends a c (printed (done ++ piece))
+Appends-printed a b c done piece line is first later = rw (printed-append done piece) (Appends-trans a b c (printed done) (printed piece) first (rw is at later))
+
+pub AppendsPrefix-printed : (a b c : Option (List ℕ)) (bytes done piece rest line : List ℕ) → bytes ≡ (done ++ piece) ++ rest → line ≡ printed piece → Appends a b (printed done) → AppendsPrefix b c line → AppendsPrefix a c (printed bytes)
+AppendsPrefix-printed a b c bytes done piece rest line whole is first part =
+    let sent = AppendsPrefix-append a b c (printed done) (printed piece) first (subst (AppendsPrefix b c) is part) in
+    let longer = AppendsPrefix-longer a c (printed done ++ printed piece) (printed rest) sent in
+    let same : printed bytes ≡ (printed done ++ printed piece) ++ printed rest =
+    ap printed whole ∙ printed-append (done ++ piece) rest ∙ ap (λ l. l ++ printed rest) (printed-append done piece) in
+    subst (AppendsPrefix a c) (sym same) longer
+
+-- what a fresh line holds once a piece was pushed
+pub pushed-printed : (slice pushed fresh piece : List ℕ) → slice ≡ pushed → pushed ≡ fresh ++ printed piece → fresh ≡ [] → slice ≡ printed piece
+pushed-printed slice pushed fresh piece one two three = one ∙ two ∙ ap (λ items. items ++ printed piece) three
+
+-- a piece taken from what is left of a text
+pub append-piece : (bytes done left piece rest : List ℕ) → bytes ≡ done ++ left → left ≡ piece ++ rest → bytes ≡ (done ++ piece) ++ rest
+append-piece bytes done left piece rest one two = one ∙ ap (λ l. done ++ l) two ∙ sym (append_assoc done piece rest)

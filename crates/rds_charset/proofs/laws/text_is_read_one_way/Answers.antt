@@ -1,0 +1,5 @@
+use Rattle.rds_charset.proofs.Pieces.{IsReadAs-same}
+use Rattle.rds_charset.proofs.laws.text_is_read_one_way.Goals as goal
+
+pub returns : goal.returns
+returns c = IsReadAs-same

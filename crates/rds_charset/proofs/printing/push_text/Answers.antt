@@ -1,0 +1,10 @@
+use Rattle.std.proofs.Common.{arith, length-append, length, take, ap}
+use Rattle.std.proofs.lemmas.List.{length-take}
+use Rattle.rds_charset.proofs.PrintedText.{length-printed}
+use Rattle.rds_charset.specs.Printed.{printed}
+use Rattle.rds_charset.proofs.printing.push_text.Goals as goal
+
+pub push_byte-requires : goal.push_byte-requires
+push_byte-requires g c =
+    let before = length-printed (take c.loop-byte.byte-index c.args.text.now) in
+    (search arith, omega (arith, ap length c.loop-byte.invariant, length-append c.args.line.now.items (printed (take c.loop-byte.byte-index c.args.text.now)), before, length-take c.loop-byte.byte-index c.args.text.now))

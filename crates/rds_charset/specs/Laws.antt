@@ -1,0 +1,21 @@
+-- The laws of the printed form, as the contracts of `laws` say them.
+use Rattle.std.specs.Prelude.{◌≡◌, ◌<◌, ◌≤◌, ◌*◌, ℕ, List, All, length}
+use Rattle.std.specs.Str.{IsUtf8}
+use Rattle.rds_charset.specs.Printed.{printed}
+use Rattle.rds_charset.specs.ReadAs.{IsReadAs}
+
+-- what was printed is read as the bytes that it was printed from
+abbrev pub PrintedIsReadBack : Type 0
+PrintedIsReadBack = (bytes : List ℕ) → All (λ byte. byte < 256) bytes → IsReadAs (printed bytes) bytes
+
+-- a text is read as one list of bytes at most
+abbrev pub TextIsReadOneWay : Type 0
+TextIsReadOneWay = (text bytes others : List ℕ) → IsReadAs text bytes → IsReadAs text others → bytes ≡ others
+
+-- the printed form has at most four bytes for each byte of the text
+abbrev pub PrintedTakesFour : Type 0
+PrintedTakesFour = (bytes : List ℕ) → length (printed bytes) ≤ 4 * length bytes
+
+-- the printed form is UTF-8
+abbrev pub PrintedIsText : Type 0
+PrintedIsText = (bytes : List ℕ) → All (λ byte. byte < 256) bytes → IsUtf8 (printed bytes)

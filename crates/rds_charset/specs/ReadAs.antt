@@ -1,0 +1,70 @@
+-- A printed text is read piece by piece, each a character of the table or the number of a byte, and each piece gives one byte. This is the project's own form.
+-- The quotation mark is read as a character too, though it isn't printed as one. The digits of a number can be of either case.
+use Rattle.std.specs.Prelude.{◌≡◌, ◌≢◌, ◌⊎◌, ◌<◌, ◌+◌, ◌*◌, ◌++◌, ℕ, List, [], ◌∷◌, Some, codes, encode_utf8, length, drop, slice_index}
+use Rattle.std.specs.Char.{digit_value}
+use Rattle.rds_charset.specs.Table.{character_of}
+
+-- a character of the table, in UTF-8, and its byte
+pub record IsCharacter (piece : List ℕ) (byte : ℕ) : Type 0 where
+  pub character : ℕ
+  pub in_table : character_of byte ≡ Some character
+  pub spelled : piece ≡ encode_utf8 character
+
+-- a backslash, an x and two hexadecimal digits, and the byte that has that number
+pub record IsEscape (piece : List ℕ) (byte : ℕ) : Type 0 where
+  pub high : ℕ
+  pub low : ℕ
+  pub high_digit : digit_value high < 16
+  pub low_digit : digit_value low < 16
+  pub spelled : piece ≡ codes "\\x" ++ high ∷ low ∷ []
+  pub value : byte ≡ 16 * digit_value high + digit_value low
+
+-- a piece of a printed text, and the byte that it is read as
+abbrev pub IsPiece : List ℕ → ℕ → Type 0
+IsPiece piece byte = IsCharacter piece byte ⊎ IsEscape piece byte
+
+-- a text begins with a piece, and the rest follows it
+pub record Begins (text : List ℕ) (byte : ℕ) (rest : List ℕ) : Type 0 where
+  pub piece : List ℕ
+  pub cut : text ≡ piece ++ rest
+  pub is_piece : IsPiece piece byte
+
+-- the text begins with one piece for each of the bytes, in order, and the rest follows them
+abbrev pub ReadsUpTo : List ℕ → List ℕ → List ℕ → Type 0
+ReadsUpTo text [] rest = text ≡ rest
+ReadsUpTo text (byte ∷ bytes) rest = (after : List ℕ) × Begins text byte after × ReadsUpTo after bytes rest
+
+-- the text is read as the bytes: it is made of one piece for each of them, in order, and of nothing else
+abbrev pub IsReadAs : List ℕ → List ℕ → Type 0
+IsReadAs text bytes = ReadsUpTo text bytes []
+
+-- no piece begins the text
+abbrev pub BeginsNoPiece : List ℕ → Type 0
+BeginsNoPiece text = (byte : ℕ) (rest : List ℕ) → Begins text byte rest → ⊥
+
+-- the text can be read up to the place, counted in bytes, and no further, and doesn't end there
+pub record StopsAt (text : List ℕ) (place : ℕ) : Type 0 where
+  pub within : place < length text
+  pub bytes : List ℕ
+  pub read : ReadsUpTo text bytes (drop place text)
+  pub stuck : BeginsNoPiece (drop place text)
+
+-- the first place that can't be read is a backslash
+abbrev pub HasBadEscape : List ℕ → ℕ → Type 0
+HasBadEscape text place = StopsAt text place × (slice_index text place ≡ 0x5C)
+
+-- the first place that can't be read is another character
+abbrev pub HasUnknownCharacter : List ℕ → ℕ → Type 0
+HasUnknownCharacter text place = StopsAt text place × (slice_index text place ≢ 0x5C)
+
+-- the text can be read, and gives more bytes than there is room for
+abbrev pub HasNoRoom : List ℕ → ℕ → Type 0
+HasNoRoom text room = (bytes : List ℕ) × IsReadAs text bytes × (room < length bytes)
+
+-- the text begins with a hexadecimal digit of that value, and the rest follows it
+abbrev pub BeginsDigit : List ℕ → ℕ → List ℕ → Type 0
+BeginsDigit text value rest = (digit : ℕ) × (text ≡ digit ∷ rest) × (digit_value digit < 16) × (value ≡ digit_value digit)
+
+-- no hexadecimal digit begins the text
+abbrev pub BeginsNoDigit : List ℕ → Type 0
+BeginsNoDigit text = (digit : ℕ) (rest : List ℕ) → text ≡ digit ∷ rest → digit_value digit < 16 → ⊥

@@ -1,0 +1,91 @@
+//! The printed form of a text.
+
+ghost use Rattle.std.specs.Prelude.{◌≡◌, ◌≤◌, ◌<◌, ◌+◌, ◌*◌, ◌++◌, length, OnOk, OnErr};
+ghost use Rattle.std.specs.Io.KnownBytes.{Appends};
+ghost use Rattle.rds_charset.specs.Printed.{printed, printed_byte, shown_character, upper_digit};
+ghost use Rattle.rds_charset.specs.Told.{AppendsPrefix, Failed};
+
+use crate::output::{WriteFault, put};
+use crate::table::character_of;
+use crate::told::TellingWrite;
+use arrayvec::ArrayVec;
+
+/// How many bytes of a text go out in one piece.
+const PIECE: usize = 64;
+
+/// How many bytes such a piece has at most in its printed form.
+const ROOM: usize = 4 * PIECE;
+
+/// A text can be shown between two of these, so it is never printed as itself.
+const QUOTATION_MARK: u8 = b'"';
+
+const UPPER_DIGITS: [u8; 16] = *b"0123456789ABCDEF";
+
+/// Writes a text in its printed form, in pieces of 64 bytes of the text.
+///
+/// # Errors
+///
+/// [`WriteFault`] at the first write that fails. What was taken before it is out.
+pub fn write_text<W: TellingWrite>(bytes: &[u8], writer: &mut W) -> Result<(), WriteFault>
+    ensures ok { OnOk result
+        (Appends (W.contents writer.old) (W.contents writer.new) (printed bytes.now)) }
+    ensures err { OnErr result
+        (AppendsPrefix (W.contents writer.old) (W.contents writer.new) (printed bytes.now)) }
+    ensures none { OnOk result (W.failures writer.new ≡ W.failures writer.old) }
+    ensures fault { OnErr result (Failed (W.failures writer.old) (W.failures writer.new)) }
+{
+    for piece in bytes.chunks(PIECE) {
+        let mut line = ArrayVec::<u8, ROOM>::new();
+        push_text(piece, &mut line);
+        put(line.as_slice(), writer)?;
+    }
+    Ok(())
+}
+
+/// Appends the printed form of a text to a line that has room for four bytes for each of the
+/// text's, so that a whole line can go out in one write.
+pub fn push_text<const N: usize>(text: &[u8], line: &mut ArrayVec<u8, N>)
+    requires { length line.old.items + 4 * length text.now ≤ N }
+    ensures { line.new.items ≡ line.old.items ++ printed text.now }
+{
+    for &byte in text {
+        push_byte(byte, line);
+    }
+}
+
+/// Appends the printed form of one byte of a text to a line.
+fn push_byte<const N: usize>(byte: u8, line: &mut ArrayVec<u8, N>)
+    requires { length line.old.items + 4 ≤ N }
+    ensures { line.new.items ≡ line.old.items ++ printed_byte byte }
+{
+    match shown_character(byte) {
+        Some(character) => {
+            let mut utf8 = [0; 4];
+            let utf8 = character.encode_utf8(&mut utf8);
+            line.try_extend_from_slice(utf8.as_bytes()).unwrap();
+        }
+        None => {
+            let escape = [b'\\', b'x', upper_digit(byte / 16), upper_digit(byte % 16)];
+            line.try_extend_from_slice(&escape).unwrap();
+        }
+    }
+}
+
+/// The character that a byte is printed as, if it isn't printed by its number.
+fn shown_character(byte: u8) -> Option<char>
+    ensures { result ≡ shown_character byte }
+{
+    if byte == QUOTATION_MARK {
+        None
+    } else {
+        character_of(byte)
+    }
+}
+
+/// The hexadecimal digit of a number below 16.
+fn upper_digit(number: u8) -> u8
+    requires { number < 16 }
+    ensures { result ≡ upper_digit number }
+{
+    UPPER_DIGITS[usize::from(number)]
+}

@@ -1,0 +1,148 @@
+//! The bytes of a text that is given in its printed form.
+
+ghost use Rattle.std.specs.Prelude.{◌≡◌, ◌≤◌, ◌<◌, ◌+◌, ◌*◌, ◌++◌, ◌∷◌, ◌↔◌, [], ℕ, List};
+ghost use Rattle.std.specs.Prelude.{length, take, drop, encode_utf8};
+ghost use Rattle.std.specs.Prelude.{IfOk, IfErr, OnErr, IfSome, IfNone};
+ghost use Rattle.rds_charset.specs.Faults.{StopsBy};
+ghost use Rattle.rds_charset.specs.ReadAs.{Begins, BeginsDigit, BeginsNoDigit, BeginsNoPiece};
+ghost use Rattle.rds_charset.specs.ReadAs.{HasBadEscape, HasNoRoom, HasUnknownCharacter};
+ghost use Rattle.rds_charset.specs.ReadAs.{IsReadAs, StopsAt};
+
+use crate::table::byte_of;
+
+/// Why a text can't be read. Places are counted in bytes from the start of the text.
+#[derive(Clone, Copy, Debug, PartialEq, Eq)]
+pub enum TextFault {
+    /// The backslash at this place begins no escape.
+    BadEscape(usize),
+
+    /// The character that begins at this place isn't in the table.
+    NoSuchCharacter(usize),
+
+    /// The text can be read, and gives more bytes than the slice has.
+    NoRoom,
+}
+
+/// Reads the printed form of a text into the front of a slice, and gives the number of its bytes.
+///
+/// A text that was printed gives the bytes that it was printed from. The rest of the slice stays
+/// as it was.
+///
+/// # Errors
+///
+/// [`TextFault::BadEscape`] or [`TextFault::NoSuchCharacter`], whichever stands first in the text,
+/// and [`TextFault::NoRoom`] where the text can be read. The slice is then as it was.
+pub fn read_text(text: &str, into: &mut [u8]) -> Result<usize, TextFault>
+    ensures read { (bytes : List ℕ) → IsReadAs text.now bytes → length bytes ≤ length into.old
+        → result ≡ Ok (length bytes) }
+    ensures count { IfOk result (λ count. count ≤ length into.new) }
+    ensures bytes { IfOk result (λ count. IsReadAs text.now (take count into.new)) }
+    ensures rest { IfOk result (λ count. drop count into.new ≡ drop count into.old) }
+
+    ensures bad_escape { (place : ℕ)
+        → (result ≡ Err (TextFault.BadEscape place)) ↔ HasBadEscape text.now place }
+    ensures no_such_character { (place : ℕ)
+        → (result ≡ Err (TextFault.NoSuchCharacter place)) ↔ HasUnknownCharacter text.now place }
+    ensures no_room { (result ≡ Err TextFault.NoRoom) ↔ HasNoRoom text.now (length into.old) }
+    ensures err { OnErr result (into.new ≡ into.old) }
+{
+    let count = count_bytes(text)?;
+    if into.len() < count {
+        return Err(TextFault::NoRoom);
+    }
+    Ok(fill(text, into))
+}
+
+/// How many bytes the text is read as.
+fn count_bytes(text: &str) -> Result<usize, TextFault>
+    ensures ok { IfOk result
+        (λ count. (bytes : List ℕ) × IsReadAs text.now bytes × (length bytes ≡ count)) }
+    ensures err { IfErr result (StopsBy text.now) }
+{
+    let mut rest = text;
+    let mut count = 0;
+    while !rest.is_empty() {
+        let Some((_, after)) = first_piece(rest) else {
+            return Err(fault_at(text, text.len() - rest.len()));
+        };
+        count += 1;
+        rest = after;
+    }
+    Ok(count)
+}
+
+/// The fault of a text that stops at the place.
+fn fault_at(text: &str, place: usize) -> TextFault
+    requires { StopsAt text.now place }
+    ensures { StopsBy text.now result }
+{
+    if text.as_bytes()[place] == b'\\' {
+        TextFault::BadEscape(place)
+    } else {
+        TextFault::NoSuchCharacter(place)
+    }
+}
+
+/// Puts the bytes of a text into the front of a slice that has room for them.
+fn fill(text: &str, into: &mut [u8]) -> usize
+    requires { (bytes : List ℕ)
+        × IsReadAs text.now bytes × (length bytes ≤ length into.old) }
+    ensures count { result ≤ length into.new }
+    ensures bytes { IsReadAs text.now (take result into.new) }
+    ensures rest { drop result into.new ≡ drop result into.old }
+{
+    let mut rest = text;
+    let mut count = 0;
+    while let Some((byte, after)) = first_piece(rest) {
+        into[count] = byte;
+        count += 1;
+        rest = after;
+    }
+    count
+}
+
+/// The byte of the piece that begins the text, and what follows the piece.
+fn first_piece(text: &str) -> Option<(u8, &str)>
+    ensures some { IfSome result (λ found. Begins text.now found.0 found.1.now) }
+    ensures none { IfNone result (BeginsNoPiece text.now) }
+{
+    let (first, rest) = first_character(text)?;
+    if first == '\\' {
+        return escaped_byte(rest);
+    }
+    Some((byte_of(first)?, rest))
+}
+
+/// The byte of an escape that has lost its backslash, and what follows the escape.
+fn escaped_byte(text: &str) -> Option<(u8, &str)>
+    ensures some { IfSome result (λ found. Begins (0x5C ∷ text.now) found.0 found.1.now) }
+    ensures none { IfNone result (BeginsNoPiece (0x5C ∷ text.now)) }
+{
+    let (marker, digits) = first_character(text)?;
+    if marker != 'x' {
+        return None;
+    }
+    let (high, rest) = hex_digit(digits)?;
+    let (low, rest) = hex_digit(rest)?;
+    Some((16 * high + low, rest))
+}
+
+/// The first character of a text, and what follows it.
+fn first_character(text: &str) -> Option<(char, &str)>
+    ensures some { IfSome result (λ found. text.now ≡ encode_utf8 found.0 ++ found.1.now) }
+    ensures none { IfNone result (text.now ≡ []) }
+{
+    let mut characters = text.chars();
+    let first = characters.next()?;
+    Some((first, characters.as_str()))
+}
+
+/// The number of the hexadecimal digit that begins the text, and what follows it.
+fn hex_digit(text: &str) -> Option<(u8, &str)>
+    ensures some { IfSome result (λ found. BeginsDigit text.now found.0 found.1.now) }
+    ensures none { IfNone result (BeginsNoDigit text.now) }
+{
+    let (first, rest) = first_character(text)?;
+    let digit = first.to_digit(16)?;
+    Some((digit as u8, rest))
+}

@@ -1,0 +1,205 @@
+//! What no clause says: the characters themselves, and readers and writers that fail.
+
+use crate::{TellingRead, TextFault, Told, WriteFault, read_text, write_text};
+use std::io::{self, ErrorKind, Read, Write};
+use std::str;
+use std::test::Fail;
+
+/// A writer that takes so many bytes a call at most, and none at one of its calls.
+#[derive(Drop)]
+struct Slow {
+    held: Vec<u8>,
+    most: usize,
+    calls: usize,
+    idle_at: usize,
+}
+
+impl Slow {
+    fn new(rt: &HostRuntime, most: usize, idle_at: usize) -> Slow {
+        Slow {
+            held: Vec::new(rt.alloc()),
+            most,
+            calls: 0,
+            idle_at,
+        }
+    }
+}
+
+impl Write for Slow {
+    fn write(&mut self, buf: &[u8]) -> io::Result<usize> {
+        self.calls = self.calls.wrapping_add(1);
+        if self.calls == self.idle_at {
+            return Ok(0);
+        }
+        self.held.write(&buf[..buf.len().min(self.most)])
+    }
+
+    fn flush(&mut self) -> io::Result<()> {
+        Ok(())
+    }
+}
+
+/// A reader whose second read fails.
+#[derive(Drop)]
+struct Failing<'a> {
+    left: &'a [u8],
+    reads: u8,
+}
+
+impl Read for Failing<'_> {
+    fn read(&mut self, buf: &mut [u8]) -> io::Result<usize> {
+        self.reads = self.reads.wrapping_add(1);
+        if self.reads == 2 {
+            return Err(io::Error::from(ErrorKind::Other));
+        }
+        self.left.read(buf)
+    }
+}
+
+fn printed(rt: &HostRuntime, bytes: &[u8]) -> Result<Vec<u8>, Fail> {
+    let mut out = Vec::new(rt.alloc());
+    write_text(bytes, &mut Told::new(&mut out))?;
+    Ok(out)
+}
+
+#[test]
+fn accents_and_euro(rt: HostRuntime) -> Result<(), Fail> {
+    let out = printed(&rt, &[0x43, 0x61, 0x66, 0x82, 0x20, 0xA9])?;
+    assert_eq!(rt; out.as_slice(), "Café €".as_bytes());
+
+    let rows = [
+        (0x20, " !"),
+        (0x23, "#"),
+        (
+            0x25,
+            "%&'()*+,-./0123456789:;<=>?@ABCDEFGHIJKLMNOPQRSTUVWXYZ[",
+        ),
+        (0x5D, "]"),
+        (0x5F, "_"),
+        (0x61, "abcdefghijklmnopqrstuvwxyz{|}"),
+        (0x80, "áàéèíìóòúùÑÇ"),
+        (0x90, "âäêëîïôöûüñç"),
+        (0xA9, "€£$"),
+        (0xC0, "ÁÀÉÈÍÌÓÒÚÙ"),
+        (0xD0, "ÂÄÊËÎÏÔÖÛÜ"),
+    ];
+    for (first, characters) in rows {
+        let mut bytes = Vec::new(rt.alloc());
+        for (place, _) in characters.chars().enumerate() {
+            bytes.push((first + place) as u8)?;
+        }
+        let out = printed(&rt, bytes.as_slice())?;
+        assert_eq!(rt; out.as_slice(), characters.as_bytes());
+    }
+    Ok(())
+}
+
+#[test]
+fn escaped_bytes(rt: HostRuntime) -> Result<(), Fail> {
+    let out = printed(&rt, &[0x22, 0x5C, 0x24])?;
+    assert_eq!(rt; out.as_slice(), b"\\x22\\x5C\\x24".as_slice());
+    let out = printed(&rt, &[0x00, 0x1F, 0x5E, 0x60, 0x7E, 0x7F, 0x8C, 0xAC, 0xFF])?;
+    let wanted = b"\\x00\\x1F\\x5E\\x60\\x7E\\x7F\\x8C\\xAC\\xFF";
+    assert_eq!(rt; out.as_slice(), wanted.as_slice());
+    Ok(())
+}
+
+#[test]
+fn read_back(rt: HostRuntime) {
+    let mut into = [0u8; 4];
+    assert_eq!(rt; read_text("Caf\\x82", &mut into), Ok(4));
+    assert_eq!(rt; into, [0x43, 0x61, 0x66, 0x82]);
+    assert_eq!(rt; read_text("$5", &mut into), Ok(2));
+    assert_eq!(rt; into, [0xAB, 0x35, 0x66, 0x82]);
+    assert_eq!(rt; read_text("\"\\xaBé", &mut into), Ok(3));
+    assert_eq!(rt; into, [0x22, 0xAB, 0x82, 0x82]);
+    assert_eq!(rt; read_text("", &mut into), Ok(0));
+
+    assert_eq!(rt; read_text("a\\x4", &mut into), Err(TextFault::BadEscape(1)));
+    assert_eq!(rt;
+        read_text("éa\\X41", &mut into),
+        Err(TextFault::BadEscape(3))
+    );
+    assert_eq!(rt;
+        read_text("aŽ", &mut into),
+        Err(TextFault::NoSuchCharacter(1))
+    );
+    assert_eq!(rt;
+        read_text("€ŽŽ\\", &mut into),
+        Err(TextFault::NoSuchCharacter(3))
+    );
+    assert_eq!(rt;
+        read_text("aaaaaaaa~", &mut into),
+        Err(TextFault::NoSuchCharacter(8))
+    );
+    assert_eq!(rt; into, [0x22, 0xAB, 0x82, 0x82]);
+
+    let mut short = [7u8; 2];
+    assert_eq!(rt; read_text("abc", &mut short), Err(TextFault::NoRoom));
+    assert_eq!(rt; short, [7, 7]);
+}
+
+#[test]
+fn each_byte_read_back(rt: HostRuntime) -> Result<(), Fail> {
+    for byte in 0..=255u8 {
+        let out = printed(&rt, &[byte])?;
+        let mut into = [0u8; 2];
+        assert_eq!(rt;
+            read_text(str::from_utf8(out.as_slice())?, &mut into),
+            Ok(1)
+        );
+        assert_eq!(rt; into, [byte, 0]);
+    }
+    Ok(())
+}
+
+#[test]
+fn long_text_is_whole(rt: HostRuntime) -> Result<(), Fail> {
+    let out = printed(&rt, &[0xFF; 130])?;
+    assert_eq!(rt; out.len(), 520);
+    assert!(rt;
+        out.as_slice()
+            .chunks(4)
+            .all(|escape| escape == b"\\xFF".as_slice())
+    );
+    Ok(())
+}
+
+#[test]
+fn slow_writer_gets_all(rt: HostRuntime) {
+    let mut slow = Slow::new(&rt, 1, 0);
+    let mut told = Told::new(&mut slow);
+    assert_eq!(rt; write_text(&[0x82, 0xA9], &mut told), Ok(()));
+    assert_eq!(rt; told.failures(), 0);
+    assert_eq!(rt; slow.calls, 5);
+    assert_eq!(rt; slow.held.as_slice(), "é€".as_bytes());
+}
+
+#[test]
+fn idle_writer_is_a_fault(rt: HostRuntime) {
+    let whole = "é€".as_bytes();
+    for idle_at in 1..=whole.len() {
+        let mut slow = Slow::new(&rt, 1, idle_at);
+        let mut told = Told::new(&mut slow);
+        assert_eq!(rt; write_text(&[0x82, 0xA9], &mut told), Err(WriteFault));
+        assert_eq!(rt; told.failures(), 1);
+        assert_eq!(rt; slow.calls, idle_at);
+        assert_eq!(rt; slow.held.as_slice(), &whole[..idle_at - 1]);
+    }
+}
+
+#[test]
+fn failed_reads_are_counted(rt: HostRuntime) {
+    let mut told = Told::new(Failing {
+        left: b"abc",
+        reads: 0,
+    });
+    let mut buf = [0u8; 2];
+    assert_eq!(rt; told.read_one(&mut buf), Some(2));
+    assert_eq!(rt; told.read_one(&mut buf), None);
+    assert_eq!(rt; told.failures(), 1);
+    assert_eq!(rt; told.read_one(&mut buf), Some(1));
+    assert_eq!(rt; buf, [b'c', b'b']);
+    assert_eq!(rt; told.read_one(&mut buf), Some(0));
+    assert_eq!(rt; told.failures(), 1);
+}

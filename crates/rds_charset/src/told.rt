@@ -1,0 +1,118 @@
+//! Readers and writers that count their failures, so that a program can tell them from an end.
+
+ghost use Rattle.std.specs.Prelude.{◌≡◌, ℕ};
+ghost use Rattle.rds_charset.specs.Told.{failures_of, inner_of, ReadsOne, WritesOne};
+
+use std::io::{self, Read, Write};
+
+/// A reader that counts the reads of it that failed.
+///
+/// A caller that is told `None` knows that the count rose, or that it stood at 2^64 - 1, and a
+/// caller of that caller can find the failure by the count alone.
+pub trait TellingRead: Read {
+    ghost failures: { Self → ℕ };
+
+    /// Asks the reader once for bytes, and gives how many it put at the front of `buf`.
+    ///
+    /// `Some(0)` means the end, unless `buf` is empty. `None` means a failure: no byte was taken
+    /// from the reader, and what `buf` has is of no use. An interrupted read is a failure too. A
+    /// count that stands at 2^64 - 1 can't rise, so then nothing is asked of the reader.
+    fn read_one(&mut self, buf: &mut [u8]) -> Option<usize>
+        ensures { ReadsOne (Self.remaining self.old) (Self.remaining self.new)
+            (failures self.old) (failures self.new) result buf.new };
+}
+
+/// A writer that counts the writes to it that failed.
+pub trait TellingWrite: Write {
+    ghost failures: { Self → ℕ };
+
+    /// Offers the bytes to the writer once, and gives how many of the first of them it took.
+    ///
+    /// `None` means a failure: no byte was taken. A writer that takes no byte of a piece that has
+    /// some has failed, since it would be asked for ever. As for [`TellingRead::read_one`],
+    /// nothing is asked where the count stands at 2^64 - 1.
+    fn write_one(&mut self, buf: &[u8]) -> Option<usize>
+        ensures { WritesOne (Self.contents self.old) (Self.contents self.new)
+            (failures self.old) (failures self.new) result buf.now };
+}
+
+/// A reader or a writer with the number of its failures so far.
+///
+/// Its bytes are those of the reader or writer that it wraps. The plain `read`, `write` and
+/// `flush` pass through it and count nothing.
+#[derive(Drop)]
+pub struct Told<T> {
+    inner: T,
+    failures: u64,
+}
+
+impl<T> Told<T> {
+    /// Wraps a reader or a writer that hasn't failed yet.
+    pub fn new(inner: T) -> Told<T>
+        ensures wraps { inner_of result ≡ inner }
+        ensures unfailed { failures_of result ≡ 0 }
+    {
+        Told { inner, failures: 0 }
+    }
+
+    /// How many calls of `read_one` and `write_one` failed.
+    pub fn failures(&self) -> u64
+        ensures { result ≡ failures_of self.now }
+    {
+        self.failures
+    }
+}
+
+impl<T: Read> Read for Told<T> {
+    ghost remaining = { λ told. T.remaining (inner_of told) };
+
+    fn read(&mut self, buf: &mut [u8]) -> io::Result<usize> {
+        self.inner.read(buf)
+    }
+}
+
+impl<T: Write> Write for Told<T> {
+    ghost contents = { λ told. T.contents (inner_of told) };
+
+    fn write(&mut self, buf: &[u8]) -> io::Result<usize> {
+        self.inner.write(buf)
+    }
+
+    fn flush(&mut self) -> io::Result<()> {
+        self.inner.flush()
+    }
+}
+
+impl<T: Read> TellingRead for Told<T> {
+    ghost failures = { failures_of };
+
+    fn read_one(&mut self, buf: &mut [u8]) -> Option<usize> {
+        if self.failures == u64::MAX {
+            return None;
+        }
+        match self.inner.read(buf) {
+            Ok(count) => Some(count),
+            Err(_) => {
+                self.failures += 1;
+                None
+            }
+        }
+    }
+}
+
+impl<T: Write> TellingWrite for Told<T> {
+    ghost failures = { failures_of };
+
+    fn write_one(&mut self, buf: &[u8]) -> Option<usize> {
+        if self.failures == u64::MAX {
+            return None;
+        }
+        match self.inner.write(buf) {
+            Ok(count) if count > 0 || buf.is_empty() => Some(count),
+            _ => {
+                self.failures += 1;
+                None
+            }
+        }
+    }
+}
