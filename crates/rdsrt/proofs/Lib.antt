@@ -1,0 +1,8 @@
+pub mod SaidLemmas
+pub mod Receipts
+pub mod Views
+pub mod FirstBytes
+pub mod Going
+pub mod Ending
+pub mod Words
+pub mod OneOutput

@@ -1,0 +1,10 @@
+pub mod LogLines
+pub mod LineSays
+pub mod TextShown
+pub mod Receiving
+pub mod Output
+pub mod Decoding
+pub mod Viewing
+pub mod Standing
+pub mod Engine
+pub mod Run
