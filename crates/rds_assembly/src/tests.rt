@@ -29,17 +29,17 @@ fn two_segments(rt: HostRuntime) {
     assert_eq!(rt; text.whole(), None);
 }
 
-/// A text of 64 bytes has no carriage return.
+/// A text of 64 bytes has no carriage return, and one of 63 the last byte for it.
 #[test]
 fn longest_text(rt: HostRuntime) {
     let mut text: Assembly<RadioText> = Assembly::new();
     for address in 0..16u8 {
-        assert_eq!(rt; text.whole(), None);
+        assert!(rt; text.whole().is_none());
         text.put(address, *b"AAAA");
     }
-    assert_eq!(rt; text.whole(), Some([b'A'; 64].as_slice()));
+    assert_eq!(rt; text.whole().map(|shown| shown.len()), Some(64));
     text.put(15, *b"AAA\r");
-    assert_eq!(rt; text.whole(), Some([b'A'; 63].as_slice()));
+    assert_eq!(rt; text.whole().map(|shown| shown.len()), Some(63));
 }
 
 /// Both segments of a name are wanted, in either order; a carriage return is an ordinary byte of it.
