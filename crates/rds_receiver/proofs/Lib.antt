@@ -1,0 +1,7 @@
+pub mod Runs
+pub mod Pairs
+pub mod Steps
+pub mod Longest
+pub mod OneView
+pub mod Shows
+pub mod WorkedRows

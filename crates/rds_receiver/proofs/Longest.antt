@@ -1,0 +1,140 @@
+-- The run is the longest last part that is chained.
+use Rattle.std.proofs.Common.{◌≡◌, ◌⊎◌, ◌+◌, ◌<◌, ◌≤◌, ◌&&◌, ◌++◌, ℕ, Bool, true, false, nat_lt, List, [], ◌∷◌, length, refl, sym, ap, subst, inl, inr, arith}
+use Rattle.std.specs.Prelude.{if◌then◌else◌}
+use Rattle.std.specs.List.{All}
+use Rattle.std.proofs.lemmas.List.Elements.{All-cons, All-head, All-nil, All-tail}
+use Rattle.std.proofs.lemmas.Bool.{cases_lt}
+use Rattle.rds_receiver.specs.Receipts.{Segment}
+use Rattle.rds_receiver.specs.Run.{is_same, run, run_before}
+use Rattle.rds_receiver.specs.Chained.{IsChained}
+use Rattle.rds_receiver.proofs.Runs.{run_over, run_recent, same_is, test_false, test_true}
+
+-- these segments go on, from the newest on, what so far begins with flag f in slot s
+abbrev GoOn : ℕ → Bool → ℕ → List Segment → Type 0
+GoOn m f s [] = Unit {0}
+GoOn m f s (g ∷ older) = (g.piece.flag ≡ f) × (s < g.slot + m) × GoOn m f g.slot older
+
+is_same-true : (f g : Bool) → is_same f g ≡ true → g ≡ f
+is_same-true true true e = refl
+is_same-true false false e = refl
+is_same-true true false e = absurd (cc)
+is_same-true false true e = absurd (cc)
+
+and-true : (a b : Bool) → (a && b) ≡ true → (a ≡ true) × (b ≡ true)
+and-true true true e = (refl, refl)
+and-true true false e = absurd (cc)
+and-true false b e = absurd (cc)
+
+test_below : (a b : ℕ) → nat_lt a b ≡ true → a < b
+test_below a b e = by (cases_lt a b)
+  where
+    by : (a < b) ⊎ (b ≤ a) → a < b
+    by (inl h) = h
+    by (inr h) =
+        let no : nat_lt a b ≡ false = test_false a b h in
+        absurd (cc)
+
+-- what a run so far begins goes on, where the tests hold
+go_on_if : (m s : ℕ) (f : Bool) (g : Segment) (rest : List Segment) (b : Bool) → (is_same f g.piece.flag && nat_lt s (g.slot + m)) ≡ b → GoOn m f g.slot rest
+    → GoOn m f s (if b then g ∷ rest else [])
+go_on_if m s f g rest true e go =
+    let both = and-true (is_same f g.piece.flag) (nat_lt s (g.slot + m)) e in
+    (is_same-true f g.piece.flag both.0, test_below s (g.slot + m) both.1, go)
+go_on_if m s f g rest false e go = tt
+
+-- what stands before a segment of the run goes on
+before_goes_on : (m s : ℕ) (f : Bool) (segs : List Segment) → GoOn m f s (run_before m f s segs)
+before_goes_on m s f [] = tt
+before_goes_on m s f (g ∷ older) =
+    go_on_if m s f g (run_before m f g.slot older) (is_same f g.piece.flag && nat_lt s (g.slot + m)) refl (before_goes_on m g.slot f older)
+
+flags_of : (m s : ℕ) (f : Bool) (segs : List Segment) → GoOn m f s segs → All (λ g. g.piece.flag ≡ f) segs
+flags_of m s f [] go = All-nil (λ g. g.piece.flag ≡ f)
+flags_of m s f (g ∷ older) go = All-cons (λ g. g.piece.flag ≡ f) g older go.0 (flags_of m g.slot f older go.2)
+
+near_of : (m s : ℕ) (f : Bool) (segs newer older : List Segment) (g h : Segment) → GoOn m f s segs → segs ≡ newer ++ g ∷ h ∷ older → g.slot < h.slot + m
+near_of m s f [] [] older g h go e = absurd (cc)
+near_of m s f [] (n ∷ newer) older g h go e = absurd (cc)
+near_of m s f (x ∷ []) [] older g h go e =
+    let tail : [] ≡ h ∷ older = (cc) in
+    absurd (cc)
+near_of m s f (x ∷ y ∷ rest) [] older g h go e =
+    let first : x ≡ g = (cc) in
+    let second : y ≡ h = (cc) in
+    let one : x.slot ≡ g.slot = ap (λ (z : Segment). z.slot) first in
+    let two : y.slot ≡ h.slot = ap (λ (z : Segment). z.slot) second in
+    let near : x.slot < y.slot + m = go.2.1 in
+    omega arith
+near_of m s f (x ∷ rest) (n ∷ newer) older g h go e =
+    let tail : rest ≡ newer ++ g ∷ h ∷ older = (cc) in
+    near_of m x.slot f rest newer older g h go.2 tail
+
+none_chained : (m t : ℕ) → IsChained m t []
+none_chained m t = record {
+  flag = false;
+  one_flag = All-nil (λ g. g.piece.flag ≡ false);
+  near = λ newer older g h e. near_of m t false [] newer older g h tt e;
+  recent = λ g older e. absurd (cc);
+}
+
+goes_on_chained : (m t : ℕ) (g : Segment) (older : List Segment) → t < g.slot + m → GoOn m g.piece.flag g.slot older → IsChained m t (g ∷ older)
+goes_on_chained m t g older h go = record {
+  flag = g.piece.flag;
+  one_flag = All-cons (λ x. x.piece.flag ≡ g.piece.flag) g older refl (flags_of m g.slot g.piece.flag older go);
+  near = λ newer rest a b e. near_of m t g.piece.flag (g ∷ older) newer rest a b (refl, h, go) e;
+  recent = λ a rest e.
+      let same : g ≡ a = (cc) in
+      let slot : g.slot ≡ a.slot = ap (λ (x : Segment). x.slot) same in
+      omega arith;
+}
+
+-- the run is chained
+pub run_chained : (m t : ℕ) (segs : List Segment) → IsChained m t (run m t segs)
+run_chained m t [] = none_chained m t
+run_chained m t (g ∷ older) = by (cases_lt t (g.slot + m))
+  where
+    by : (t < g.slot + m) ⊎ (g.slot + m ≤ t) → IsChained m t (run m t (g ∷ older))
+    by (inl h) =
+        subst (λ (r : List Segment). IsChained m t r) (sym (run_recent m t g older h)) (goes_on_chained m t g (run_before m g.piece.flag g.slot older) h (before_goes_on m g.slot g.piece.flag older))
+    by (inr h) = subst (λ (r : List Segment). IsChained m t r) (sym (run_over m t g older h)) (none_chained m t)
+
+part_if : (b : Bool) (g : Segment) (rest front : List Segment) → ((older : List Segment) × (rest ≡ front ++ older)) → (older : List Segment) × (g ∷ rest ≡ (if b then g ∷ front else []) ++ older)
+part_if true g rest front (older, e) = (older, ap (λ (xs : List Segment). g ∷ xs) e)
+part_if false g rest front (older, e) = (g ∷ rest, refl)
+
+before_last : (m s : ℕ) (f : Bool) (segs : List Segment) → (older : List Segment) × (segs ≡ run_before m f s segs ++ older)
+before_last m s f [] = ([], refl)
+before_last m s f (g ∷ rest) = part_if (is_same f g.piece.flag && nat_lt s (g.slot + m)) g rest (run_before m f g.slot rest) (before_last m g.slot f rest)
+
+-- the run is a last part of the segments
+pub run_last : (m t : ℕ) (segs : List Segment) → (older : List Segment) × (segs ≡ run m t segs ++ older)
+run_last m t [] = ([], refl)
+run_last m t (g ∷ rest) = part_if (nat_lt t (g.slot + m)) g rest (run_before m g.piece.flag g.slot rest) (before_last m g.slot g.piece.flag rest)
+
+-- the segments behind the newest of a chain go on
+go_of : (m : ℕ) (f : Bool) (g : Segment) (rest : List Segment) → All (λ x. x.piece.flag ≡ f) rest
+    → ((newer older : List Segment) (a b : Segment) → g ∷ rest ≡ newer ++ a ∷ b ∷ older → a.slot < b.slot + m) → GoOn m f g.slot rest
+go_of m f g [] flags near = tt
+go_of m f g (h ∷ rest) flags near = (
+  All-head (λ x. x.piece.flag ≡ f) h rest flags,
+  near [] rest g h refl,
+  go_of m f h rest (All-tail (λ x. x.piece.flag ≡ f) h rest flags) (λ newer older a b e. near (g ∷ newer) older a b (ap (λ (xs : List Segment). g ∷ xs) e)),
+)
+
+before_longest : (m s : ℕ) (f : Bool) (front older : List Segment) → GoOn m f s front → length front ≤ length (run_before m f s (front ++ older))
+before_longest m s f [] older go = omega arith
+before_longest m s f (g ∷ front) older go =
+    let rest = before_longest m g.slot f front older go.2 in
+    let same : is_same f g.piece.flag ≡ true = rw go.0 (same_is f) in
+    let longer : length (g ∷ front) ≤ length (g ∷ run_before m f g.slot (front ++ older)) = omega arith in
+    rw (same, test_true s (g.slot + m) go.1) longer
+
+-- no longer last part is chained
+pub run_longest : (m t : ℕ) (front older : List Segment) → IsChained m t front → length front ≤ length (run m t (front ++ older))
+run_longest m t [] older chain = omega arith
+run_longest m t (g ∷ front) older chain =
+    let flag : g.piece.flag ≡ chain.flag = All-head (λ x. x.piece.flag ≡ chain.flag) g front chain.one_flag in
+    let go = go_of m chain.flag g front (All-tail (λ x. x.piece.flag ≡ chain.flag) g front chain.one_flag) chain.near in
+    let rest = before_longest m g.slot g.piece.flag front older (subst (λ (f : Bool). GoOn m f g.slot front) (sym flag) go) in
+    let longer : length (g ∷ front) ≤ length (g ∷ run_before m g.piece.flag g.slot (front ++ older)) = omega arith in
+    rw (run_recent m t g (front ++ older) (chain.recent g front refl)) longer

@@ -1,0 +1,91 @@
+-- How the pair held goes on from slot to slot.
+use Rattle.std.proofs.Common.{◌≡◌, ◌+◌, ◌<◌, ◌≤◌, ◌&&◌, ℕ, Bool, true, false, nat_lt, List, [], ◌∷◌, Option, Some, None, length, refl, sym, ap, ◌∙◌, arith}
+use Rattle.std.specs.Prelude.{if◌then◌else◌}
+use Rattle.rds_fields.specs.declared.message.Message.{Message}
+use Rattle.rds_fields.specs.declared.message.Message.TheVariants.{Text, Name, Announce, Tags, Other}
+use Rattle.rds_fields.specs.Tag.{PairFields}
+use Rattle.rds_receiver.specs.Receipts.{Piece, Segment, picked, segments, with_segment}
+use Rattle.rds_receiver.specs.Run.{begins_in, is_same, run, run_before}
+use Rattle.rds_receiver.specs.Standing.{HoldsRun}
+use Rattle.rds_receiver.specs.State.{HeldSegments}
+use Rattle.rds_receiver.specs.Tags.{is_known, pair_from, pair_since, says_of_rtplus, unless_contrary}
+use Rattle.rds_receiver.proofs.Runs.{and_false, test_false, test_true}
+
+-- segments that all came before slot n
+abbrev pub AllBelow : ℕ → List Segment → Type 0
+AllBelow n [] = Unit {0}
+AllBelow n (g ∷ older) = (g.slot < n) × AllBelow n older
+
+below_later : (n k : ℕ) (segs : List Segment) → n ≤ k → AllBelow n segs → AllBelow k segs
+below_later n k [] h all = tt
+below_later n k (g ∷ older) h all = (let l = all.0 in omega arith, below_later n k older h all.1)
+
+below_if : (n : ℕ) (b : Bool) (segs : List Segment) → AllBelow n segs → AllBelow n (if b then segs else [])
+below_if n true segs all = all
+below_if n false segs all = tt
+
+before_below : (m n s : ℕ) (f : Bool) (segs : List Segment) → AllBelow n segs → AllBelow n (run_before m f s segs)
+before_below m n s f [] all = tt
+before_below m n s f (g ∷ older) all = below_if n (is_same f g.piece.flag && nat_lt s (g.slot + m)) (g ∷ run_before m f g.slot older) (all.0, before_below m n g.slot f older all.1)
+
+run_below : (m n t : ℕ) (segs : List Segment) → AllBelow n segs → AllBelow n (run m t segs)
+run_below m n t [] all = tt
+run_below m n t (g ∷ older) all = below_if n (nat_lt t (g.slot + m)) (g ∷ run_before m g.piece.flag g.slot older) (all.0, before_below m n g.slot g.piece.flag older all.1)
+
+with_below : (slot n : ℕ) (o : Option Piece) (segs : List Segment) → slot < n → AllBelow slot segs → AllBelow n (with_segment slot o segs)
+with_below slot n None segs h all = below_later slot n segs (omega arith) all
+with_below slot n (Some p) segs h all = (h, below_later slot n segs (omega arith) all)
+
+segments_below : (pick : Message → Option Piece) (first : ℕ) (heard : List (Option Message)) → AllBelow (first + length heard) (segments pick first heard)
+segments_below pick first [] = tt
+segments_below pick first (x ∷ before) = with_below (first + length before) (first + length (x ∷ before)) (picked pick x) (segments pick first before) (omega arith) (segments_below pick first before)
+
+unless_none : (says : Option Bool) → unless_contrary says None ≡ None
+unless_none None = refl
+unless_none (Some true) = refl
+unless_none (Some false) = refl
+
+-- no pair came later than the newest slot
+pub none_since : (first since : ℕ) (heard : List (Option Message)) → first + length heard ≤ since + 1 → pair_since first since heard ≡ None
+none_since first since [] h = refl
+none_since first since (None ∷ before) h = none_since first since before (omega arith)
+none_since first since (Some (Tags pair) ∷ before) h =
+    rw (test_false since (first + length before) (omega arith), and_false (is_known before)) (none_since first since before (omega arith))
+none_since first since (Some (Announce code bits aid) ∷ before) h =
+    ap (unless_contrary (says_of_rtplus code aid)) (none_since first since before (omega arith)) ∙ unless_none (says_of_rtplus code aid)
+none_since first since (Some (Text f a b) ∷ before) h = none_since first since before (omega arith)
+none_since first since (Some (Name f a b) ∷ before) h = none_since first since before (omega arith)
+none_since first since (Some Other ∷ before) h = none_since first since before (omega arith)
+
+-- a text's segment that goes on the run leaves the pair
+pub pair_goes_on : (first n : ℕ) (heard : List (Option Message)) (f : Bool) (a : ℕ) (b : List ℕ) (g : Segment) (older : List Segment) → n ≡ first + length heard → g.slot ≡ n
+    → pair_from first (begins_in older) heard ≡ pair_from first (begins_in (g ∷ older)) (Some (Text f a b) ∷ heard)
+pair_goes_on first n heard f a b g [] at here = sym (none_since first g.slot heard (omega arith))
+pair_goes_on first n heard f a b g (o ∷ older) at here = from (begins_in (o ∷ older))
+  where
+    from : (begins : Option ℕ) → pair_from first begins heard ≡ pair_from first begins (Some (Text f a b) ∷ heard)
+    from None = refl
+    from (Some since) = refl
+
+-- nothing that is neither a text nor tags nor an announcement changes the pair
+pub pair_of_none : (first : ℕ) (begins : Option ℕ) (heard : List (Option Message)) → pair_from first begins heard ≡ pair_from first begins (None ∷ heard)
+pair_of_none first None heard = refl
+pair_of_none first (Some since) heard = refl
+
+-- and while it is known they are held, where a run is
+tags_known : (first : ℕ) (g : Segment) (older : List Segment) (heard : List (Option Message)) (pair : PairFields) → AllBelow (first + length heard) (g ∷ older) → is_known heard ≡ true
+    → Some pair ≡ pair_from first (begins_in (g ∷ older)) (Some (Tags pair) ∷ heard)
+tags_known first g [] heard pair all h = rw (h, test_true g.slot (first + length heard) all.0) refl
+tags_known first g (o ∷ older) heard pair all h = tags_known first o older heard pair all.1 h
+
+tags_taken_by : (m n first : ℕ) (the_run : List Segment) (heard : List (Option Message)) (pair : PairFields) (held : HeldSegments) → AllBelow (first + length heard) the_run
+    → HoldsRun m n the_run held → held.age < m → is_known heard ≡ true
+    → Some pair ≡ pair_from first (begins_in the_run) (Some (Tags pair) ∷ heard)
+tags_taken_by m n first [] heard pair held all st young h = absurd (omega (arith, st.age))
+tags_taken_by m n first (g ∷ older) heard pair held all st young h = tags_known first g older heard pair all h
+
+pub tags_taken : (m n first : ℕ) (pick : Message → Option Piece) (heard : List (Option Message)) (pair : PairFields) (held : HeldSegments)
+    → HoldsRun m n (run m n (segments pick first heard)) held → held.age < m → is_known heard ≡ true
+    → Some pair ≡ pair_from first (begins_in (run m n (segments pick first heard))) (Some (Tags pair) ∷ heard)
+tags_taken m n first pick heard pair held st young h =
+    tags_taken_by m n first (run m n (segments pick first heard)) heard pair held (run_below m (first + length heard) n (segments pick first heard) (segments_below pick first heard)) st young h

@@ -1,0 +1,96 @@
+-- How the run and what is held of it go on from slot to slot.
+use Rattle.std.proofs.Common.{◌≡◌, ◌≢◌, ◌⊎◌, ◌+◌, ◌<◌, ◌≤◌, ◌&&◌, ℕ, Bool, true, false, nat_lt, List, [], ◌∷◌, Option, refl, sym, ap, ◌∙◌, subst, inl, inr, arith}
+use Rattle.std.specs.FinMap.{empty, insert}
+use Rattle.std.proofs.lemmas.Bool.{cases_lt}
+use Rattle.std.proofs.lemmas.Bool.Decides.{nat_tests}
+use Rattle.rds_fields.specs.declared.message.Message.{Message}
+use Rattle.rds_receiver.specs.Receipts.{Piece, Segment, segments}
+use Rattle.rds_receiver.specs.Run.{cells_of, is_same, run, run_at, run_before}
+use Rattle.rds_receiver.specs.Standing.{HasFlag, HoldsRun, newest_slot}
+use Rattle.rds_receiver.specs.State.{HeldSegments}
+
+pub test_true : (a b : ℕ) → a < b → nat_lt a b ≡ true
+test_true a b h = grind (arith, nat_tests)
+
+pub test_false : (a b : ℕ) → b ≤ a → nat_lt a b ≡ false
+test_false a b h = grind (arith, nat_tests)
+
+pub and_false : (b : Bool) → (b && false) ≡ false
+and_false true = refl
+and_false false = refl
+
+pub same_is : (f : Bool) → is_same f f ≡ true
+same_is true = refl
+same_is false = refl
+
+pub other_is : (f g : Bool) → f ≢ g → is_same f g ≡ false
+other_is true true h = absurd (h refl)
+other_is false false h = absurd (h refl)
+other_is true false h = refl
+other_is false true h = refl
+
+pub equal_or_not : (f g : Bool) → (f ≡ g) ⊎ (f ≢ g)
+equal_or_not true true = inl refl
+equal_or_not false false = inl refl
+equal_or_not true false = inr (λ e. (cc))
+equal_or_not false true = inr (λ e. (cc))
+
+-- the run of segments of which the newest is recent
+pub run_recent : (m t : ℕ) (g : Segment) (older : List Segment) → t < g.slot + m → run m t (g ∷ older) ≡ g ∷ run_before m g.piece.flag g.slot older
+run_recent m t g older h = rw (test_true t (g.slot + m) h) refl
+
+-- the run of segments of which the newest is not
+pub run_over : (m t : ℕ) (g : Segment) (older : List Segment) → g.slot + m ≤ t → run m t (g ∷ older) ≡ []
+run_over m t g older h = rw (test_false t (g.slot + m) h) refl
+
+-- the run at the newest slot
+pub run_at_newest : (pick : Message → Option Piece) (m first : ℕ) (heard : List (Option Message)) → run m (newest_slot first heard) (segments pick first heard) ≡ run_at pick m first heard
+run_at_newest pick m first [] = refl
+run_at_newest pick m first (x ∷ before) = refl
+
+-- before a segment with the flag of the run stands the run
+pub before_same : (m n : ℕ) (f : Bool) (segs : List Segment) → HasFlag (run m n segs) f → run_before m f n segs ≡ run m n segs
+before_same m n f [] h = refl
+before_same m n f (g ∷ older) h = by_age (cases_lt n (g.slot + m))
+  where
+    by_age : (n < g.slot + m) ⊎ (g.slot + m ≤ n) → run_before m f n (g ∷ older) ≡ run m n (g ∷ older)
+    by_age (inl l) =
+        let flag : f ≡ g.piece.flag = subst (λ (r : List Segment). HasFlag r f) (run_recent m n g older l) h in
+        let same : is_same f g.piece.flag ≡ true = rw flag (same_is g.piece.flag) in
+        let kept : run_before m f n (g ∷ older) ≡ g ∷ run_before m g.piece.flag g.slot older = rw (same, test_true n (g.slot + m) l) (ap (λ (x : Bool). g ∷ run_before m x g.slot older) flag) in
+        kept ∙ sym (run_recent m n g older l)
+    by_age (inr l) =
+        let kept : run_before m f n (g ∷ older) ≡ [] = rw (test_false n (g.slot + m) l, and_false (is_same f g.piece.flag)) refl in
+        kept ∙ sym (run_over m n g older l)
+
+-- and before one with the other flag nothing
+pub before_other : (m n : ℕ) (f f' : Bool) (segs : List Segment) → HasFlag (run m n segs) f' → f ≢ f' → run_before m f n segs ≡ []
+before_other m n f f' [] h ne = refl
+before_other m n f f' (g ∷ older) h ne = by_age (cases_lt n (g.slot + m))
+  where
+    by_age : (n < g.slot + m) ⊎ (g.slot + m ≤ n) → run_before m f n (g ∷ older) ≡ []
+    by_age (inl l) =
+        let flag : f' ≡ g.piece.flag = subst (λ (r : List Segment). HasFlag r f') (run_recent m n g older l) h in
+        rw (other_is f g.piece.flag (λ e. ne (e ∙ sym flag))) refl
+    by_age (inr l) = rw (test_false n (g.slot + m) l, and_false (is_same f g.piece.flag)) refl
+
+-- what is held once a segment was taken
+pub held_taken : (m n : ℕ) (segs : List Segment) (p : Piece) (h after : HeldSegments) → 0 < m
+    → (p.flag ≡ h.flag → after.cells ≡ insert h.cells p.address p.bytes) → (p.flag ≢ h.flag → after.cells ≡ insert empty p.address p.bytes)
+    → after.flag ≡ p.flag → after.age ≡ 0
+    → HoldsRun m n (run m n segs) h → HoldsRun m n (run m n (record { slot = n; piece = p } ∷ segs)) after
+held_taken m n segs p h after some same other flag age st =
+    let now : HoldsRun m n (record { slot = n; piece = p } ∷ run_before m p.flag n segs) after = record {
+      cells = by_flag (equal_or_not p.flag h.flag);
+      flag = flag;
+      age = omega arith;
+    } in
+    subst (λ (r : List Segment). HoldsRun m n r after) (sym (run_recent m n record { slot = n; piece = p } segs (omega arith))) now
+  where
+    by_flag : (p.flag ≡ h.flag) ⊎ (p.flag ≢ h.flag) → after.cells ≡ insert (cells_of (run_before m p.flag n segs)) p.address p.bytes
+    by_flag (inl e) =
+        let goes_on = before_same m n p.flag segs (subst (λ (f : Bool). HasFlag (run m n segs) f) (sym e) st.flag) in
+        same e ∙ ap (λ cells. insert cells p.address p.bytes) st.cells ∙ ap (λ (r : List Segment). insert (cells_of r) p.address p.bytes) (sym goes_on)
+    by_flag (inr ne) =
+        let begins = before_other m n p.flag h.flag segs st.flag ne in
+        other ne ∙ ap (λ (r : List Segment). insert (cells_of r) p.address p.bytes) (sym begins)

@@ -1,0 +1,109 @@
+-- What a receiver holds goes on as it handles a slot.
+use Rattle.std.proofs.Common.{◌≡◌, ◌≢◌, ◌⊎◌, ◌+◌, ◌<◌, ℕ, Bool, true, List, ◌∷◌, Option, Some, None, length, refl, sym, ap, ◌∙◌, subst, inl, inr, arith}
+use Rattle.std.specs.FinMap.{empty, insert}
+use Rattle.rds_block.specs.declared.group.Group.{Group}
+use Rattle.rds_fields.specs.declared.message.Message.{Message}
+use Rattle.rds_fields.specs.declared.message.Message.TheVariants.{Text, Tags}
+use Rattle.rds_fields.specs.Tag.{PairFields}
+use Rattle.rds_receiver.specs.Receipts.{Hears, Piece, Segment, name_piece, segments, text_piece}
+use Rattle.rds_receiver.specs.Run.{begins_in, run, run_before}
+use Rattle.rds_receiver.specs.Standing.{HasFlag, HoldsAt, HoldsRun, StandsAt}
+use Rattle.rds_receiver.specs.State.{HeldSegments, ReceiverState}
+use Rattle.rds_receiver.specs.Tags.{pair_from}
+use Rattle.rds_receiver.proofs.Runs.{before_other, before_same, equal_or_not, held_taken, run_recent}
+use Rattle.rds_receiver.proofs.Pairs.{none_since, pair_goes_on, pair_of_none, tags_taken}
+
+-- nothing heard
+pub nothing_heard : (m first : ℕ) (r : ReceiverState) (heard : List (Option Message)) → HoldsAt m (first + length heard) first r heard → HoldsAt m (first + length heard) first r (None ∷ heard)
+nothing_heard m first r heard st = record {
+  dwell = st.dwell;
+  lasts = st.lasts;
+  text = st.text;
+  name = st.name;
+  pair = st.pair ∙ pair_of_none first (begins_in (run m (first + length heard) (segments text_piece first heard))) heard;
+  known = st.known;
+}
+
+-- what held segments are once one was taken
+pub record Takes (p : Piece) (h after : HeldSegments) : Type 0 where
+  pub same : p.flag ≡ h.flag → after.cells ≡ insert h.cells p.address p.bytes
+  pub other : p.flag ≢ h.flag → after.cells ≡ insert empty p.address p.bytes
+  pub flag : after.flag ≡ p.flag
+  pub age : after.age ≡ 0
+
+-- a text's segment
+text_heard : (m first : ℕ) (r after : ReceiverState) (heard : List (Option Message)) (f : Bool) (a : ℕ) (b : List ℕ)
+    → after.dwell ≡ r.dwell → after.is_known ≡ r.is_known → after.name ≡ r.name → Takes record { flag = f; address = a; bytes = b } r.text after.text
+    → (f ≡ r.text.flag → after.pair ≡ r.pair) → (f ≢ r.text.flag → after.pair ≡ None)
+    → HoldsAt m (first + length heard) first r heard → HoldsAt m (first + length heard) first after (Some (Text f a b) ∷ heard)
+text_heard m first r after heard f a b dwell known name takes stays gone st = record {
+  dwell = dwell ∙ st.dwell;
+  lasts = st.lasts;
+  text = held_taken m n segs p r.text after.text st.lasts takes.same takes.other takes.flag takes.age st.text;
+  name = subst (λ (h : HeldSegments). HoldsRun m (first + length heard) (run m (first + length heard) (segments name_piece first heard)) h) (sym name) st.name;
+  pair = by_flag (equal_or_not f r.text.flag) ∙ ap (λ (x : List Segment). pair_from first (begins_in x) (Some (Text f a b) ∷ heard)) (sym (run_recent m n g segs (omega (arith, st.lasts))));
+  known = known ∙ st.known;
+}
+  where
+    n : ℕ
+    n = first + length heard
+
+    segs : List Segment
+    segs = segments text_piece first heard
+
+    p : Piece
+    p = record { flag = f; address = a; bytes = b }
+
+    g : Segment
+    g = record { slot = n; piece = p }
+
+    by_flag : (f ≡ r.text.flag) ⊎ (f ≢ r.text.flag) → after.pair ≡ pair_from first (begins_in (g ∷ run_before m f n segs)) (Some (Text f a b) ∷ heard)
+    by_flag (inl e) =
+        let goes_on = before_same m n f segs (subst (λ (x : Bool). HasFlag (run m n segs) x) (sym e) st.text.flag) in
+        stays e ∙ st.pair ∙ pair_goes_on first n heard f a b g (run m n segs) refl refl
+        ∙ ap (λ (x : List Segment). pair_from first (begins_in (g ∷ x)) (Some (Text f a b) ∷ heard)) (sym goes_on)
+    by_flag (inr ne) =
+        let begins = before_other m n f r.text.flag segs st.text.flag ne in
+        gone ne ∙ sym (none_since first n heard (omega arith))
+        ∙ ap (λ (x : List Segment). pair_from first (begins_in (g ∷ x)) (Some (Text f a b) ∷ heard)) (sym begins)
+
+-- tags that are taken
+pub tags_heard : (m first : ℕ) (r : ReceiverState) (heard : List (Option Message)) (pair : PairFields) → r.is_known ≡ true → r.text.age < m
+    → HoldsAt m (first + length heard) first r heard → HoldsAt m (first + length heard) first record r { pair = Some pair } (Some (Tags pair) ∷ heard)
+tags_heard m first r heard pair known young st = record {
+  dwell = st.dwell;
+  lasts = st.lasts;
+  text = st.text;
+  name = st.name;
+  pair = tags_taken m (first + length heard) first text_piece heard pair r.text st.text young (sym st.known ∙ known);
+  known = st.known;
+}
+
+-- the whole slot
+pub slot_stands : (pi m first : ℕ) (r after : ReceiverState) (input : List (Option Group)) (slot : Option Group) (message : Option Message) (st : StandsAt pi m first r input)
+    → Hears pi slot message → after.programme ≡ r.programme → HoldsAt m (first + length st.heard) first after (message ∷ st.heard) → StandsAt pi m first after (slot ∷ input)
+slot_stands pi m first r after input slot message st hears programme holds = record {
+  programme = programme ∙ st.programme;
+  heard = message ∷ st.heard;
+  are = (hears, st.are);
+  holds = holds;
+}
+
+-- a text's segment, after tags of the other flag were dropped
+pub text_heard_by : (m first : ℕ) (r between after : ReceiverState) (heard : List (Option Message)) (f : Bool) (a : ℕ) (b : List ℕ)
+    → (f ≡ r.text.flag → between ≡ r) → (f ≢ r.text.flag → between ≡ record r { pair = None }) → Takes record { flag = f; address = a; bytes = b } between.text after.text
+    → after ≡ record between { text = after.text }
+    → HoldsAt m (first + length heard) first r heard → HoldsAt m (first + length heard) first after (Some (Text f a b) ∷ heard)
+text_heard_by m first r between after heard f a b same other takes is st = by (equal_or_not f r.text.flag)
+  where
+    by : (f ≡ r.text.flag) ⊎ (f ≢ r.text.flag) → HoldsAt m (first + length heard) first after (Some (Text f a b) ∷ heard)
+    by (inl e) =
+        let now : after ≡ record r { text = after.text } = is ∙ ap (λ (x : ReceiverState). record x { text = after.text }) (same e) in
+        let took = subst (λ (x : ReceiverState). Takes record { flag = f; address = a; bytes = b } x.text after.text) (same e) takes in
+        text_heard m first r after heard f a b (ap (λ (x : ReceiverState). x.dwell) now) (ap (λ (x : ReceiverState). x.is_known) now) (ap (λ (x : ReceiverState). x.name) now)
+        took (λ _. ap (λ (x : ReceiverState). x.pair) now) (λ ne. absurd (ne e)) st
+    by (inr ne) =
+        let now : after ≡ record r { text = after.text; pair = None } = is ∙ ap (λ (x : ReceiverState). record x { text = after.text }) (other ne) in
+        let took = subst (λ (x : ReceiverState). Takes record { flag = f; address = a; bytes = b } x.text after.text) (other ne) takes in
+        text_heard m first r after heard f a b (ap (λ (x : ReceiverState). x.dwell) now) (ap (λ (x : ReceiverState). x.is_known) now) (ap (λ (x : ReceiverState). x.name) now)
+        took (λ e. absurd (ne e)) (λ _. ap (λ (x : ReceiverState). x.pair) now) st

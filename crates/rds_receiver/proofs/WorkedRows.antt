@@ -1,0 +1,114 @@
+-- Rows worked by hand, for the definitions. Lists have the newest first; each name gives the slots that it covers.
+use Rattle.std.proofs.Common.{◌≡◌, ℕ, Bool, true, false, List, [], ◌∷◌, Option, Some, None, refl}
+use Rattle.std.specs.FinMap.{empty, insert}
+use Rattle.rds_fields.specs.declared.message.Message.{Message}
+use Rattle.rds_fields.specs.declared.message.Message.TheVariants.{Text, Name, Announce, Tags}
+use Rattle.rds_fields.specs.declared.pair.Which.TheVariants.{One}
+use Rattle.rds_fields.specs.Tag.{PairFields}
+use Rattle.rds_receiver.specs.Receipts.{Segment, name_piece, text_piece}
+use Rattle.rds_receiver.specs.Run.{begins_in, cells_of, run_at}
+use Rattle.rds_receiver.specs.Tags.{is_known, item_of, pair_held, tag_of}
+
+abbrev Heard : Type 0
+Heard = List (Option Message)
+
+abbrev segment : ℕ → Bool → ℕ → List ℕ → Segment
+segment slot flag address bytes = record { slot = slot; piece = record { flag = flag; address = address; bytes = bytes } }
+
+abbrev hi : List ℕ
+hi = 72 ∷ 73 ∷ 13 ∷ 32 ∷ []
+
+-- class 1 from character 0 on, two characters, of an item that runs; and the dummy
+abbrev title : PairFields
+title = record {
+  toggle = false;
+  running = true;
+  one = record { class = 1; start = 0; extra = 1 };
+  two = record { class = 0; start = 0; extra = 0 };
+}
+
+-- one segment is held at the ends of slots 0 to 3, and not at that of slot 4
+one_held : run_at text_piece 4 0 (None ∷ None ∷ None ∷ Some (Text false 0 hi) ∷ []) ≡ segment 0 false 0 hi ∷ []
+one_held = refl
+
+one_over : run_at text_piece 4 0 (None ∷ None ∷ None ∷ None ∷ Some (Text false 0 hi) ∷ []) ≡ []
+one_over = refl
+
+-- a segment that comes in slot 4 is alone
+second_too_late : run_at text_piece 4 0 (Some (Text false 1 hi) ∷ None ∷ None ∷ None ∷ Some (Text false 0 hi) ∷ []) ≡ segment 4 false 1 hi ∷ []
+second_too_late = refl
+
+-- two segments of the first song in slots 6 and 8, and the third song in slots 20, 22 and 24
+abbrev skipped : Heard
+skipped =
+    Some (Text false 2 (78 ∷ 71 ∷ 13 ∷ 32 ∷ [])) ∷ None ∷ Some (Text false 1 (68 ∷ 32 ∷ 83 ∷ 79 ∷ [])) ∷ None ∷ Some (Text false 0 (84 ∷ 72 ∷ 73 ∷ 82 ∷ [])) ∷ None ∷ None ∷ None ∷ None ∷ None
+    ∷ None ∷ None ∷ None ∷ None ∷ None ∷ None ∷ Some (Text false 2 (78 ∷ 71 ∷ 13 ∷ 32 ∷ [])) ∷ None ∷ Some (Text false 1 (84 ∷ 32 ∷ 83 ∷ 79 ∷ [])) ∷ None ∷ None ∷ None ∷ None ∷ None ∷ None ∷ []
+
+skipped_run : run_at text_piece 4 0 skipped
+    ≡ segment 24 false 2 (78 ∷ 71 ∷ 13 ∷ 32 ∷ []) ∷ segment 22 false 1 (68 ∷ 32 ∷ 83 ∷ 79 ∷ []) ∷ segment 20 false 0 (84 ∷ 72 ∷ 73 ∷ 82 ∷ []) ∷ []
+skipped_run = refl
+
+skipped_cells : cells_of (run_at text_piece 4 0 skipped)
+    ≡ insert (insert (insert empty 0 (84 ∷ 72 ∷ 73 ∷ 82 ∷ [])) 1 (68 ∷ 32 ∷ 83 ∷ 79 ∷ [])) 2 (78 ∷ 71 ∷ 13 ∷ 32 ∷ [])
+skipped_cells = refl
+
+-- an announcement of another application on 11A takes the pair away
+abbrev announced : Heard
+announced = Some (Tags title) ∷ Some (Text false 0 hi) ∷ Some (Announce 22 0 0x4BD7) ∷ []
+
+announced_item : item_of (Some (72 ∷ 73 ∷ [])) (pair_held 128 0 announced) ≡ Some (false, true)
+announced_item = refl
+
+announced_tag : tag_of One (Some (72 ∷ 73 ∷ [])) (pair_held 128 0 announced) ≡ Some (1, 72 ∷ 73 ∷ [])
+announced_tag = refl
+
+contrary_pair : pair_held 128 0 (Some (Announce 22 0 0xCD46) ∷ announced) ≡ None
+contrary_pair = refl
+
+-- the encoder that keeps none of the rules, up to the slots 5, 6, 8, 9 and 12
+abbrev foreign_5 : Heard
+foreign_5 =
+    Some (Tags title) ∷ Some (Announce 22 0 0x4BD7) ∷ Some (Tags title) ∷ Some (Text false 0 hi) ∷ Some (Text false 1 (13 ∷ 32 ∷ 32 ∷ 32 ∷ [])) ∷ Some (Text false 0 (65 ∷ 66 ∷ 66 ∷ 65 ∷ [])) ∷ []
+
+abbrev foreign_6 : Heard
+foreign_6 = Some (Text true 0 (89 ∷ 79 ∷ 13 ∷ 32 ∷ [])) ∷ foreign_5
+
+abbrev foreign_8 : Heard
+foreign_8 = Some (Tags title) ∷ Some (Text false 0 (13 ∷ 65 ∷ 32 ∷ 32 ∷ [])) ∷ foreign_6
+
+abbrev foreign_9 : Heard
+foreign_9 = Some (Announce 20 0 0x4BD7) ∷ foreign_8
+
+abbrev foreign_12 : Heard
+foreign_12 =
+    Some (Name true 0 (74 ∷ 13 ∷ 90 ∷ 90 ∷ [])) ∷ Some (Name true 1 (32 ∷ 70 ∷ 77 ∷ 32 ∷ [])) ∷ Some (Name false 0 (74 ∷ 13 ∷ 90 ∷ 90 ∷ [])) ∷ foreign_9
+
+foreign_5_begins : begins_in (run_at text_piece 4 0 foreign_5) ≡ Some 0
+foreign_5_begins = refl
+
+foreign_5_pair : pair_held 4 0 foreign_5 ≡ Some title
+foreign_5_pair = refl
+
+foreign_6_run : run_at text_piece 4 0 foreign_6 ≡ segment 6 true 0 (89 ∷ 79 ∷ 13 ∷ 32 ∷ []) ∷ []
+foreign_6_run = refl
+
+foreign_6_pair : pair_held 4 0 foreign_6 ≡ None
+foreign_6_pair = refl
+
+foreign_8_item : item_of (Some []) (pair_held 4 0 foreign_8) ≡ Some (false, true)
+foreign_8_item = refl
+
+foreign_8_tag : tag_of One (Some []) (pair_held 4 0 foreign_8) ≡ None
+foreign_8_tag = refl
+
+foreign_9_pair : pair_held 4 0 foreign_9 ≡ None
+foreign_9_pair = refl
+
+foreign_9_known : is_known foreign_9 ≡ false
+foreign_9_known = refl
+
+foreign_12_text : run_at text_piece 4 0 foreign_12 ≡ []
+foreign_12_text = refl
+
+foreign_12_name : run_at name_piece 4 0 foreign_12 ≡ segment 12 true 0 (74 ∷ 13 ∷ 90 ∷ 90 ∷ []) ∷ segment 11 true 1 (32 ∷ 70 ∷ 77 ∷ 32 ∷ []) ∷ []
+foreign_12_name = refl

@@ -1,0 +1,5 @@
+use Rattle.rds_receiver.proofs.OneView.{same_view}
+use Rattle.rds_receiver.proofs.laws.one_view.Goals as goal
+
+pub returns : goal.returns
+returns c = same_view

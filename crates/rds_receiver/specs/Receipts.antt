@@ -1,0 +1,60 @@
+-- What a receiver heard: the messages of the groups that it was handed and that have its programme
+-- identification, and among them the segments of texts and of names, each with the slot it came in.
+-- Every list has the newest first. The first entry of an input stands in slot `first`, so the slot of an entry is
+-- `first` and as many more as there are entries before it.
+use Rattle.std.specs.Prelude.{◌≡◌, ◌≢◌, ◌⊎◌, ◌+◌, ℕ, Bool, List, [], ◌∷◌, Option, Some, None, MatchOption, length}
+use Rattle.std.specs.List.{AllZip}
+use Rattle.rds_block.specs.declared.group.Group.{Group}
+use Rattle.rds_fields.specs.declared.message.Message.{Message}
+use Rattle.rds_fields.specs.declared.message.Message.TheVariants.{Text, Name, Announce, Tags, Other}
+use Rattle.rds_fields.specs.Spells.{Spells}
+
+-- what a receiver of this programme hears in a slot: nothing where no group came, or another programme's
+abbrev pub Hears : ℕ → Option Group → Option Message → Type 0
+Hears pi None heard = heard ≡ None
+Hears pi (Some g) heard = ((g.pi ≡ pi) × MatchOption heard ⊥ (λ m. Spells m g)) ⊎ ((g.pi ≢ pi) × (heard ≡ None))
+
+-- what it hears in each slot of its input
+abbrev pub AreHeard : ℕ → List (Option Group) → List (Option Message) → Type 0
+AreHeard pi input heard = AllZip (Hears pi) input heard
+
+-- four bytes of a text or a name at their address, with the A/B flag
+pub record Piece : Type 0 where
+  pub flag : Bool
+  pub address : ℕ
+  pub bytes : List ℕ
+
+-- the piece of a text that a message carries
+abbrev pub text_piece : Message → Option Piece
+text_piece (Text f a b) = Some record { flag = f; address = a; bytes = b }
+text_piece (Name f a b) = None
+text_piece (Announce code bits aid) = None
+text_piece (Tags pair) = None
+text_piece Other = None
+
+-- the piece of a name that a message carries
+abbrev pub name_piece : Message → Option Piece
+name_piece (Text f a b) = None
+name_piece (Name f a b) = Some record { flag = f; address = a; bytes = b }
+name_piece (Announce code bits aid) = None
+name_piece (Tags pair) = None
+name_piece Other = None
+
+-- a segment that was received, with the slot it came in
+pub record Segment : Type 0 where
+  pub slot : ℕ
+  pub piece : Piece
+
+-- what is picked of what was heard in a slot
+abbrev pub picked : (Message → Option Piece) → Option Message → Option Piece
+picked pick None = None
+picked pick (Some m) = pick m
+
+abbrev pub with_segment : ℕ → Option Piece → List Segment → List Segment
+with_segment slot None older = older
+with_segment slot (Some p) older = record { slot = slot; piece = p } ∷ older
+
+-- the segments among what was heard
+abbrev pub segments : (Message → Option Piece) → ℕ → List (Option Message) → List Segment
+segments pick first [] = []
+segments pick first (heard ∷ before) = with_segment (first + length before) (picked pick heard) (segments pick first before)

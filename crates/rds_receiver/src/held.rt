@@ -1,0 +1,94 @@
+//! The segments of one service that are held, with their flag and their age.
+ghost use Rattle.std.specs.Prelude.{◌≡◌, ◌≢◌, ◌+◌, ◌<◌, ◌≤◌, ◌↔◌, IsTrue, IfSome, length};
+ghost use Rattle.std.specs.FinMap.{empty, insert};
+ghost use Rattle.std.specs.Option.{option_copied};
+ghost use Rattle.rds_receiver.specs.Shown.{IsShown};
+ghost use Rattle.rds_receiver.specs.State.{HeldSegments};
+
+use rds_assembly::{Assembly, Service};
+use std::marker::Model;
+
+/// Segments with one flag. Their age is the number of slots since the newest came; it stops at the dwell, and
+/// there nothing is held.
+#[derive(Drop)]
+pub(crate) struct Held<S: Service> {
+    segments: Assembly<S>,
+    flag: bool,
+    age: u16,
+}
+
+impl<S: Service> Model for Held<S> {
+    ghost use Rattle.rds_receiver.specs.State.{HeldSegments, held_code};
+
+    ghost Value = { HeldSegments };
+
+    ghost coded = { held_code };
+
+    ghost view = { λ h. record { cells = h.segments; flag = h.flag; age = h.age } };
+}
+
+impl<S: Service> Held<S> {
+    /// Nothing held; the dwell is in slots.
+    pub(crate) fn new(dwell: u16) -> Self
+        ensures cells { result.cells ≡ empty }
+        ensures age { result.age ≡ dwell }
+    {
+        Held {
+            segments: Assembly::new(),
+            flag: false,
+            age: dwell,
+        }
+    }
+
+    /// One slot older; what reaches the dwell is given up.
+    pub(crate) fn grow_older(&mut self, dwell: u16)
+        ensures gone { dwell ≤ self.old.age → self.new ≡ self.old }
+        ensures older { self.old.age + 1 < dwell → self.new ≡ record self.old { age = self.old.age + 1 } }
+        ensures over { self.old.age + 1 ≡ dwell → self.new ≡ record self.old { cells = empty; age = dwell } }
+    {
+        if self.age >= dwell {
+            return;
+        }
+        self.age += 1;
+        if self.age == dwell {
+            self.segments.clear();
+        }
+    }
+
+    /// Takes a segment; those with the other flag are given up first.
+    pub(crate) fn take(&mut self, flag: bool, address: u8, bytes: [u8; 4])
+        requires { address < S.SEGMENTS }
+        ensures same { flag ≡ self.old.flag → self.new.cells ≡ insert self.old.cells address bytes }
+        ensures other { flag ≢ self.old.flag → self.new.cells ≡ insert empty address bytes }
+        ensures flag { self.new.flag ≡ flag }
+        ensures age { self.new.age ≡ 0 }
+    {
+        if flag != self.flag {
+            self.segments.clear();
+        }
+        self.segments.put(address, bytes);
+        self.flag = flag;
+        self.age = 0;
+    }
+
+    /// Whether segments are held.
+    pub(crate) fn is_held(&self, dwell: u16) -> bool
+        ensures { IsTrue result ↔ (self.now.age < dwell) }
+    {
+        self.age < dwell
+    }
+
+    /// Whether the flag is this one.
+    pub(crate) fn has_flag(&self, flag: bool) -> bool
+        ensures { IsTrue result ↔ (self.now.flag ≡ flag) }
+    {
+        self.flag == flag
+    }
+
+    /// The value that the segments make whole, lent.
+    pub(crate) fn whole(&self) -> Option<&[u8]>
+        ensures { IsShown S.is_whole self.now.cells (option_copied result) }
+    {
+        self.segments.whole()
+    }
+}

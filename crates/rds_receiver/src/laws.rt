@@ -1,0 +1,21 @@
+//! What holds of all runs and views.
+ghost use Rattle.std.specs.Prelude.{◌≡◌, ◌≤◌, ◌++◌, ℕ, List, Option, length};
+ghost use Rattle.rds_block.specs.declared.group.Group.{Group};
+ghost use Rattle.rds_receiver.specs.Chained.{IsChained};
+ghost use Rattle.rds_receiver.specs.Receipts.{Segment};
+ghost use Rattle.rds_receiver.specs.Run.{run};
+ghost use Rattle.rds_receiver.specs.Shown.{IsView, View};
+
+/// The run is the longest last part of the segments received that is chained: with one flag, neighbours less than
+/// the dwell apart, and the newest less than the dwell ago.
+pub fn run_is_the_longest()
+    ensures last { (m t : ℕ) (segments : List Segment) → (older : List Segment) × (segments ≡ run m t segments ++ older) }
+    ensures chained { (m t : ℕ) (segments : List Segment) → IsChained m t (run m t segments) }
+    ensures longest { (m t : ℕ) (front older : List Segment) → IsChained m t front
+        → length front ≤ length (run m t (front ++ older)) }
+{}
+
+/// An input has one view.
+pub fn one_view()
+    ensures { (pi m first : ℕ) (input : List (Option Group)) (v w : View) → IsView pi m first input v → IsView pi m first input w → v ≡ w }
+{}

@@ -1,0 +1,205 @@
+//! A receiver, slot by slot.
+ghost use Rattle.std.specs.Prelude.{◌≡◌, ◌≢◌, ◌+◌, ◌<◌, ◌≤◌, ◌↔◌, ℕ, Bool, List, [], ◌∷◌, Option, Some, None, IsTrue, IfSome, length, option_map};
+ghost use Rattle.std.specs.Option.{option_copied};
+ghost use Rattle.rds_block.specs.declared.group.Group.{Group};
+ghost use Rattle.rds_fields.specs.declared.message.Message.{Message};
+ghost use Rattle.rds_receiver.specs.Shown.{IsNameShown, IsTextShown};
+ghost use Rattle.rds_receiver.specs.Standing.{HoldsAt, StandsAt, newest_slot};
+ghost use Rattle.rds_receiver.specs.State.{ReceiverState};
+ghost use Rattle.rds_receiver.specs.Tags.{item_of, or_before, pair_held, says_of_rtplus, tag_of, unless_contrary};
+
+use crate::held::Held;
+use rds_assembly::{RadioText, TypeName};
+use rds_block::Group;
+use rds_fields::{Dwell, Message, TagPair, Which};
+use std::marker::Model;
+
+/// The code of group type 11A, which carries the tags (IEC 62106, group 3A).
+const RTPLUS_CODE: u8 = 22;
+
+/// The application identification of RadioText Plus (IEC 62106-6).
+const RTPLUS_AID: u16 = 0x4BD7;
+
+/// Shows the text, the name and the tags of one programme. Every group is taken, from any encoder.
+#[derive(Drop)]
+pub struct Receiver {
+    pi: u16,
+    dwell: Dwell,
+    text: Held<RadioText>,
+    name: Held<TypeName>,
+    pair: Option<TagPair>,
+    knows_rtplus: bool,
+}
+
+impl Model for Receiver {
+    ghost use Rattle.rds_receiver.specs.State.{ReceiverState, receiver_code};
+
+    ghost Value = { ReceiverState };
+
+    ghost coded = { receiver_code };
+
+    ghost view = { λ r. record {
+      programme = r.pi;
+      dwell = r.dwell;
+      text = r.text;
+      name = r.name;
+      pair = r.pair;
+      is_known = r.knows_rtplus;
+    } };
+}
+
+impl Receiver {
+    /// A receiver of this programme that heard nothing yet; the dwell is in slots.
+    pub fn new(pi: u16, dwell: Dwell) -> Receiver
+        ensures stands { (first : ℕ) → StandsAt pi dwell first result [] }
+    {
+        let slots = dwell.get();
+        Receiver {
+            pi,
+            dwell,
+            text: Held::new(slots),
+            name: Held::new(slots),
+            pair: None,
+            knows_rtplus: false,
+        }
+    }
+
+    /// Handles what one slot brought: a group, or nothing. Each slot has one call.
+    pub fn slot(&mut self, group: Option<Group>)
+        ensures stands { (pi m first : ℕ) (input : List (Option Group)) → StandsAt pi m first self.old input → StandsAt pi m first self.new (group ∷ input) }
+    {
+        self.grow_older();
+        let Some(group) = group else {
+            return;
+        };
+        if group.pi != self.pi {
+            return;
+        }
+        self.hear(Message::of(&group));
+    }
+
+    /// The text shown, lent: up to 64 bytes. `Some` of no bytes is the empty text, and `None` no text.
+    pub fn text(&self) -> Option<&[u8]>
+        ensures shown { (pi m first : ℕ) (input : List (Option Group)) (s : StandsAt pi m first self.now input) → IsTextShown m first s.heard (option_copied result) }
+        ensures short { IfSome result (λ x. length x.now ≤ 64) }
+    {
+        self.text.whole()
+    }
+
+    /// The name of the programme type that is shown, lent: eight bytes.
+    pub fn name(&self) -> Option<&[u8]>
+        ensures shown { (pi m first : ℕ) (input : List (Option Group)) (s : StandsAt pi m first self.now input) → IsNameShown m first s.heard (option_copied result) }
+        ensures short { IfSome result (λ x. length x.now ≡ 8) }
+    {
+        self.name.whole()
+    }
+
+    /// The item toggle bit and the item running bit of the tags held; `None` where no text or no tags are shown.
+    pub fn item(&self) -> Option<(bool, bool)>
+        ensures shown { (pi m first : ℕ) (input : List (Option Group)) (s : StandsAt pi m first self.now input) (text : Option (List ℕ))
+            → IsTextShown m first s.heard text → result ≡ item_of text (pair_held m first s.heard) }
+    {
+        self.text()?;
+        let pair = self.pair?;
+        Some((pair.toggle(), pair.running()))
+    }
+
+    /// The class of one of the two tags and the piece of the text that it names, lent. `None` where no text or no
+    /// tags are shown, where the tag is the dummy, and where it does not end in the text.
+    pub fn tag(&self, which: Which) -> Option<(u8, &[u8])>
+        ensures shown { (pi m first : ℕ) (input : List (Option Group)) (s : StandsAt pi m first self.now input) (text : Option (List ℕ))
+            → IsTextShown m first s.heard text → option_map (λ tag. (tag.0, tag.1.now)) result ≡ tag_of which text (pair_held m first s.heard) }
+        ensures class { IfSome result (λ tag. tag.0 < 64) }
+        ensures short { IfSome result (λ tag. length tag.1.now ≤ 64) }
+    {
+        let text = self.text()?;
+        let pair = self.pair?;
+        let tag = match which {
+            Which::One => pair.one(),
+            Which::Two => pair.two(),
+        };
+        let start = tag.start() as usize;
+        let end = start + tag.extra() as usize + 1;
+        if tag.class() == 0 || end > text.len() {
+            return None;
+        }
+        Some((tag.class(), &text[start..end]))
+    }
+
+    /// One slot older. The tags go with their text.
+    fn grow_older(&mut self)
+        ensures programme { self.new.programme ≡ self.old.programme }
+        ensures holds { (m first : ℕ) (heard : List (Option Message)) → HoldsAt m (newest_slot first heard) first self.old heard
+            → HoldsAt m (first + length heard) first self.new heard }
+    {
+        let dwell = self.dwell.get();
+        self.text.grow_older(dwell);
+        self.name.grow_older(dwell);
+        if !self.text.is_held(dwell) {
+            self.pair = None;
+        }
+    }
+
+    /// Handles a message of the programme.
+    fn hear(&mut self, message: Message)
+        ensures programme { self.new.programme ≡ self.old.programme }
+        ensures holds { (m first : ℕ) (heard : List (Option Message)) → HoldsAt m (first + length heard) first self.old heard
+            → HoldsAt m (first + length heard) first self.new (Some message ∷ heard) }
+    {
+        match message {
+            Message::Text {
+                flag,
+                address,
+                bytes,
+            } => self.hear_text(flag, address.get(), bytes),
+            Message::Name {
+                flag,
+                address,
+                bytes,
+            } => self.name.take(flag, address.get(), bytes),
+            Message::Announce { code, aid, .. } => self.hear_announcement(code.get(), aid),
+            Message::Tags(pair) => self.hear_tags(pair),
+            Message::Other => {}
+        }
+    }
+
+    /// Takes a segment of a text; the tags of a text with the other flag are dropped.
+    fn hear_text(&mut self, flag: bool, address: u8, bytes: [u8; 4])
+        requires { address < 16 }
+        ensures programme { self.new.programme ≡ self.old.programme }
+        ensures holds { (m first : ℕ) (heard : List (Option Message)) → HoldsAt m (first + length heard) first self.old heard
+            → HoldsAt m (first + length heard) first self.new (Some (Message.Text flag address bytes) ∷ heard) }
+    {
+        if !self.text.has_flag(flag) {
+            self.pair = None;
+        }
+        self.text.take(flag, address, bytes);
+    }
+
+    /// Takes an announcement: that RadioText Plus is there, or the contrary, which drops the tags.
+    fn hear_announcement(&mut self, code: u8, aid: u16)
+        ensures known { self.new.is_known ≡ or_before (says_of_rtplus code aid) self.old.is_known }
+        ensures pair { self.new.pair ≡ unless_contrary (says_of_rtplus code aid) self.old.pair }
+        ensures rest { self.new ≡ record self.old { pair = self.new.pair; is_known = self.new.is_known } }
+    {
+        let fits_code = code == RTPLUS_CODE;
+        let fits_aid = aid == RTPLUS_AID;
+        if fits_code && fits_aid {
+            self.knows_rtplus = true;
+        } else if fits_code || fits_aid {
+            self.knows_rtplus = false;
+            self.pair = None;
+        }
+    }
+
+    /// Takes a pair of tags, where RadioText Plus is known and a text is received.
+    fn hear_tags(&mut self, pair: TagPair)
+        ensures programme { self.new.programme ≡ self.old.programme }
+        ensures holds { (m first : ℕ) (heard : List (Option Message)) → HoldsAt m (first + length heard) first self.old heard
+            → HoldsAt m (first + length heard) first self.new (Some (Message.Tags pair) ∷ heard) }
+    {
+        if self.knows_rtplus && self.text.is_held(self.dwell.get()) {
+            self.pair = Some(pair);
+        }
+    }
+}

@@ -1,0 +1,197 @@
+//! Tables of slots and of what is shown at the end of each.
+
+use super::*;
+use rds_block::Group;
+use rds_fields::{Dwell, Which};
+use std::process::Abort;
+use std::test::Fail;
+
+/// The programme that the receivers are of.
+const PI: u16 = 0xC201;
+
+/// What is shown: the text, the name, the item bits and the two tags.
+#[derive(Clone, Copy)]
+struct Shown {
+    text: Option<&'static [u8]>,
+    name: Option<&'static [u8]>,
+    item: Option<(bool, bool)>,
+    one: Option<(u8, &'static [u8])>,
+    two: Option<(u8, &'static [u8])>,
+}
+
+/// Nothing is shown.
+const NOTHING: Shown = Shown {
+    text: None,
+    name: None,
+    item: None,
+    one: None,
+    two: None,
+};
+
+const fn shows(text: &'static [u8]) -> Shown {
+    Shown {
+        text: Some(text),
+        ..NOTHING
+    }
+}
+
+/// The first tag, of class 1 (the title), beside the item bits of an item that runs.
+const fn shows_title(text: &'static [u8], title: Option<&'static [u8]>) -> Shown {
+    Shown {
+        text: Some(text),
+        item: Some((false, true)),
+        one: match title {
+            Some(title) => Some((1, title)),
+            None => None,
+        },
+        ..NOTHING
+    }
+}
+
+fn assert_shown(rt: &impl Abort, receiver: &Receiver, shown: Shown) {
+    assert_eq!(rt; receiver.text(), shown.text);
+    assert_eq!(rt; receiver.name(), shown.name);
+    assert_eq!(rt; receiver.item(), shown.item);
+    assert_eq!(rt; receiver.tag(Which::One), shown.one);
+    assert_eq!(rt; receiver.tag(Which::Two), shown.two);
+}
+
+/// Each slot brings these words, or nothing, and this is shown at its end.
+fn assert_slots(
+    rt: &impl Abort,
+    dwell: u16,
+    rows: &[(Option<[u16; 4]>, Shown)],
+) -> Result<(), Fail> {
+    let mut receiver = Receiver::new(PI, Dwell::new(dwell).ok_or("dwell")?);
+    assert_shown(rt, &receiver, NOTHING);
+    for (words, shown) in rows {
+        let group = words.map(|words| Group::from_blocks(words));
+        receiver.slot(group);
+        assert_shown(rt, &receiver, *shown);
+    }
+    Ok(())
+}
+
+/// A segment is held as long as the dwell says, and no longer.
+#[test]
+fn one_segment(rt: HostRuntime) -> Result<(), Fail> {
+    let hi = shows(b"HI");
+    let first = Some([PI, 0x2140, 0x4849, 0x0D20]);
+    let rows = [
+        (first, hi),
+        (None, hi),
+        (None, hi),
+        (None, hi),
+        (None, NOTHING),
+    ];
+    assert_slots(&rt, 4, &rows)
+}
+
+/// A second segment that comes the dwell after the first does not go on its run.
+#[test]
+fn second_segment_too_late(rt: HostRuntime) -> Result<(), Fail> {
+    let hi = shows(b"HI");
+    let rows = [
+        (Some([PI, 0x2140, 0x4849, 0x0D20]), hi),
+        (None, hi),
+        (None, hi),
+        (None, hi),
+        (Some([PI, 0x2141, 0x4849, 0x0D20]), NOTHING),
+    ];
+    assert_slots(&rt, 4, &rows)
+}
+
+/// Two segments of the first song are received, none of the second, and all of the third, which has the flag of
+/// the first: no piece of the first song is shown in it.
+#[test]
+fn two_skipped_flags(rt: HostRuntime) -> Result<(), Fail> {
+    let mut rows = [(None, NOTHING); 25];
+    rows[6].0 = Some([PI, 0x2141, 0x5420, 0x534F]);
+    rows[8].0 = Some([PI, 0x2142, 0x4E47, 0x0D20]);
+    rows[20].0 = Some([PI, 0x2140, 0x5448, 0x4952]);
+    rows[22].0 = Some([PI, 0x2141, 0x4420, 0x534F]);
+    rows[24] = (Some([PI, 0x2142, 0x4E47, 0x0D20]), shows(b"THIRD SONG"));
+    assert_slots(&rt, 4, &rows)
+}
+
+/// An announcement of another application on 11A takes the tags away.
+#[test]
+fn contrary_announcement(rt: HostRuntime) -> Result<(), Fail> {
+    let hi = shows(b"HI");
+    let rows = [
+        (Some([PI, 0x3156, 0x0000, 0x4BD7]), NOTHING),
+        (Some([PI, 0x2140, 0x4849, 0x0D20]), hi),
+        (
+            Some([PI, 0xB148, 0x2002, 0x0000]),
+            shows_title(b"HI", Some(b"HI")),
+        ),
+        (Some([PI, 0x3156, 0x0000, 0xCD46]), hi),
+    ];
+    assert_slots(&rt, 128, &rows)
+}
+
+/// An encoder that keeps none of the rules: texts that change under one flag, tags before their announcement and
+/// longer than the text, and a name in the order of addresses 1 and 0.
+#[test]
+fn foreign_encoder(rt: HostRuntime) -> Result<(), Fail> {
+    let empty = shows(b"");
+    let jazz = Shown {
+        name: Some(b"J\rZZ FM "),
+        ..NOTHING
+    };
+    let tags = Some([PI, 0xB148, 0x2002, 0x0000]);
+    let rows = [
+        (Some([PI, 0x2140, 0x4142, 0x4241]), NOTHING),
+        (Some([PI, 0x2141, 0x0D20, 0x2020]), shows(b"ABBA")),
+        (Some([PI, 0x2140, 0x4849, 0x0D20]), shows(b"HI")),
+        (tags, shows(b"HI")),
+        (Some([PI, 0x3156, 0x0000, 0x4BD7]), shows(b"HI")),
+        (tags, shows_title(b"HI", Some(b"HI"))),
+        (Some([PI, 0x2150, 0x594F, 0x0D20]), shows(b"YO")),
+        (Some([PI, 0x2140, 0x0D41, 0x2020]), empty),
+        (tags, shows_title(b"", None)),
+        (Some([PI, 0x3154, 0x0000, 0x4BD7]), empty),
+        (Some([PI, 0xA140, 0x4A0D, 0x5A5A]), empty),
+        (Some([PI, 0xA151, 0x2046, 0x4D20]), NOTHING),
+        (Some([PI, 0xA150, 0x4A0D, 0x5A5A]), jazz),
+    ];
+    assert_slots(&rt, 4, &rows)
+}
+
+/// The artist and the title of a text, which stay while its segments come again.
+#[test]
+fn two_tags(rt: HostRuntime) -> Result<(), Fail> {
+    let song = Shown {
+        text: Some(b"ABBA - WATERLOO"),
+        item: Some((true, true)),
+        one: Some((4, b"ABBA")),
+        two: Some((1, b"WATERLOO")),
+        ..NOTHING
+    };
+    let text = shows(b"ABBA - WATERLOO");
+    let rows = [
+        (Some([PI, 0x3156, 0x0000, 0x4BD7]), NOTHING),
+        (Some([PI, 0x2140, 0x4142, 0x4241]), NOTHING),
+        (Some([PI, 0x2141, 0x202D, 0x2057]), NOTHING),
+        (Some([PI, 0x2142, 0x4154, 0x4552]), NOTHING),
+        (Some([PI, 0x2143, 0x4C4F, 0x4F0D]), text),
+        (Some([PI, 0xB158, 0x8006, 0x08E7]), song),
+        (Some([PI, 0x2140, 0x4142, 0x4241]), song),
+    ];
+    assert_slots(&rt, 128, &rows)
+}
+
+/// A group of another programme is not handled, though its slot counts.
+#[test]
+fn another_programme(rt: HostRuntime) -> Result<(), Fail> {
+    let hi = shows(b"HI");
+    let rows = [
+        (Some([PI, 0x2140, 0x4849, 0x0D20]), hi),
+        (Some([0xF000, 0x2150, 0x594F, 0x0D20]), hi),
+        (Some([0xF000, 0x2140, 0x594F, 0x0D20]), NOTHING),
+    ];
+    assert_slots(&rt, 2, &rows)?;
+    run_is_the_longest();
+    one_view();
+    Ok(())
+}
