@@ -1,5 +1,4 @@
 pub mod SaidLemmas
-pub mod Receipts
 pub mod Views
 pub mod FirstBytes
 pub mod Going

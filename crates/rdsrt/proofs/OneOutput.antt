@@ -1,19 +1,17 @@
 -- The bytes of a log have one list of lines, a line says one thing, and slots have one list of views.
-use Rattle.std.proofs.Common.{◌≡◌, ◌≢◌, ◌⊎◌, ◌<◌, ℕ, List, [], ◌∷◌, ◌++◌, length, length-append, get_or, Option, Some, None, refl, sym, ap, ◌∙◌, subst, arith, inl, inr}
+use Rattle.std.proofs.Common.{◌≡◌, ◌≢◌, ◌⊎◌, ◌<◌, ℕ, List, [], ◌∷◌, ◌++◌, length, length-append, get_or, Option, Some, refl, sym, ap, ◌∙◌, subst, arith, inl, inr}
 use Rattle.std.specs.Prelude.{All}
 use Rattle.std.proofs.lemmas.List.Elements.{All-head, All-tail}
 use Rattle.std.specs.Char.{digit_value}
 use Rattle.std.proofs.lemmas.Grind.{common_steps}
 use Rattle.rds_block.specs.declared.group.Group.{Group}
 use Rattle.rds_block.proofs.SecondWord.{same_group}
-use Rattle.rds_fields.specs.declared.message.Message.{Message}
-use Rattle.rds_fields.proofs.OneMessage.{same_message}
-use Rattle.rds_assembly.specs.ServiceLaws.{one_text}
 use Rattle.rdsrt.specs.LogLines.{AreLines, IsLine, Line, line_feed, text_of}
 use Rattle.rdsrt.specs.LineSays.{Carry, IsBlock, IsMark, IsSkipped, LineSays, SaysSlot}
-use Rattle.rdsrt.specs.TextShown.{AreHeard, Hears, IsShown, IsView, View, cells_of, run_of, segments_of}
+use Rattle.rds_receiver.specs.Shown.{View}
+use Rattle.rds_receiver.proofs.OneView.{same_view}
 use Rattle.rdsrt.specs.Output.{changes_of}
-use Rattle.rdsrt.specs.Decoding.{AreSlots, AreViews, LogWrites}
+use Rattle.rdsrt.specs.Decoding.{AreSlots, AreViews, LogWrites, dwell}
 use Rattle.rdsrt.specs.declared.log_line.Block.{Block}
 use Rattle.rdsrt.specs.declared.log_line.Block.TheVariants.{Word, Missing}
 use Rattle.rdsrt.specs.declared.log_line.LogLine.{LogLine}
@@ -125,38 +123,6 @@ same_slots (line ∷ before) slots other (inr (slot, older, p, e, rest)) (inr (s
     let all : older ≡ older' = same_slots before older older' rest rest' in
     (cc)
 
--- one message is heard in a slot
-same_heard_in : (pi : ℕ) (slot : Option Group) (m n : Option Message) → Hears pi slot m → Hears pi slot n → m ≡ n
-same_heard_in pi None m n p q = p ∙ sym q
-same_heard_in pi (Some g) m n (inr (other, e)) (inr (other', f)) = e ∙ sym f
-same_heard_in pi (Some g) m n (inl (same, p)) (inr (other, f)) = absurd (other same)
-same_heard_in pi (Some g) m n (inr (other, e)) (inl (same, q)) = absurd (other same)
-same_heard_in pi (Some g) (Some m) (Some n) (inl (same, p)) (inl (same', q)) = ap Some (same_message m n g p q)
-same_heard_in pi (Some g) None n (inl (same, p)) (inl (same', q)) = absurd p
-same_heard_in pi (Some g) (Some m) None (inl (same, p)) (inl (same', q)) = absurd q
-
-same_heard : (pi : ℕ) (slots : List (Option Group)) (heard other : List (Option Message)) → AreHeard pi slots heard → AreHeard pi slots other → heard ≡ other
-same_heard pi [] [] [] p q = refl
-same_heard pi [] [] (n ∷ other) p q = absurd q
-same_heard pi [] (m ∷ heard) other p q = absurd p
-same_heard pi (slot ∷ before) [] other p q = absurd p
-same_heard pi (slot ∷ before) (m ∷ heard) [] p q = absurd q
-same_heard pi (slot ∷ before) (m ∷ heard) (n ∷ other) p q =
-    let one : m ≡ n = same_heard_in pi slot m n p.0 q.0 in
-    let all : heard ≡ other = same_heard pi before heard other p.1 q.1 in
-    (cc)
-
-same_shown : (heard : List (Option Message)) (view other : View) → IsShown heard view → IsShown heard other → view ≡ other
-same_shown heard None None p q = refl
-same_shown heard None (Some y) p q = absurd (p y q)
-same_shown heard (Some x) None p q = absurd (q x p)
-same_shown heard (Some x) (Some y) p q = ap Some (one_text (cells_of (run_of (segments_of heard))) x y p q)
-
-same_view : (pi : ℕ) (slots : List (Option Group)) (view other : View) → IsView pi slots view → IsView pi slots other → view ≡ other
-same_view pi slots view other (heard, p, shown) (heard', q, shown') =
-    let same : heard ≡ heard' = same_heard pi slots heard heard' p q in
-    same_shown heard' view other (rw same at shown) shown'
-
 same_views : (pi : ℕ) (slots : List (Option Group)) (views other : List View) → AreViews pi slots views → AreViews pi slots other → views ≡ other
 same_views pi [] [] [] p q = refl
 same_views pi [] [] (v ∷ other) p q = absurd q
@@ -164,7 +130,7 @@ same_views pi [] (v ∷ views) other p q = absurd p
 same_views pi (slot ∷ before) [] other p q = absurd p
 same_views pi (slot ∷ before) (v ∷ views) [] p q = absurd q
 same_views pi (slot ∷ before) (v ∷ views) (w ∷ other) p q =
-    let one : v ≡ w = same_view pi (slot ∷ before) v w p.0 q.0 in
+    let one : v ≡ w = same_view pi dwell 0 (slot ∷ before) v w p.0 q.0 in
     let all : views ≡ other = same_views pi before views other p.1 q.1 in
     (cc)
 

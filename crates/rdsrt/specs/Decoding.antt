@@ -4,7 +4,7 @@ use Rattle.std.specs.Prelude.{◌≡◌, ◌⊎◌, ℕ, List, [], ◌∷◌, Op
 use Rattle.rds_block.specs.declared.group.Group.{Group}
 use Rattle.rdsrt.specs.LogLines.{AreLines, Line}
 use Rattle.rdsrt.specs.LineSays.{LineSays}
-use Rattle.rdsrt.specs.TextShown.{IsView, View}
+use Rattle.rds_receiver.specs.Shown.{IsView, View}
 use Rattle.rdsrt.specs.Output.{changes_of}
 use Rattle.rdsrt.specs.declared.log_line.LogLine.TheVariants.{Skip, Slot}
 
@@ -14,12 +14,16 @@ AreSlots [] slots = slots ≡ []
 AreSlots (line ∷ before) slots = (LineSays line Skip × AreSlots before slots)
     ⊎ ((slot : Option Group) × (older : List (Option Group)) × LineSays line (Slot slot) × (slots ≡ slot ∷ older) × AreSlots before older)
 
+-- the dwell of `decode`, in slots
+abbrev pub dwell : ℕ
+dwell = 128
+
 -- these are the views at the ends of the slots
 abbrev pub AreViews : ℕ → List (Option Group) → List View → Type 0
 AreViews pi [] [] = Unit {0}
 AreViews pi [] (view ∷ older) = ⊥
 AreViews pi (slot ∷ before) [] = ⊥
-AreViews pi (slot ∷ before) (view ∷ older) = IsView pi (slot ∷ before) view × AreViews pi before older
+AreViews pi (slot ∷ before) (view ∷ older) = IsView pi dwell 0 (slot ∷ before) view × AreViews pi before older
 
 -- the slots write the changes of their views
 pub record SlotsWrite (pi : ℕ) (slots : List (Option Group)) (written : List ℕ) : Type 0 where

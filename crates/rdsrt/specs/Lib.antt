@@ -1,9 +1,8 @@
 pub mod LogLines
 pub mod LineSays
-pub mod TextShown
-pub mod Receiving
 pub mod Output
 pub mod Decoding
+pub mod Kept
 pub mod Viewing
 pub mod Standing
 pub mod Engine

@@ -1,30 +1,100 @@
--- What is written for a list of views: one line for each slot whose view differs from that of the slot
--- before, and before the first slot nothing is shown. This is the project's own format.
--- A list of views has the newest first, so the slot of a view is the number of views behind it.
-use Rattle.std.specs.Prelude.{◌++◌, ℕ, Bool, true, false, List, [], ◌∷◌, Some, None, codes, decimal, length, if◌then◌else◌}
+-- What is written for a list of views: for each slot one line for each part of its view that differs from the
+-- slot before, in the order text, name, item bits, first tag, second tag; before the first slot nothing is shown.
+-- This is the project's own format. A list of views has the newest first, so the slot of a view is the number of
+-- views behind it.
+use Rattle.std.specs.Prelude.{◌-◌, ◌==◌, ◌&&◌, ◌++◌, ℕ, Bool, true, false, List, [], ◌∷◌, Option, Some, None, codes, decimal, length, slice_get, if◌then◌else◌}
 use Rattle.std.specs.Str.{bytes_eq}
 use Rattle.rds_charset.specs.Printed.{printed}
-use Rattle.rdsrt.specs.TextShown.{View}
+use Rattle.rds_receiver.specs.Shown.{View}
 
--- whether two views show the same bytes, or both none
-abbrev pub is_same_view : View → View → Bool
-is_same_view None None = true
-is_same_view None (Some y) = false
-is_same_view (Some x) None = false
-is_same_view (Some x) (Some y) = bytes_eq x y
+-- the names of the classes from 1 on (IEC 62106-6, content types of RadioText Plus)
+abbrev pub class_names : List (List ℕ)
+class_names = codes "ITEM.TITLE" ∷ codes "ITEM.ALBUM" ∷ codes "ITEM.TRACKNUMBER" ∷ codes "ITEM.ARTIST" ∷ codes "ITEM.COMPOSITION"
+    ∷ codes "ITEM.MOVEMENT" ∷ codes "ITEM.CONDUCTOR" ∷ codes "ITEM.COMPOSER" ∷ codes "ITEM.BAND" ∷ codes "ITEM.COMMENT" ∷ codes "ITEM.GENRE" ∷ []
 
--- what is shown in a slot from now on
-abbrev pub view_line : ℕ → View → List ℕ
-view_line slot None = decimal slot ++ codes " text none\n"
-view_line slot (Some x) = decimal slot ++ codes " text \"" ++ printed x ++ codes "\"\n"
+abbrev pub class_name : ℕ → Option (List ℕ)
+class_name class = if class == 0 then None else slice_get class_names (class - 1)
 
--- the line of a slot, where its view differs from the one before
+-- a class by its name, and one that has none by its number
+abbrev pub name_or_number : Option (List ℕ) → ℕ → List ℕ
+name_or_number None class = decimal class
+name_or_number (Some name) class = name
+
+-- a text between quotation marks
+abbrev pub quoted : List ℕ → List ℕ
+quoted x = codes " \"" ++ printed x ++ codes "\""
+
+-- what follows the name of a part
+abbrev pub text_content : Option (List ℕ) → List ℕ
+text_content None = codes " none"
+text_content (Some x) = quoted x
+
+abbrev pub bit_content : Bool → List ℕ
+bit_content false = codes " 0"
+bit_content true = codes " 1"
+
+abbrev pub item_content : Option (Bool × Bool) → List ℕ
+item_content None = codes " none"
+item_content (Some bits) = bit_content bits.0 ++ bit_content bits.1
+
+abbrev pub tag_content : Option (ℕ × List ℕ) → List ℕ
+tag_content None = codes " none"
+tag_content (Some tag) = codes " " ++ name_or_number (class_name tag.0) tag.0 ++ quoted tag.1
+
+-- the line of a part
+abbrev pub line_of : ℕ → List ℕ → List ℕ → List ℕ
+line_of slot part content = decimal slot ++ codes " " ++ part ++ content ++ codes "\n"
+
+-- whether two slots show the same
+abbrev pub is_same_text : Option (List ℕ) → Option (List ℕ) → Bool
+is_same_text None None = true
+is_same_text None (Some y) = false
+is_same_text (Some x) None = false
+is_same_text (Some x) (Some y) = bytes_eq x y
+
+abbrev pub is_same_bit : Bool → Bool → Bool
+is_same_bit true true = true
+is_same_bit true false = false
+is_same_bit false true = false
+is_same_bit false false = true
+
+abbrev pub is_same_item : Option (Bool × Bool) → Option (Bool × Bool) → Bool
+is_same_item None None = true
+is_same_item None (Some y) = false
+is_same_item (Some x) None = false
+is_same_item (Some x) (Some y) = is_same_bit x.0 y.0 && is_same_bit x.1 y.1
+
+abbrev pub is_same_tag : Option (ℕ × List ℕ) → Option (ℕ × List ℕ) → Bool
+is_same_tag None None = true
+is_same_tag None (Some y) = false
+is_same_tag (Some x) None = false
+is_same_tag (Some x) (Some y) = x.0 == y.0 && bytes_eq x.1 y.1
+
+-- the line of a part, where it differs from the slot before
+abbrev pub unless_same : Bool → List ℕ → List ℕ
+unless_same true line = []
+unless_same false line = line
+
+abbrev pub text_change : ℕ → List ℕ → Option (List ℕ) → Option (List ℕ) → List ℕ
+text_change slot part before now = unless_same (is_same_text before now) (line_of slot part (text_content now))
+
+abbrev pub item_change : ℕ → Option (Bool × Bool) → Option (Bool × Bool) → List ℕ
+item_change slot before now = unless_same (is_same_item before now) (line_of slot (codes "item") (item_content now))
+
+abbrev pub tag_change : ℕ → List ℕ → Option (ℕ × List ℕ) → Option (ℕ × List ℕ) → List ℕ
+tag_change slot part before now = unless_same (is_same_tag before now) (line_of slot part (tag_content now))
+
+-- the lines of a slot
 abbrev pub change : ℕ → View → View → List ℕ
-change slot before now = if is_same_view before now then [] else view_line slot now
+change slot before now = text_change slot (codes "text") before.text now.text ++ text_change slot (codes "name") before.name now.name
+    ++ item_change slot before.item now.item ++ tag_change slot (codes "tag1") before.one now.one ++ tag_change slot (codes "tag2") before.two now.two
+
+abbrev pub nothing_shown : View
+nothing_shown = record { text = None; name = None; item = None; one = None; two = None }
 
 -- what is shown at the end
 abbrev pub newest : List View → View
-newest [] = None
+newest [] = nothing_shown
 newest (view ∷ older) = view
 
 -- the lines of all changes, the oldest first

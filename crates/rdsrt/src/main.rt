@@ -8,14 +8,16 @@
 //! ```
 #![tactic(auto)]
 
+mod change;
 mod decoder;
 mod engine;
 mod laws;
 mod log_line;
+mod output_line;
 mod run;
 #[cfg(test)]
 mod tests;
-mod text_receiver;
+mod view;
 mod view_writer;
 
 use rds_charset::{Told, put};

@@ -88,6 +88,86 @@ fn other_flag(rt: HostRuntime) -> Result<(), Fail> {
     )
 }
 
+/// A text is shown while the last segment of its run came less than 128 slots before.
+#[test]
+fn shown_for_the_dwell(rt: HostRuntime) -> Result<(), Fail> {
+    let mut input = Vec::from_slice(rt.alloc(), b"C201 2140 4849 0D20\n")?;
+    for _ in 0..130 {
+        input.extend_from_slice(b"---- ---- ---- ----\n")?;
+    }
+    all_decode(
+        &rt,
+        rt.alloc(),
+        &[(input.as_slice(), b"0 text \"HI\"\n128 text none\n")],
+    )
+}
+
+/// Both segments of a name are wanted.
+#[test]
+fn jazz_name(rt: HostRuntime) -> Result<(), Fail> {
+    all_decode(
+        &rt,
+        rt.alloc(),
+        &[
+            (
+                b"C201 A140 4A41 5A5A\nC201 A141 2046 4D20\n",
+                b"1 name \"JAZZ FM \"\n",
+            ),
+            (b"C201 A140 4A41 5A5A\n", b""),
+            (b"C201 A141 2046 4D20\n", b""),
+        ],
+    )
+}
+
+/// Tags need RadioText Plus to be known, and a contrary announcement takes them away.
+#[test]
+fn contrary_announcement(rt: HostRuntime) -> Result<(), Fail> {
+    all_decode(
+        &rt,
+        rt.alloc(),
+        &[(
+            b"C201 3156 0000 4BD7\nC201 2140 4849 0D20\nC201 B148 2002 0000\nC201 3156 0000 CD46\n",
+            b"1 text \"HI\"\n2 item 0 1\n2 tag1 ITEM.TITLE \"HI\"\n3 item none\n3 tag1 none\n",
+        )],
+    )
+}
+
+/// A class from 12 on has no name, and is printed as its number.
+#[test]
+fn class_by_number(rt: HostRuntime) -> Result<(), Fail> {
+    all_decode(
+        &rt,
+        rt.alloc(),
+        &[(
+            b"C201 3156 0000 4BD7\nC201 2140 4849 0D20\nC201 B149 8002 0000\n",
+            b"1 text \"HI\"\n2 item 0 1\n2 tag1 12 \"HI\"\n",
+        )],
+    )
+}
+
+/// The artist and the title of a text.
+#[test]
+fn waterloo_tags(rt: HostRuntime) -> Result<(), Fail> {
+    all_decode(
+        &rt,
+        rt.alloc(),
+        &[(
+            b"C201 3156 0000 4BD7
+C201 2140 4142 4241
+C201 2141 202D 2057
+C201 2142 4154 4552
+C201 2143 4C4F 4F0D
+C201 B158 8006 08E7
+",
+            b"4 text \"ABBA - WATERLOO\"
+5 item 1 1
+5 tag1 ITEM.ARTIST \"ABBA\"
+5 tag2 ITEM.TITLE \"WATERLOO\"
+",
+        )],
+    )
+}
+
 #[test]
 fn escaped_bytes(rt: HostRuntime) -> Result<(), Fail> {
     all_decode(

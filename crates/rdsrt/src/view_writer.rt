@@ -1,30 +1,26 @@
 //! The output lines for what a receiver shows.
-ghost use Rattle.std.specs.Prelude.{◌≡◌, ◌≢◌, ◌<◌, ◌≤◌, ◌+◌, ◌-◌, ◌^◌, ◌++◌, ℕ, List, [], ◌∷◌, Option, OnOk, OnErr, length, option_map};
-ghost use Rattle.std.specs.Option.{ForSome, option_copied};
+ghost use Rattle.std.specs.Prelude.{◌≡◌, ◌≤◌, ◌<◌, ◌+◌, ◌-◌, ◌^◌, ℕ, List, [], ◌∷◌, Option, OnOk, OnErr};
 ghost use Rattle.std.specs.Io.KnownBytes.{Appends};
 ghost use Rattle.rds_block.specs.declared.group.Group.{Group};
 ghost use Rattle.rds_charset.specs.Told.{AppendsPrefix, Failed};
-ghost use Rattle.rdsrt.specs.Output.{is_same_view, view_line};
+ghost use Rattle.rdsrt.specs.Output.{change};
 
-use crate::text_receiver::TextReceiver;
-use arrayvec::ArrayVec;
-use itoa::Buffer;
+use crate::change::{write_item_change, write_tag_change, write_text_change};
+use crate::view::{KeptView, View};
 use rds_block::Group;
-use rds_charset::{TellingWrite, WriteFault, push_text, put};
+use rds_charset::{TellingWrite, WriteFault};
+use rds_fields::Dwell;
+use rds_receiver::Receiver;
 
-/// The most bytes that a text has.
-const LONGEST: usize = 64;
+/// The dwell of `decode`, in slots.
+const DWELL: u16 = 128;
 
-/// Room for the longest output line: a slot number, a text of which each byte is printed as four, and
-/// the words between.
-const LINE: usize = 320;
-
-/// Feeds a receiver slot by slot, and writes one line where what it shows changed.
+/// Feeds a receiver slot by slot, and writes a line for each part of its view that changed.
 #[derive(Drop)]
 pub struct ViewWriter {
-    receiver: TextReceiver,
+    receiver: Receiver,
     slot: u64,
-    shown: Option<ArrayVec<u8, LONGEST>>,
+    shown: KeptView,
 }
 
 impl ViewWriter {
@@ -35,14 +31,16 @@ impl ViewWriter {
         ensures count { result.slot ≡ 0 }
         ensures stands { (start : Option (List ℕ)) → WriterStandsAt pi start start result [] }
     {
+        let dwell = Dwell::new(DWELL).unwrap();
         ViewWriter {
-            receiver: TextReceiver::new(pi),
+            receiver: Receiver::new(pi, dwell),
             slot: 0,
-            shown: None,
+            shown: KeptView::new(),
         }
     }
 
-    /// Handles what one slot brought, and writes the change in one write where the writer takes it whole.
+    /// Handles what one slot brought, and writes each changed part in one write where the writer takes
+    /// it whole.
     pub fn slot<W: TellingWrite>(
         &mut self,
         group: Option<Group>,
@@ -58,72 +56,45 @@ impl ViewWriter {
             → OnErr result (WritesPart pi start (W.contents writer.new) (group ∷ slots)) }
     {
         self.receiver.slot(group);
-        let text = self.receiver.text();
-        if is_shown(&self.shown, text) {
-            self.slot += 1;
-            return Ok(());
-        }
-        if let Err(fault) = put_view(self.slot, text, writer) {
+        let view = View::of(&self.receiver);
+        if let Err(fault) = write_changes(self.slot, &mut self.shown, view, writer) {
             return Err(fault);
         }
-        self.shown = copied(text);
         self.slot += 1;
         Ok(())
     }
 }
 
-/// Whether the text is what was shown.
-fn is_shown(shown: &Option<ArrayVec<u8, LONGEST>>, text: Option<&[u8]>) -> bool
-    ensures { result ≡ is_same_view (option_map (λ a. a.items) shown.now) (option_copied text.entry) }
-{
-    match (shown, text) {
-        (None, None) => true,
-        (Some(shown), Some(text)) => shown.as_slice() == text,
-        (None, Some(_)) | (Some(_), None) => false,
-    }
-}
+ghost use Rattle.rdsrt.specs.Kept.{IsShort, view_kept, view_lent};
 
-fn copied(text: Option<&[u8]>) -> Option<ArrayVec<u8, LONGEST>>
-    requires { ForSome text (λ x. length x.now ≤ 64) }
-    ensures { option_map (λ a. a.items) result ≡ option_copied text.entry }
-{
-    let text = text?;
-    let mut copy = ArrayVec::new();
-    copy.try_extend_from_slice(text).unwrap();
-    Some(copy)
-}
-
-/// Writes what is shown from this slot on.
-fn put_view<W: TellingWrite>(
+/// Writes the line of each part of the view that changed, and keeps what is shown now.
+fn write_changes<W: TellingWrite>(
     slot: u64,
-    text: Option<&[u8]>,
+    shown: &mut KeptView,
+    view: View<'_>,
     writer: &mut W,
 ) -> Result<(), WriteFault>
-    requires { ForSome text (λ x. length x.now ≤ 64) }
-    ensures ok { OnOk result (Appends (W.contents writer.old) (W.contents writer.new) (view_line slot (option_copied text.entry))) }
-    ensures err { OnErr result (AppendsPrefix (W.contents writer.old) (W.contents writer.new) (view_line slot (option_copied text.entry))) }
+    requires { IsShort view }
+    ensures ok { OnOk result (Appends (W.contents writer.old) (W.contents writer.new) (change slot (view_kept shown.old) (view_lent view.entry))) }
+    ensures kept { OnOk result (view_kept shown.new ≡ view_lent view.entry) }
+    ensures err { OnErr result (AppendsPrefix (W.contents writer.old) (W.contents writer.new) (change slot (view_kept shown.old) (view_lent view.entry))) }
     ensures calm { OnOk result (W.failures writer.new ≡ W.failures writer.old) }
     ensures fault { OnErr result (Failed (W.failures writer.old) (W.failures writer.new)) }
 {
-    let mut line = ArrayVec::<u8, LINE>::new();
-    push_view(slot, text, &mut line);
-    put(line.as_slice(), writer)
-}
-
-/// Appends the line of what is shown to an empty line.
-fn push_view(slot: u64, text: Option<&[u8]>, line: &mut ArrayVec<u8, LINE>)
-    requires text { ForSome text (λ x. length x.now ≤ 64) }
-    requires empty { line.old.items ≡ [] }
-    ensures { line.new.items ≡ view_line slot (option_copied text.entry) }
-{
-    let mut digits = Buffer::new();
-    line.try_extend_from_slice(digits.format(slot).as_bytes())
-        .unwrap();
-    let Some(text) = text else {
-        line.try_extend_from_slice(b" text none\n").unwrap();
-        return;
-    };
-    line.try_extend_from_slice(b" text \"").unwrap();
-    push_text(text, line);
-    line.try_extend_from_slice(b"\"\n").unwrap();
+    if let Err(text) = write_text_change(slot, b"text", &mut shown.text, view.text, writer) {
+        return Err(text);
+    }
+    if let Err(name) = write_text_change(slot, b"name", &mut shown.name, view.name, writer) {
+        return Err(name);
+    }
+    if let Err(item) = write_item_change(slot, &mut shown.item, view.item, writer) {
+        return Err(item);
+    }
+    if let Err(one) = write_tag_change(slot, b"tag1", &mut shown.one, view.one, writer) {
+        return Err(one);
+    }
+    if let Err(two) = write_tag_change(slot, b"tag2", &mut shown.two, view.two, writer) {
+        return Err(two);
+    }
+    Ok(())
 }
