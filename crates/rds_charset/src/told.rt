@@ -59,7 +59,8 @@ impl<T> Told<T> {
     pub fn failures(&self) -> u64
         ensures { result ≡ failures_of self.now }
     {
-        self.failures
+        let Told { failures, .. } = self;
+        *failures
     }
 }
 

@@ -34,6 +34,13 @@ one_held = refl
 one_over : run_at text_piece 4 0 (None ∷ None ∷ None ∷ None ∷ Some (Text false 0 hi) ∷ []) ≡ []
 one_over = refl
 
+-- silence, dwell and age: the only segment comes in slot 4, and is held to slot 7
+held_to_7 : run_at text_piece 4 0 (None ∷ None ∷ None ∷ Some (Text false 0 hi) ∷ None ∷ None ∷ None ∷ None ∷ []) ≡ segment 4 false 0 hi ∷ []
+held_to_7 = refl
+
+over_in_8 : run_at text_piece 4 0 (None ∷ None ∷ None ∷ None ∷ Some (Text false 0 hi) ∷ None ∷ None ∷ None ∷ None ∷ []) ≡ []
+over_in_8 = refl
+
 -- a segment that comes in slot 4 is alone
 second_too_late : run_at text_piece 4 0 (Some (Text false 1 hi) ∷ None ∷ None ∷ None ∷ Some (Text false 0 hi) ∷ []) ≡ segment 4 false 1 hi ∷ []
 second_too_late = refl

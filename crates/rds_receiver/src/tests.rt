@@ -87,6 +87,18 @@ fn one_segment(rt: HostRuntime) -> Result<(), Fail> {
     assert_slots(&rt, 4, &rows)
 }
 
+/// The only segment comes in slot 4, and is shown as long as the dwell of 4 slots says: to slot 7.
+#[test]
+fn silence_dwell_and_age(rt: HostRuntime) -> Result<(), Fail> {
+    let hi = shows(b"HI");
+    let mut rows = [(None, NOTHING); 9];
+    rows[4] = (Some([PI, 0x2140, 0x4849, 0x0D20]), hi);
+    for row in &mut rows[5..8] {
+        row.1 = hi;
+    }
+    assert_slots(&rt, 4, &rows)
+}
+
 /// A second segment that comes the dwell after the first does not go on its run.
 #[test]
 fn second_segment_too_late(rt: HostRuntime) -> Result<(), Fail> {
