@@ -17,7 +17,8 @@ pub trait Service {
     fn length(cells: &[Option<[u8; 4]>; 16]) -> Option<usize>
         ensures within { IfSome result (λ n. n ≤ 64) }
         ensures held { IfSome result (λ n. IsThereBelow (held_cells cells.now) n) }
-        ensures found { IfSome result (λ n. (x : List ℕ) → length x ≡ n → IsSpelled (held_cells cells.now) x → is_whole (held_cells cells.now) x) }
+        ensures found { IfSome result (λ n. (x : List ℕ) → length x ≡ n
+            → IsSpelled (held_cells cells.now) x → is_whole (held_cells cells.now) x) }
         ensures none { IfNone result ((x : List ℕ) → is_whole (held_cells cells.now) x → ⊥) };
 
     /// An address has at most four bits.

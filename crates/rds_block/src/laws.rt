@@ -6,6 +6,7 @@ ghost use Rattle.rds_block.specs.Words.{AreWordsOf};
 /// Words and fields are one to one: four words carry one group, and a group is carried by one list
 /// of words. So `from_blocks` and `to_blocks` undo each other, in both orders.
 pub fn words_are_one_to_one()
-    ensures one_group { (words : List ℕ) (g h : Group) → AreWordsOf words g → AreWordsOf words h → g ≡ h }
+    ensures one_group { (words : List ℕ) (g h : Group) → AreWordsOf words g → AreWordsOf words h
+        → g ≡ h }
     ensures one_list { (v w : List ℕ) (g : Group) → AreWordsOf v g → AreWordsOf w g → v ≡ w }
 {}

@@ -113,7 +113,8 @@ is_number-Some : (found : Option ℕ) (n : ℕ) → is_number found n ≡ true �
 is_number-Some None n is = absurd (cc)
 is_number-Some (Some m) n is = ap Some (eqb-true m n is)
 
--- the rules: an entry's byte is a byte, its character isn't a backslash and has at most three bytes and isn't half of a pair, and neither stands in another entry
+-- the rules: an entry's byte is a byte, its character isn't a backslash and has at most three bytes and isn't
+-- half of a pair, and neither stands in another entry
 abbrev is_lawful : ℕ → ℕ → Bool
 is_lawful byte character = (nat_lt byte 256 && not (character == 0x5C)) && (nat_lt character 0xD800 && (is_number (character_in table byte) character && is_number (byte_in table character) byte))
 

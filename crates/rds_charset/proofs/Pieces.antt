@@ -1,4 +1,5 @@
--- A text is cut into pieces in one way only, so it is read as at most one list of bytes, and stops at one place at most.
+-- A text is cut into pieces in one way only, so it is read as at most one list of bytes, and stops at one place
+-- at most.
 use Rattle.std.proofs.Common.{◌≡◌, inl, inr, ◌+◌, ◌-◌, ◌*◌, ◌≤◌, ◌<◌, ℕ, List, [], ◌∷◌, ◌++◌, length, drop, refl, sym, ap, ◌∙◌, subst, arith, Some, None, encode_utf8, append_assoc, length-append, length-drop}
 use Rattle.std.proofs.lemmas.Bool.Decides.{nat_tests}
 use Rattle.std.proofs.lemmas.List.{drop_at}

@@ -1,5 +1,7 @@
--- A text is printed as characters in UTF-8, and a byte that has none is printed by its number. This is the project's own form.
--- A backslash isn't in the table, so it stands only at the head of such a number. A quotation mark is printed by its number, so that a printed text can stand between two of them.
+-- A text is printed as characters in UTF-8, and a byte that has none is printed by its number. This is the
+-- project's own form.
+-- A backslash isn't in the table, so it stands only at the head of such a number. A quotation mark is printed
+-- by its number, so that a printed text can stand between two of them.
 use Rattle.std.specs.Prelude.{◌+◌, ◌++◌, ◌/◌, ◌%◌, ◌==◌, ℕ, List, [], ◌∷◌, Option, None, codes, encode_utf8, flat_map, nat_lt, if◌then◌else◌}
 use Rattle.std.specs.Option.{option_map_or}
 use Rattle.rds_charset.specs.Table.{character_of}

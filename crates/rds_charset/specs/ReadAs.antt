@@ -1,5 +1,7 @@
--- A printed text is read piece by piece, each a character of the table or the number of a byte, and each piece gives one byte. This is the project's own form.
--- The quotation mark is read as a character too, though it isn't printed as one. The digits of a number can be of either case.
+-- A printed text is read piece by piece, each a character of the table or the number of a byte, and each piece
+-- gives one byte. This is the project's own form.
+-- The quotation mark is read as a character too, though it isn't printed as one. The digits of a number can be
+-- of either case.
 use Rattle.std.specs.Prelude.{◌≡◌, ◌≢◌, ◌⊎◌, ◌<◌, ◌+◌, ◌*◌, ◌++◌, ℕ, List, [], ◌∷◌, Some, codes, encode_utf8, length, drop, slice_index}
 use Rattle.std.specs.Char.{digit_value}
 use Rattle.rds_charset.specs.Table.{character_of}

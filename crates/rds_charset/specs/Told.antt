@@ -1,4 +1,5 @@
--- A counted read or write either passes bytes and leaves the number of failures alone, or passes none and raises it by one.
+-- A counted read or write either passes bytes and leaves the number of failures alone, or passes none and
+-- raises it by one.
 -- This is the project's own rule. At its greatest number the count can't rise: from there on each call fails.
 use Rattle.std.specs.Prelude.{◌≡◌, ◌⊎◌, ◌<◌, ◌≤◌, ◌+◌, ◌^◌, ◌-◌, ℕ, List, take, length, Option, MatchOption}
 use Rattle.std.specs.Io.KnownBytes.{Appends, Consumes, IsAtEnd, Keeps}
@@ -12,7 +13,8 @@ most_failures = 2 ^ 64 - 1
 abbrev pub Failed : ℕ → ℕ → Type 0
 Failed before after = (after ≡ before + 1) ⊎ ((before ≡ most_failures) × (after ≡ before))
 
--- one read: the bytes that it gave stand at the front of the buffer, and it gave none only at the end or where there is no room
+-- one read: the bytes that it gave stand at the front of the buffer, and it gave none only at the end or where
+-- there is no room
 abbrev pub ReadsOne : Option (List ℕ) → Option (List ℕ) → ℕ → ℕ → Option ℕ → List ℕ → Type 0
 ReadsOne old new before after r buf = MatchOption r (Failed before after × Keeps old new)
     (λ n. (before < most_failures) × (after ≡ before) × (n ≤ length buf) × Consumes old new (take n buf) × (n ≡ 0 → 0 < length buf → IsAtEnd new))

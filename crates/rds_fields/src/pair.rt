@@ -95,7 +95,8 @@ impl TagPair {
 
     /// The five low bits of block 2 and the blocks 3 and 4 that the pair is written as.
     pub(crate) fn to_blocks(self) -> (u8, u16, u16)
-        ensures { SpellsPair self (2 ^ 32 * result.0 + 2 ^ 16 * result.1 + result.2) (sent_of self) }
+        ensures { SpellsPair self (2 ^ 32 * result.0 + 2 ^ 16 * result.1 + result.2)
+            (sent_of self) }
     {
         let bits = self.to_bits();
         (

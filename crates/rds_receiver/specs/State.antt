@@ -1,4 +1,5 @@
--- What a receiver holds: of texts and of names the segments of the run, with their flag and their age; the pair of tags;
+-- What a receiver holds: of texts and of names the segments of the run, with their flag and their age; the pair
+-- of tags;
 -- and whether RadioText Plus is known.
 use Rattle.std.specs.Prelude.{ℕ, Bool, Option, refl}
 use Rattle.std.specs.Coded.{Coded, code_by, coded×, coded_ℕ, coded_bool, coded_list, coded_option}

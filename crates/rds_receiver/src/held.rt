@@ -43,8 +43,10 @@ impl<S: Service> Held<S> {
     /// One slot older; what reaches the dwell is given up.
     pub(crate) fn grow_older(&mut self, dwell: u16)
         ensures gone { dwell ≤ self.old.age → self.new ≡ self.old }
-        ensures older { self.old.age + 1 < dwell → self.new ≡ record self.old { age = self.old.age + 1 } }
-        ensures over { self.old.age + 1 ≡ dwell → self.new ≡ record self.old { cells = empty; age = dwell } }
+        ensures older { self.old.age + 1 < dwell
+            → self.new ≡ record self.old { age = self.old.age + 1 } }
+        ensures over { self.old.age + 1 ≡ dwell
+            → self.new ≡ record self.old { cells = empty; age = dwell } }
     {
         if self.age >= dwell {
             return;

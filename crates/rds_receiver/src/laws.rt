@@ -9,7 +9,8 @@ ghost use Rattle.rds_receiver.specs.Shown.{IsView, View};
 /// The run is the longest last part of the segments received that is chained: with one flag, neighbours less than
 /// the dwell apart, and the newest less than the dwell ago.
 pub fn run_is_the_longest()
-    ensures last { (m t : ℕ) (segments : List Segment) → (older : List Segment) × (segments ≡ run m t segments ++ older) }
+    ensures last { (m t : ℕ) (segments : List Segment)
+        → (older : List Segment) × (segments ≡ run m t segments ++ older) }
     ensures chained { (m t : ℕ) (segments : List Segment) → IsChained m t (run m t segments) }
     ensures longest { (m t : ℕ) (front older : List Segment) → IsChained m t front
         → length front ≤ length (run m t (front ++ older)) }
@@ -17,5 +18,6 @@ pub fn run_is_the_longest()
 
 /// An input has one view.
 pub fn one_view()
-    ensures { (pi m first : ℕ) (input : List (Option Group)) (v w : View) → IsView pi m first input v → IsView pi m first input w → v ≡ w }
+    ensures { (pi m first : ℕ) (input : List (Option Group)) (v w : View)
+        → IsView pi m first input v → IsView pi m first input w → v ≡ w }
 {}

@@ -66,7 +66,8 @@ impl Receiver {
 
     /// Handles what one slot brought: a group, or nothing. Each slot has one call.
     pub fn slot(&mut self, group: Option<Group>)
-        ensures stands { (pi m first : ℕ) (input : List (Option Group)) → StandsAt pi m first self.old input → StandsAt pi m first self.new (group ∷ input) }
+        ensures stands { (pi m first : ℕ) (input : List (Option Group))
+            → StandsAt pi m first self.old input → StandsAt pi m first self.new (group ∷ input) }
     {
         self.grow_older();
         let Some(group) = group else {
@@ -80,7 +81,9 @@ impl Receiver {
 
     /// The text shown, lent: up to 64 bytes. `Some` of no bytes is the empty text, and `None` no text.
     pub fn text(&self) -> Option<&[u8]>
-        ensures shown { (pi m first : ℕ) (input : List (Option Group)) (s : StandsAt pi m first self.now input) → IsTextShown m first s.heard (option_copied result) }
+        ensures shown { (pi m first : ℕ) (input : List (Option Group))
+            (s : StandsAt pi m first self.now input)
+            → IsTextShown m first s.heard (option_copied result) }
         ensures short { IfSome result (λ x. length x.now ≤ 64) }
     {
         self.text.whole()
@@ -88,7 +91,9 @@ impl Receiver {
 
     /// The name of the programme type that is shown, lent: eight bytes.
     pub fn name(&self) -> Option<&[u8]>
-        ensures shown { (pi m first : ℕ) (input : List (Option Group)) (s : StandsAt pi m first self.now input) → IsNameShown m first s.heard (option_copied result) }
+        ensures shown { (pi m first : ℕ) (input : List (Option Group))
+            (s : StandsAt pi m first self.now input)
+            → IsNameShown m first s.heard (option_copied result) }
         ensures short { IfSome result (λ x. length x.now ≡ 8) }
     {
         self.name.whole()
@@ -96,7 +101,8 @@ impl Receiver {
 
     /// The item toggle bit and the item running bit of the tags held; `None` where no text or no tags are shown.
     pub fn item(&self) -> Option<(bool, bool)>
-        ensures shown { (pi m first : ℕ) (input : List (Option Group)) (s : StandsAt pi m first self.now input) (text : Option (List ℕ))
+        ensures shown { (pi m first : ℕ) (input : List (Option Group))
+            (s : StandsAt pi m first self.now input) (text : Option (List ℕ))
             → IsTextShown m first s.heard text → result ≡ item_of text (pair_held m first s.heard) }
     {
         self.text()?;
@@ -107,8 +113,10 @@ impl Receiver {
     /// The class of one of the two tags and the piece of the text that it names, lent. `None` where no text or no
     /// tags are shown, where the tag is the dummy, and where it does not end in the text.
     pub fn tag(&self, which: Which) -> Option<(u8, &[u8])>
-        ensures shown { (pi m first : ℕ) (input : List (Option Group)) (s : StandsAt pi m first self.now input) (text : Option (List ℕ))
-            → IsTextShown m first s.heard text → option_map (λ tag. (tag.0, tag.1.now)) result ≡ tag_of which text (pair_held m first s.heard) }
+        ensures shown { (pi m first : ℕ) (input : List (Option Group))
+            (s : StandsAt pi m first self.now input) (text : Option (List ℕ))
+            → IsTextShown m first s.heard text
+            → option_map (λ tag. (tag.0, tag.1.now)) result ≡ tag_of which text (pair_held m first s.heard) }
         ensures class { IfSome result (λ tag. tag.0 < 64) }
         ensures short { IfSome result (λ tag. length tag.1.now ≤ 64) }
     {
@@ -129,7 +137,8 @@ impl Receiver {
     /// One slot older. The tags go with their text.
     fn grow_older(&mut self)
         ensures programme { self.new.programme ≡ self.old.programme }
-        ensures holds { (m first : ℕ) (heard : List (Option Message)) → HoldsAt m (newest_slot first heard) first self.old heard
+        ensures holds { (m first : ℕ) (heard : List (Option Message))
+            → HoldsAt m (newest_slot first heard) first self.old heard
             → HoldsAt m (first + length heard) first self.new heard }
     {
         let dwell = self.dwell.get();
@@ -143,7 +152,8 @@ impl Receiver {
     /// Handles a message of the programme.
     fn hear(&mut self, message: Message)
         ensures programme { self.new.programme ≡ self.old.programme }
-        ensures holds { (m first : ℕ) (heard : List (Option Message)) → HoldsAt m (first + length heard) first self.old heard
+        ensures holds { (m first : ℕ) (heard : List (Option Message))
+            → HoldsAt m (first + length heard) first self.old heard
             → HoldsAt m (first + length heard) first self.new (Some message ∷ heard) }
     {
         match message {
@@ -167,8 +177,10 @@ impl Receiver {
     fn hear_text(&mut self, flag: bool, address: u8, bytes: [u8; 4])
         requires { address < 16 }
         ensures programme { self.new.programme ≡ self.old.programme }
-        ensures holds { (m first : ℕ) (heard : List (Option Message)) → HoldsAt m (first + length heard) first self.old heard
-            → HoldsAt m (first + length heard) first self.new (Some (Message.Text flag address bytes) ∷ heard) }
+        ensures holds { (m first : ℕ) (heard : List (Option Message))
+            → HoldsAt m (first + length heard) first self.old heard
+            → HoldsAt m (first + length heard) first self.new (Some
+            (Message.Text flag address bytes) ∷ heard) }
     {
         if !self.text.has_flag(flag) {
             self.pair = None;
@@ -195,7 +207,8 @@ impl Receiver {
     /// Takes a pair of tags, where RadioText Plus is known and a text is received.
     fn hear_tags(&mut self, pair: TagPair)
         ensures programme { self.new.programme ≡ self.old.programme }
-        ensures holds { (m first : ℕ) (heard : List (Option Message)) → HoldsAt m (first + length heard) first self.old heard
+        ensures holds { (m first : ℕ) (heard : List (Option Message))
+            → HoldsAt m (first + length heard) first self.old heard
             → HoldsAt m (first + length heard) first self.new (Some (Message.Tags pair) ∷ heard) }
     {
         if self.knows_rtplus && self.text.is_held(self.dwell.get()) {

@@ -22,9 +22,11 @@ pub fn write_text_change<W: TellingWrite>(
 ) -> Result<(), WriteFault>
     requires part { length part.now ≤ 8 }
     requires text { ForSome text (λ x. length x.now ≤ 64) }
-    ensures ok { OnOk result (Appends (W.contents writer.old) (W.contents writer.new) (text_change slot part.now (text_kept kept.old) (option_copied text.entry))) }
+    ensures ok { OnOk result (Appends (W.contents writer.old) (W.contents writer.new)
+        (text_change slot part.now (text_kept kept.old) (option_copied text.entry))) }
     ensures kept { OnOk result (text_kept kept.new ≡ option_copied text.entry) }
-    ensures err { OnErr result (AppendsPrefix (W.contents writer.old) (W.contents writer.new) (text_change slot part.now (text_kept kept.old) (option_copied text.entry))) }
+    ensures err { OnErr result (AppendsPrefix (W.contents writer.old) (W.contents writer.new)
+        (text_change slot part.now (text_kept kept.old) (option_copied text.entry))) }
     ensures calm { OnOk result (W.failures writer.new ≡ W.failures writer.old) }
     ensures fault { OnErr result (Failed (W.failures writer.old) (W.failures writer.new)) }
 {
@@ -48,9 +50,11 @@ pub fn write_item_change<W: TellingWrite>(
     item: Option<(bool, bool)>,
     writer: &mut W,
 ) -> Result<(), WriteFault>
-    ensures ok { OnOk result (Appends (W.contents writer.old) (W.contents writer.new) (item_change slot kept.old item)) }
+    ensures ok { OnOk result (Appends (W.contents writer.old) (W.contents writer.new)
+        (item_change slot kept.old item)) }
     ensures kept { OnOk result (kept.new ≡ item) }
-    ensures err { OnErr result (AppendsPrefix (W.contents writer.old) (W.contents writer.new) (item_change slot kept.old item)) }
+    ensures err { OnErr result (AppendsPrefix (W.contents writer.old) (W.contents writer.new)
+        (item_change slot kept.old item)) }
     ensures calm { OnOk result (W.failures writer.new ≡ W.failures writer.old) }
     ensures fault { OnErr result (Failed (W.failures writer.old) (W.failures writer.new)) }
 {
@@ -77,9 +81,11 @@ pub fn write_tag_change<W: TellingWrite>(
 ) -> Result<(), WriteFault>
     requires part { length part.now ≤ 8 }
     requires tag { ForSome tag (λ tag. length tag.1.now ≤ 64) }
-    ensures ok { OnOk result (Appends (W.contents writer.old) (W.contents writer.new) (tag_change slot part.now (tag_kept kept.old) (tag_lent tag.entry))) }
+    ensures ok { OnOk result (Appends (W.contents writer.old) (W.contents writer.new)
+        (tag_change slot part.now (tag_kept kept.old) (tag_lent tag.entry))) }
     ensures kept { OnOk result (tag_kept kept.new ≡ tag_lent tag.entry) }
-    ensures err { OnErr result (AppendsPrefix (W.contents writer.old) (W.contents writer.new) (tag_change slot part.now (tag_kept kept.old) (tag_lent tag.entry))) }
+    ensures err { OnErr result (AppendsPrefix (W.contents writer.old) (W.contents writer.new)
+        (tag_change slot part.now (tag_kept kept.old) (tag_lent tag.entry))) }
     ensures calm { OnOk result (W.failures writer.new ≡ W.failures writer.old) }
     ensures fault { OnErr result (Failed (W.failures writer.old) (W.failures writer.new)) }
 {

@@ -51,10 +51,12 @@ impl Decoder {
         ensures lines { self.new.lines ≤ self.old.lines + length piece.now }
         ensures slots { self.new.views.slot ≤ self.old.views.slot + length piece.now }
         ensures calm { OnOk result (W.failures writer.new ≡ W.failures writer.old) }
-        ensures step { (pi : ℕ) (start : Option (List ℕ)) (closed : List Line) (begun : Line) → DecoderStandsAt pi start (W.contents writer.old) self.old closed begun
+        ensures step { (pi : ℕ) (start : Option (List ℕ)) (closed : List Line) (begun : Line)
+            → DecoderStandsAt pi start (W.contents writer.old) self.old closed begun
             → MatchResult result
             (λ _. GoesOn pi start (W.contents writer.new) self.new closed begun piece.now)
-            (λ e. FailsIn pi start (W.contents writer.new) (W.failures writer.old) (W.failures writer.new) e closed begun piece.now) }
+            (λ e. FailsIn pi start (W.contents writer.new)
+            (W.failures writer.old) (W.failures writer.new) e closed begun piece.now) }
     {
         for byte in piece {
             if let Err(fault) = self.take(*byte, writer) {
@@ -69,11 +71,14 @@ impl Decoder {
         requires lines { self.old.lines < 2 ^ 64 - 1 }
         requires slots { self.old.views.slot < 2 ^ 64 - 1 }
         ensures calm { OnOk result (W.failures writer.new ≡ W.failures writer.old) }
-        ensures step { (pi : ℕ) (start : Option (List ℕ)) (closed : List Line) (begun : Line) → DecoderStandsAt pi start (W.contents writer.old) self.old closed begun
+        ensures step { (pi : ℕ) (start : Option (List ℕ)) (closed : List Line) (begun : Line)
+            → DecoderStandsAt pi start (W.contents writer.old) self.old closed begun
             → MatchResult result
-            (λ _. ((begun ≡ []) × DecoderStandsAt pi start (W.contents writer.new) self.new closed [])
+            (λ _. ((begun ≡ []) × DecoderStandsAt pi start
+            (W.contents writer.new) self.new closed [])
             ⊎ ((begun ≢ []) × DecoderStandsAt pi start (W.contents writer.new) self.new (begun ∷ closed) []))
-            (λ e. LineFails pi start (W.contents writer.new) (W.failures writer.old) (W.failures writer.new) e closed begun) }
+            (λ e. LineFails pi start (W.contents writer.new)
+            (W.failures writer.old) (W.failures writer.new) e closed begun) }
     {
         if self.kept.is_empty() {
             return Ok(());
@@ -88,10 +93,12 @@ impl Decoder {
         ensures lines { self.new.lines ≤ self.old.lines + 1 }
         ensures slots { self.new.views.slot ≤ self.old.views.slot + 1 }
         ensures calm { OnOk result (W.failures writer.new ≡ W.failures writer.old) }
-        ensures step { (pi : ℕ) (start : Option (List ℕ)) (closed : List Line) (begun : Line) → DecoderStandsAt pi start (W.contents writer.old) self.old closed begun
+        ensures step { (pi : ℕ) (start : Option (List ℕ)) (closed : List Line) (begun : Line)
+            → DecoderStandsAt pi start (W.contents writer.old) self.old closed begun
             → MatchResult result
             (λ _. GoesOn pi start (W.contents writer.new) self.new closed begun (byte ∷ []))
-            (λ e. (byte ≡ line_feed) × LineFails pi start (W.contents writer.new) (W.failures writer.old) (W.failures writer.new) e closed begun) }
+            (λ e. (byte ≡ line_feed) × LineFails pi start (W.contents writer.new)
+            (W.failures writer.old) (W.failures writer.new) e closed begun) }
     {
         if byte == b'\n' {
             return self.close(writer);
@@ -109,10 +116,12 @@ impl Decoder {
         ensures lines { self.new.lines ≤ self.old.lines + 1 }
         ensures slots { self.new.views.slot ≤ self.old.views.slot + 1 }
         ensures calm { OnOk result (W.failures writer.new ≡ W.failures writer.old) }
-        ensures step { (pi : ℕ) (start : Option (List ℕ)) (closed : List Line) (begun : Line) → DecoderStandsAt pi start (W.contents writer.old) self.old closed begun
+        ensures step { (pi : ℕ) (start : Option (List ℕ)) (closed : List Line) (begun : Line)
+            → DecoderStandsAt pi start (W.contents writer.old) self.old closed begun
             → MatchResult result
             (λ _. DecoderStandsAt pi start (W.contents writer.new) self.new (begun ∷ closed) [])
-            (λ e. LineFails pi start (W.contents writer.new) (W.failures writer.old) (W.failures writer.new) e closed begun) }
+            (λ e. LineFails pi start (W.contents writer.new)
+            (W.failures writer.old) (W.failures writer.new) e closed begun) }
     {
         match said_by(self.kept.as_slice()) {
             None => return Err(LogFault::BadLine(self.lines + 1)),

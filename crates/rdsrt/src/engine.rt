@@ -22,9 +22,12 @@ pub fn decode<R: TellingRead, W: TellingWrite>(
     pi: u16,
 ) -> Result<(), LogFault>
     ensures { MatchResult result
-        (λ _. DecodesAll pi (R.remaining reader.old) (R.remaining reader.new) (W.contents writer.old) (W.contents writer.new))
-        (λ e. Faulted pi (2 ^ 32) (R.remaining reader.old) (R.remaining reader.new) (R.failures reader.old) (R.failures reader.new)
-        (W.contents writer.old) (W.contents writer.new) (W.failures writer.old) (W.failures writer.new) e) }
+        (λ _. DecodesAll pi (R.remaining reader.old) (R.remaining reader.new)
+        (W.contents writer.old) (W.contents writer.new))
+        (λ e. Faulted pi (2 ^ 32) (R.remaining reader.old) (R.remaining reader.new)
+        (R.failures reader.old) (R.failures reader.new)
+        (W.contents writer.old) (W.contents writer.new)
+        (W.failures writer.old) (W.failures writer.new) e) }
 {
     decode_within(reader, writer, pi, MOST_READS)
 }
@@ -38,9 +41,12 @@ fn decode_within<R: TellingRead, W: TellingWrite>(
 ) -> Result<(), LogFault>
     requires { reads ≤ 2 ^ 32 }
     ensures { MatchResult result
-        (λ _. DecodesAll pi (R.remaining reader.old) (R.remaining reader.new) (W.contents writer.old) (W.contents writer.new))
-        (λ e. Faulted pi reads (R.remaining reader.old) (R.remaining reader.new) (R.failures reader.old) (R.failures reader.new)
-        (W.contents writer.old) (W.contents writer.new) (W.failures writer.old) (W.failures writer.new) e) }
+        (λ _. DecodesAll pi (R.remaining reader.old) (R.remaining reader.new)
+        (W.contents writer.old) (W.contents writer.new))
+        (λ e. Faulted pi reads (R.remaining reader.old) (R.remaining reader.new)
+        (R.failures reader.old) (R.failures reader.new)
+        (W.contents writer.old) (W.contents writer.new)
+        (W.failures writer.old) (W.failures writer.new) e) }
 {
     let mut decoder = Decoder::new(pi);
     let mut piece = [0u8; PIECE];

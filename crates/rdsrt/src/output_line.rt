@@ -33,8 +33,10 @@ pub fn push_start(slot: u64, part: &[u8], line: &mut OutputLine)
 /// Ends the line and writes it.
 pub fn put_line<W: TellingWrite>(mut line: OutputLine, writer: &mut W) -> Result<(), WriteFault>
     requires { length line.items ≤ 399 }
-    ensures ok { OnOk result (Appends (W.contents writer.old) (W.contents writer.new) (line.items ++ codes "\n")) }
-    ensures err { OnErr result (AppendsPrefix (W.contents writer.old) (W.contents writer.new) (line.items ++ codes "\n")) }
+    ensures ok { OnOk result (Appends (W.contents writer.old) (W.contents writer.new)
+        (line.items ++ codes "\n")) }
+    ensures err { OnErr result (AppendsPrefix (W.contents writer.old) (W.contents writer.new)
+        (line.items ++ codes "\n")) }
     ensures calm { OnOk result (W.failures writer.new ≡ W.failures writer.old) }
     ensures fault { OnErr result (Failed (W.failures writer.old) (W.failures writer.new)) }
 {
@@ -81,7 +83,8 @@ fn bit_content(is_set: bool) -> &'static [u8]
 pub fn push_tag_content(tag: Option<(u8, &[u8])>, line: &mut OutputLine)
     requires room { length line.old.items ≤ 100 }
     requires tag { ForSome tag (λ tag. length tag.1.now ≤ 64) }
-    ensures content { line.new.items ≡ line.old.items ++ tag_content (option_map (λ tag. (tag.0, tag.1.now)) tag.entry) }
+    ensures content { line.new.items ≡ line.old.items ++ tag_content (option_map
+        (λ tag. (tag.0, tag.1.now)) tag.entry) }
     ensures long { length line.new.items ≤ 399 }
 {
     match tag {
@@ -96,7 +99,8 @@ pub fn push_tag_content(tag: Option<(u8, &[u8])>, line: &mut OutputLine)
 /// Appends the name of a class, or its number where it has none.
 fn push_class(class: u8, line: &mut OutputLine)
     requires { length line.old.items ≤ 100 }
-    ensures class { line.new.items ≡ line.old.items ++ codes " " ++ name_or_number (class_name class) class }
+    ensures class { line.new.items ≡ line.old.items ++ codes " " ++ name_or_number
+        (class_name class) class }
     ensures long { length line.new.items ≤ length line.old.items + 39 }
 {
     line.push(b' ');

@@ -32,12 +32,17 @@ pub fn run<R: TellingRead + Drop, W: TellingWrite>(
     reader: R,
     writer: &mut W,
 ) -> u8
-    ensures decodes { (given : List ℕ) (pi : ℕ) → IsDecode (map (λ w. w.now) words.entry.now) given → IsPi given pi
-        → Runs pi (R.remaining reader) (W.contents writer.old) (W.contents writer.new) (W.failures writer.old) (W.failures writer.new) result }
-    ensures fault_pi { (given : List ℕ) → IsDecode (map (λ w. w.now) words.entry.now) given → ((pi : ℕ) → IsPi given pi → ⊥)
-        → (result ≡ 2) × WritesLine (codes "fault pi\n") (W.contents writer.old) (W.contents writer.new) (W.failures writer.old) (W.failures writer.new) }
+    ensures decodes { (given : List ℕ) (pi : ℕ) → IsDecode (map (λ w. w.now) words.entry.now) given
+        → IsPi given pi
+        → Runs pi (R.remaining reader) (W.contents writer.old) (W.contents writer.new)
+        (W.failures writer.old) (W.failures writer.new) result }
+    ensures fault_pi { (given : List ℕ) → IsDecode (map (λ w. w.now) words.entry.now) given
+        → ((pi : ℕ) → IsPi given pi → ⊥)
+        → (result ≡ 2) × WritesLine (codes "fault pi\n") (W.contents writer.old)
+        (W.contents writer.new) (W.failures writer.old) (W.failures writer.new) }
     ensures other_words { ((given : List ℕ) → IsDecode (map (λ w. w.now) words.entry.now) given → ⊥)
-        → (result ≡ 2) × WritesNothing (W.contents writer.old) (W.contents writer.new) (W.failures writer.old) (W.failures writer.new) }
+        → (result ≡ 2) × WritesNothing (W.contents writer.old) (W.contents writer.new)
+        (W.failures writer.old) (W.failures writer.new) }
 {
     let _ = alloc;
     let Some(given) = given_pi(words) else {
@@ -53,7 +58,8 @@ pub fn run<R: TellingRead + Drop, W: TellingWrite>(
 /// What is given as programme identification, where the words are those of `decode`.
 fn given_pi<'a>(words: &[&'a str]) -> Option<&'a str>
     ensures some { IfSome result (λ given. IsDecode (map (λ w. w.now) words.entry.now) given.now) }
-    ensures none { IfNone result ((given : List ℕ) → IsDecode (map (λ w. w.now) words.entry.now) given → ⊥) }
+    ensures none { IfNone result ((given : List ℕ)
+        → IsDecode (map (λ w. w.now) words.entry.now) given → ⊥) }
 {
     if words.len() == 4 && words[1] == "decode" && words[2] == "--pi" {
         Some(words[3])
@@ -79,7 +85,8 @@ fn decode_and_tell<R: TellingRead + Drop, W: TellingWrite>(
     mut reader: R,
     writer: &mut W,
 ) -> u8
-    ensures { Runs pi (R.remaining reader) (W.contents writer.old) (W.contents writer.new) (W.failures writer.old) (W.failures writer.new) result }
+    ensures { Runs pi (R.remaining reader) (W.contents writer.old) (W.contents writer.new)
+        (W.failures writer.old) (W.failures writer.new) result }
 {
     match decode(&mut reader, writer, pi) {
         Ok(()) => DONE,
@@ -92,7 +99,8 @@ fn decode_and_tell<R: TellingRead + Drop, W: TellingWrite>(
 
 /// Writes the line of the fault as far as the writer takes it; after a failed write nothing.
 fn tell_fault<W: TellingWrite>(fault: LogFault, writer: &mut W)
-    ensures { WritesAfter fault (W.contents writer.old) (W.contents writer.new) (W.failures writer.old) (W.failures writer.new) }
+    ensures { WritesAfter fault (W.contents writer.old) (W.contents writer.new)
+        (W.failures writer.old) (W.failures writer.new) }
 {
     match fault {
         LogFault::BadLine(number) => {
@@ -112,7 +120,8 @@ fn tell_fault<W: TellingWrite>(fault: LogFault, writer: &mut W)
 
 /// Writes a line as far as the writer takes it.
 fn tell<W: TellingWrite>(line: &[u8], writer: &mut W)
-    ensures { WritesLine line.now (W.contents writer.old) (W.contents writer.new) (W.failures writer.old) (W.failures writer.new) }
+    ensures { WritesLine line.now (W.contents writer.old) (W.contents writer.new)
+        (W.failures writer.old) (W.failures writer.new) }
 {
     let _ = put(line, writer);
 }

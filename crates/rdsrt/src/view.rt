@@ -60,7 +60,8 @@ impl<'a> View<'a> {
 
     /// What the receiver shows.
     pub fn of(receiver: &'a Receiver) -> View<'a>
-        ensures shown { (pi m first : ℕ) (input : List (Option Group)) → StandsAt pi m first receiver.now input → IsView pi m first input (view_lent result) }
+        ensures shown { (pi m first : ℕ) (input : List (Option Group))
+            → StandsAt pi m first receiver.now input → IsView pi m first input (view_lent result) }
         ensures short { IsShort result }
     {
         View {

@@ -50,9 +50,12 @@ impl ViewWriter {
         ensures count { self.new.slot ≤ self.old.slot + 1 }
         ensures calm { OnOk result (W.failures writer.new ≡ W.failures writer.old) }
         ensures fault { OnErr result (Failed (W.failures writer.old) (W.failures writer.new)) }
-        ensures ok { (pi : ℕ) (start : Option (List ℕ)) (slots : List (Option Group)) → WriterStandsAt pi start (W.contents writer.old) self.old slots
-            → OnOk result (WriterStandsAt pi start (W.contents writer.new) self.new (group ∷ slots)) }
-        ensures err { (pi : ℕ) (start : Option (List ℕ)) (slots : List (Option Group)) → WriterStandsAt pi start (W.contents writer.old) self.old slots
+        ensures ok { (pi : ℕ) (start : Option (List ℕ)) (slots : List (Option Group))
+            → WriterStandsAt pi start (W.contents writer.old) self.old slots
+            → OnOk result (WriterStandsAt pi start (W.contents writer.new) self.new
+            (group ∷ slots)) }
+        ensures err { (pi : ℕ) (start : Option (List ℕ)) (slots : List (Option Group))
+            → WriterStandsAt pi start (W.contents writer.old) self.old slots
             → OnErr result (WritesPart pi start (W.contents writer.new) (group ∷ slots)) }
     {
         self.receiver.slot(group);
@@ -75,9 +78,11 @@ fn write_changes<W: TellingWrite>(
     writer: &mut W,
 ) -> Result<(), WriteFault>
     requires { IsShort view }
-    ensures ok { OnOk result (Appends (W.contents writer.old) (W.contents writer.new) (change slot (view_kept shown.old) (view_lent view.entry))) }
+    ensures ok { OnOk result (Appends (W.contents writer.old) (W.contents writer.new)
+        (change slot (view_kept shown.old) (view_lent view.entry))) }
     ensures kept { OnOk result (view_kept shown.new ≡ view_lent view.entry) }
-    ensures err { OnErr result (AppendsPrefix (W.contents writer.old) (W.contents writer.new) (change slot (view_kept shown.old) (view_lent view.entry))) }
+    ensures err { OnErr result (AppendsPrefix (W.contents writer.old) (W.contents writer.new)
+        (change slot (view_kept shown.old) (view_lent view.entry))) }
     ensures calm { OnOk result (W.failures writer.new ≡ W.failures writer.old) }
     ensures fault { OnErr result (Failed (W.failures writer.old) (W.failures writer.new)) }
 {
