@@ -1,2 +1,3 @@
 pub mod CellsLemmas
+pub mod FilledLemmas
 pub mod TextLemmas

@@ -1,25 +1,35 @@
-//! The segments of a RadioText or a programme type name that are held, and the value that they make whole.
+//! Texts and programme type names, the segments that they are sent in, and the segments held.
 //!
-//! The one model is a finite map of cells, from a segment's address to its four bytes. `Assembly::put`
-//! and `clear` are those of the map, and `Assembly::whole` lends the one value that the cells make whole
-//! (`IsWholeText`, `IsWholeName`), exactly where there is one. Nothing is shown over a gap, nothing is copied, and the
-//! crate takes no memory. It knows no flags and no time: those are a receiver's.
+//! A `Text` or a `Name` has bytes that may be sent, and gives the segment at each of its
+//! addresses. An `Assembly` holds segments: its one model is a finite map of cells, from an
+//! address to four bytes. `put` and `clear` are those of the map, and `whole` lends the one value
+//! that the cells make whole (`IsWholeText`, `IsWholeName`), exactly where there is one. Cells
+//! taken from one value's segments make that value whole or none, and all of its segments do
+//! (`own` and `all` of `Service`). Nothing is shown over a gap, and the crate takes no memory. It
+//! knows no flags and no time: those are a receiver's.
 //!
 //! ```text
-//! let mut text: Assembly<RadioText> = Assembly::new();
-//! text.put(0, *b"HI\r ");
-//! text.whole() == Some(b"HI".as_slice())
+//! let sent = Text::new(b"HI")?;
+//! let mut held: Assembly<RadioText> = Assembly::new();
+//! held.put(0, sent.segment(0));
+//! held.whole() == Some(b"HI".as_slice())
 //! ```
 #![tactic(auto)]
 
 mod assembly;
+mod name;
 mod radio_text;
+mod refused;
 mod service;
+mod text;
 mod type_name;
 
 pub use assembly::Assembly;
+pub use name::Name;
 pub use radio_text::RadioText;
+pub use refused::TextRefused;
 pub use service::Service;
+pub use text::Text;
 pub use type_name::TypeName;
 
 #[cfg(test)]

@@ -6,7 +6,7 @@ ghost use Rattle.rds_assembly.specs.Cells.{Cells, held_cells, IsSpelled, IsThere
 use crate::Service;
 
 /// The byte that ends a text of fewer than 64 bytes (IEC 62106, RadioText).
-const CARRIAGE_RETURN: u8 = 0x0D;
+pub(crate) const CARRIAGE_RETURN: u8 = 0x0D;
 
 /// The text of group 2A (IEC 62106, RadioText).
 #[derive(Clone, Copy, Debug, PartialEq, Eq)]
@@ -14,7 +14,10 @@ pub struct RadioText;
 
 impl Service for RadioText {
     ghost use Rattle.rds_assembly.specs.Whole.{IsWholeText};
+    ghost use Rattle.rds_assembly.specs.Body.{text_body};
+    ghost use Rattle.rds_assembly.specs.Value.{IsText};
     ghost use Rattle.rds_assembly.specs.ServiceLaws.{sixteen_are_few, no_text_of_none, one_text};
+    ghost use Rattle.rds_assembly.specs.OwnSegments.{all_text, own_text};
 
     ghost SEGMENTS = { 16 };
 
@@ -22,11 +25,19 @@ impl Service for RadioText {
 
     ghost is_whole = { IsWholeText };
 
+    ghost is_value = { IsText };
+
+    ghost body_of = { text_body };
+
     ghost few = { sixteen_are_few };
 
     ghost none = { no_text_of_none };
 
     ghost one = { one_text };
+
+    ghost own = { own_text };
+
+    ghost all = { all_text };
 
     /// The bytes before the first carriage return, or all 64, as long as no segment is missing.
     fn length(cells: &[Option<[u8; 4]>; 16]) -> Option<usize> {

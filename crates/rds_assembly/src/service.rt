@@ -2,6 +2,7 @@
 ghost use Rattle.std.specs.Prelude.{◌≡◌, ℕ, ◌<◌, ◌≤◌, IfSome, IfNone, List, length};
 ghost use Rattle.std.specs.FinMap as map;
 ghost use Rattle.rds_assembly.specs.Cells.{Cells, held_cells, IsSpelled, IsThereBelow};
+ghost use Rattle.rds_assembly.specs.Body.{AreAllHeld, AreSegmentsOf};
 
 /// A service whose values go out in segments of four bytes, each at an address.
 pub trait Service {
@@ -12,6 +13,12 @@ pub trait Service {
 
     /// The cells make the value whole.
     ghost is_whole: { Cells → List ℕ → Type 0 };
+
+    /// The bytes are a value that may be sent.
+    ghost is_value: { List ℕ → Type 0 };
+
+    /// What is sent of a value, four bytes a segment.
+    ghost body_of: { List ℕ → List ℕ };
 
     /// How many bytes the whole value has, where the cells make one whole.
     fn length(cells: &[Option<[u8; 4]>; 16]) -> Option<usize>
@@ -29,4 +36,12 @@ pub trait Service {
 
     /// At most one value is whole.
     ghost one: { (cells : Cells) (x y : List ℕ) → is_whole cells x → is_whole cells y → x ≡ y };
+
+    /// Cells taken from the segments of one value make that value whole, or none.
+    ghost own: { (cells : Cells) (x y : List ℕ) → is_value x → AreSegmentsOf (body_of x) cells
+        → is_whole cells y → y ≡ x };
+
+    /// All segments of a value make it whole.
+    ghost all: { (cells : Cells) (x : List ℕ) → is_value x → AreAllHeld (body_of x) cells
+        → is_whole cells x };
 }

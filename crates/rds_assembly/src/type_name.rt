@@ -6,7 +6,7 @@ ghost use Rattle.rds_assembly.specs.Cells.{Cells, held_cells, IsSpelled, IsThere
 use crate::Service;
 
 /// The bytes of a name.
-const NAME: usize = 8;
+pub(crate) const NAME: usize = 8;
 
 /// The name of group 10A (IEC 62106, programme type name).
 #[derive(Clone, Copy, Debug, PartialEq, Eq)]
@@ -14,7 +14,10 @@ pub struct TypeName;
 
 impl Service for TypeName {
     ghost use Rattle.rds_assembly.specs.Whole.{IsWholeName};
+    ghost use Rattle.rds_assembly.specs.Body.{name_body};
+    ghost use Rattle.rds_assembly.specs.Value.{IsName};
     ghost use Rattle.rds_assembly.specs.ServiceLaws.{two_are_few, no_name_of_none, one_name};
+    ghost use Rattle.rds_assembly.specs.OwnSegments.{all_name, own_name};
 
     ghost SEGMENTS = { 2 };
 
@@ -22,11 +25,19 @@ impl Service for TypeName {
 
     ghost is_whole = { IsWholeName };
 
+    ghost is_value = { IsName };
+
+    ghost body_of = { name_body };
+
     ghost few = { two_are_few };
 
     ghost none = { no_name_of_none };
 
     ghost one = { one_name };
+
+    ghost own = { own_name };
+
+    ghost all = { all_name };
 
     /// All eight bytes, where both segments are held.
     fn length(cells: &[Option<[u8; 4]>; 16]) -> Option<usize> {

@@ -1,4 +1,3 @@
-use Rattle.std.proofs.Common.{ℕ, ◌<◌}
 use Rattle.rds_assembly.specs.Cells.{held_cells}
 use Rattle.rds_assembly.proofs.TextLemmas.{Passed}
 use Rattle.rds_assembly.proofs.radio_text.RadioTextService.length.Given as goal

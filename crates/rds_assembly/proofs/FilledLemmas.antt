@@ -1,0 +1,27 @@
+-- A buffer of zeros with a text written over its front.
+use Rattle.std.proofs.Common.{◌≡◌, ℕ, ◌+◌, ◌-◌, ◌≤◌, List, ◌++◌, length, take, drop, ap, subst, ◌∙◌, sym, arith, length-append}
+use Rattle.std.specs.Prelude.{replicate}
+use Rattle.std.proofs.lemmas.Simd.{length-replicate}
+use Rattle.std.proofs.lemmas.List.{drop-replicate}
+use Rattle.std.proofs.Math.Seq.{drop-append_seam, take-append_seam}
+use Rattle.rds_assembly.specs.Value.{IsText}
+use Rattle.rds_assembly.specs.Filled.{IsFilled}
+
+rest_long : (n k : ℕ) → length (drop n (replicate {A = ℕ} k 0)) ≡ k - n
+rest_long n k = ap length (drop-replicate n k 0) ∙ length-replicate (k - n) 0
+
+joined : (a b n m : ℕ) → a ≡ n → b ≡ m - n → n ≤ m → a + b ≡ m
+joined a b n m e f h = omega arith
+
+pub written : (n : ℕ) (x : List ℕ) → length x ≡ n → IsText x → IsFilled n (x ++ drop n (replicate 64 0))
+written n x e t =
+    let within : n ≤ 64 = (let long = t.long in omega arith) in
+    record {
+      long = length-append x (drop n (replicate 64 0)) ∙ joined (length x) _ n 64 e (rest_long n 64) within;
+      within = within;
+      zeros = ap (λ k. drop k (x ++ drop n (replicate 64 0))) (sym e) ∙ drop-append_seam x (drop n (replicate 64 0)) ∙ drop-replicate n 64 0;
+      text = subst IsText (sym (front n x _ e)) t;
+    }
+  where
+    front : (k : ℕ) (a b : List ℕ) → length a ≡ k → take k (a ++ b) ≡ a
+    front k a b f = ap (λ j. take j (a ++ b)) (sym f) ∙ take-append_seam a b

@@ -1,0 +1,77 @@
+//! A programme type name, and the segments that it is sent in.
+ghost use Rattle.std.specs.Prelude.{◌≡◌, ℕ, ◌<◌, ◌≤◌, ◌↔◌, List, length, IsOk, IfOk, IfErr};
+ghost use Rattle.rds_assembly.specs.Body.{segment_count, segment_of, name_body};
+ghost use Rattle.rds_assembly.specs.Value.{IsGivenName, IsName, IsRefusedFor, is_name_byte};
+
+use crate::TextRefused;
+use crate::type_name::NAME;
+use std::marker::Model;
+
+/// A programme type name: eight bytes (IEC 62106, programme type name). Callers see them.
+#[derive(Clone, Copy, Debug, PartialEq, Eq)]
+pub struct Name {
+    bytes: [u8; 8],
+}
+
+impl Model for Name {
+    ghost use Rattle.std.specs.Prelude.{List, ℕ};
+    ghost use Rattle.rds_assembly.specs.Value.{IsName};
+
+    ghost Value = { List ℕ };
+
+    ghost view = { λ n. n.bytes };
+
+    ghost invariant = { λ n. IsName n.bytes };
+
+    ghost inverse = { λ x. record { bytes = x } };
+}
+
+impl Name {
+    /// The name of these bytes, with spaces up to eight, or why they are none. A number over eight
+    /// is told before a bad byte.
+    pub fn new(bytes: &[u8]) -> Result<Name, TextRefused>
+        ensures accepted { IsOk result ↔ IsGivenName bytes.now }
+        ensures value { IfOk result (λ name. name ≡ name_body bytes.now) }
+        ensures refused { IfErr result (IsRefusedFor 8 is_name_byte bytes.now) }
+    {
+        if bytes.len() > NAME {
+            return Err(TextRefused::TooLong);
+        }
+        if let Some(place) = bytes.iter().position(|byte| *byte < b' ') {
+            return Err(TextRefused::BadByte(place));
+        }
+        let mut padded = [b' '; NAME];
+        padded[..bytes.len()].copy_from_slice(bytes);
+        Ok(Name { bytes: padded })
+    }
+
+    /// The eight bytes.
+    pub fn bytes(&self) -> &[u8]
+        ensures value { result.now ≡ self.now }
+        ensures name { IsName self.now }
+    {
+        &self.bytes
+    }
+
+    /// How many segments the name is sent in.
+    pub fn count(&self) -> u8
+        ensures value { result ≡ segment_count (name_body self.now) }
+        ensures two { result ≡ 2 }
+    {
+        (self.bytes().len() / 4) as u8
+    }
+
+    /// The segment at the address.
+    pub fn segment(&self, address: u8) -> [u8; 4]
+        requires { address < segment_count (name_body self.now) }
+        ensures { result ≡ segment_of (name_body self.now) address }
+    {
+        let first = address as usize * 4;
+        [
+            self.bytes[first],
+            self.bytes[first + 1],
+            self.bytes[first + 2],
+            self.bytes[first + 3],
+        ]
+    }
+}

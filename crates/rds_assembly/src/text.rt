@@ -1,0 +1,115 @@
+//! A text, and the segments that it is sent in.
+ghost use Rattle.std.specs.Prelude.{◌≡◌, ℕ, ◌<◌, ◌≤◌, ◌↔◌, List, length, slice_index, IsOk, IfOk, IfErr};
+ghost use Rattle.rds_assembly.specs.Body.{segment_count, segment_of, text_body};
+ghost use Rattle.rds_assembly.specs.Value.{IsRefusedFor, IsText, is_text_byte};
+
+use crate::TextRefused;
+use crate::radio_text::CARRIAGE_RETURN;
+use std::marker::Model;
+
+/// The most bytes of a text.
+const LONGEST: usize = 64;
+
+/// A RadioText of at most 64 bytes (IEC 62106, RadioText). Callers see its bytes.
+#[derive(Clone, Copy, Debug, PartialEq, Eq)]
+pub struct Text {
+    buffer: [u8; 64],
+    end: u8,
+}
+
+impl Model for Text {
+    ghost use Rattle.std.specs.Prelude.{List, ℕ, take, length};
+    ghost use Rattle.rds_assembly.specs.Filled.{IsFilled, filled, filled_back, end_back};
+
+    ghost Value = { List ℕ };
+
+    ghost view = { λ t. take t.end t.buffer };
+
+    ghost invariant = { λ t. IsFilled t.end t.buffer };
+
+    ghost inverse = { λ x. record { buffer = filled x; end = length x } };
+
+    ghost inverse_ok = { λ t h i. record {
+      buffer = filled_back t.end t.buffer h i;
+      end = end_back t.end t.buffer h i;
+    } };
+}
+
+impl Text {
+    /// The text of these bytes, or why they are none. A number over 64 is told before a bad byte.
+    pub fn new(bytes: &[u8]) -> Result<Text, TextRefused>
+        ensures accepted { IsOk result ↔ IsText bytes.now }
+        ensures value { IfOk result (λ text. text ≡ bytes.now) }
+        ensures refused { IfErr result (IsRefusedFor 64 is_text_byte bytes.now) }
+    {
+        if bytes.len() > LONGEST {
+            return Err(TextRefused::TooLong);
+        }
+        if let Some(place) = bytes.iter().position(|byte| !may_stand(*byte)) {
+            return Err(TextRefused::BadByte(place));
+        }
+        let mut buffer = [0; 64];
+        buffer[..bytes.len()].copy_from_slice(bytes);
+        Ok(Text {
+            buffer,
+            end: bytes.len() as u8,
+        })
+    }
+
+    /// The bytes.
+    pub fn bytes(&self) -> &[u8]
+        ensures value { result.now ≡ self.now }
+        ensures text { IsText self.now }
+    {
+        &self.buffer[..self.end as usize]
+    }
+
+    /// How many segments the text is sent in.
+    pub fn count(&self) -> u8
+        ensures value { result ≡ segment_count (text_body self.now) }
+        ensures some { 0 < result }
+        ensures few { result ≤ 16 }
+    {
+        if self.end as usize == LONGEST {
+            16
+        } else {
+            self.end / 4 + 1
+        }
+    }
+
+    /// The segment at the address.
+    pub fn segment(&self, address: u8) -> [u8; 4]
+        requires { address < segment_count (text_body self.now) }
+        ensures { result ≡ segment_of (text_body self.now) address }
+    {
+        let first = address as usize * 4;
+        [
+            self.sent(first),
+            self.sent(first + 1),
+            self.sent(first + 2),
+            self.sent(first + 3),
+        ]
+    }
+
+    /// The byte at this place of what is sent: after the text come a carriage return and spaces.
+    fn sent(&self, place: usize) -> u8
+        requires { place < length (text_body self.now) }
+        ensures { result ≡ slice_index (text_body self.now) place }
+    {
+        let end = self.end as usize;
+        if place < end {
+            self.buffer[place]
+        } else if place == end {
+            CARRIAGE_RETURN
+        } else {
+            b' '
+        }
+    }
+}
+
+/// Whether the byte may stand in a text.
+fn may_stand(byte: u8) -> bool
+    ensures { result ≡ is_text_byte byte }
+{
+    matches!(byte, 0x0A | 0x0B | 0x1F | 0x20..)
+}
