@@ -35,7 +35,7 @@ second_word_read n h =
     sym (rw (bit_of_test n 11, bit_of_test n 10, and_mask (n / 32) 5, and_mask n 5) (sum_of_parts n h))
 
 -- bits below those of a number are joined to it by a sum
-or_above : (k a b x : ℕ) → x ≡ a * 2 ^ k → b < 2 ^ k → bit_or x b ≡ x + b
+pub or_above : (k a b x : ℕ) → x ≡ a * 2 ^ k → b < 2 ^ k → bit_or x b ≡ x + b
 or_above k a b x e h = rw e (or_shifted a k b h)
 
 -- block 2 written by shifts
@@ -66,7 +66,7 @@ pub from_bool-lt : (b : Bool) → from_bool b < 2
 from_bool-lt true = omega arith
 from_bool-lt false = omega arith
 
-same_bool : (a b : Bool) → from_bool a ≡ from_bool b → a ≡ b
+pub same_bool : (a b : Bool) → from_bool a ≡ from_bool b → a ≡ b
 same_bool true true e = refl
 same_bool false false e = refl
 same_bool true false e = absurd (omega arith)

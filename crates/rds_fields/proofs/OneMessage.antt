@@ -2,18 +2,12 @@
 use Rattle.std.proofs.Common.{◌≡◌, ℕ, zero, suc, List, get_or, Bool, true, false, refl, sym, ap, ◌∙◌, arith}
 use Rattle.std.specs.Int.{from_bool}
 use Rattle.rds_block.specs.declared.group.Group.{Group}
-use Rattle.rds_block.proofs.SecondWord.{four, from_bool-lt}
+use Rattle.rds_block.proofs.SecondWord.{four, from_bool-lt, same_bool}
 use Rattle.rds_fields.specs.declared.message.Message.{Message}
 use Rattle.rds_fields.specs.declared.message.Message.TheVariants.{Text, Name, Announce, Tags, Other}
 use Rattle.rds_fields.specs.Tag.{TagFields, PairFields}
 use Rattle.rds_fields.specs.Bits.{Sent, FitsBits, bits_of, IsRead, SpellsPair}
 use Rattle.rds_fields.specs.Spells.{Carries, Spells}
-
-pub same_bool : (a b : Bool) → from_bool a ≡ from_bool b → a ≡ b
-same_bool true true e = refl
-same_bool false false e = refl
-same_bool true false e = absurd (omega arith)
-same_bool false true e = absurd (omega arith)
 
 -- two words carry one list of bytes
 same_bytes : (c d : ℕ) (a b : List ℕ) → Carries c d a → Carries c d b → a ≡ b

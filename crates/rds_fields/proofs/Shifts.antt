@@ -3,11 +3,8 @@ use Rattle.std.proofs.Common.{◌≡◌, ℕ, zero, suc, ◌+◌, ◌*◌, ◌<�
 use Rattle.std.specs.Int.{from_bool}
 use Rattle.std.proofs.lemmas.Nat.{or_shifted, and_mask}
 use mathlib.Core.Bool.{not}
+use Rattle.rds_block.proofs.SecondWord.{or_above}
 use Rattle.rds_fields.specs.Bits.{Sent, FitsBits, bits_of}
-
--- bits below those of a number are joined to it by a sum
-or_above : (k a b x : ℕ) → x ≡ a * 2 ^ k → b < 2 ^ k → bit_or x b ≡ x + b
-or_above k a b x e h = rw e (or_shifted a k b h)
 
 -- the three parts of the 37 bits joined
 pub parts_joined : (low c d : ℕ) → low < 32 → c < 65536 → d < 65536 →

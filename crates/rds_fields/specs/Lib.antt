@@ -2,3 +2,4 @@ pub mod Tag
 pub mod Bits
 pub mod Spells
 pub mod Canonical
+pub mod RadioTextPlus

@@ -16,6 +16,7 @@ mod head;
 mod laws;
 mod message;
 mod pair;
+mod radiotext_plus;
 mod tag;
 
 pub use dwell::Dwell;
@@ -23,6 +24,7 @@ pub use head::Head;
 pub use laws::{one_group, one_message};
 pub use message::Message;
 pub use pair::{TagPair, Which};
+pub use radiotext_plus::{RTPLUS_AID, RTPLUS_CODE};
 pub use tag::{Tag, TagRefused};
 
 #[cfg(test)]

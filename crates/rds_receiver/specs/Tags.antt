@@ -5,16 +5,10 @@ use Rattle.rds_fields.specs.declared.message.Message.{Message}
 use Rattle.rds_fields.specs.declared.message.Message.TheVariants.{Text, Name, Announce, Tags, Other}
 use Rattle.rds_fields.specs.declared.pair.Which.{Which}
 use Rattle.rds_fields.specs.declared.pair.Which.TheVariants.{One, Two}
+use Rattle.rds_fields.specs.RadioTextPlus.{rtplus_aid, rtplus_code}
 use Rattle.rds_fields.specs.Tag.{PairFields, TagFields}
 use Rattle.rds_receiver.specs.Receipts.{text_piece}
 use Rattle.rds_receiver.specs.Run.{begins_in, run_at}
-
--- the application group type code of 11A, and the application identification of RadioText Plus
-abbrev pub rtplus_code : ℕ
-rtplus_code = 22
-
-abbrev pub rtplus_aid : ℕ
-rtplus_aid = 0x4BD7
 
 -- what an announcement says of RadioText Plus on 11A: that it is there (both fit), the contrary (just one
 -- fits), or nothing

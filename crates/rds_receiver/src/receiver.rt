@@ -11,14 +11,8 @@ ghost use Rattle.rds_receiver.specs.Tags.{item_of, or_before, pair_held, says_of
 use crate::held::Held;
 use rds_assembly::{RadioText, TypeName};
 use rds_block::Group;
-use rds_fields::{Dwell, Message, TagPair, Which};
+use rds_fields::{Dwell, Message, RTPLUS_AID, RTPLUS_CODE, TagPair, Which};
 use std::marker::Model;
-
-/// The code of group type 11A, which carries the tags (IEC 62106, group 3A).
-const RTPLUS_CODE: u8 = 22;
-
-/// The application identification of RadioText Plus (IEC 62106-6).
-const RTPLUS_AID: u16 = 0x4BD7;
 
 /// Shows the text, the name and the tags of one programme. Every group is taken, from any encoder.
 #[derive(Drop)]

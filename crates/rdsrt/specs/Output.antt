@@ -5,6 +5,7 @@
 use Rattle.std.specs.Prelude.{◌-◌, ◌==◌, ◌&&◌, ◌++◌, ℕ, Bool, true, false, List, [], ◌∷◌, Option, Some, None, codes, decimal, length, slice_get, if◌then◌else◌}
 use Rattle.std.specs.Str.{bytes_eq}
 use Rattle.rds_charset.specs.Printed.{printed}
+use Rattle.rds_receiver.specs.Run.{is_same}
 use Rattle.rds_receiver.specs.Shown.{View}
 
 -- the names of the classes from 1 on (IEC 62106-6, content types of RadioText Plus)
@@ -52,17 +53,11 @@ is_same_text None (Some y) = false
 is_same_text (Some x) None = false
 is_same_text (Some x) (Some y) = bytes_eq x y
 
-abbrev pub is_same_bit : Bool → Bool → Bool
-is_same_bit true true = true
-is_same_bit true false = false
-is_same_bit false true = false
-is_same_bit false false = true
-
 abbrev pub is_same_item : Option (Bool × Bool) → Option (Bool × Bool) → Bool
 is_same_item None None = true
 is_same_item None (Some y) = false
 is_same_item (Some x) None = false
-is_same_item (Some x) (Some y) = is_same_bit x.0 y.0 && is_same_bit x.1 y.1
+is_same_item (Some x) (Some y) = is_same x.0 y.0 && is_same x.1 y.1
 
 abbrev pub is_same_tag : Option (ℕ × List ℕ) → Option (ℕ × List ℕ) → Bool
 is_same_tag None None = true
