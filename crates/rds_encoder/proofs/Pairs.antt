@@ -1,0 +1,43 @@
+-- A pair is on air with a text only.
+use Rattle.std.proofs.Common.{◌≡◌, ◌+◌, ℕ, List, [], ◌∷◌, Bool, true, false, nat_lt, nat_le, Option, Some, None, refl, sym, is_ok}
+use Rattle.rds_fields.specs.declared.message.Message.TheVariants.{Tags}
+use Rattle.rds_fields.specs.Tag.{PairFields}
+use Rattle.rds_encoder.specs.Entries.{Entry, Restart, SetText, SetName, SetTags, Tick, restart_before, slot_of, text_moves}
+use Rattle.rds_encoder.specs.Plan.{OnAir, on_air}
+use Rattle.rds_encoder.specs.Reply.{reply_to}
+use Rattle.rds_encoder.specs.Tags.{pair_on_air, tags_reply}
+use Rattle.rds_encoder.specs.Sent.{tags_due}
+
+-- nothing on air, no pair
+pub no_pair : (m : ℕ) (entries : List Entry) → on_air m (text_moves entries) ≡ None → pair_on_air m entries ≡ None
+no_pair m [] h = refl
+no_pair m (Restart ∷ before) h = refl
+no_pair m (SetName x ∷ before) h = no_pair m before h
+no_pair m (Tick free ∷ before) h = no_pair m before h
+no_pair m (SetText x ∷ before) h = by_reply (is_ok (reply_to m (text_moves before))) refl h (no_pair m before)
+  where
+    by_reply : (b : Bool) → is_ok (reply_to m (text_moves before)) ≡ b → on_air m (text_moves (SetText x ∷ before)) ≡ None
+        → (on_air m (text_moves before) ≡ None → pair_on_air m before ≡ None) → pair_on_air m (SetText x ∷ before) ≡ None
+    by_reply true e o rest = rw e refl
+    by_reply false e o rest = rw e (rest (rw e at o))
+no_pair m (SetTags pair ∷ before) h = rw (refused h) (no_pair m before h)
+  where
+    refused : on_air m (text_moves before) ≡ None → is_ok (tags_reply m pair before) ≡ false
+    refused o = by_test (nat_lt (slot_of (text_moves before)) (restart_before (text_moves before) + m)) refl
+      where
+        by_test : (b : Bool) → nat_lt (slot_of (text_moves before)) (restart_before (text_moves before) + m) ≡ b → is_ok (tags_reply m pair before) ≡ false
+        by_test true t = rw t refl
+        by_test false t = rw (t, o) refl
+
+-- a pair that is due
+pub with_pair : (m : ℕ) (entries : List Entry) (pair : PairFields) → pair_on_air m entries ≡ Some pair → (air : OnAir) × (on_air m (text_moves entries) ≡ Some air)
+with_pair m entries pair h = by_air (on_air m (text_moves entries)) refl
+  where
+    by_air : (o : Option OnAir) → on_air m (text_moves entries) ≡ o → (air : OnAir) × (on_air m (text_moves entries) ≡ Some air)
+    by_air None e = absurd (let gone = no_pair m entries e in cc)
+    by_air (Some air) e = (air, e)
+
+-- the tags are due once the text has been on air for the dwell
+pub due : (m now : ℕ) (on_air : Option OnAir) (held : Option PairFields) (air : OnAir) (pair : PairFields) (lasted : Bool) → on_air ≡ Some air → held ≡ Some pair
+    → lasted ≡ nat_le (air.start + m) now → lasted ≡ true → Some (Tags pair) ≡ tags_due m now on_air held
+due m now on_air held air pair lasted on has test done = rw (on, has, sym test, done) refl

@@ -1,0 +1,35 @@
+-- What an encoder holds: counters that stop at their limits, one flag bit a service, and what is on air.
+use Rattle.std.specs.Prelude.{◌+◌, ◌%◌, ◌<◌, ℕ, Bool, List, Option}
+use Rattle.rds_fields.specs.declared.head.Head.{Head}
+use Rattle.rds_fields.specs.Tag.{PairFields}
+use Rattle.rds_assembly.specs.Body.{segment_count, text_body}
+
+-- of one service: for how many slots more a set is held back, and the flag of the next accepted one
+pub record HoldState : Type 0 where
+  pub left : ℕ
+  pub next_flag : Bool
+
+-- the text on air, and the address of its next segment
+pub record TextState : Type 0 where
+  pub bytes : List ℕ
+  pub next : ℕ
+
+-- the address is one of the text's
+pub record IsTextState (t : TextState) : Type 0 where
+  pub own : t.next < segment_count (text_body t.bytes)
+  pub few : t.next < 16
+
+-- after the last segment comes the first
+abbrev pub advanced : TextState → TextState
+advanced t = record { bytes = t.bytes; next = (t.next + 1) % segment_count (text_body t.bytes) }
+
+pub record EncoderState : Type 0 where
+  pub head : Head
+  pub dwell : ℕ
+  pub silent : ℕ
+  pub turn : ℕ
+  pub text_hold : HoldState
+  pub name_hold : HoldState
+  pub text : Option TextState
+  pub name : Option (List ℕ)
+  pub pair : Option PairFields

@@ -1,0 +1,88 @@
+//! When a service takes its next text or name, and with which flag.
+ghost use Rattle.std.specs.Prelude.{◌≡◌, ◌+◌, ℕ, Bool, List, [], ◌∷◌, Option, Some, Ok, nat_le};
+ghost use Rattle.rds_encoder.specs.Entries.{Move, Begin, Set, End, slot_of};
+ghost use Rattle.rds_encoder.specs.Plan.{OnAir, on_air};
+ghost use Rattle.rds_encoder.specs.Reply.{held_reply, last_accepted, reply_to};
+ghost use Rattle.rds_encoder.specs.Standing.{HoldsBack};
+
+use crate::Refusal;
+use std::marker::Model;
+
+/// For how many slots more one service holds its next text or name back, and the flag that it will have.
+#[derive(Drop)]
+pub(crate) struct Hold {
+    left: u32,
+    next_flag: bool,
+}
+
+impl Model for Hold {
+    ghost use Rattle.rds_encoder.specs.State.{HoldState};
+
+    ghost Value = { HoldState };
+
+    ghost view = { λ h. record { left = h.left; next_flag = h.next_flag } };
+}
+
+impl Hold {
+    /// Nothing is on air.
+    pub(crate) fn new() -> Hold
+        ensures first { (m : ℕ) → HoldsBack m result [] }
+        ensures again { (m : ℕ) (moves : List Move) → HoldsBack m result (Begin ∷ moves) }
+    {
+        Hold {
+            left: 0,
+            next_flag: false,
+        }
+    }
+
+    /// Refuses a set that is held back.
+    pub(crate) fn check(&self) -> Result<(), Refusal>
+        ensures { (m : ℕ) (moves : List Move) → HoldsBack m self.now moves
+            → result ≡ held_reply m (slot_of moves) (last_accepted m moves) }
+    {
+        match self.left {
+            0 => Ok(()),
+            slots => Err(Refusal::Held(slots)),
+        }
+    }
+
+    /// For how many slots more a set is held back; 0 where it is not.
+    pub(crate) fn left(&self) -> u32
+        ensures { result ≡ self.now.left }
+    {
+        self.left
+    }
+
+    /// A set is accepted: it goes on air, with the other flag.
+    pub(crate) fn accept(&mut self, dwell: u16)
+        ensures { (moves : List Move) (x : List ℕ) → HoldsBack dwell self.old moves
+            → reply_to dwell moves ≡ Ok tt → HoldsBack dwell self.new (Set x ∷ moves) }
+    {
+        self.left = 2 * u32::from(dwell);
+        self.next_flag = !self.next_flag;
+    }
+
+    /// One slot ended.
+    pub(crate) fn end_slot(&mut self)
+        ensures { (m : ℕ) (free : Bool) (moves : List Move) → HoldsBack m self.old moves
+            → HoldsBack m self.new (End free ∷ moves) }
+    {
+        self.left = self.left.saturating_sub(1);
+    }
+
+    /// The flag of what is on air.
+    pub(crate) fn flag(&self) -> bool
+        ensures { (m : ℕ) (moves : List Move) (air : OnAir) → HoldsBack m self.now moves
+            → on_air m moves ≡ Some air → result ≡ air.flag }
+    {
+        !self.next_flag
+    }
+
+    /// Whether what is on air has been so for the dwell.
+    pub(crate) fn has_lasted(&self, dwell: u16) -> bool
+        ensures { (moves : List Move) (air : OnAir) → HoldsBack dwell self.now moves
+            → on_air dwell moves ≡ Some air → result ≡ nat_le (air.start + dwell) (slot_of moves) }
+    {
+        self.left <= u32::from(dwell)
+    }
+}

@@ -1,0 +1,28 @@
+//! An encoder of RadioText, programme type names and RadioText Plus, slot by slot.
+//!
+//! The one model is the list of all that it was told: restarts, sets, ends of slots. By slot numbers alone it
+//! gives the reply to each set (`reply_to`, `tags_reply`), what is on air (`on_air`) and what each slot sends
+//! (`sent_in`). The encoder keeps counters and `StandsAt` such a list, whichever it is. It copies no history
+//! and takes no memory, and it never puts a text on air later than it accepts it.
+//!
+//! ```text
+//! let mut encoder = Encoder::new(head, dwell);
+//! encoder.set_text(Text::new(b"HI")?) == Err(Refusal::Silent(dwell.get()))
+//! encoder.tick(true) == None
+//! ```
+#![tactic(auto)]
+
+mod encoder;
+mod hold;
+mod laws;
+mod on_air;
+mod refusal;
+mod wait;
+
+pub use encoder::Encoder;
+pub use laws::on_air_is_what_covers_the_slot;
+pub use refusal::Refusal;
+pub use wait::Wait;
+
+#[cfg(test)]
+mod tests;

@@ -1,0 +1,64 @@
+//! The text on air, segment by segment.
+ghost use Rattle.std.specs.Prelude.{◌≡◌};
+ghost use Rattle.rds_fields.specs.declared.message.Message.{Message};
+ghost use Rattle.rds_assembly.specs.Body.{segment_of, text_body};
+ghost use Rattle.rds_assembly.specs.Value.{IsText};
+ghost use Rattle.rds_encoder.specs.State.{advanced};
+
+use rds_assembly::Text;
+use rds_block::Place;
+use rds_fields::Message;
+use std::marker::Model;
+
+/// The text on air, and the address of the segment that is next.
+#[derive(Drop)]
+pub(crate) struct TextOnAir {
+    text: Text,
+    next: u8,
+}
+
+impl Model for TextOnAir {
+    ghost use Rattle.rds_encoder.specs.State.{IsTextState, TextState};
+
+    ghost Value = { TextState };
+
+    ghost view = { λ t. record { bytes = t.text; next = t.next } };
+
+    ghost invariant = { λ t. IsTextState record { bytes = t.text; next = t.next } };
+}
+
+impl TextOnAir {
+    /// The text goes on air: its first segment is next.
+    pub(crate) fn new(text: Text) -> TextOnAir
+        ensures { result ≡ record { bytes = text; next = 0 } }
+    {
+        TextOnAir { text, next: 0 }
+    }
+
+    /// The bytes of the text.
+    pub(crate) fn bytes(&self) -> &[u8]
+        ensures value { result.now ≡ self.now.bytes }
+        ensures text { IsText result.now }
+    {
+        self.text.bytes()
+    }
+
+    /// The segment that is next, with the flag of the text.
+    pub(crate) fn segment(&self, flag: bool) -> Message
+        ensures { result ≡ Message.Text flag self.now.next
+            (segment_of (text_body self.now.bytes) self.now.next) }
+    {
+        Message::Text {
+            flag,
+            address: Place::new(self.next).unwrap(),
+            bytes: self.text.segment(self.next),
+        }
+    }
+
+    /// Goes on to the segment after it; after the last comes the first.
+    pub(crate) fn advance(&mut self)
+        ensures { self.new ≡ advanced self.old }
+    {
+        self.next = (self.next + 1) % self.text.count();
+    }
+}
