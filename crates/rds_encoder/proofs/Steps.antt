@@ -156,27 +156,12 @@ no_turn station m e silent text_hold name_hold free entries st less absent text_
     not_of_text false n since = refl
     not_of_text true n since = absurd (grind (arith, nat_tests, since.0, since.1, n))
 
--- a free slot whose turn is the text's, and one whose turn is not
-pub text_turn : (station : Head) (m : ℕ) (e : EncoderState) (text_hold name_hold : HoldState) (entries : List Entry)
-    → StandsAt station m e entries → e.silent ≡ 0 → e.turn % 2 ≡ 0
-    → HoldsBack m text_hold (End true ∷ text_moves entries) → HoldsBack m name_hold (End true ∷ name_moves entries)
-    → StandsAt station m record { head = e.head; dwell = e.dwell; silent = e.silent; turn = (e.turn + 1) % 8; text_hold = text_hold; name_hold = name_hold; text = option_map advanced e.text; name = e.name; pair = e.pair }
-    (Tick true ∷ entries)
-text_turn station m e text_hold name_hold entries st loud even text_back name_back =
-    let moves = text_moves entries in
-    let taken : nat_le (restart_before moves + m) (slot_of moves) ≡ true = (let s = st.silent in grind (arith, nat_tests)) in
-    let rest : turn_of m moves % 2 ≡ 0 = omega (arith, st.turn) in
-    record {
-      head = st.head;
-      dwell = st.dwell;
-      silent = omega (arith, st.silent);
-      turn = rw taken (omega (arith, st.turn));
-      text_hold = text_back;
-      name_hold = name_back;
-      text = ap (option_map advanced) st.text ∙ text_next m true moves (on_air m moves) (λ air on. of_text rest (air_since m moves air on));
-      name = st.name;
-      pair = st.pair;
-    }
+-- in an even turn the text goes on to its next segment, in an odd one it does not
+pub text_goes_on : (station : Head) (m : ℕ) (e : EncoderState) (entries : List Entry) → StandsAt station m e entries → e.turn % 2 ≡ 0
+    → option_map advanced e.text ≡ option_map (with_next m (End true ∷ text_moves entries)) (on_air m (text_moves entries))
+text_goes_on station m e entries st even =
+    ap (option_map advanced) st.text
+    ∙ text_next m true (text_moves entries) (on_air m (text_moves entries)) (λ air on. of_text (omega (arith, st.turn)) (air_since m (text_moves entries) air on))
   where
     of_text : {a : ℕ} → turn_of m (text_moves entries) % 2 ≡ 0 → (restart_before (text_moves entries) + m ≤ a) × (a ≤ slot_of (text_moves entries))
         → is_of_text m true (text_moves entries) a ≡ true
@@ -184,15 +169,24 @@ text_turn station m e text_hold name_hold entries st loud even text_back name_ba
         let began : nat_le a (slot_of (text_moves entries)) ≡ true = (let s = since.1 in grind (arith, nat_tests)) in
         rw (began, r) refl
 
-pub other_turn : (station : Head) (m : ℕ) (e : EncoderState) (text_hold name_hold : HoldState) (entries : List Entry)
-    → StandsAt station m e entries → e.silent ≡ 0 → e.turn % 2 ≡ 1
+pub text_stays : (station : Head) (m : ℕ) (e : EncoderState) (entries : List Entry) → StandsAt station m e entries → e.turn % 2 ≡ 1
+    → e.text ≡ option_map (with_next m (End true ∷ text_moves entries)) (on_air m (text_moves entries))
+text_stays station m e entries st odd =
+    st.text ∙ text_kept m true (text_moves entries) (on_air m (text_moves entries)) (λ air on. not_of_text air.start (omega (arith, st.turn)))
+  where
+    not_of_text : (a : ℕ) → turn_of m (text_moves entries) % 2 ≡ 1 → is_of_text m true (text_moves entries) a ≡ false
+    not_of_text a r = rw r (and_right (nat_le a (slot_of (text_moves entries))) false refl)
+
+-- a free slot after the silence
+pub turn_taken : (station : Head) (m : ℕ) (e : EncoderState) (text : Option TextState) (text_hold name_hold : HoldState) (entries : List Entry)
+    → StandsAt station m e entries → e.silent ≡ 0
+    → text ≡ option_map (with_next m (End true ∷ text_moves entries)) (on_air m (text_moves entries))
     → HoldsBack m text_hold (End true ∷ text_moves entries) → HoldsBack m name_hold (End true ∷ name_moves entries)
-    → StandsAt station m record { head = e.head; dwell = e.dwell; silent = e.silent; turn = (e.turn + 1) % 8; text_hold = text_hold; name_hold = name_hold; text = e.text; name = e.name; pair = e.pair }
+    → StandsAt station m record { head = e.head; dwell = e.dwell; silent = e.silent; turn = (e.turn + 1) % 8; text_hold = text_hold; name_hold = name_hold; text = text; name = e.name; pair = e.pair }
     (Tick true ∷ entries)
-other_turn station m e text_hold name_hold entries st loud odd text_back name_back =
+turn_taken station m e text text_hold name_hold entries st loud goes_on text_back name_back =
     let moves = text_moves entries in
     let taken : nat_le (restart_before moves + m) (slot_of moves) ≡ true = (let s = st.silent in grind (arith, nat_tests)) in
-    let rest : turn_of m moves % 2 ≡ 1 = omega (arith, st.turn) in
     record {
       head = st.head;
       dwell = st.dwell;
@@ -200,13 +194,10 @@ other_turn station m e text_hold name_hold entries st loud odd text_back name_ba
       turn = rw taken (omega (arith, st.turn));
       text_hold = text_back;
       name_hold = name_back;
-      text = st.text ∙ text_kept m true moves (on_air m moves) (λ air on. not_of_text air.start rest);
+      text = goes_on;
       name = st.name;
       pair = st.pair;
     }
-  where
-    not_of_text : (a : ℕ) → turn_of m (text_moves entries) % 2 ≡ 1 → is_of_text m true (text_moves entries) a ≡ false
-    not_of_text a r = rw r (and_right (nat_le a (slot_of (text_moves entries))) false refl)
 
 -- a silent slot has no turn
 pub silent_slot : (m : ℕ) (free : Bool) (moves : List Move) (silent : ℕ) → silent ≡ restart_before moves + m - slot_of moves → 0 < silent → is_turn m free moves ≡ false

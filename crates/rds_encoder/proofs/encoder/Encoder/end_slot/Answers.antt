@@ -1,6 +1,6 @@
 use Rattle.std.proofs.Common.{arith, true, refl, inl, inr}
 use Rattle.rds_encoder.specs.Entries.{name_moves, text_moves}
-use Rattle.rds_encoder.proofs.Steps.{no_turn, other_turn, parity, silent_slot, text_turn}
+use Rattle.rds_encoder.proofs.Steps.{no_turn, parity, silent_slot, text_goes_on, text_stays, turn_taken}
 use Rattle.rds_encoder.proofs.encoder.Encoder.end_slot.Goals as goal
 
 pub returns-then-self-gt0 : goal.returns-then-self-gt0
@@ -22,6 +22,6 @@ returns-then-free c station m entries st =
     let text_back = c.end_slot.ensures m true (text_moves entries) at.text_hold in
     let name_back = c.end_slot-2.ensures m true (name_moves entries) at.name_hold in
     rw c.if-free.true (elim (parity c.self.inside.turn) [
-      | inl even ↦ rw (c.end_turn.ensures.even even) (text_turn station m _ _ _ entries at (omega arith) even text_back name_back)
-      | inr odd ↦ rw (c.end_turn.ensures.odd odd) (other_turn station m _ _ _ entries at (omega arith) odd text_back name_back)
+      | inl even ↦ rw (c.end_turn.ensures.even even) (turn_taken station m _ _ _ _ entries at (omega arith) (text_goes_on station m _ entries at even) text_back name_back)
+      | inr odd ↦ rw (c.end_turn.ensures.odd odd) (turn_taken station m _ _ _ _ entries at (omega arith) (text_stays station m _ entries at odd) text_back name_back)
     ])
