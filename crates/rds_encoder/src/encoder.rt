@@ -319,10 +319,12 @@ impl Encoder {
 
     /// One turn ended.
     fn end_turn(&mut self)
-        ensures even { self.old.turn % 2 ≡ 0 → self.new
-            ≡ record self.old { turn = (self.old.turn + 1) % 8; text = option_map advanced self.old.text } }
-        ensures odd { self.old.turn % 2 ≡ 1 → self.new
-            ≡ record self.old { turn = (self.old.turn + 1) % 8 } }
+        ensures even { self.old.turn % 2 ≡ 0 → self.new ≡ record self.old {
+          turn = (self.old.turn + 1) % 8;
+          text = option_map advanced self.old.text;
+        } }
+        ensures odd { self.old.turn % 2 ≡ 1
+            → self.new ≡ record self.old { turn = (self.old.turn + 1) % 8 } }
     {
         if self.turn % 2 == 0
             && let Some(text) = &mut self.text

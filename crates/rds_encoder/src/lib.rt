@@ -2,12 +2,12 @@
 //!
 //! The one model is the list of all that it was told: restarts, sets, ends of slots. By slot numbers alone it
 //! gives the reply to each set (`reply_to`, `tags_reply`), what is on air (`on_air`) and what each slot sends
-//! (`sent_in`). The encoder keeps counters and `StandsAt` such a list, whichever it is. It copies no history
-//! and takes no memory, and it never puts a text on air later than it accepts it.
+//! (`sent_in`). The encoder keeps counters and `StandsAt` such a list, whichever it is. It keeps no history and
+//! takes no memory, and it never puts a text on air later than it accepts it.
 //!
 //! ```text
-//! let mut encoder = Encoder::new(head, dwell);
-//! encoder.set_text(Text::new(b"HI")?) == Err(Refusal::Silent(dwell.get()))
+//! let mut encoder = Encoder::new(head, Dwell::new(4)?);
+//! encoder.set_text(Text::new(b"HI")?) == Err(Refusal::Silent(4))
 //! encoder.tick(true) == None
 //! ```
 #![tactic(auto)]

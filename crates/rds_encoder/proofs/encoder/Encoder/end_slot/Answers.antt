@@ -1,6 +1,6 @@
 use Rattle.std.proofs.Common.{arith, true, refl, inl, inr}
 use Rattle.rds_encoder.specs.Entries.{name_moves, text_moves}
-use Rattle.rds_encoder.proofs.Steps.{no_turn, parity, silent_slot, text_goes_on, text_stays, turn_taken}
+use Rattle.rds_encoder.proofs.Turns.{no_turn, parity, silent_slot, text_goes_on, text_stays, turn_taken}
 use Rattle.rds_encoder.proofs.encoder.Encoder.end_slot.Goals as goal
 
 pub returns-then-self-gt0 : goal.returns-then-self-gt0

@@ -1,6 +1,6 @@
 use Rattle.std.proofs.Common.{◌+◌, refl, arith}
 use Rattle.rds_encoder.specs.Entries.{name_moves, slot_of, text_moves}
-use Rattle.rds_encoder.proofs.Steps.{none_free_yet}
+use Rattle.rds_encoder.proofs.Turns.{none_free_yet}
 use Rattle.rds_encoder.proofs.encoder.Encoder.new.Goals as goal
 
 pub returns-clause-first : goal.returns-clause-first

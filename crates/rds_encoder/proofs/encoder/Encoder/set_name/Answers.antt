@@ -3,7 +3,7 @@ use Rattle.std.specs.Prelude.{is_ok}
 use Rattle.rds_encoder.specs.Entries.{name_moves, restart_before, slot_of, text_moves}
 use Rattle.rds_encoder.specs.Reply.{reply_to}
 use Rattle.rds_encoder.proofs.Replies.{names_silent, passed_on, silence_over, silent_first}
-use Rattle.rds_encoder.proofs.Steps.{name_accepted, name_refused}
+use Rattle.rds_encoder.proofs.Sets.{name_accepted, name_refused}
 use Rattle.rds_encoder.proofs.encoder.Encoder.set_name.Goals as goal
 
 pub returns-in_err-check_silence-clause-reply : goal.returns-in_err-check_silence-clause-reply

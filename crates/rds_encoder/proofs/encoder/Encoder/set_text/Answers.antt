@@ -2,7 +2,7 @@ use Rattle.std.proofs.Common.{◌≡◌, ◌∙◌, Ok, sym}
 use Rattle.rds_encoder.specs.Entries.{restart_before, slot_of, text_moves}
 use Rattle.rds_encoder.specs.Reply.{reply_to}
 use Rattle.rds_encoder.proofs.Replies.{passed_on, silence_over, silent_first}
-use Rattle.rds_encoder.proofs.Steps.{text_accepted}
+use Rattle.rds_encoder.proofs.Sets.{text_accepted}
 use Rattle.rds_encoder.proofs.encoder.Encoder.set_text.Goals as goal
 
 pub returns-in_err-check_silence-clause-reply : goal.returns-in_err-check_silence-clause-reply

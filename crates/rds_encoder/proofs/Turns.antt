@@ -1,21 +1,20 @@
--- One more entry: what the encoder goes on to hold stands at the longer list.
-use Rattle.std.proofs.Common.{◌≡◌, ℕ, zero, suc, ◌+◌, ◌-◌, ◌%◌, ◌<◌, ◌≤◌, List, [], ◌∷◌, Bool, true, false, nat_le, Option, Some, None, Ok, refl, sym, ap, ◌∙◌, arith, is_ok, option_map, ◌⊎◌, inl, inr}
+-- One more slot that ended: what the encoder goes on to hold stands at the longer list.
+use Rattle.std.proofs.Common.{◌≡◌, ℕ, zero, suc, ◌+◌, ◌-◌, ◌%◌, ◌<◌, ◌≤◌, List, [], ◌∷◌, Bool, true, false, nat_le, Option, Some, None, refl, sym, ap, ◌∙◌, arith, option_map, ◌⊎◌, inl, inr}
 use Rattle.std.specs.Prelude.{◌&&◌}
-use Rattle.std.proofs.Math.Nat.{suc-mod, zero-mod}
+use Rattle.std.proofs.Math.Nat.{suc-mod}
 use Rattle.std.proofs.lemmas.Bool.{and_right}
 use Rattle.rds_encoder.proofs.OnAir.{air_since}
 use Rattle.std.proofs.lemmas.Bool.Decides.{nat_tests}
 use Rattle.rds_fields.specs.declared.head.Head.{Head}
 use Rattle.rds_assembly.specs.Body.{segment_count, text_body}
-use Rattle.rds_encoder.specs.Entries.{Entry, SetText, SetName, Tick, Move, Begin, Set, End, name_moves, restart_before, slot_of, text_moves}
+use Rattle.rds_encoder.specs.Entries.{Entry, Tick, Move, Begin, Set, End, name_moves, restart_before, slot_of, text_moves}
 use Rattle.rds_encoder.specs.Plan.{OnAir, on_air}
-use Rattle.rds_encoder.specs.Reply.{reply_to}
 use Rattle.rds_encoder.specs.Sent.{even_from, free_from, is_even, next_address, is_turn, one_if, turn_of}
 use Rattle.rds_encoder.specs.Standing.{HoldsBack, StandsAt, with_next}
 use Rattle.rds_encoder.specs.State.{EncoderState, HoldState, TextState, advanced}
 
 -- no slot yet is as late as this one
-none_yet : (m a : ℕ) (moves : List Move) → slot_of moves ≤ a → even_from m a moves ≡ 0
+pub none_yet : (m a : ℕ) (moves : List Move) → slot_of moves ≤ a → even_from m a moves ≡ 0
 none_yet m a [] h = refl
 none_yet m a (Begin ∷ before) h = none_yet m a before h
 none_yet m a (Set x ∷ before) h = none_yet m a before h
@@ -41,59 +40,6 @@ none_free_yet a (End free ∷ before) h =
     by_free : (f : Bool) → nat_le a (slot_of before) ≡ false → free_from a before ≡ 0 → one_if (f && nat_le a (slot_of before)) + free_from a before ≡ 0
     by_free false l r = rw r refl
     by_free true l r = rw (l, r) refl
-
--- a text that is accepted begins with its first segment
-pub text_accepted : (station : Head) (m : ℕ) (e : EncoderState) (hold : HoldState) (entries : List Entry) (x : List ℕ)
-    → StandsAt station m e entries → reply_to m (text_moves entries) ≡ Ok tt → HoldsBack m hold (Set x ∷ text_moves entries)
-    → StandsAt station m record { head = e.head; dwell = e.dwell; silent = e.silent; turn = e.turn; text_hold = hold; name_hold = e.name_hold; text = Some record { bytes = x; next = 0 }; name = e.name; pair = None }
-    (SetText x ∷ entries)
-text_accepted station m e hold entries x st ok back =
-    let done : is_ok (reply_to m (text_moves entries)) ≡ true = ap is_ok ok in
-    let first = none_yet m (slot_of (text_moves entries)) (text_moves entries) (omega arith) in
-    record {
-      head = st.head;
-      dwell = st.dwell;
-      silent = st.silent;
-      turn = st.turn;
-      text_hold = back;
-      name_hold = st.name_hold;
-      text = rw (done, first, zero-mod) refl;
-      name = st.name;
-      pair = rw done refl;
-    }
-
--- a name that is accepted, and one that is refused
-pub name_accepted : (station : Head) (m : ℕ) (e : EncoderState) (hold : HoldState) (entries : List Entry) (x : List ℕ)
-    → StandsAt station m e entries → reply_to m (name_moves entries) ≡ Ok tt → HoldsBack m hold (Set x ∷ name_moves entries)
-    → StandsAt station m record { head = e.head; dwell = e.dwell; silent = e.silent; turn = e.turn; text_hold = e.text_hold; name_hold = hold; text = e.text; name = Some x; pair = e.pair }
-    (SetName x ∷ entries)
-name_accepted station m e hold entries x st ok back =
-    let done : is_ok (reply_to m (name_moves entries)) ≡ true = ap is_ok ok in
-    record {
-      head = st.head;
-      dwell = st.dwell;
-      silent = st.silent;
-      turn = st.turn;
-      text_hold = st.text_hold;
-      name_hold = back;
-      text = st.text;
-      name = rw done refl;
-      pair = st.pair;
-    }
-
-pub name_refused : (station : Head) (m : ℕ) (e : EncoderState) (entries : List Entry) (x : List ℕ)
-    → StandsAt station m e entries → is_ok (reply_to m (name_moves entries)) ≡ false → StandsAt station m e (SetName x ∷ entries)
-name_refused station m e entries x st absent = record {
-  head = st.head;
-  dwell = st.dwell;
-  silent = st.silent;
-  turn = st.turn;
-  text_hold = st.text_hold;
-  name_hold = record { left = rw absent st.name_hold.left; flag = rw absent st.name_hold.flag };
-  text = st.text;
-  name = rw absent st.name;
-  pair = st.pair;
-}
 
 -- whether the slot that is reached is one of the text that began in slot a
 abbrev is_of_text : ℕ → Bool → List Move → ℕ → Bool
