@@ -1,10 +1,10 @@
 -- Replies, part by part.
-use Rattle.std.proofs.Common.{◌≡◌, ℕ, ◌+◌, ◌-◌, ◌*◌, ◌<◌, List, [], ◌∷◌, Bool, true, false, nat_lt, Option, Some, None, Ok, Err, refl, sym, ap, ◌∙◌, arith}
+use Rattle.std.proofs.Common.{◌≡◌, ℕ, ◌+◌, ◌-◌, ◌*◌, ◌<◌, List, [], ◌∷◌, Bool, true, false, nat_lt, Option, Some, None, Ok, Err, refl, sym, ap, arith}
 use Rattle.std.proofs.lemmas.Bool.Decides.{nat_tests}
 use Rattle.rds_encoder.specs.declared.refusal.Refusal.{Refusal}
 use Rattle.rds_encoder.specs.declared.refusal.Refusal.TheVariants.{Silent}
 use Rattle.rds_encoder.specs.Entries.{Entry, Restart, SetText, SetName, SetTags, Tick, Move, name_moves, restart_before, slot_of, text_moves}
-use Rattle.rds_encoder.specs.Reply.{Reply, held_for, held_reply, last_accepted, reply_to, silent_for, unless_silent}
+use Rattle.rds_encoder.specs.Reply.{Reply, held_for, held_reply, last_accepted, reply_to, unless_silent}
 use Rattle.rds_encoder.specs.Standing.{hold_left}
 use Rattle.std.specs.Result.{IsErrAnd}
 use Rattle.rds_encoder.proofs.OnAir.{not_held_in_silence}
@@ -42,24 +42,7 @@ same_restart (SetName x ∷ before) = same_restart before
 same_restart (SetTags pair ∷ before) = same_restart before
 same_restart (Tick free ∷ before) = same_restart before
 
--- what is left of a silence, and of a hold, is what the reply says
-pub left_of_silence : (m : ℕ) (moves : List Move) → silent_for (reply_to m moves) ≡ restart_before moves + m - slot_of moves
-left_of_silence m moves = by_test (nat_lt (slot_of moves) (restart_before moves + m)) refl
-  where
-    by_last : (o : Option ℕ) → silent_for (held_reply m (slot_of moves) o) ≡ 0
-    by_last None = refl
-    by_last (Some a) = by_held (nat_lt (slot_of moves) (a + 2 * m)) refl
-      where
-        by_held : (b : Bool) → nat_lt (slot_of moves) (a + 2 * m) ≡ b → silent_for (held_reply m (slot_of moves) (Some a)) ≡ 0
-        by_held true t = rw t refl
-        by_held false t = rw t refl
-
-    by_test : (b : Bool) → nat_lt (slot_of moves) (restart_before moves + m) ≡ b → silent_for (reply_to m moves) ≡ restart_before moves + m - slot_of moves
-    by_test true t = rw t refl
-    by_test false t =
-        let over : restart_before moves + m - slot_of moves ≡ 0 = grind (arith, nat_tests) in
-        rw t (by_last (last_accepted m moves) ∙ sym over)
-
+-- what is left of a hold is what the reply says
 pub left_of_hold : (m : ℕ) (moves : List Move) → held_for (reply_to m moves) ≡ hold_left m (slot_of moves) (last_accepted m moves)
 left_of_hold m moves = by_test (nat_lt (slot_of moves) (restart_before moves + m)) refl
   where
