@@ -1,6 +1,5 @@
 -- A group spells one message.
-use Rattle.std.proofs.Common.{◌≡◌, ℕ, zero, suc, List, get_or, Bool, true, false, refl, sym, ap, ◌∙◌, arith}
-use Rattle.std.specs.Int.{from_bool}
+use Rattle.std.proofs.Common.{◌≡◌, ℕ, zero, suc, List, get_or, refl, sym, ap, ◌∙◌, arith}
 use Rattle.rds_block.specs.declared.group.Group.{Group}
 use Rattle.rds_block.proofs.SecondWord.{four, from_bool-lt, same_bool}
 use Rattle.rds_fields.specs.declared.message.Message.{Message}

@@ -1,7 +1,7 @@
 -- What shifts and masks read and write.
 use Rattle.std.proofs.Common.{◌≡◌, ℕ, zero, suc, ◌+◌, ◌*◌, ◌<◌, ◌/◌, ◌%◌, ◌^◌, nat_eq, bit_and, bit_or, refl, arith}
 use Rattle.std.specs.Int.{from_bool}
-use Rattle.std.proofs.lemmas.Nat.{or_shifted, and_mask}
+use Rattle.std.proofs.lemmas.Nat.{and_mask}
 use mathlib.Core.Bool.{not}
 use Rattle.rds_block.proofs.SecondWord.{or_above}
 use Rattle.rds_fields.specs.Bits.{Sent, FitsBits, bits_of}

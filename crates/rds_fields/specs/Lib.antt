@@ -3,3 +3,4 @@ pub mod Bits
 pub mod Spells
 pub mod Canonical
 pub mod RadioTextPlus
+pub mod Codes

@@ -1,6 +1,6 @@
 -- A tag names a piece of the text: its class, the place of its first character from 0, and a length
 -- marker, the number of its characters less one (IEC 62106-6, RadioText Plus).
-use Rattle.std.specs.Prelude.{◌≡◌, ℕ, ◌<◌, Bool}
+use Rattle.std.specs.Prelude.{◌≡◌, ℕ, ◌+◌, ◌<◌, ◌==◌, ◌||◌, ◌&&◌, List, Bool, Option, Some, None, length, take, drop, nat_le, nat_lt, if◌then◌else◌}
 
 -- the three numbers of a tag
 pub record TagFields : Type 0 where
@@ -28,3 +28,18 @@ pub record IsPair (p : PairFields) : Type 0 where
   pub one : IsTag p.one
   pub two : IsTag p.two
   pub short : p.two.extra < 32
+
+-- where the piece of a tag ends: the place behind its last character
+abbrev pub end_of : TagFields → ℕ
+end_of tag = tag.start + tag.extra + 1
+
+-- the tag ends in a text of n characters; the dummy, which names no piece, ends in every text
+abbrev pub ends_in : ℕ → TagFields → Bool
+ends_in n tag = tag.class == 0 || nat_le (end_of tag) n
+
+-- the piece that a tag names in a text: none where it is the dummy, or does not end in the text
+abbrev pub piece_in : List ℕ → TagFields → Option (List ℕ)
+piece_in text tag =
+    if nat_lt 0 tag.class && ends_in (length text) tag
+    then Some (take (tag.extra + 1) (drop tag.start text))
+    else None

@@ -24,7 +24,7 @@ pub use head::Head;
 pub use laws::{one_group, one_message};
 pub use message::Message;
 pub use pair::{TagPair, Which};
-pub use radiotext_plus::{RTPLUS_AID, RTPLUS_CODE};
+pub use radiotext_plus::{RTPLUS_AID, RTPLUS_CODE, rtplus_announcement};
 pub use tag::{Tag, TagRefused};
 
 #[cfg(test)]

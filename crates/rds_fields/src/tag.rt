@@ -1,5 +1,6 @@
 //! One tag of RadioText Plus.
-ghost use Rattle.std.specs.Prelude.{◌≡◌, ℕ, ◌<◌, ◌≤◌, ◌⊎◌, ◌↔◌, IfOk};
+ghost use Rattle.std.specs.Prelude.{◌≡◌, ℕ, ◌+◌, ◌<◌, ◌≤◌, ◌⊎◌, ◌↔◌, IfOk, IfSome, length};
+ghost use Rattle.std.specs.Option.{option_copied};
 
 use std::error::Error;
 use std::fmt;
@@ -54,6 +55,7 @@ impl Model for Tag {
 
 impl Tag {
     ghost use Rattle.rds_fields.specs.Bits.{IsRead};
+    ghost use Rattle.rds_fields.specs.Tag.{end_of, ends_in, piece_in};
 
     /// The tag of this class, from the character at `start` on (counted from 0), `extra` being the
     /// number of its characters less one.
@@ -112,6 +114,32 @@ impl Tag {
         ensures dummy { self.class ≡ 0 → result ≡ 0 }
     {
         self.extra
+    }
+
+    /// Whether the tag ends in a text of so many characters. The dummy ends in every text.
+    pub fn ends_in(self, length: usize) -> bool
+        ensures { result ≡ ends_in length self }
+    {
+        self.class == 0 || self.end() <= length
+    }
+
+    /// The piece that the tag names in the text, lent; `None` for the dummy, and where the tag does
+    /// not end in the text.
+    pub fn piece_in(self, text: &[u8]) -> Option<&[u8]>
+        ensures piece { option_copied result ≡ piece_in text.now self }
+        ensures characters { IfSome result (λ piece. length piece.now ≡ self.extra + 1) }
+    {
+        if self.class == 0 {
+            return None;
+        }
+        text.get(usize::from(self.start)..self.end())
+    }
+
+    /// Where the piece ends: the place behind its last character.
+    fn end(self) -> usize
+        ensures { result ≡ end_of self }
+    {
+        usize::from(self.start) + usize::from(self.extra) + 1
     }
 
     /// The tag that three received fields spell: of class 0 there is one, whatever the others hold.

@@ -89,6 +89,27 @@ fn waterloo_tags(rt: HostRuntime) -> Result<(), Fail> {
     both_ways(&rt, &head()?, &[(Message::Tags(pair), words)])
 }
 
+/// The pieces of a text of 15 characters that tags name, by class, start and length marker.
+#[test]
+fn pieces(rt: HostRuntime) -> Result<(), Fail> {
+    let text = b"ABBA - WATERLOO";
+    let rows = [
+        ((4, 0, 3), true, Some(b"ABBA".as_slice())),
+        ((1, 7, 7), true, Some(b"WATERLOO".as_slice())),
+        ((1, 14, 0), true, Some(b"O".as_slice())),
+        ((1, 7, 8), false, None),
+        ((1, 15, 0), false, None),
+        ((0, 0, 0), true, None),
+    ];
+    for ((class, start, extra), ends, piece) in rows {
+        let tag = Tag::new(class, start, extra)?;
+        assert_eq!(rt; tag.ends_in(text.len()), ends, "start {start}");
+        assert_eq!(rt; tag.piece_in(text), piece, "start {start}");
+    }
+    assert!(rt; Tag::new(0, 0, 0)?.ends_in(0));
+    Ok(())
+}
+
 /// What is refused, and the longest tags that are not.
 #[test]
 fn refused_tags(rt: HostRuntime) -> Result<(), Fail> {
@@ -144,7 +165,7 @@ fn vectors(rt: HostRuntime) -> Result<(), Fail> {
         (text(true, 0, *b"YO\r ")?, [0xC201, 0x2150, 0x594F, 0x0D20]),
         (text(false, 3, *b"LOO\r")?, [0xC201, 0x2143, 0x4C4F, 0x4F0D]),
         (name(false, 1, *b" FM ")?, [0xC201, 0xA141, 0x2046, 0x4D20]),
-        (announce(22, 0, 0x4BD7)?, [0xC201, 0x3156, 0x0000, 0x4BD7]),
+        (rtplus_announcement(), [0xC201, 0x3156, 0x0000, 0x4BD7]),
         (
             tags((true, true), (4, 0, 3), (1, 7, 7))?,
             [0xC201, 0xB158, 0x8006, 0x08E7],
