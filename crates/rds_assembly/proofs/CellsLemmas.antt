@@ -1,5 +1,8 @@
 -- The map that a list of optional cells keeps.
-use Rattle.std.proofs.Common.{◌≡◌, ℕ, zero, suc, ◌+◌, ◌<◌, ◌≤◌, List, [], ◌∷◌, true, false, cond, nat_eq, length, get_or, Option, Some, None, refl, sym, ap, ◌∙◌, arith, ◌++◌, inl, inr, ◌⊎◌, length-append, slice_index, ◌/◌, ◌%◌}
+use Rattle.std.proofs.Common.{◌≡◌, ℕ, zero, suc, ◌+◌, ◌<◌, ◌≤◌, List, [], ◌∷◌, Bool, true, false, cond, nat_eq, length, get_or, Option, Some, None, refl, sym, ap, ◌∙◌, arith, ◌++◌, inl, inr, ◌⊎◌, length-append, slice_index, ◌/◌, ◌%◌}
+use Rattle.std.specs.Option.{option_eq}
+use Rattle.std.specs.Str.{bytes_eq}
+use Rattle.std.proofs.lemmas.Slice.Eq.{bytes_eq-Decides}
 use Rattle.std.specs.Ordering.{nat_cmp}
 use Rattle.std.specs.Prelude.{is_some}
 use Rattle.std.specs.FinMap.{get, insert, empty, from_entries, get-insert, get-empty, same_map, nat_cmp-IsAntisymmetric}
@@ -139,3 +142,19 @@ lacks_cell cs a i b e none h =
     let there : is_some (get_or cs a None) ≡ true = rw (← e, cell) refl in
     let bad : true ≡ false = sym there ∙ none in
     cc
+
+-- to hold again what is held changes nothing
+pub held_again : (cs : List (Option (List ℕ))) (k : ℕ) (v : List ℕ) → get_or cs k None ≡ Some v → held_cells cs ≡ insert (held_cells cs) k v
+held_again cs k v e =
+    same_map nat_cmp_total nat_cmp-IsAntisymmetric _ _ (λ q. by_test q (nat_eq q k) refl ∙ sym (get-put (held_cells cs) k v q))
+  where
+    by_test : (q : ℕ) (b : Bool) → nat_eq q k ≡ b → get (held_cells cs) q ≡ cond (nat_eq q k) (Some v) (get (held_cells cs) q)
+    by_test q true t =
+        let same : q ≡ k = grind (arith, nat_tests) in
+        rw t (ap (get (held_cells cs)) same ∙ get-held_cells cs k ∙ e)
+    by_test q false t = rw t refl
+
+-- a cell that equals this one
+pub same_cell : (held : Option (List ℕ)) (v : List ℕ) → option_eq bytes_eq held (Some v) ≡ true → held ≡ Some v
+same_cell None v e = cc
+same_cell (Some x) v e = ap Some ((bytes_eq-Decides x v).0 e)

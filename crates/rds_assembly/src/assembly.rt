@@ -1,5 +1,5 @@
 //! The segments held, and the value that they make whole.
-ghost use Rattle.std.specs.Prelude.{◌≡◌, ℕ, ◌<◌, ◌≤◌, ◌↔◌, IsTrue, IfSome, IfNone, List, [], length};
+ghost use Rattle.std.specs.Prelude.{◌≡◌, ℕ, ◌<◌, ◌≤◌, ◌↔◌, IsFalse, IsTrue, IfSome, IfNone, List, [], length};
 ghost use Rattle.std.specs.Ordering.{nat_cmp};
 ghost use Rattle.std.specs.FinMap as map;
 ghost use Rattle.rds_assembly.specs.Cells.{held_cells, IsSpelled, IsThereBelow};
@@ -56,11 +56,16 @@ impl<S: Service> Assembly<S> {
         self.is_whole = false;
     }
 
-    /// Holds the segment at its address, in place of one that was held there.
-    pub fn put(&mut self, address: u8, bytes: [u8; 4])
+    /// Holds the segment at its address, in place of one that was held there. False where that one
+    /// has the same bytes: then nothing changes.
+    pub fn put(&mut self, address: u8, bytes: [u8; 4]) -> bool
         requires { address < S.SEGMENTS }
-        ensures { self.new ≡ map.insert self.old address bytes }
+        ensures put { self.new ≡ map.insert self.old address bytes }
+        ensures same { IsFalse result → self.new ≡ self.old }
     {
+        if self.cells[address as usize] == Some(bytes) {
+            return false;
+        }
         self.cells[address as usize] = Some(bytes);
         self.spelled.clear();
         if let Some(length) = S::length(&self.cells) {
@@ -69,6 +74,7 @@ impl<S: Service> Assembly<S> {
         } else {
             self.is_whole = false;
         }
+        true
     }
 
     /// Whether the segment at the address is held.

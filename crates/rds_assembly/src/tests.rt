@@ -6,7 +6,7 @@ use std::test::Fail;
 fn empty_text(rt: HostRuntime) {
     let mut text: Assembly<RadioText> = Assembly::new();
     assert_eq!(rt; text.whole(), None);
-    text.put(0, *b"\r   ");
+    let _ = text.put(0, *b"\r   ");
     assert_eq!(rt; text.whole(), Some(b"".as_slice()));
 }
 
@@ -14,19 +14,19 @@ fn empty_text(rt: HostRuntime) {
 #[test]
 fn two_segments(rt: HostRuntime) {
     let mut text: Assembly<RadioText> = Assembly::new();
-    text.put(1, *b"\r   ");
+    let _ = text.put(1, *b"\r   ");
     assert_eq!(rt; text.whole(), None);
-    text.put(0, *b"ABBA");
+    let _ = text.put(0, *b"ABBA");
     assert_eq!(rt; text.whole(), Some(b"ABBA".as_slice()));
-    text.put(3, *b"\r   ");
+    let _ = text.put(3, *b"\r   ");
     assert_eq!(rt; text.whole(), Some(b"ABBA".as_slice()));
-    text.put(1, *b"XXXX");
+    let _ = text.put(1, *b"XXXX");
     assert_eq!(rt; text.whole(), None);
-    text.put(2, *b"YYYY");
+    let _ = text.put(2, *b"YYYY");
     assert_eq!(rt; text.whole(), Some(b"ABBAXXXXYYYY".as_slice()));
     text.clear();
     assert_eq!(rt; text.whole(), None);
-    text.put(0, *b"ABBA");
+    let _ = text.put(0, *b"ABBA");
     assert_eq!(rt; text.whole(), None);
 }
 
@@ -36,10 +36,10 @@ fn longest_text(rt: HostRuntime) {
     let mut text: Assembly<RadioText> = Assembly::new();
     for address in 0..16u8 {
         assert!(rt; text.whole().is_none());
-        text.put(address, *b"AAAA");
+        let _ = text.put(address, *b"AAAA");
     }
     assert_eq!(rt; text.whole().map(|shown| shown.len()), Some(64));
-    text.put(15, *b"AAA\r");
+    let _ = text.put(15, *b"AAA\r");
     assert_eq!(rt; text.whole().map(|shown| shown.len()), Some(63));
 }
 
@@ -48,10 +48,10 @@ fn longest_text(rt: HostRuntime) {
 fn names(rt: HostRuntime) {
     let mut name: Assembly<TypeName> = Assembly::new();
     assert!(rt; name.is_empty());
-    name.put(1, *b" FM ");
+    let _ = name.put(1, *b" FM ");
     assert!(rt; name.has(1) && !name.has(0) && !name.is_empty());
     assert_eq!(rt; name.whole(), None);
-    name.put(0, *b"J\rZZ");
+    let _ = name.put(0, *b"J\rZZ");
     assert_eq!(rt; name.whole(), Some(b"J\rZZ FM ".as_slice()));
     name.clear();
     assert!(rt; name.is_empty() && !name.has(1));
@@ -135,7 +135,7 @@ fn text_there_and_back(rt: HostRuntime) -> Result<(), Fail> {
     let mut held: Assembly<RadioText> = Assembly::new();
     for address in 0..sent.count() {
         assert_eq!(rt; held.whole(), None);
-        held.put(address, sent.segment(address));
+        let _ = held.put(address, sent.segment(address));
     }
     assert_eq!(rt; held.whole(), Some(b"NOW ON AIR".as_slice()));
     Ok(())
