@@ -1,6 +1,6 @@
 -- The printed form of a text: how long it is, and that it is read as the text.
 use Rattle.std.proofs.KnownBytes.{Appends-trans}
-use Rattle.rds_charset.proofs.Appending.{AppendsPrefix-append, AppendsPrefix-longer}
+use Rattle.rds_charset.specs.Puts.{AppendsPrefix-append, AppendsPrefix-longer}
 use Rattle.std.specs.Io.KnownBytes.{Appends}
 use Rattle.rds_charset.specs.Told.{AppendsPrefix}
 use Rattle.std.proofs.Common.{◌≡◌, ◌+◌, ◌*◌, ◌/◌, ◌%◌, ◌<◌, ◌≤◌, ◌==◌, ℕ, Bool, true, false, inl, inr, List, [], ◌∷◌, ◌++◌, length, length-append, refl, sym, ap, ◌∙◌, arith, Option, Some, None, encode_utf8, if◌then◌else◌, append_assoc, subst}

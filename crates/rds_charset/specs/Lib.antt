@@ -5,3 +5,4 @@ pub mod ReadAs
 pub mod Runs
 pub mod Table
 pub mod Told
+pub mod Puts

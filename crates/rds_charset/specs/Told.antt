@@ -13,20 +13,47 @@ most_failures = 2 ^ 64 - 1
 abbrev pub Failed : ℕ → ℕ → Type 0
 Failed before after = (after ≡ before + 1) ⊎ ((before ≡ most_failures) × (after ≡ before))
 
+-- what a call did to a reader or a writer: the bytes that the reader had left, or that the writer had taken, and
+-- the number of failures, each before the call and after it
+pub record Traffic : Type 0 where
+  pub before : Option (List ℕ)
+  pub after : Option (List ℕ)
+  pub failures_before : ℕ
+  pub failures_after : ℕ
+
+abbrev pub traffic : {X : Type 0} → (X → Option (List ℕ)) → (X → ℕ) → X → X → Traffic
+traffic bytes failures old new =
+    record { before = bytes old; after = bytes new; failures_before = failures old; failures_after = failures new }
+
+-- the call failed at its reader or writer
+abbrev pub HasFailed : Traffic → Type 0
+HasFailed t = Failed t.failures_before t.failures_after
+
+-- it did not
+abbrev pub IsCalm : Traffic → Type 0
+IsCalm t = t.failures_after ≡ t.failures_before
+
 -- one read: the bytes that it gave stand at the front of the buffer, and it gave none only at the end or where
 -- there is no room
-abbrev pub ReadsOne : Option (List ℕ) → Option (List ℕ) → ℕ → ℕ → Option ℕ → List ℕ → Type 0
-ReadsOne old new before after r buf = MatchOption r (Failed before after × Keeps old new)
-    (λ n. (before < most_failures) × (after ≡ before) × (n ≤ length buf) × Consumes old new (take n buf) × (n ≡ 0 → 0 < length buf → IsAtEnd new))
+abbrev pub ReadsOne : Traffic → Option ℕ → List ℕ → Type 0
+ReadsOne t r buf = MatchOption r (HasFailed t × Keeps t.before t.after)
+    (λ n. (t.failures_before < most_failures) × IsCalm t × (n ≤ length buf) × Consumes t.before t.after (take n buf)
+    × (n ≡ 0 → 0 < length buf → IsAtEnd t.after))
 
 -- one write: it took the first bytes of the piece, at least one if the piece has any
-abbrev pub WritesOne : Option (List ℕ) → Option (List ℕ) → ℕ → ℕ → Option ℕ → List ℕ → Type 0
-WritesOne old new before after r buf = MatchOption r (Failed before after × Keeps old new)
-    (λ n. (before < most_failures) × (after ≡ before) × (n ≤ length buf) × (0 < length buf → 0 < n) × Appends old new (take n buf))
+abbrev pub WritesOne : Traffic → Option ℕ → List ℕ → Type 0
+WritesOne t r buf = MatchOption r (HasFailed t × Keeps t.before t.after)
+    (λ n. (t.failures_before < most_failures) × IsCalm t × (n ≤ length buf) × (0 < length buf → 0 < n)
+    × Appends t.before t.after (take n buf))
 
 -- some first part of the bytes went out
 abbrev pub AppendsPrefix : Option (List ℕ) → Option (List ℕ) → List ℕ → Type 0
 AppendsPrefix old new bs = (n : ℕ) × Appends old new (take n bs)
+
+-- nothing went out, and nothing failed
+pub record PutsNothing (t : Traffic) : Type 0 where
+  pub bytes : t.after ≡ t.before
+  pub calm : IsCalm t
 
 -- what a `Told` wraps
 abbrev pub inner_of : {T : Type 0} → Told T → T

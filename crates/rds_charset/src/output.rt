@@ -1,8 +1,7 @@
 //! Bytes to a writer that tells.
 
-ghost use Rattle.std.specs.Prelude.{◌≡◌, OnOk, OnErr};
-ghost use Rattle.std.specs.Io.KnownBytes.{Appends};
-ghost use Rattle.rds_charset.specs.Told.{AppendsPrefix, Failed};
+ghost use Rattle.rds_charset.specs.Puts.{Puts};
+ghost use Rattle.rds_charset.specs.Told.{traffic};
 
 use crate::told::TellingWrite;
 
@@ -16,11 +15,7 @@ pub struct WriteFault;
 ///
 /// [`WriteFault`] at the first write that fails. The bytes that were taken before it are out.
 pub fn put<W: TellingWrite>(bytes: &[u8], writer: &mut W) -> Result<(), WriteFault>
-    ensures ok { OnOk result (Appends (W.contents writer.old) (W.contents writer.new) bytes.now) }
-    ensures err { OnErr result
-        (AppendsPrefix (W.contents writer.old) (W.contents writer.new) bytes.now) }
-    ensures none { OnOk result (W.failures writer.new ≡ W.failures writer.old) }
-    ensures fault { OnErr result (Failed (W.failures writer.old) (W.failures writer.new)) }
+    ensures { Puts (traffic W.contents W.failures writer.old writer.new) bytes.now result }
 {
     let mut sent = 0;
     while sent < bytes.len() {

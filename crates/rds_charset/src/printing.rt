@@ -1,9 +1,9 @@
 //! The printed form of a text.
 
-ghost use Rattle.std.specs.Prelude.{◌≡◌, ◌≤◌, ◌<◌, ◌+◌, ◌*◌, ◌++◌, length, OnOk, OnErr};
-ghost use Rattle.std.specs.Io.KnownBytes.{Appends};
+ghost use Rattle.std.specs.Prelude.{◌≡◌, ◌≤◌, ◌<◌, ◌+◌, ◌*◌, ◌++◌, length};
 ghost use Rattle.rds_charset.specs.Printed.{printed, printed_byte, shown_character, upper_digit};
-ghost use Rattle.rds_charset.specs.Told.{AppendsPrefix, Failed};
+ghost use Rattle.rds_charset.specs.Puts.{Puts};
+ghost use Rattle.rds_charset.specs.Told.{traffic};
 
 use crate::output::{WriteFault, put};
 use crate::table::character_of;
@@ -27,12 +27,7 @@ const UPPER_DIGITS: [u8; 16] = *b"0123456789ABCDEF";
 ///
 /// [`WriteFault`] at the first write that fails. What was taken before it is out.
 pub fn write_text<W: TellingWrite>(bytes: &[u8], writer: &mut W) -> Result<(), WriteFault>
-    ensures ok { OnOk result
-        (Appends (W.contents writer.old) (W.contents writer.new) (printed bytes.now)) }
-    ensures err { OnErr result
-        (AppendsPrefix (W.contents writer.old) (W.contents writer.new) (printed bytes.now)) }
-    ensures none { OnOk result (W.failures writer.new ≡ W.failures writer.old) }
-    ensures fault { OnErr result (Failed (W.failures writer.old) (W.failures writer.new)) }
+    ensures { Puts (traffic W.contents W.failures writer.old writer.new) (printed bytes.now) result }
 {
     for piece in bytes.chunks(PIECE) {
         let mut line = ArrayVec::<u8, ROOM>::new();
@@ -46,7 +41,8 @@ pub fn write_text<W: TellingWrite>(bytes: &[u8], writer: &mut W) -> Result<(), W
 /// text's, so that a whole line can go out in one write.
 pub fn push_text<const N: usize>(text: &[u8], line: &mut ArrayVec<u8, N>)
     requires { length line.old.items + 4 * length text.now ≤ N }
-    ensures { line.new.items ≡ line.old.items ++ printed text.now }
+    ensures printed { line.new.items ≡ line.old.items ++ printed text.now }
+    ensures room { length line.new.items ≤ length line.old.items + 4 * length text.now }
 {
     for &byte in text {
         push_byte(byte, line);

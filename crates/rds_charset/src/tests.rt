@@ -1,6 +1,6 @@
 //! What no clause says: the characters themselves, and readers and writers that fail.
 
-use crate::{TellingRead, TextFault, Told, WriteFault, read_text, write_text};
+use crate::{TellingRead, TellingWrite, TextFault, Told, WriteFault, read_text, write_text};
 use std::io::{self, ErrorKind, Read, Write};
 use std::str;
 use std::test::Fail;
@@ -186,6 +186,15 @@ fn idle_writer_is_a_fault(rt: HostRuntime) {
         assert_eq!(rt; slow.calls, idle_at);
         assert_eq!(rt; slow.held.as_slice(), &whole[..idle_at - 1]);
     }
+}
+
+/// A writer that takes no byte of an empty piece has not failed.
+#[test]
+fn empty_piece_is_no_fault(rt: HostRuntime) {
+    let mut out = Vec::new(rt.alloc());
+    let mut told = Told::new(&mut out);
+    assert_eq!(rt; told.write_one(b""), Some(0));
+    assert_eq!(rt; told.failures(), 0);
 }
 
 #[test]

@@ -1,7 +1,7 @@
 //! Readers and writers that count their failures, so that a program can tell them from an end.
 
 ghost use Rattle.std.specs.Prelude.{◌≡◌, ℕ};
-ghost use Rattle.rds_charset.specs.Told.{failures_of, inner_of, ReadsOne, WritesOne};
+ghost use Rattle.rds_charset.specs.Told.{failures_of, inner_of, traffic, ReadsOne, WritesOne};
 
 use std::io::{self, Read, Write};
 
@@ -18,8 +18,7 @@ pub trait TellingRead: Read {
     /// from the reader, and what `buf` has is of no use. An interrupted read is a failure too. A
     /// count that stands at 2^64 - 1 can't rise, so then nothing is asked of the reader.
     fn read_one(&mut self, buf: &mut [u8]) -> Option<usize>
-        ensures { ReadsOne (Self.remaining self.old) (Self.remaining self.new)
-            (failures self.old) (failures self.new) result buf.new };
+        ensures { ReadsOne (traffic Self.remaining failures self.old self.new) result buf.new };
 }
 
 /// A writer that counts the writes to it that failed.
@@ -32,8 +31,7 @@ pub trait TellingWrite: Write {
     /// some has failed, since it would be asked for ever. As for [`TellingRead::read_one`],
     /// nothing is asked where the count stands at 2^64 - 1.
     fn write_one(&mut self, buf: &[u8]) -> Option<usize>
-        ensures { WritesOne (Self.contents self.old) (Self.contents self.new)
-            (failures self.old) (failures self.new) result buf.now };
+        ensures { WritesOne (traffic Self.contents failures self.old self.new) result buf.now };
 }
 
 /// A reader or a writer with the number of its failures so far.
