@@ -128,6 +128,7 @@ impl Tag {
     pub fn piece_in(self, text: &[u8]) -> Option<&[u8]>
         ensures piece { option_copied result ≡ piece_in text.now self }
         ensures characters { IfSome result (λ piece. length piece.now ≡ self.extra + 1) }
+        ensures within { IfSome result (λ piece. length piece.now ≤ length text.now) }
     {
         if self.class == 0 {
             return None;
