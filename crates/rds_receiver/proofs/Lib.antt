@@ -5,3 +5,4 @@ pub mod Longest
 pub mod OneView
 pub mod Shows
 pub mod WorkedRows
+pub mod Alike

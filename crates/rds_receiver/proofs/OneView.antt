@@ -6,9 +6,9 @@ use Rattle.rds_fields.specs.declared.pair.Which.TheVariants.{One, Two}
 use Rattle.rds_fields.proofs.OneMessage.{same_message}
 use Rattle.rds_assembly.specs.Cells.{Cells}
 use Rattle.rds_assembly.specs.ServiceLaws.{one_name, one_text}
-use Rattle.rds_receiver.specs.Receipts.{AreHeard, Hears, name_piece, text_piece}
+use Rattle.rds_receiver.specs.Receipts.{AreHeard, Hears, Tuning, name_piece, text_piece}
 use Rattle.rds_receiver.specs.Run.{cells_of, run_at}
-use Rattle.rds_receiver.specs.Shown.{IsNameShown, IsShown, IsTextShown, IsView, ShowsView, View}
+use Rattle.rds_receiver.specs.Shown.{IsNameShown, IsShown, IsTextShown, IsView, ShowsView, ShownView}
 use Rattle.rds_receiver.specs.Tags.{item_of, pair_held, tag_of}
 
 -- one message is heard in a slot
@@ -46,7 +46,7 @@ same_text_shown m first heard shown other p q = same_shown _ one_text (cells_of 
 same_name_shown : (m first : ℕ) (heard : List (Option Message)) (shown other : Option (List ℕ)) → IsNameShown m first heard shown → IsNameShown m first heard other → shown ≡ other
 same_name_shown m first heard shown other p q = same_shown _ one_name (cells_of (run_at name_piece m first heard)) shown other p q
 
-same_view_of : (m first : ℕ) (heard : List (Option Message)) (v w : View) → ShowsView m first heard v → ShowsView m first heard w → v ≡ w
+same_view_of : (m first : ℕ) (heard : List (Option Message)) (v w : ShownView) → ShowsView m first heard v → ShowsView m first heard w → v ≡ w
 same_view_of m first heard v w p q =
     let text : v.text ≡ w.text = same_text_shown m first heard v.text w.text p.text q.text in
     let name : v.name ≡ w.name = same_name_shown m first heard v.name w.name p.name q.name in
@@ -55,7 +55,7 @@ same_view_of m first heard v w p q =
     let two : v.two ≡ w.two = p.two ∙ ap (λ (x : Option (List ℕ)). tag_of Two x (pair_held m first heard)) text ∙ sym q.two in
     λ i. record { text = text i; name = name i; item = item i; one = one i; two = two i }
 
-pub same_view : (pi m first : ℕ) (input : List (Option Group)) (v w : View) → IsView pi m first input v → IsView pi m first input w → v ≡ w
-same_view pi m first input v w (heard, p, shown) (heard', q, shown') =
-    let same : heard ≡ heard' = same_heard pi input heard heard' p q in
-    same_view_of m first heard' v w (rw same at shown) shown'
+pub same_view : (t : Tuning) (input : List (Option Group)) (v w : ShownView) → IsView t input v → IsView t input w → v ≡ w
+same_view t input v w (heard, p, shown) (heard', q, shown') =
+    let same : heard ≡ heard' = same_heard t.programme input heard heard' p q in
+    same_view_of t.dwell t.first heard' v w (rw same at shown) shown'

@@ -1,20 +1,48 @@
 -- What is shown of what is held.
-use Rattle.std.proofs.Common.{◌≡◌, ◌+◌, ◌<◌, ◌≤◌, ℕ, true, false, nat_lt, nat_le, List, Option, Some, None, length, take, drop, refl, sym, ap, ◌∙◌, arith}
-use Rattle.std.proofs.lemmas.Bool.Decides.{nat_tests}
+use Rattle.std.proofs.Common.{◌≡◌, ℕ, List, Option, Some, None, refl, sym, ap, ◌∙◌, subst}
 use Rattle.rds_block.specs.declared.group.Group.{Group}
+use Rattle.rds_fields.specs.declared.message.Message.{Message}
 use Rattle.rds_fields.specs.declared.pair.Which.{Which}
 use Rattle.rds_fields.specs.declared.pair.Which.TheVariants.{One, Two}
 use Rattle.rds_fields.specs.Tag.{PairFields, TagFields}
-use Rattle.rds_receiver.specs.Receipts.{Segment, text_piece}
-use Rattle.rds_receiver.specs.Run.{begins_in}
+use Rattle.rds_assembly.specs.Cells.{Cells}
+use Rattle.rds_assembly.specs.Whole.{IsWholeName, IsWholeText}
+use Rattle.rds_receiver.specs.Receipts.{AreHeard, Segment, Tuning, name_piece, text_piece}
+use Rattle.rds_receiver.specs.Run.{begins_in, cells_of, run_at}
+use Rattle.rds_receiver.specs.Shown.{IsNameShown, IsShown, IsTextShown}
 use Rattle.rds_receiver.specs.Standing.{StandsAt}
 use Rattle.rds_receiver.specs.State.{ReceiverState}
 use Rattle.rds_receiver.specs.Tags.{cut_by, item_of, pair_from, pair_held, tag_in, tag_of}
-use Rattle.rds_receiver.proofs.Runs.{and_false, run_at_newest, test_false, test_true}
+use Rattle.rds_receiver.proofs.OneView.{same_heard}
+use Rattle.rds_receiver.proofs.Runs.{run_at_newest}
 
--- the pair held is the one of the definition
-pub pair_is : (pi m first : ℕ) (r : ReceiverState) (input : List (Option Group)) (s : StandsAt pi m first r input) → r.pair ≡ pair_held m first s.heard
-pair_is pi m first r input s = s.holds.pair ∙ ap (λ (xs : List Segment). pair_from first (begins_in xs) s.heard) (run_at_newest text_piece m first s.heard)
+-- the cells and the pair held are those of the definition, for whatever was heard
+pub text_cells : (t : Tuning) (r : ReceiverState) (input : List (Option Group)) (heard : List (Option Message)) → StandsAt t r input → AreHeard t.programme input heard
+    → r.text.cells ≡ cells_of (run_at text_piece t.dwell t.first heard)
+text_cells t r input heard s are =
+    s.holds.text.cells ∙ ap (λ (xs : List Segment). cells_of xs) (run_at_newest text_piece t.dwell t.first s.heard)
+    ∙ ap (λ (h : List (Option Message)). cells_of (run_at text_piece t.dwell t.first h)) (same_heard t.programme input s.heard heard s.are are)
+
+pub name_cells : (t : Tuning) (r : ReceiverState) (input : List (Option Group)) (heard : List (Option Message)) → StandsAt t r input → AreHeard t.programme input heard
+    → r.name.cells ≡ cells_of (run_at name_piece t.dwell t.first heard)
+name_cells t r input heard s are =
+    s.holds.name.cells ∙ ap (λ (xs : List Segment). cells_of xs) (run_at_newest name_piece t.dwell t.first s.heard)
+    ∙ ap (λ (h : List (Option Message)). cells_of (run_at name_piece t.dwell t.first h)) (same_heard t.programme input s.heard heard s.are are)
+
+pub pair_is : (t : Tuning) (r : ReceiverState) (input : List (Option Group)) (heard : List (Option Message)) → StandsAt t r input → AreHeard t.programme input heard
+    → r.pair ≡ pair_held t.dwell t.first heard
+pair_is t r input heard s are =
+    s.holds.pair ∙ ap (λ (xs : List Segment). pair_from t.first (begins_in xs) s.heard) (run_at_newest text_piece t.dwell t.first s.heard)
+    ∙ ap (λ (h : List (Option Message)). pair_held t.dwell t.first h) (same_heard t.programme input s.heard heard s.are are)
+
+-- so what the cells make whole is shown
+pub text_shown : (t : Tuning) (r : ReceiverState) (input : List (Option Group)) (heard : List (Option Message)) (shown : Option (List ℕ)) → StandsAt t r input → AreHeard t.programme input heard
+    → IsShown IsWholeText r.text.cells shown → IsTextShown t.dwell t.first heard shown
+text_shown t r input heard shown s are is = subst (λ (cells : Cells). IsShown IsWholeText cells shown) (text_cells t r input heard s are) is
+
+pub name_shown : (t : Tuning) (r : ReceiverState) (input : List (Option Group)) (heard : List (Option Message)) (shown : Option (List ℕ)) → StandsAt t r input → AreHeard t.programme input heard
+    → IsShown IsWholeName r.name.cells shown → IsNameShown t.dwell t.first heard shown
+name_shown t r input heard shown s are is = subst (λ (cells : Cells). IsShown IsWholeName cells shown) (name_cells t r input heard s are) is
 
 pub item_shown : (x : List ℕ) (text : Option (List ℕ)) (held : Option PairFields) (pair : PairFields) → Some x ≡ text → held ≡ Some pair → Some (pair.toggle, pair.running) ≡ item_of text held
 item_shown x text held pair e h = ap (item_of (Some x)) (sym h) ∙ ap (λ (o : Option (List ℕ)). item_of o held) e
@@ -22,22 +50,14 @@ item_shown x text held pair e h = ap (item_of (Some x)) (sym h) ∙ ap (λ (o : 
 pub tag_shown : (which : Which) (x : List ℕ) (text : Option (List ℕ)) (held : Option PairFields) (pair : PairFields) → Some x ≡ text → held ≡ Some pair → cut_by (tag_in which pair) x ≡ tag_of which text held
 tag_shown which x text held pair e h = ap (tag_of which (Some x)) (sym h) ∙ ap (λ (o : Option (List ℕ)). tag_of which o held) e
 
-le_true : (a b : ℕ) → a ≤ b → nat_le a b ≡ true
-le_true a b h = grind (arith, nat_tests)
+-- where no pair is held there are no item bits and no tags
+pub no_item : (text : Option (List ℕ)) (held : Option PairFields) → held ≡ None → None ≡ item_of text held
+no_item None held e = refl
+no_item (Some x) held e = ap (item_of (Some x)) (sym e)
 
-le_false : (a b : ℕ) → b < a → nat_le a b ≡ false
-le_false a b h = grind (arith, nat_tests)
-
--- a dummy cuts out nothing
-pub dummy_cuts : (tag : TagFields) (x : List ℕ) → tag.class ≡ 0 → None ≡ cut_by tag x
-dummy_cuts tag x h = rw (test_false 0 tag.class (omega arith)) refl
-
--- nor does a tag that ends behind the text
-pub long_cuts : (tag : TagFields) (x : List ℕ) → length x < tag.start + tag.extra + 1 → None ≡ cut_by tag x
-long_cuts tag x h = rw (le_false (tag.start + tag.extra + 1) (length x) h, and_false (nat_lt 0 tag.class)) refl
-
-pub piece_cut : (tag : TagFields) (x : List ℕ) → 0 < tag.class → tag.start + tag.extra + 1 ≤ length x → Some (tag.class, take (tag.extra + 1) (drop tag.start x)) ≡ cut_by tag x
-piece_cut tag x h k = rw (test_true 0 tag.class h, le_true (tag.start + tag.extra + 1) (length x) k) refl
+pub no_tag : (which : Which) (text : Option (List ℕ)) (held : Option PairFields) → held ≡ None → None ≡ tag_of which text held
+no_tag which None held e = refl
+no_tag which (Some x) held e = ap (tag_of which (Some x)) (sym e)
 
 -- the tag asked for
 pub first_tag : (which : Which) (pair : PairFields) (tag one : TagFields) → which ≡ One → tag ≡ one → one ≡ pair.one → tag ≡ tag_in which pair

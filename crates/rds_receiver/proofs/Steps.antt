@@ -5,7 +5,7 @@ use Rattle.rds_block.specs.declared.group.Group.{Group}
 use Rattle.rds_fields.specs.declared.message.Message.{Message}
 use Rattle.rds_fields.specs.declared.message.Message.TheVariants.{Text, Tags}
 use Rattle.rds_fields.specs.Tag.{PairFields}
-use Rattle.rds_receiver.specs.Receipts.{Hears, Piece, Segment, name_piece, segments, text_piece}
+use Rattle.rds_receiver.specs.Receipts.{Hears, Piece, Segment, Tuning, name_piece, segments, text_piece}
 use Rattle.rds_receiver.specs.Run.{begins_in, run, run_before}
 use Rattle.rds_receiver.specs.Standing.{HasFlag, HoldsAt, HoldsRun, StandsAt}
 use Rattle.rds_receiver.specs.State.{HeldSegments, ReceiverState}
@@ -80,10 +80,10 @@ tags_heard m first r heard pair known young st = record {
 }
 
 -- the whole slot
-pub slot_stands : (pi m first : ℕ) (r after : ReceiverState) (input : List (Option Group)) (slot : Option Group) (message : Option Message) (st : StandsAt pi m first r input)
-    → Hears pi slot message → after.programme ≡ r.programme → HoldsAt m (first + length st.heard) first after (message ∷ st.heard) → StandsAt pi m first after (slot ∷ input)
-slot_stands pi m first r after input slot message st hears programme holds = record {
-  programme = programme ∙ st.programme;
+pub slot_stands : (t : Tuning) (r after : ReceiverState) (input : List (Option Group)) (slot : Option Group) (message : Option Message) (st : StandsAt t r input)
+    → Hears t.programme slot message → after.programme ≡ r.programme → HoldsAt t.dwell (t.first + length st.heard) t.first after (message ∷ st.heard) → StandsAt t after (slot ∷ input)
+slot_stands t r after input slot message st hears programme holds = record {
+  tuned = programme ∙ st.tuned;
   heard = message ∷ st.heard;
   are = (hears, st.are);
   holds = holds;

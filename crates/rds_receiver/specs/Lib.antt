@@ -4,4 +4,6 @@ pub mod Chained
 pub mod Tags
 pub mod Shown
 pub mod State
+pub mod Codes
+pub mod Lent
 pub mod Standing

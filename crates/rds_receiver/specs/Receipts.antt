@@ -9,6 +9,12 @@ use Rattle.rds_fields.specs.declared.message.Message.{Message}
 use Rattle.rds_fields.specs.declared.message.Message.TheVariants.{Text, Name, Announce, Tags, Other}
 use Rattle.rds_fields.specs.Spells.{Spells}
 
+-- what a receiver is tuned to: its programme, its dwell in slots, and the slot in which its input begins
+pub record Tuning : Type 0 where
+  pub programme : ℕ
+  pub dwell : ℕ
+  pub first : ℕ
+
 -- what a receiver of this programme hears in a slot: nothing where no group came, or another programme's
 abbrev pub Hears : ℕ → Option Group → Option Message → Type 0
 Hears pi None heard = heard ≡ None

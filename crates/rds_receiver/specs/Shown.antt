@@ -1,11 +1,14 @@
 -- What a receiver shows at the end of the newest slot of what it heard. Lists have the newest first.
-use Rattle.std.specs.Prelude.{◌≡◌, ℕ, Bool, List, Option, MatchOption}
+use Rattle.std.specs.Prelude.{◌≡◌, ◌≤◌, ℕ, Bool, List, Option, MatchOption, length}
+use Rattle.std.specs.Borrow.{Bor}
+use Rattle.std.specs.Option.{ForSome}
 use Rattle.rds_block.specs.declared.group.Group.{Group}
 use Rattle.rds_fields.specs.declared.message.Message.{Message}
+use Rattle.rds_fields.specs.declared.pair.Which.{Which}
 use Rattle.rds_fields.specs.declared.pair.Which.TheVariants.{One, Two}
 use Rattle.rds_assembly.specs.Cells.{Cells}
 use Rattle.rds_assembly.specs.Whole.{IsWholeName, IsWholeText}
-use Rattle.rds_receiver.specs.Receipts.{AreHeard, name_piece, text_piece}
+use Rattle.rds_receiver.specs.Receipts.{AreHeard, Tuning, name_piece, text_piece}
 use Rattle.rds_receiver.specs.Run.{cells_of, run_at}
 use Rattle.rds_receiver.specs.Tags.{item_of, pair_held, tag_of}
 
@@ -21,16 +24,31 @@ IsTextShown m first heard shown = IsShown IsWholeText (cells_of (run_at text_pie
 abbrev pub IsNameShown : ℕ → ℕ → List (Option Message) → Option (List ℕ) → Type 0
 IsNameShown m first heard shown = IsShown IsWholeName (cells_of (run_at name_piece m first heard)) shown
 
+-- the item bits beside the text that is shown
+abbrev pub IsItemShown : ℕ → ℕ → List (Option Message) → Option (Bool × Bool) → Type 0
+IsItemShown m first heard item = (text : Option (List ℕ)) → IsTextShown m first heard text → item ≡ item_of text (pair_held m first heard)
+
+-- one of the two tags, with its piece of the text that is shown
+abbrev pub IsTagShown : ℕ → ℕ → List (Option Message) → Which → Option (ℕ × List ℕ) → Type 0
+IsTagShown m first heard which tag = (text : Option (List ℕ)) → IsTextShown m first heard text → tag ≡ tag_of which text (pair_held m first heard)
+
 -- all that a receiver shows
-pub record View : Type 0 where
+pub record ShownView : Type 0 where
   pub text : Option (List ℕ)
   pub name : Option (List ℕ)
   pub item : Option (Bool × Bool)
   pub one : Option (ℕ × List ℕ)
   pub two : Option (ℕ × List ℕ)
 
+-- no text, name or piece has more bytes than a text has
+pub record IsShort (text name : Option (Bor (List ℕ))) (one two : Option (ℕ × Bor (List ℕ))) : Type 0 where
+  pub text_bytes : ForSome text (λ x. length x.now ≤ 64)
+  pub name_bytes : ForSome name (λ x. length x.now ≤ 64)
+  pub one_bytes : ForSome one (λ tag. length tag.1.now ≤ 64)
+  pub two_bytes : ForSome two (λ tag. length tag.1.now ≤ 64)
+
 -- the view of what was heard
-pub record ShowsView (m first : ℕ) (heard : List (Option Message)) (view : View) : Type 0 where
+pub record ShowsView (m first : ℕ) (heard : List (Option Message)) (view : ShownView) : Type 0 where
   pub text : IsTextShown m first heard view.text
   pub name : IsNameShown m first heard view.name
   pub item : view.item ≡ item_of view.text (pair_held m first heard)
@@ -38,5 +56,6 @@ pub record ShowsView (m first : ℕ) (heard : List (Option Message)) (view : Vie
   pub two : view.two ≡ tag_of Two view.text (pair_held m first heard)
 
 -- the view at the end of an input
-abbrev pub IsView : ℕ → ℕ → ℕ → List (Option Group) → View → Type 0
-IsView pi m first input view = (heard : List (Option Message)) × AreHeard pi input heard × ShowsView m first heard view
+abbrev pub IsView : Tuning → List (Option Group) → ShownView → Type 0
+IsView t input view =
+    (heard : List (Option Message)) × AreHeard t.programme input heard × ShowsView t.dwell t.first heard view

@@ -1,8 +1,8 @@
 -- What a receiver holds at the end of an input. Lists have the newest first.
-use Rattle.std.specs.Prelude.{◌≡◌, ◌+◌, ◌<◌, ℕ, Bool, List, [], ◌∷◌, Option, length}
+use Rattle.std.specs.Prelude.{◌≡◌, ◌+◌, ◌<◌, ℕ, Bool, List, [], ◌∷◌, Option, Some, length}
 use Rattle.rds_block.specs.declared.group.Group.{Group}
 use Rattle.rds_fields.specs.declared.message.Message.{Message}
-use Rattle.rds_receiver.specs.Receipts.{AreHeard, Segment, name_piece, segments, text_piece}
+use Rattle.rds_receiver.specs.Receipts.{AreHeard, Segment, Tuning, name_piece, segments, text_piece}
 use Rattle.rds_receiver.specs.Run.{begins_in, cells_of, run}
 use Rattle.rds_receiver.specs.State.{HeldSegments, ReceiverState}
 use Rattle.rds_receiver.specs.Tags.{is_known, pair_from}
@@ -37,9 +37,30 @@ pub record HoldsAt (m t first : ℕ) (r : ReceiverState) (heard : List (Option M
   pub pair : r.pair ≡ pair_from first (begins_in (run m t (segments text_piece first heard))) heard
   pub known : r.is_known ≡ is_known heard
 
--- the receiver of programme pi and dwell m stands at the end of the input, whose first entry came in slot `first`
-pub record StandsAt (pi m first : ℕ) (r : ReceiverState) (input : List (Option Group)) : Type 0 where
-  pub programme : r.programme ≡ pi
+-- the receiver, which is tuned so, stands at the end of the input
+pub record StandsAt (t : Tuning) (r : ReceiverState) (input : List (Option Group)) : Type 0 where
+  pub tuned : r.programme ≡ t.programme
   pub heard : List (Option Message)
-  pub are : AreHeard pi input heard
-  pub holds : HoldsAt m (newest_slot first heard) first r heard
+  pub are : AreHeard t.programme input heard
+  pub holds : HoldsAt t.dwell (newest_slot t.first heard) t.first r heard
+
+-- however the receiver is tuned and wherever it stands, this holds of its input
+abbrev pub WhereItStands : ReceiverState → (Tuning → List (Option Group) → Type 0) → Type 0
+WhereItStands r Holds = (t : Tuning) (input : List (Option Group)) → StandsAt t r input → Holds t input
+
+-- this holds of what it heard there, with its dwell and its first slot
+abbrev pub WhatItHeard : ReceiverState → (ℕ → ℕ → List (Option Message) → Type 0) → Type 0
+WhatItHeard r Holds = WhereItStands r (λ t input.
+    (heard : List (Option Message)) → AreHeard t.programme input heard → Holds t.dwell t.first heard)
+
+-- the receiver went on by a message: whatever it held the run of before, it holds with the message now
+abbrev pub HearsMore : ReceiverState → ReceiverState → Message → Type 0
+HearsMore old new message =
+    (m first : ℕ) (heard : List (Option Message)) → HoldsAt m (first + length heard) first old heard
+    → HoldsAt m (first + length heard) first new (Some message ∷ heard)
+
+-- both hold the cells and the pair that are shown
+pub record ShowsAlike (r after : ReceiverState) : Type 0 where
+  pub text : after.text.cells ≡ r.text.cells
+  pub name : after.name.cells ≡ r.name.cells
+  pub pair : after.pair ≡ r.pair

@@ -1,12 +1,12 @@
 -- RadioText Plus (IEC 62106-6): when it is known, which pair of tags is held, and what of it is shown.
 -- Lists have the newest first.
-use Rattle.std.specs.Prelude.{◌+◌, ◌==◌, ◌&&◌, ℕ, Bool, true, false, List, [], ◌∷◌, Option, Some, None, length, take, drop, nat_lt, nat_le, if◌then◌else◌}
+use Rattle.std.specs.Prelude.{◌+◌, ◌==◌, ◌&&◌, ℕ, Bool, true, false, List, [], ◌∷◌, Option, Some, None, length, nat_lt, option_map, if◌then◌else◌}
 use Rattle.rds_fields.specs.declared.message.Message.{Message}
 use Rattle.rds_fields.specs.declared.message.Message.TheVariants.{Text, Name, Announce, Tags, Other}
 use Rattle.rds_fields.specs.declared.pair.Which.{Which}
 use Rattle.rds_fields.specs.declared.pair.Which.TheVariants.{One, Two}
 use Rattle.rds_fields.specs.RadioTextPlus.{rtplus_aid, rtplus_code}
-use Rattle.rds_fields.specs.Tag.{PairFields, TagFields}
+use Rattle.rds_fields.specs.Tag.{PairFields, TagFields, piece_in}
 use Rattle.rds_receiver.specs.Receipts.{text_piece}
 use Rattle.rds_receiver.specs.Run.{begins_in, run_at}
 
@@ -63,10 +63,9 @@ abbrev pub tag_in : Which → PairFields → TagFields
 tag_in One pair = pair.one
 tag_in Two pair = pair.two
 
--- the class of a tag and the piece of the text that it cuts out, where it is no dummy and ends in the text;
--- the length marker is the number of characters less one
+-- the class of a tag and the piece of the text that it names, where it names one
 abbrev pub cut_by : TagFields → List ℕ → Option (ℕ × List ℕ)
-cut_by tag x = if nat_lt 0 tag.class && nat_le (tag.start + tag.extra + 1) (length x) then Some (tag.class, take (tag.extra + 1) (drop tag.start x)) else None
+cut_by tag x = option_map (λ piece. (tag.class, piece)) (piece_in x tag)
 
 -- the tag that is shown
 abbrev pub tag_of : Which → Option (List ℕ) → Option PairFields → Option (ℕ × List ℕ)

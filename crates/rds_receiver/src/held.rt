@@ -1,5 +1,5 @@
 //! The segments of one service that are held, with their flag and their age.
-ghost use Rattle.std.specs.Prelude.{◌≡◌, ◌≢◌, ◌+◌, ◌<◌, ◌≤◌, ◌↔◌, IsTrue, IfSome, length};
+ghost use Rattle.std.specs.Prelude.{◌≡◌, ◌≢◌, ◌+◌, ◌<◌, ◌≤◌, ◌↔◌, IsFalse, IsTrue, IfSome, length};
 ghost use Rattle.std.specs.FinMap.{empty, insert};
 ghost use Rattle.std.specs.Option.{option_copied};
 ghost use Rattle.rds_receiver.specs.Shown.{IsShown};
@@ -18,7 +18,8 @@ pub(crate) struct Held<S: Service> {
 }
 
 impl<S: Service> Model for Held<S> {
-    ghost use Rattle.rds_receiver.specs.State.{HeldSegments, held_code};
+    ghost use Rattle.rds_receiver.specs.Codes.{held_code};
+    ghost use Rattle.rds_receiver.specs.State.{HeldSegments};
 
     ghost Value = { HeldSegments };
 
@@ -40,37 +41,45 @@ impl<S: Service> Held<S> {
         }
     }
 
-    /// One slot older; what reaches the dwell is given up.
-    pub(crate) fn grow_older(&mut self, dwell: u16)
+    /// One slot older; what reaches the dwell is given up. False where nothing was.
+    pub(crate) fn grow_older(&mut self, dwell: u16) -> bool
         ensures gone { dwell ≤ self.old.age → self.new ≡ self.old }
         ensures older { self.old.age + 1 < dwell
             → self.new ≡ record self.old { age = self.old.age + 1 } }
         ensures over { self.old.age + 1 ≡ dwell
             → self.new ≡ record self.old { cells = empty; age = dwell } }
+        ensures same { IsFalse result → self.new.cells ≡ self.old.cells }
     {
         if self.age >= dwell {
-            return;
+            return false;
         }
         self.age += 1;
         if self.age == dwell {
             self.segments.clear();
+            return true;
         }
+        false
     }
 
-    /// Takes a segment; those with the other flag are given up first.
-    pub(crate) fn take(&mut self, flag: bool, address: u8, bytes: [u8; 4])
+    /// Takes a segment; those with the other flag are given up first. False where just this one was held.
+    pub(crate) fn take(&mut self, flag: bool, address: u8, bytes: [u8; 4]) -> bool
         requires { address < S.SEGMENTS }
         ensures same { flag ≡ self.old.flag → self.new.cells ≡ insert self.old.cells address bytes }
         ensures other { flag ≢ self.old.flag → self.new.cells ≡ insert empty address bytes }
         ensures flag { self.new.flag ≡ flag }
         ensures age { self.new.age ≡ 0 }
+        ensures kept { IsFalse result → self.new.cells ≡ self.old.cells }
     {
         if flag != self.flag {
             self.segments.clear();
+            self.segments.put(address, bytes);
+            self.flag = flag;
+            self.age = 0;
+            return true;
         }
-        self.segments.put(address, bytes);
-        self.flag = flag;
+        let is_new = self.segments.put(address, bytes);
         self.age = 0;
+        is_new
     }
 
     /// Whether segments are held.

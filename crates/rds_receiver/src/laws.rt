@@ -2,9 +2,9 @@
 ghost use Rattle.std.specs.Prelude.{◌≡◌, ◌≤◌, ◌++◌, ℕ, List, Option, length};
 ghost use Rattle.rds_block.specs.declared.group.Group.{Group};
 ghost use Rattle.rds_receiver.specs.Chained.{IsChained};
-ghost use Rattle.rds_receiver.specs.Receipts.{Segment};
+ghost use Rattle.rds_receiver.specs.Receipts.{Segment, Tuning};
 ghost use Rattle.rds_receiver.specs.Run.{run};
-ghost use Rattle.rds_receiver.specs.Shown.{IsView, View};
+ghost use Rattle.rds_receiver.specs.Shown.{IsView, ShownView};
 
 /// The run is the longest last part of the segments received that is chained: with one flag, neighbours less than
 /// the dwell apart, and the newest less than the dwell ago.
@@ -18,6 +18,6 @@ pub fn run_is_the_longest()
 
 /// An input has one view.
 pub fn one_view()
-    ensures { (pi m first : ℕ) (input : List (Option Group)) (v w : View)
-        → IsView pi m first input v → IsView pi m first input w → v ≡ w }
+    ensures { (t : Tuning) (input : List (Option Group)) (v w : ShownView)
+        → IsView t input v → IsView t input w → v ≡ w }
 {}

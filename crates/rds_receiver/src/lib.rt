@@ -14,9 +14,11 @@
 mod held;
 mod laws;
 mod receiver;
+mod view;
 
 pub use laws::{one_view, run_is_the_longest};
 pub use receiver::Receiver;
+pub use view::View;
 
 #[cfg(test)]
 mod tests;

@@ -1,13 +1,15 @@
 //! A receiver, slot by slot.
-ghost use Rattle.std.specs.Prelude.{◌≡◌, ◌≢◌, ◌+◌, ◌<◌, ◌≤◌, ◌↔◌, ℕ, Bool, List, [], ◌∷◌, Option, Some, None, IsTrue, IfSome, length, option_map};
+ghost use Rattle.std.specs.Prelude.{◌≡◌, ◌≢◌, ◌+◌, ◌<◌, ◌≤◌, ◌↔◌, ℕ, Bool, List, [], ◌∷◌, Option, Some, None, IsFalse, IsTrue, IfSome, length, option_map};
 ghost use Rattle.std.specs.Option.{option_copied};
 ghost use Rattle.rds_block.specs.declared.group.Group.{Group};
 ghost use Rattle.rds_fields.specs.declared.message.Message.{Message};
-ghost use Rattle.rds_receiver.specs.Shown.{IsNameShown, IsTextShown};
-ghost use Rattle.rds_receiver.specs.Standing.{HoldsAt, StandsAt, newest_slot};
+ghost use Rattle.rds_receiver.specs.Lent.{tag_lent, view_lent};
+ghost use Rattle.rds_receiver.specs.Shown.{IsItemShown, IsNameShown, IsTagShown, IsTextShown, IsView, ShownView};
+ghost use Rattle.rds_receiver.specs.Standing.{HearsMore, HoldsAt, ShowsAlike, StandsAt, WhatItHeard, WhereItStands, newest_slot};
 ghost use Rattle.rds_receiver.specs.State.{ReceiverState};
-ghost use Rattle.rds_receiver.specs.Tags.{item_of, or_before, pair_held, says_of_rtplus, tag_of, unless_contrary};
+ghost use Rattle.rds_receiver.specs.Tags.{or_before, says_of_rtplus, unless_contrary};
 
+use crate::View;
 use crate::held::Held;
 use rds_assembly::{RadioText, TypeName};
 use rds_block::Group;
@@ -26,7 +28,8 @@ pub struct Receiver {
 }
 
 impl Model for Receiver {
-    ghost use Rattle.rds_receiver.specs.State.{ReceiverState, receiver_code};
+    ghost use Rattle.rds_receiver.specs.Codes.{receiver_code};
+    ghost use Rattle.rds_receiver.specs.State.{ReceiverState};
 
     ghost Value = { ReceiverState };
 
@@ -45,7 +48,8 @@ impl Model for Receiver {
 impl Receiver {
     /// A receiver of this programme that heard nothing yet; the dwell is in slots.
     pub fn new(pi: u16, dwell: Dwell) -> Receiver
-        ensures stands { (first : ℕ) → StandsAt pi dwell first result [] }
+        ensures stands { (first : ℕ)
+            → StandsAt record { programme = pi; dwell = dwell; first = first } result [] }
     {
         let slots = dwell.get();
         Receiver {
@@ -58,26 +62,41 @@ impl Receiver {
         }
     }
 
-    /// Handles what one slot brought: a group, or nothing. Each slot has one call.
-    pub fn slot(&mut self, group: Option<Group>)
-        ensures stands { (pi m first : ℕ) (input : List (Option Group))
-            → StandsAt pi m first self.old input → StandsAt pi m first self.new (group ∷ input) }
+    /// Handles what one slot brought: a group, or nothing. Each slot has one call. False where the
+    /// view is what it was in the slot before.
+    pub fn slot(&mut self, group: Option<Group>) -> bool
+        ensures stands { WhereItStands self.old (λ t input. StandsAt t self.new (group ∷ input)) }
+        ensures same { IsFalse result → (view : ShownView)
+            → WhereItStands self.old (λ t input. IsView t input view → IsView t (group ∷ input) view) }
     {
-        self.grow_older();
+        let gave_up = self.grow_older();
         let Some(group) = group else {
-            return;
+            return gave_up;
         };
         if group.pi != self.pi {
-            return;
+            return gave_up;
         }
-        self.hear(Message::of(&group));
+        let heard = self.hear(Message::of(&group));
+        heard || gave_up
+    }
+
+    /// All that is shown, lent.
+    pub fn view(&self) -> View<'_>
+        ensures { WhereItStands self.now (λ t input. IsView t input (view_lent result)) }
+    {
+        View {
+            text: self.text(),
+            name: self.name(),
+            item: self.item(),
+            one: self.tag(Which::One),
+            two: self.tag(Which::Two),
+        }
     }
 
     /// The text shown, lent: up to 64 bytes. `Some` of no bytes is the empty text, and `None` no text.
     pub fn text(&self) -> Option<&[u8]>
-        ensures shown { (pi m first : ℕ) (input : List (Option Group))
-            (s : StandsAt pi m first self.now input)
-            → IsTextShown m first s.heard (option_copied result) }
+        ensures shown { WhatItHeard self.now
+            (λ m first heard. IsTextShown m first heard (option_copied result)) }
         ensures short { IfSome result (λ x. length x.now ≤ 64) }
     {
         self.text.whole()
@@ -85,9 +104,8 @@ impl Receiver {
 
     /// The name of the programme type that is shown, lent: eight bytes.
     pub fn name(&self) -> Option<&[u8]>
-        ensures shown { (pi m first : ℕ) (input : List (Option Group))
-            (s : StandsAt pi m first self.now input)
-            → IsNameShown m first s.heard (option_copied result) }
+        ensures shown { WhatItHeard self.now
+            (λ m first heard. IsNameShown m first heard (option_copied result)) }
         ensures short { IfSome result (λ x. length x.now ≡ 8) }
     {
         self.name.whole()
@@ -95,9 +113,7 @@ impl Receiver {
 
     /// The item toggle bit and the item running bit of the tags held; `None` where no text or no tags are shown.
     pub fn item(&self) -> Option<(bool, bool)>
-        ensures shown { (pi m first : ℕ) (input : List (Option Group))
-            (s : StandsAt pi m first self.now input) (text : Option (List ℕ))
-            → IsTextShown m first s.heard text → result ≡ item_of text (pair_held m first s.heard) }
+        ensures { WhatItHeard self.now (λ m first heard. IsItemShown m first heard result) }
     {
         self.text()?;
         let pair = self.pair?;
@@ -107,10 +123,8 @@ impl Receiver {
     /// The class of one of the two tags and the piece of the text that it names, lent. `None` where no text or no
     /// tags are shown, where the tag is the dummy, and where it does not end in the text.
     pub fn tag(&self, which: Which) -> Option<(u8, &[u8])>
-        ensures shown { (pi m first : ℕ) (input : List (Option Group))
-            (s : StandsAt pi m first self.now input) (text : Option (List ℕ))
-            → IsTextShown m first s.heard text
-            → option_map (λ tag. (tag.0, tag.1.now)) result ≡ tag_of which text (pair_held m first s.heard) }
+        ensures shown { WhatItHeard self.now
+            (λ m first heard. IsTagShown m first heard which (tag_lent result)) }
         ensures class { IfSome result (λ tag. tag.0 < 64) }
         ensures short { IfSome result (λ tag. length tag.1.now ≤ 64) }
     {
@@ -120,35 +134,36 @@ impl Receiver {
             Which::One => pair.one(),
             Which::Two => pair.two(),
         };
-        let start = tag.start() as usize;
-        let end = start + tag.extra() as usize + 1;
-        if tag.class() == 0 || end > text.len() {
-            return None;
-        }
-        Some((tag.class(), &text[start..end]))
+        let piece = tag.piece_in(text)?;
+        Some((tag.class(), piece))
     }
 
-    /// One slot older. The tags go with their text.
-    fn grow_older(&mut self)
+    /// One slot older. The tags go with their text. False where all that is shown stays.
+    fn grow_older(&mut self) -> bool
         ensures programme { self.new.programme ≡ self.old.programme }
         ensures holds { (m first : ℕ) (heard : List (Option Message))
             → HoldsAt m (newest_slot first heard) first self.old heard
             → HoldsAt m (first + length heard) first self.new heard }
+        ensures same { IsFalse result → ShowsAlike self.old self.new }
     {
         let dwell = self.dwell.get();
-        self.text.grow_older(dwell);
-        self.name.grow_older(dwell);
-        if !self.text.is_held(dwell) {
-            self.pair = None;
+        let text = self.text.grow_older(dwell);
+        let name = self.name.grow_older(dwell);
+        if self.text.is_held(dwell) {
+            return text || name;
         }
+        if self.pair.is_none() {
+            return text || name;
+        }
+        self.pair = None;
+        true
     }
 
-    /// Handles a message of the programme.
-    fn hear(&mut self, message: Message)
+    /// Handles a message of the programme. False where all that is shown stays.
+    fn hear(&mut self, message: Message) -> bool
         ensures programme { self.new.programme ≡ self.old.programme }
-        ensures holds { (m first : ℕ) (heard : List (Option Message))
-            → HoldsAt m (first + length heard) first self.old heard
-            → HoldsAt m (first + length heard) first self.new (Some message ∷ heard) }
+        ensures holds { HearsMore self.old self.new message }
+        ensures same { IsFalse result → ShowsAlike self.old self.new }
     {
         match message {
             Message::Text {
@@ -163,50 +178,56 @@ impl Receiver {
             } => self.name.take(flag, address.get(), bytes),
             Message::Announce { code, aid, .. } => self.hear_announcement(code.get(), aid),
             Message::Tags(pair) => self.hear_tags(pair),
-            Message::Other => {}
+            Message::Other => false,
         }
     }
 
     /// Takes a segment of a text; the tags of a text with the other flag are dropped.
-    fn hear_text(&mut self, flag: bool, address: u8, bytes: [u8; 4])
+    fn hear_text(&mut self, flag: bool, address: u8, bytes: [u8; 4]) -> bool
         requires { address < 16 }
         ensures programme { self.new.programme ≡ self.old.programme }
-        ensures holds { (m first : ℕ) (heard : List (Option Message))
-            → HoldsAt m (first + length heard) first self.old heard
-            → HoldsAt m (first + length heard) first self.new (Some
-            (Message.Text flag address bytes) ∷ heard) }
+        ensures holds { HearsMore self.old self.new (Message.Text flag address bytes) }
+        ensures same { IsFalse result → ShowsAlike self.old self.new }
     {
         if !self.text.has_flag(flag) {
             self.pair = None;
+            self.text.take(flag, address, bytes);
+            return true;
         }
-        self.text.take(flag, address, bytes);
+        self.text.take(flag, address, bytes)
     }
 
     /// Takes an announcement: that RadioText Plus is there, or the contrary, which drops the tags.
-    fn hear_announcement(&mut self, code: u8, aid: u16)
+    fn hear_announcement(&mut self, code: u8, aid: u16) -> bool
         ensures known { self.new.is_known ≡ or_before (says_of_rtplus code aid) self.old.is_known }
         ensures pair { self.new.pair ≡ unless_contrary (says_of_rtplus code aid) self.old.pair }
         ensures rest { self.new ≡ record self.old { pair = self.new.pair; is_known = self.new.is_known } }
+        ensures same { IsFalse result → ShowsAlike self.old self.new }
     {
         let fits_code = code == RTPLUS_CODE;
         let fits_aid = aid == RTPLUS_AID;
         if fits_code && fits_aid {
             self.knows_rtplus = true;
-        } else if fits_code || fits_aid {
+            return false;
+        }
+        if fits_code || fits_aid {
             self.knows_rtplus = false;
             self.pair = None;
+            return true;
         }
+        false
     }
 
     /// Takes a pair of tags, where RadioText Plus is known and a text is received.
-    fn hear_tags(&mut self, pair: TagPair)
+    fn hear_tags(&mut self, pair: TagPair) -> bool
         ensures programme { self.new.programme ≡ self.old.programme }
-        ensures holds { (m first : ℕ) (heard : List (Option Message))
-            → HoldsAt m (first + length heard) first self.old heard
-            → HoldsAt m (first + length heard) first self.new (Some (Message.Tags pair) ∷ heard) }
+        ensures holds { HearsMore self.old self.new (Message.Tags pair) }
+        ensures same { IsFalse result → ShowsAlike self.old self.new }
     {
         if self.knows_rtplus && self.text.is_held(self.dwell.get()) {
             self.pair = Some(pair);
+            return true;
         }
+        false
     }
 }

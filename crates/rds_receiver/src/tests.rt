@@ -49,6 +49,12 @@ const fn shows_title(text: &'static [u8], title: Option<&'static [u8]>) -> Shown
 }
 
 fn assert_shown(rt: &impl Abort, receiver: &Receiver, shown: Shown) {
+    let view = receiver.view();
+    assert_eq!(rt; view.text, shown.text);
+    assert_eq!(rt; view.name, shown.name);
+    assert_eq!(rt; view.item, shown.item);
+    assert_eq!(rt; view.one, shown.one);
+    assert_eq!(rt; view.two, shown.two);
     assert_eq!(rt; receiver.text(), shown.text);
     assert_eq!(rt; receiver.name(), shown.name);
     assert_eq!(rt; receiver.item(), shown.item);
@@ -205,5 +211,26 @@ fn another_programme(rt: HostRuntime) -> Result<(), Fail> {
     assert_slots(&rt, 2, &rows)?;
     run_is_the_longest();
     one_view();
+    Ok(())
+}
+
+/// A slot that brings nothing new, and before the dwell ends, leaves the view as it was.
+#[test]
+fn told_whether_the_view_stays(rt: HostRuntime) -> Result<(), Fail> {
+    let hi = Some(Group::from_blocks([PI, 0x2140, 0x4849, 0x0D20]));
+    let mut receiver = Receiver::new(PI, Dwell::new(4).ok_or("dwell")?);
+    let rows = [
+        (None, false),
+        (hi, true),
+        (hi, false),
+        (None, false),
+        (None, false),
+        (None, false),
+        (None, true),
+        (None, false),
+    ];
+    for (group, may_differ) in rows {
+        assert_eq!(rt; receiver.slot(group), may_differ);
+    }
     Ok(())
 }
