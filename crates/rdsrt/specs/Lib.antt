@@ -1,9 +1,1 @@
-pub mod LogLines
-pub mod LineSays
-pub mod Output
-pub mod Decoding
-pub mod Kept
-pub mod Viewing
-pub mod Standing
-pub mod Engine
 pub mod Run

@@ -1,12 +1,15 @@
 -- What the whole program does with its words: `decode --pi HHHH` decodes a log, and nothing else is taken.
--- This is the project's own command line.
-use Rattle.std.specs.Prelude.{◌≡◌, ◌⊎◌, ◌^◌, ◌++◌, ◌∷◌, ℕ, List, [], codes, decimal, length, Option}
+-- This is the project's own command line. r is what a call did to the reader, w what it did to the writer.
+use Rattle.std.specs.Prelude.{◌≡◌, ◌⊎◌, ◌^◌, ◌++◌, ◌∷◌, ℕ, List, [], codes, decimal, length, Option, Ok, Err, Result}
 use Rattle.std.specs.Io.KnownBytes.{Appends}
-use Rattle.rds_charset.specs.Told.{AppendsPrefix, Failed}
-use Rattle.rdsrt.specs.LineSays.{HasWord}
-use Rattle.rdsrt.specs.Engine.{DecodesAll, Faulted}
-use Rattle.rdsrt.specs.declared.decoder.LogFault.{LogFault}
-use Rattle.rdsrt.specs.declared.decoder.LogFault.TheVariants.{BadLine, Read, Write, TooLong}
+use Rattle.rds_charset.specs.Puts.{Puts}
+use Rattle.rds_charset.specs.Told.{PutsNothing, Traffic}
+use Rattle.rds_charset.specs.declared.output.WriteFault.{WriteFault}
+use Rattle.rds_receiver.specs.Receipts.{Tuning}
+use Rattle.rds_log.specs.Digits.{HasWord}
+use Rattle.rds_log.specs.Engine.{Decodes}
+use Rattle.rds_log.specs.declared.fault.LogFault.{LogFault}
+use Rattle.rds_log.specs.declared.fault.LogFault.TheVariants.{BadLine, Read, Write, TooLong}
 
 -- the program's own name, `decode`, `--pi` and the programme identification that is given
 abbrev pub IsDecode : List (List ℕ) → List ℕ → Type 0
@@ -18,8 +21,8 @@ pub record IsPi (given : List ℕ) (pi : ℕ) : Type 0 where
   pub word : HasWord given 0 pi
 
 -- the line, or a first part of it where the writer failed
-abbrev pub WritesLine : List ℕ → Option (List ℕ) → Option (List ℕ) → ℕ → ℕ → Type 0
-WritesLine line start now w w' = Appends start now line ⊎ (AppendsPrefix start now line × Failed w w')
+abbrev pub PutsLine : List ℕ → Traffic → Type 0
+PutsLine line w = (r : Result (Unit {0}) WriteFault) × Puts w line r
 
 abbrev pub fault_line : LogFault → List ℕ
 fault_line (BadLine n) = codes "fault line " ++ decimal n ++ codes "\n"
@@ -28,35 +31,26 @@ fault_line Write = []
 fault_line TooLong = codes "fault too long\n"
 
 -- after a fault its line, and after a failed write nothing more
-abbrev pub WritesAfter : LogFault → Option (List ℕ) → Option (List ℕ) → ℕ → ℕ → Type 0
-WritesAfter (BadLine n) mid now v w' = WritesLine (fault_line (BadLine n)) mid now v w'
-WritesAfter Read mid now v w' = WritesLine (fault_line Read) mid now v w'
-WritesAfter Write mid now v w' = (now ≡ mid) × (w' ≡ v)
-WritesAfter TooLong mid now v w' = WritesLine (fault_line TooLong) mid now v w'
+abbrev pub PutsAfter : LogFault → Traffic → Type 0
+PutsAfter (BadLine n) w = PutsLine (fault_line (BadLine n)) w
+PutsAfter Read w = PutsLine (fault_line Read) w
+PutsAfter Write w = PutsNothing w
+PutsAfter TooLong w = PutsLine (fault_line TooLong) w
 
--- the log was decoded to its end
-pub record RunsToEnd (pi : ℕ) (had start now : Option (List ℕ)) (status : ℕ) : Type 0 where
-  pub done : status ≡ 0
-  pub left : Option (List ℕ)
-  pub decodes : DecodesAll pi had left start now
+-- what a call did begins with these bytes and these failures
+pub record Begins (t : Traffic) (bytes : Option (List ℕ)) (failures : ℕ) : Type 0 where
+  pub bytes_are : t.before ≡ bytes
+  pub failures_are : t.failures_before ≡ failures
 
--- the log was decoded to a fault, whose line follows; r and r' are the reader's failures before and after,
--- w, v and w' the writer's before the log, at the fault and after its line
-pub record RunsToFault (pi : ℕ) (had start now : Option (List ℕ)) (w w' status : ℕ) : Type 0 where
-  pub refused : status ≡ 1
-  pub fault : LogFault
-  pub left : Option (List ℕ)
+-- up to the fault, and its line
+pub record RunsToFault (t : Tuning) (r w : Traffic) (fault : LogFault) : Type 0 where
   pub mid : Option (List ℕ)
-  pub r : ℕ
-  pub r' : ℕ
-  pub v : ℕ
-  pub faulted : Faulted pi (2 ^ 32) had left r r' start mid w v fault
-  pub told : WritesAfter fault mid now v w'
+  pub failures : ℕ
+  pub decodes : Decodes t (2 ^ 32) r record { before = w.before; after = mid; failures_before = w.failures_before; failures_after = failures } (Err fault)
+  pub told : PutsAfter fault record { before = mid; after = w.after; failures_before = failures; failures_after = w.failures_after }
 
-abbrev pub Runs : ℕ → Option (List ℕ) → Option (List ℕ) → Option (List ℕ) → ℕ → ℕ → ℕ → Type 0
-Runs pi had start now w w' status = RunsToEnd pi had start now status ⊎ RunsToFault pi had start now w w' status
-
--- nothing was written
-pub record WritesNothing (start now : Option (List ℕ)) (w w' : ℕ) : Type 0 where
-  pub contents : now ≡ start
-  pub failures : w' ≡ w
+-- the log was decoded to its end, with status 0, or to a fault, with status 1 and the fault's line
+abbrev pub Runs : Tuning → Traffic → Traffic → ℕ → Type 0
+Runs t r w status =
+    ((status ≡ 0) × Decodes t (2 ^ 32) r w (Ok tt))
+    ⊎ ((status ≡ 1) × ((fault : LogFault) × RunsToFault t r w fault))

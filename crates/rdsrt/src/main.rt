@@ -8,17 +8,9 @@
 //! ```
 #![tactic(auto)]
 
-mod change;
-mod decoder;
-mod engine;
-mod laws;
-mod log_line;
-mod output_line;
 mod run;
 #[cfg(test)]
 mod tests;
-mod view;
-mod view_writer;
 
 use rds_charset::{Told, put};
 use run::run;

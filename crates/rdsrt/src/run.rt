@@ -1,14 +1,16 @@
 //! The whole program over its words.
 ghost use Rattle.std.specs.Prelude.{◌≡◌, ℕ, List, IfSome, IfNone, codes, map};
-ghost use Rattle.rdsrt.specs.Run.{IsDecode, IsPi, Runs, WritesAfter, WritesLine, WritesNothing};
+ghost use Rattle.rds_charset.specs.Told.{PutsNothing, Traffic, traffic};
+ghost use Rattle.rds_log.specs.Decoding.{tuned};
+ghost use Rattle.rdsrt.specs.Run.{Begins, IsDecode, IsPi, PutsAfter, PutsLine, Runs};
 
-use crate::decoder::LogFault;
-use crate::engine::decode;
-use crate::log_line::word_at;
-use arrayvec::ArrayVec;
-use itoa::Buffer;
 use rds_charset::{TellingRead, TellingWrite, put};
+use rds_fields::Dwell;
+use rds_log::{Lines, LogFault, decode, word_at};
 use std::alloc::Global;
+
+/// The dwell of `decode`, in slots.
+const DWELL: u16 = 128;
 
 /// The status where all was done.
 const DONE: u8 = 0;
@@ -29,20 +31,38 @@ const LINE: usize = 64;
 pub fn run<R: TellingRead + Drop, W: TellingWrite>(
     alloc: Global,
     words: &[&str],
-    reader: R,
+    mut reader: R,
+    writer: &mut W,
+) -> u8
+    ensures decodes { (given : List ℕ) (pi : ℕ) → IsDecode (map (λ w. w.now) words.entry.now) given
+        → IsPi given pi → (r : Traffic) × Begins r (R.remaining reader) (R.failures reader)
+        × Runs (tuned pi 128) r (traffic W.contents W.failures writer.old writer.new) result }
+    ensures fault_pi { (given : List ℕ) → IsDecode (map (λ w. w.now) words.entry.now) given
+        → ((pi : ℕ) → IsPi given pi → ⊥) → (result ≡ 2) × PutsLine (codes "fault pi\n")
+        (traffic W.contents W.failures writer.old writer.new) }
+    ensures other_words { ((given : List ℕ) → IsDecode (map (λ w. w.now) words.entry.now) given → ⊥)
+        → (result ≡ 2) × PutsNothing (traffic W.contents W.failures writer.old writer.new) }
+{
+    run_lent(alloc, words, &mut reader, writer)
+}
+
+/// `run` over a reader that is lent, so that what it had left and how often it failed is seen after
+/// the call too.
+pub fn run_lent<R: TellingRead, W: TellingWrite>(
+    alloc: Global,
+    words: &[&str],
+    reader: &mut R,
     writer: &mut W,
 ) -> u8
     ensures decodes { (given : List ℕ) (pi : ℕ) → IsDecode (map (λ w. w.now) words.entry.now) given
         → IsPi given pi
-        → Runs pi (R.remaining reader) (W.contents writer.old) (W.contents writer.new)
-        (W.failures writer.old) (W.failures writer.new) result }
+        → Runs (tuned pi 128) (traffic R.remaining R.failures reader.old reader.new)
+        (traffic W.contents W.failures writer.old writer.new) result }
     ensures fault_pi { (given : List ℕ) → IsDecode (map (λ w. w.now) words.entry.now) given
-        → ((pi : ℕ) → IsPi given pi → ⊥)
-        → (result ≡ 2) × WritesLine (codes "fault pi\n") (W.contents writer.old)
-        (W.contents writer.new) (W.failures writer.old) (W.failures writer.new) }
+        → ((pi : ℕ) → IsPi given pi → ⊥) → (result ≡ 2) × PutsLine (codes "fault pi\n")
+        (traffic W.contents W.failures writer.old writer.new) }
     ensures other_words { ((given : List ℕ) → IsDecode (map (λ w. w.now) words.entry.now) given → ⊥)
-        → (result ≡ 2) × WritesNothing (W.contents writer.old) (W.contents writer.new)
-        (W.failures writer.old) (W.failures writer.new) }
+        → (result ≡ 2) × PutsNothing (traffic W.contents W.failures writer.old writer.new) }
 {
     let _ = alloc;
     let Some(given) = given_pi(words) else {
@@ -68,6 +88,7 @@ fn given_pi<'a>(words: &[&'a str]) -> Option<&'a str>
     }
 }
 
+/// The programme identification that the word spells, in four hexadecimal digits of either case.
 fn pi_of(given: &str) -> Option<u16>
     ensures some { IfSome result (IsPi given.now) }
     ensures none { IfNone result ((pi : ℕ) → IsPi given.now pi → ⊥) }
@@ -80,15 +101,11 @@ fn pi_of(given: &str) -> Option<u16>
 }
 
 /// Decodes the log, and tells its fault.
-fn decode_and_tell<R: TellingRead + Drop, W: TellingWrite>(
-    pi: u16,
-    mut reader: R,
-    writer: &mut W,
-) -> u8
-    ensures { Runs pi (R.remaining reader) (W.contents writer.old) (W.contents writer.new)
-        (W.failures writer.old) (W.failures writer.new) result }
+fn decode_and_tell<R: TellingRead, W: TellingWrite>(pi: u16, reader: &mut R, writer: &mut W) -> u8
+    ensures { Runs (tuned pi 128) (traffic R.remaining R.failures reader.old reader.new)
+        (traffic W.contents W.failures writer.old writer.new) result }
 {
-    match decode(&mut reader, writer, pi) {
+    match decode(reader, writer, pi, Dwell::new(DWELL).unwrap()) {
         Ok(()) => DONE,
         Err(fault) => {
             tell_fault(fault, writer);
@@ -99,18 +116,15 @@ fn decode_and_tell<R: TellingRead + Drop, W: TellingWrite>(
 
 /// Writes the line of the fault as far as the writer takes it; after a failed write nothing.
 fn tell_fault<W: TellingWrite>(fault: LogFault, writer: &mut W)
-    ensures { WritesAfter fault (W.contents writer.old) (W.contents writer.new)
-        (W.failures writer.old) (W.failures writer.new) }
+    ensures { PutsAfter fault (traffic W.contents W.failures writer.old writer.new) }
 {
     match fault {
         LogFault::BadLine(number) => {
-            let mut line = ArrayVec::<u8, LINE>::new();
-            let mut digits = Buffer::new();
-            line.try_extend_from_slice(b"fault line ").unwrap();
-            line.try_extend_from_slice(digits.format(number).as_bytes())
-                .unwrap();
-            line.push(b'\n');
-            tell(line.as_slice(), writer);
+            let mut line = Lines::<LINE>::new();
+            line.push(b"fault line ");
+            line.push_number(number);
+            line.push(b"\n");
+            tell(line.bytes(), writer);
         }
         LogFault::Read => tell(b"fault read\n", writer),
         LogFault::Write => {}
@@ -120,8 +134,7 @@ fn tell_fault<W: TellingWrite>(fault: LogFault, writer: &mut W)
 
 /// Writes a line as far as the writer takes it.
 fn tell<W: TellingWrite>(line: &[u8], writer: &mut W)
-    ensures { WritesLine line.now (W.contents writer.old) (W.contents writer.new)
-        (W.failures writer.old) (W.failures writer.new) }
+    ensures { PutsLine line.now (traffic W.contents W.failures writer.old writer.new) }
 {
     let _ = put(line, writer);
 }

@@ -5,7 +5,6 @@ use rds_charset::Told;
 use std::alloc::Global;
 use std::cell::Cell;
 use std::io::{self, ErrorKind, Read, Write};
-use std::process::Abort;
 use std::test::Fail;
 
 const DECODE: [&str; 4] = ["rdsrt", "decode", "--pi", "C201"];
@@ -24,68 +23,95 @@ C201 0148 0000 0000
 C201 21405 4849 0D20
 ";
 
+/// Words, input, and the output and the status that they have.
+struct Case {
+    name: &'static str,
+    words: &'static [&'static str],
+    input: &'static [u8],
+    output: &'static [u8],
+    status: u8,
+}
+
+const CASES: [Case; 9] = [
+    Case {
+        name: "first_text",
+        words: &DECODE,
+        input: b"C201 2140 4849 0D20\n",
+        output: b"0 text \"HI\"\n",
+        status: 0,
+    },
+    Case {
+        name: "mixed_log",
+        words: &DECODE,
+        input: MIXED_LOG,
+        output: b"2 text \"HI\"\nfault line 10\n",
+        status: 1,
+    },
+    Case {
+        name: "end_of_input",
+        words: &DECODE,
+        input: b"C201 2140 4849 0D2",
+        output: b"fault line 1\n",
+        status: 1,
+    },
+    Case {
+        name: "carriage_return_at_the_end",
+        words: &DECODE,
+        input: b"C201 2140 4849 0D20\r",
+        output: b"0 text \"HI\"\n",
+        status: 0,
+    },
+    Case {
+        name: "empty_log",
+        words: &DECODE,
+        input: b"",
+        output: b"",
+        status: 0,
+    },
+    Case {
+        name: "binary_garbage",
+        words: &DECODE,
+        input: b"\x00\xFF\x0D\x0A\x80",
+        output: b"fault line 1\n",
+        status: 1,
+    },
+    Case {
+        name: "another_programme",
+        words: &["rdsrt", "decode", "--pi", "F000"],
+        input: b"F000 2140 4849 0D20\nC201 2150 594F 0D20\n",
+        output: b"0 text \"HI\"\n",
+        status: 0,
+    },
+    Case {
+        name: "fault_of_another_programme",
+        words: &["rdsrt", "decode", "--pi", "0000"],
+        input: b"0000 2140 4849 0D20\nx\n",
+        output: b"0 text \"HI\"\nfault line 2\n",
+        status: 1,
+    },
+    Case {
+        name: "digits_of_either_case",
+        words: &["rdsrt", "decode", "--pi", "c201"],
+        input: b"C201 2140 4849 0D20\n",
+        output: b"0 text \"HI\"\n",
+        status: 0,
+    },
+];
+
 fn ran(alloc: Global, words: &[&str], input: &[u8]) -> Result<(u8, Vec<u8>), Fail> {
     let mut output = Vec::new(alloc);
     let status = run(alloc, words, Told::new(input), &mut Told::new(&mut output));
     Ok((status, output))
 }
 
-/// Each input of the table has its output, and status 0.
-fn all_decode(rt: &impl Abort, alloc: Global, rows: &[(&[u8], &[u8])]) -> Result<(), Fail> {
-    for (input, wanted) in rows {
-        let (status, output) = ran(alloc, &DECODE, input)?;
-        assert_eq!(rt; output.as_slice(), *wanted);
-        assert_eq!(rt; status, 0);
+#[test]
+fn cases(rt: HostRuntime) -> Result<(), Fail> {
+    for case in &CASES {
+        let (status, output) = ran(rt.alloc(), case.words, case.input)?;
+        assert_eq!(rt; output.as_slice(), case.output, "in {}", case.name);
+        assert_eq!(rt; status, case.status, "in {}", case.name);
     }
     Ok(())
-}
-
-#[test]
-fn first_text(rt: HostRuntime) -> Result<(), Fail> {
-    all_decode(
-        &rt,
-        rt.alloc(),
-        &[(b"C201 2140 4849 0D20\n", b"0 text \"HI\"\n")],
-    )
-}
-
-#[test]
-fn empty_text(rt: HostRuntime) -> Result<(), Fail> {
-    all_decode(
-        &rt,
-        rt.alloc(),
-        &[(b"C201 2140 0D20 2020\n", b"0 text \"\"\n")],
-    )
-}
-
-#[test]
-fn two_segments(rt: HostRuntime) -> Result<(), Fail> {
-    all_decode(
-        &rt,
-        rt.alloc(),
-        &[(
-            b"C201 2140 4142 4241\nC201 2141 0D20 2020\n",
-            b"1 text \"ABBA\"\n",
-        )],
-    )
-}
-
-#[test]
-fn second_segment_alone(rt: HostRuntime) -> Result<(), Fail> {
-    all_decode(&rt, rt.alloc(), &[(b"C201 2141 0D20 2020\n", b"")])
-}
-
-/// A segment with the other flag begins a new run, and nothing is shown until that is whole.
-#[test]
-fn other_flag(rt: HostRuntime) -> Result<(), Fail> {
-    all_decode(
-        &rt,
-        rt.alloc(),
-        &[(
-            b"C201 2140 4849 0D20\nC201 2151 0D20 2020\nC201 2150 4142 4241\n",
-            b"0 text \"HI\"\n1 text none\n2 text \"ABBA\"\n",
-        )],
-    )
 }
 
 /// A text is shown while the last segment of its run came less than 128 slots before.
@@ -95,137 +121,12 @@ fn shown_for_the_dwell(rt: HostRuntime) -> Result<(), Fail> {
     for _ in 0..130 {
         input.extend_from_slice(b"---- ---- ---- ----\n")?;
     }
-    all_decode(
-        &rt,
-        rt.alloc(),
-        &[(input.as_slice(), b"0 text \"HI\"\n128 text none\n")],
-    )
-}
-
-/// Both segments of a name are wanted.
-#[test]
-fn jazz_name(rt: HostRuntime) -> Result<(), Fail> {
-    all_decode(
-        &rt,
-        rt.alloc(),
-        &[
-            (
-                b"C201 A140 4A41 5A5A\nC201 A141 2046 4D20\n",
-                b"1 name \"JAZZ FM \"\n",
-            ),
-            (b"C201 A140 4A41 5A5A\n", b""),
-            (b"C201 A141 2046 4D20\n", b""),
-        ],
-    )
-}
-
-/// Tags need RadioText Plus to be known, and a contrary announcement takes them away.
-#[test]
-fn contrary_announcement(rt: HostRuntime) -> Result<(), Fail> {
-    all_decode(
-        &rt,
-        rt.alloc(),
-        &[(
-            b"C201 3156 0000 4BD7\nC201 2140 4849 0D20\nC201 B148 2002 0000\nC201 3156 0000 CD46\n",
-            b"1 text \"HI\"\n2 item 0 1\n2 tag1 ITEM.TITLE \"HI\"\n3 item none\n3 tag1 none\n",
-        )],
-    )
-}
-
-/// A class from 12 on has no name, and is printed as its number.
-#[test]
-fn class_by_number(rt: HostRuntime) -> Result<(), Fail> {
-    all_decode(
-        &rt,
-        rt.alloc(),
-        &[(
-            b"C201 3156 0000 4BD7\nC201 2140 4849 0D20\nC201 B149 8002 0000\n",
-            b"1 text \"HI\"\n2 item 0 1\n2 tag1 12 \"HI\"\n",
-        )],
-    )
-}
-
-/// The artist and the title of a text.
-#[test]
-fn waterloo_tags(rt: HostRuntime) -> Result<(), Fail> {
-    all_decode(
-        &rt,
-        rt.alloc(),
-        &[(
-            b"C201 3156 0000 4BD7
-C201 2140 4142 4241
-C201 2141 202D 2057
-C201 2142 4154 4552
-C201 2143 4C4F 4F0D
-C201 B158 8006 08E7
-",
-            b"4 text \"ABBA - WATERLOO\"
-5 item 1 1
-5 tag1 ITEM.ARTIST \"ABBA\"
-5 tag2 ITEM.TITLE \"WATERLOO\"
-",
-        )],
-    )
-}
-
-#[test]
-fn escaped_bytes(rt: HostRuntime) -> Result<(), Fail> {
-    all_decode(
-        &rt,
-        rt.alloc(),
-        &[(b"C201 2140 225C 240D\n", b"0 text \"\\x22\\x5C\\x24\"\n")],
-    )
-}
-
-#[test]
-fn accents_and_euro(rt: HostRuntime) -> Result<(), Fail> {
-    all_decode(
-        &rt,
-        rt.alloc(),
-        &[(
-            b"C201 2140 4361 6682\nC201 2141 20A9 0D20\n",
-            "1 text \"Café €\"\n".as_bytes(),
-        )],
-    )
-}
-
-#[test]
-fn end_of_input(rt: HostRuntime) -> Result<(), Fail> {
-    all_decode(
-        &rt,
-        rt.alloc(),
-        &[
-            (b"C201 2140 4849 0D20", b"0 text \"HI\"\n"),
-            (b"C201 2140 4849 0D20\r", b"0 text \"HI\"\n"),
-            (b"", b""),
-        ],
-    )?;
-    let (status, output) = ran(rt.alloc(), &DECODE, b"C201 2140 4849 0D2")?;
-    assert_eq!(rt; output.as_slice(), b"fault line 1\n".as_slice());
-    assert_eq!(rt; status, 1);
-    Ok(())
-}
-
-#[test]
-fn mixed_log(rt: HostRuntime) -> Result<(), Fail> {
-    let (status, output) = ran(rt.alloc(), &DECODE, MIXED_LOG)?;
+    let (status, output) = ran(rt.alloc(), &DECODE, input.as_slice())?;
     assert_eq!(rt;
         output.as_slice(),
-        b"2 text \"HI\"\nfault line 10\n".as_slice()
+        b"0 text \"HI\"\n128 text none\n".as_slice()
     );
-    assert_eq!(rt; status, 1);
-    Ok(())
-}
-
-/// Bytes of any value and lines of any length are a bad line or a skipped one, and nothing else.
-#[test]
-fn binary_garbage(rt: HostRuntime) -> Result<(), Fail> {
-    let long = [b'#'; 20_000];
-    let (status, output) = ran(rt.alloc(), &DECODE, &long)?;
-    assert_eq!(rt; (status, output.as_slice()), (0, b"".as_slice()));
-    let (status, output) = ran(rt.alloc(), &DECODE, b"\x00\xFF\x0D\x0A\x80")?;
-    assert_eq!(rt; output.as_slice(), b"fault line 1\n".as_slice());
-    assert_eq!(rt; status, 1);
+    assert_eq!(rt; status, 0);
     Ok(())
 }
 
@@ -237,9 +138,6 @@ fn refused_words(rt: HostRuntime) -> Result<(), Fail> {
         assert_eq!(rt; output.as_slice(), b"fault pi\n".as_slice(), "at {given}");
         assert_eq!(rt; status, 2);
     }
-    let (status, output) = ran(rt.alloc(), &["rdsrt", "decode", "--pi", "c201"], input)?;
-    assert_eq!(rt; output.as_slice(), b"0 text \"HI\"\n".as_slice());
-    assert_eq!(rt; status, 0);
     let refused: [&[&str]; 6] = [
         &[],
         &["rdsrt"],
@@ -404,29 +302,4 @@ fn writer_fails(rt: HostRuntime) -> Result<(), Fail> {
         }
     }
     Ok(())
-}
-
-/// A writer that takes a line whole is asked once for each line.
-#[test]
-fn one_write_a_line(rt: HostRuntime) -> Result<(), Fail> {
-    let writes = Cell::new(0);
-    let mut output = Vec::new(rt.alloc());
-    {
-        let mut writer = Told::new(Stubborn {
-            taken: &mut output,
-            most: 1000,
-            fails_at: 0,
-            with_error: true,
-            writes: &writes,
-        });
-        run(rt.alloc(), &DECODE, Told::new(MIXED_LOG), &mut writer);
-    }
-    assert_eq!(rt; writes.get(), 2);
-    Ok(())
-}
-
-/// The law has no body; it is called as any other public function is.
-#[test]
-fn one_output() {
-    crate::laws::bytes_write_one_output();
 }

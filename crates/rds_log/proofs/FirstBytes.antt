@@ -1,0 +1,118 @@
+-- The first 21 bytes of a line say what the line says.
+use Rattle.std.proofs.Common.{◌≡◌, ◌⊎◌, ◌+◌, ◌-◌, ◌<◌, ◌≤◌, ℕ, Bool, true, false, cond, Option, Some, None, take, length, get_or, sym, ◌∙◌, subst, arith, inl, inr}
+use Rattle.std.specs.Prelude.{IfNone, IfSome}
+use Rattle.std.proofs.lemmas.List.{take_all, length-take, get_or-take}
+use Rattle.rds_block.specs.declared.group.Group.{Group}
+use Rattle.rds_log.specs.Digits.{HasWord}
+use Rattle.rds_log.specs.LogLines.{Line, content_length, ends_with_return}
+use Rattle.rds_log.specs.LineSays.{HasDashes, IsBad, IsBlock, IsLaidOut, LineSays, SaysSlot}
+use Rattle.rds_log.specs.declared.log_line.Block.{Block}
+use Rattle.rds_log.specs.declared.log_line.Block.TheVariants.{Word, Missing}
+use Rattle.rds_log.specs.declared.log_line.LogLine.{LogLine}
+use Rattle.rds_log.specs.declared.log_line.LogLine.TheVariants.{Skip, Slot}
+
+-- both lines go on after the blocks, and their first bytes are the same
+record SameStart (p q : Line) : Type 0 where
+  pub from : 20 ≤ content_length p
+  pub to : 20 ≤ content_length q
+  pub bytes : (i : ℕ) → i < 20 → get_or p i 0 ≡ get_or q i 0
+
+same_word : (p q : Line) (at w : ℕ) → SameStart p q → at + 4 ≤ 20 → HasWord p at w → HasWord q at w
+same_word p q at w s h word =
+    let a = sym (s.bytes at (omega arith)) in
+    let b = sym (s.bytes (at + 1) (omega arith)) in
+    let c = sym (s.bytes (at + 2) (omega arith)) in
+    let d = sym (s.bytes (at + 3) (omega arith)) in
+    record {
+      first = rw a word.first;
+      second = rw b word.second;
+      third = rw c word.third;
+      fourth = rw d word.fourth;
+      word = rw (a, b, c, d) word.word;
+    }
+
+same_dashes : (p q : Line) (at : ℕ) → SameStart p q → at + 4 ≤ 20 → HasDashes p at → HasDashes q at
+same_dashes p q at s h dashes = record {
+  first = sym (s.bytes at (omega arith)) ∙ dashes.first;
+  second = sym (s.bytes (at + 1) (omega arith)) ∙ dashes.second;
+  third = sym (s.bytes (at + 2) (omega arith)) ∙ dashes.third;
+  fourth = sym (s.bytes (at + 3) (omega arith)) ∙ dashes.fourth;
+}
+
+same_block : (p q : Line) (at : ℕ) (block : Block) → SameStart p q → at + 4 ≤ 20 → IsBlock p at block → IsBlock q at block
+same_block p q at (Word w) s h block = same_word p q at w s h block
+same_block p q at Missing s h block = same_dashes p q at s h block
+
+same_slot : (p q : Line) (slot : Option Group) → SameStart p q → SaysSlot p slot → SaysSlot q slot
+same_slot p q slot s says = record {
+  a = says.a;
+  b = says.b;
+  c = says.c;
+  d = says.d;
+  first = same_block p q 0 says.a s (omega arith) says.first;
+  second = same_block p q 5 says.b s (omega arith) says.second;
+  third = same_block p q 10 says.c s (omega arith) says.third;
+  fourth = same_block p q 15 says.d s (omega arith) says.fourth;
+  carried = says.carried;
+}
+
+same_layout : (p q : Line) → SameStart p q → IsLaidOut p → IsLaidOut q
+same_layout p q s laid = record {
+  long = omega (arith, s.to);
+  first_space = sym (s.bytes 4 (omega arith)) ∙ laid.first_space;
+  second_space = sym (s.bytes 9 (omega arith)) ∙ laid.second_space;
+  third_space = sym (s.bytes 14 (omega arith)) ∙ laid.third_space;
+  ends = elim laid.ends [
+    | inl e ↦ absurd (omega (arith, e, s.from))
+    | inr space ↦ inr (sym (s.bytes 19 (omega arith)) ∙ space)
+  ];
+}
+
+same_said : (p q : Line) (said : LogLine) → SameStart p q → LineSays p said → LineSays q said
+same_said p q Skip s (inl empty) = absurd (omega (arith, empty, s.from))
+same_said p q Skip s (inr mark) = rw (sym (s.bytes 0 (omega arith))) (inr mark)
+same_said p q (Slot slot) s says = (same_layout p q s says.0, same_slot p q slot s says.1)
+
+-- a line has at most one byte more than its content
+content_near : (line : Line) → length line ≤ content_length line + 1
+content_near line = by_end (ends_with_return line)
+  where
+    by_end : (b : Bool) → length line ≤ cond b (length line - 1) (length line) + 1
+    by_end true = omega arith
+    by_end false = omega arith
+
+either : (n : ℕ) → (n ≤ 21) ⊎ (21 < n)
+either n = grind arith
+
+start_of : (line : Line) → 21 < length line → SameStart line (take 21 line)
+start_of line long = record {
+  from = omega (arith, long, content_near line);
+  to = omega (arith, long, content_near (take 21 line), length-take 21 line);
+  bytes = λ i h. sym (get_or-take 21 line i 0 (omega arith));
+}
+
+back : (p q : Line) → SameStart p q → SameStart q p
+back p q s = record { from = s.to; to = s.from; bytes = λ i h. sym (s.bytes i h) }
+
+pub said_of_first : (line : Line) (said : LogLine) → LineSays (take 21 line) said → LineSays line said
+said_of_first line said says = elim (either (length line)) [
+  | inl short ↦ subst (λ (l : Line). LineSays l said) (take_all 21 line short) says
+  | inr long ↦ same_said (take 21 line) line said (back line (take 21 line) (start_of line long)) says
+]
+
+first_of_said : (line : Line) (said : LogLine) → LineSays line said → LineSays (take 21 line) said
+first_of_said line said says = elim (either (length line)) [
+  | inl short ↦ subst (λ (l : Line). LineSays l said) (sym (take_all 21 line short)) says
+  | inr long ↦ same_said line (take 21 line) said (start_of line long) says
+]
+
+pub bad_by_first : (line : Line) → IsBad (take 21 line) → IsBad line
+bad_by_first line bad said says = bad said (first_of_said line said says)
+
+pub some_by_first : (line : Line) (said : Option LogLine) → IfSome said (LineSays (take 21 line)) → IfSome said (LineSays line)
+some_by_first line None says = tt
+some_by_first line (Some said) says = said_of_first line said says
+
+pub none_by_first : (line : Line) (said : Option LogLine) → IfNone said (IsBad (take 21 line)) → IfNone said (IsBad line)
+none_by_first line None bad = bad_by_first line bad
+none_by_first line (Some said) bad = tt

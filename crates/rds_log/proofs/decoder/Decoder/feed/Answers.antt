@@ -1,0 +1,48 @@
+use Rattle.std.proofs.Common.{◌≡◌, ◌∙◌, ◌+◌, ◌-◌, ◌++◌, ℕ, List, length-drop, take, drop, length, ap, refl, subst, arith}
+use Rattle.std.proofs.lemmas.List.{take_all}
+use Rattle.std.proofs.lemmas.Result.{err_from_is_err_and}
+use Rattle.rds_log.specs.LogLines.{EndsAt, IsLine}
+use Rattle.rds_log.proofs.Going.{fails_line, goes_line, goes_none, goes_rest, rest_of}
+use Rattle.rds_log.proofs.decoder.Decoder.feed.Goals as goal
+
+pub loop-count-init : goal.loop-count-init
+loop-count-init c = record {
+  within = omega arith;
+  lines = omega arith;
+  slots = omega arith;
+  first = λ e. refl;
+  goes = λ t closed begun written s. goes_none t c.args.self.now closed begun written c.args.output.now s;
+}
+
+pub loop-count-preserved : goal.loop-count-preserved
+loop-count-preserved c =
+    let run : c.loop-count.at + c.in-Some.count - c.loop-count.at ≡ c.in-Some.count = omega arith in
+    let sum : c.loop-count.at + c.in-Some.count + 1 ≡ c.loop-count.at + (c.in-Some.count + 1) = omega arith in
+    let ends : EndsAt (drop c.loop-count.at c.args.piece.now) c.in-Some.count =
+    subst (λ (l : List ℕ). EndsAt l c.in-Some.count) (rest_of c.args.piece.now c.loop-count.at) c.in-Some.ensures.some in
+    let within = ends.within in
+    record {
+      within = omega (arith, within, length-drop c.loop-count.at c.args.piece.now);
+      lines = omega (arith, c.in_ok-close.ensures.lines, c.loop-count.invariant.lines);
+      slots = omega (arith, c.in_ok-close.ensures.slots, c.loop-count.invariant.slots);
+      first = λ e. absurd (omega (arith, e));
+      goes = λ t closed begun written s. rw sum (goes_line t c.loop-count.self c.close.new.self closed begun c.args.piece.now written c.args.output.now c.loop-count.output c.close.new.output c.loop-count.at c.in-Some.count ends
+          (c.loop-count.invariant.goes t closed begun written s) (λ lines line given st. rw run at (c.in_ok-close.ensures.step t lines line given st)));
+    }
+
+pub returns-in_err-close-clause-step : goal.returns-in_err-close-clause-step
+returns-in_err-close-clause-step c t closed begun written s =
+    let run : c.loop-count.at + c.in-Some.count - c.loop-count.at ≡ c.in-Some.count = omega arith in
+    let ends : EndsAt (drop c.loop-count.at c.args.piece.now) c.in-Some.count =
+    subst (λ (l : List ℕ). EndsAt l c.in-Some.count) (rest_of c.args.piece.now c.loop-count.at) c.in-Some.ensures.some in
+    let p = err_from_is_err_and c.from_residual.result c.from_residual.ensures.1 in
+    rw (p.1, p.2) (fails_line t c.loop-count.self c.in_err-close.field-0.0.number closed begun c.args.piece.now written c.args.output.now c.loop-count.output c.close.new.output c.loop-count.at c.in-Some.count ends
+    (c.loop-count.invariant.goes t closed begun written s) (λ lines line given st. rw run at (c.in_err-close.ensures.step t lines line given st)))
+
+pub returns-clause-step : goal.returns-clause-step
+returns-clause-step c t closed begun written s =
+    let rest = rest_of c.args.piece.now c.loop-count.at in
+    let all : take (length c.args.piece.now) c.args.piece.now ≡ c.args.piece.now = take_all _ _ (omega arith) in
+    rw all (goes_rest t c.loop-count.self c.keep.new.self closed begun c.args.piece.now written c.args.output.now c.loop-count.output c.loop-count.at
+    (subst (λ (l : List ℕ). IsLine l) rest c.in_default.ensures.none) (c.keep.ensures.kept ∙ ap (λ (l : List ℕ). take 21 (c.loop-count.self.kept.items ++ l)) rest) c.keep.ensures.lines c.keep.ensures.views
+    (c.loop-count.invariant.goes t closed begun written s))

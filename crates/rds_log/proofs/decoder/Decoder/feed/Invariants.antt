@@ -1,0 +1,15 @@
+use Rattle.std.proofs.Common.{◌≡◌, ◌≤◌, ◌+◌, ◌-◌, [], take, length}
+use Rattle.rds_log.specs.Standing.{GoesOn, WhereItStands}
+use Rattle.rds_log.proofs.decoder.Decoder.feed.Given as goal
+
+abbrev pub invariant-loop-count : goal.invariant-loop-count
+invariant-loop-count l = record {
+  within : l.at ≤ length l.piece;
+  lines : l.self.lines ≤ l.initial.self.lines + l.at;
+  slots : l.self.views.slot ≤ l.initial.self.views.slot + l.at;
+  first : l.at ≡ 0 → l.output ≡ l.initial.output;
+  goes : WhereItStands l.initial.self (λ t closed begun written. GoesOn t l.self closed begun (take l.at l.piece) written l.initial.output l.output);
+}
+
+abbrev pub decreases-loop-count : goal.decreases-loop-count
+decreases-loop-count l = length l.piece - l.at

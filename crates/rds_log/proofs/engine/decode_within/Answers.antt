@@ -1,0 +1,43 @@
+use Rattle.std.proofs.Common.{◌≡◌, ◌∙◌, length, take, arith}
+use Rattle.std.proofs.lemmas.List.{length-take}
+use Rattle.std.proofs.lemmas.Result.{err_from_is_err_and}
+use Rattle.rds_log.specs.Decoding.{tuned}
+use Rattle.rds_log.proofs.Ending.{ends_log, reads_piece, stops_in_piece}
+use Rattle.rds_log.proofs.engine.decode_within.Goals as goal
+
+pub returns-in-Some-eq0 : goal.returns-in-Some-eq0
+returns-in-Some-eq0 g c =
+    let s = c.loop-turn.invariant.stands in
+    let (room, calm, within, gave, end) = c.in-Some-eq0.ensures in
+    ends_log (tuned c.args.pi c.args.dwell) c.args.reads (g.R.Read.remaining c.args.reader.now) (g.R.Read.remaining c.loop-turn.reader) (g.R.Read.remaining c.read_one.new.self) (g.W.Write.contents c.args.writer.now) (g.W.Write.contents c.loop-turn.writer) (g.W.Write.contents c.finish.new.writer)
+    (g.R.TellingRead.failures c.args.reader.now) (g.R.TellingRead.failures c.read_one.new.self) (g.W.TellingWrite.failures c.args.writer.now) (g.W.TellingWrite.failures c.loop-turn.writer) (g.W.TellingWrite.failures c.finish.new.writer)
+    c.loop-turn.decoder c.finish.result c.loop-turn._turn s (rw c.in-Some-eq0.field-0-test at gave) (end c.in-Some-eq0.field-0-test (omega (arith, c.read_one.auto.buf)))
+    (calm ∙ c.loop-turn.invariant.read_calm) c.loop-turn.invariant.write_calm (c.finish.ensures (tuned c.args.pi c.args.dwell) s.closed s.begun s.written s.stands)
+
+pub returns-in_err-feed-in-Some : goal.returns-in_err-feed-in-Some
+returns-in_err-feed-in-Some g c =
+    let s = c.loop-turn.invariant.stands in
+    let (room, calm, within, gave, end) = c.in-Some.ensures in
+    let p = err_from_is_err_and c.from_residual.result c.from_residual.ensures.1 in
+    rw (p.1, p.2) (stops_in_piece (tuned c.args.pi c.args.dwell) c.args.reads (g.R.Read.remaining c.args.reader.now) (g.R.Read.remaining c.loop-turn.reader) (g.R.Read.remaining c.read_one.new.self) (g.W.Write.contents c.args.writer.now) (g.W.Write.contents c.loop-turn.writer) (g.W.Write.contents c.feed.new.writer)
+    (g.R.TellingRead.failures c.args.reader.now) (g.R.TellingRead.failures c.read_one.new.self) (g.W.TellingWrite.failures c.args.writer.now) (g.W.TellingWrite.failures c.loop-turn.writer) (g.W.TellingWrite.failures c.feed.new.writer)
+    c.loop-turn.decoder c.feed.new.decoder c.in_err-feed-in-Some.field-0.0 c.loop-turn._turn _ s gave
+    (calm ∙ c.loop-turn.invariant.read_calm) c.loop-turn.invariant.write_calm (c.in_err-feed-in-Some.ensures.step (tuned c.args.pi c.args.dwell) s.closed s.begun s.written s.stands))
+
+pub loop-turn-preserved : goal.loop-turn-preserved
+loop-turn-preserved g c =
+    let s = c.loop-turn.invariant.stands in
+    let (room, calm, within, gave, end) = c.in-Some.ensures in
+    let size : length (take c.in-Some.count c.read_one.new.buf) ≡ c.in-Some.count = omega (arith, within, length-take c.in-Some.count c.read_one.new.buf) in
+    let some = c.in-Some.count-test.1 in
+    let fed = c.in_ok-feed-in-Some.ensures in
+    let gone = fed.step (tuned c.args.pi c.args.dwell) s.closed s.begun s.written s.stands in
+    record {
+      lines = omega (arith, fed.lines, c.loop-turn.invariant.lines, size, within, c.read_one.auto.buf);
+      slots = omega (arith, fed.slots, c.loop-turn.invariant.slots, size, within, c.read_one.auto.buf);
+      empty = fed.empty;
+      read_calm = calm ∙ c.loop-turn.invariant.read_calm;
+      write_calm = gone.calm ∙ c.loop-turn.invariant.write_calm;
+      stands = reads_piece (tuned c.args.pi c.args.dwell) (g.R.Read.remaining c.args.reader.now) (g.R.Read.remaining c.loop-turn.reader) (g.R.Read.remaining c.read_one.new.self) (g.W.Write.contents c.args.writer.now) (g.W.Write.contents c.loop-turn.writer) (g.W.Write.contents c.feed.new.writer)
+          _ _ c.loop-turn.decoder c.feed.new.decoder c.loop-turn._turn _ s gave (omega (arith, size, some)) gone;
+    }

@@ -1,0 +1,24 @@
+-- Hexadecimal digits of either case, and the word that four of them spell.
+use Rattle.std.specs.Prelude.{◌≡◌, ◌<◌, ◌+◌, ◌*◌, ℕ, List, map, slice_index}
+use Rattle.std.specs.Char.{digit_value}
+use Rattle.std.specs.List.{range_with_len}
+
+-- the values of all bytes as digits
+abbrev pub digit_values : List ℕ
+digit_values = map digit_value (range_with_len 0 256)
+
+-- four values are those of hexadecimal digits
+pub record AreDigits (a b c d : ℕ) : Type 0 where
+  pub first : a < 16
+  pub second : b < 16
+  pub third : c < 16
+  pub fourth : d < 16
+
+-- four hexadecimal digits stand from the place on, and spell the word
+pub record HasWord (text : List ℕ) (at w : ℕ) : Type 0 where
+  pub first : digit_value (slice_index text at) < 16
+  pub second : digit_value (slice_index text (at + 1)) < 16
+  pub third : digit_value (slice_index text (at + 2)) < 16
+  pub fourth : digit_value (slice_index text (at + 3)) < 16
+  pub word : w ≡ 4096 * digit_value (slice_index text at) + 256 * digit_value (slice_index text (at + 1))
+      + 16 * digit_value (slice_index text (at + 2)) + digit_value (slice_index text (at + 3))

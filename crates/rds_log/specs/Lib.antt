@@ -1,0 +1,10 @@
+pub mod Digits
+pub mod LogLines
+pub mod LineSays
+pub mod Output
+pub mod Parts
+pub mod Decoding
+pub mod Kept
+pub mod Viewing
+pub mod Standing
+pub mod Engine

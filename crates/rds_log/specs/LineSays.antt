@@ -1,0 +1,69 @@
+-- What a line of a log says: that it is to be skipped, or which group a slot has. It is told by places and
+-- lengths, byte i of the line at place i. This is the project's own format.
+use Rattle.std.specs.Prelude.{◌≡◌, ◌⊎◌, ◌<◌, ◌≤◌, ◌+◌, ℕ, [], ◌∷◌, Option, Some, None, slice_index}
+use Rattle.rds_block.specs.declared.group.Group.{Group}
+use Rattle.rds_block.specs.Words.{AreWordsOf}
+use Rattle.rds_log.specs.Digits.{HasWord}
+use Rattle.rds_log.specs.LogLines.{Line, content_length}
+use Rattle.rds_log.specs.declared.log_line.Block.{Block}
+use Rattle.rds_log.specs.declared.log_line.Block.TheVariants.{Word, Missing}
+use Rattle.rds_log.specs.declared.log_line.LogLine.{LogLine}
+use Rattle.rds_log.specs.declared.log_line.LogLine.TheVariants.{Skip, Slot}
+
+-- `<`, `#` or `%`: the first byte of a line that is no slot
+abbrev pub IsMark : ℕ → Type 0
+IsMark b = (b ≡ 60) ⊎ (b ≡ 35) ⊎ (b ≡ 37)
+
+-- an empty line, or one that a mark begins
+abbrev pub IsSkipped : Line → Type 0
+IsSkipped line = (content_length line ≡ 0) ⊎ IsMark (slice_index line 0)
+
+-- four dashes stand from the place on
+pub record HasDashes (line : Line) (at : ℕ) : Type 0 where
+  pub first : slice_index line at ≡ 45
+  pub second : slice_index line (at + 1) ≡ 45
+  pub third : slice_index line (at + 2) ≡ 45
+  pub fourth : slice_index line (at + 3) ≡ 45
+
+-- the block stands from the place on
+abbrev pub IsBlock : Line → ℕ → Block → Type 0
+IsBlock line at (Word w) = HasWord line at w
+IsBlock line at Missing = HasDashes line at
+
+-- the word of a block, where it has one
+abbrev pub word_of : Block → Option ℕ
+word_of (Word w) = Some w
+word_of Missing = None
+
+-- one space between the blocks, and after them the end or one more space
+pub record IsLaidOut (line : Line) : Type 0 where
+  pub long : 19 ≤ content_length line
+  pub first_space : slice_index line 4 ≡ 32
+  pub second_space : slice_index line 9 ≡ 32
+  pub third_space : slice_index line 14 ≡ 32
+  pub ends : (content_length line ≡ 19) ⊎ (slice_index line 19 ≡ 32)
+
+-- the group that four blocks carry: none where one of them is missing
+abbrev pub Carry : Block → Block → Block → Block → Option Group → Type 0
+Carry (Word a) (Word b) (Word c) (Word d) slot = (g : Group) × AreWordsOf (a ∷ b ∷ c ∷ d ∷ []) g × (slot ≡ Some g)
+Carry a b c d slot = slot ≡ None
+
+-- four blocks stand at their places, and carry what the slot has
+pub record SaysSlot (line : Line) (slot : Option Group) : Type 0 where
+  pub a : Block
+  pub b : Block
+  pub c : Block
+  pub d : Block
+  pub first : IsBlock line 0 a
+  pub second : IsBlock line 5 b
+  pub third : IsBlock line 10 c
+  pub fourth : IsBlock line 15 d
+  pub carried : Carry a b c d slot
+
+-- the line says this; a line of which nothing is said is bad
+abbrev pub LineSays : Line → LogLine → Type 0
+LineSays line Skip = IsSkipped line
+LineSays line (Slot slot) = IsLaidOut line × SaysSlot line slot
+
+abbrev pub IsBad : Line → Type 0
+IsBad line = (said : LogLine) → LineSays line said → ⊥

@@ -1,0 +1,110 @@
+//! The decoder over a reader and a writer.
+ghost use Rattle.std.specs.Prelude.{◌≡◌, ◌≤◌, ◌<◌, ◌+◌, ◌-◌, ◌^◌, ◌++◌, [], OnOk, length};
+ghost use Rattle.rds_charset.specs.Told.{traffic};
+ghost use Rattle.rds_log.specs.Decoding.{tuned};
+ghost use Rattle.rds_log.specs.Engine.{Decodes, EndsWith, Feeds};
+ghost use Rattle.rds_log.specs.LogLines.{text_of};
+ghost use Rattle.rds_log.specs.Standing.{WhereItStands};
+
+use crate::LogFault;
+use crate::decoder::{Decoder, Output};
+use rds_charset::{TellingRead, TellingWrite, put};
+use rds_fields::Dwell;
+
+/// How many bytes one read asks for.
+const PIECE: usize = 65536;
+
+/// How many reads are made before a log is too long.
+const MOST_READS: u64 = 1 << 32;
+
+/// Writes what a receiver of this programme and this dwell shows while it hears the log.
+///
+/// The output of the lines that one read brought goes out before the next read, in one write where the
+/// writer takes it whole.
+///
+/// # Errors
+///
+/// The first fault: a bad line, a read or a write that failed, or 2^32 reads without an end.
+pub fn decode<R: TellingRead, W: TellingWrite>(
+    reader: &mut R,
+    writer: &mut W,
+    pi: u16,
+    dwell: Dwell,
+) -> Result<(), LogFault>
+    ensures { Decodes (tuned pi dwell) (2 ^ 32)
+        (traffic R.remaining R.failures reader.old reader.new)
+        (traffic W.contents W.failures writer.old writer.new) result }
+{
+    decode_within(reader, writer, pi, dwell, MOST_READS)
+}
+
+/// `decode`, with the greatest number of reads.
+pub(crate) fn decode_within<R: TellingRead, W: TellingWrite>(
+    reader: &mut R,
+    writer: &mut W,
+    pi: u16,
+    dwell: Dwell,
+    reads: u64,
+) -> Result<(), LogFault>
+    requires { reads ≤ 2 ^ 32 }
+    ensures { Decodes (tuned pi dwell) reads
+        (traffic R.remaining R.failures reader.old reader.new)
+        (traffic W.contents W.failures writer.old writer.new) result }
+{
+    let mut decoder = Decoder::new(pi, dwell);
+    let mut output = Output::new();
+    let mut piece = [0u8; PIECE];
+    for _turn in 0..reads {
+        match reader.read_one(&mut piece) {
+            None => return Err(LogFault::Read),
+            Some(0) => return finish(&mut decoder, &mut output, writer),
+            Some(count) => feed(&mut decoder, &piece[..count], &mut output, writer)?,
+        }
+    }
+    Err(LogFault::TooLong)
+}
+
+/// Decodes the bytes of one read, and writes their output.
+fn feed<W: TellingWrite>(
+    decoder: &mut Decoder,
+    piece: &[u8],
+    output: &mut Output,
+    writer: &mut W,
+) -> Result<(), LogFault>
+    requires lines { decoder.old.lines + length piece.now < 2 ^ 64 }
+    requires slots { decoder.old.views.slot + length piece.now < 2 ^ 64 }
+    requires empty { output.old ≡ [] }
+    ensures lines { OnOk result (decoder.new.lines ≤ decoder.old.lines + length piece.now) }
+    ensures slots { OnOk result (decoder.new.views.slot ≤ decoder.old.views.slot + length piece.now) }
+    ensures empty { OnOk result (output.new ≡ []) }
+    ensures step { WhereItStands decoder.old (λ t closed begun written. Feeds t decoder.new
+        (text_of closed begun ++ piece.now) (traffic W.contents W.failures writer.old writer.new)
+        written result) }
+{
+    let mut at = 0;
+    while at < piece.len() {
+        let fed = decoder.feed(&piece[at..], output);
+        put(output.bytes(), writer)?;
+        output.clear();
+        at += fed?;
+    }
+    Ok(())
+}
+
+/// Decodes the end of the bytes, and writes the output of the line that ends there.
+fn finish<W: TellingWrite>(
+    decoder: &mut Decoder,
+    output: &mut Output,
+    writer: &mut W,
+) -> Result<(), LogFault>
+    requires lines { decoder.old.lines < 2 ^ 64 - 1 }
+    requires slots { decoder.old.views.slot < 2 ^ 64 - 1 }
+    requires empty { output.old ≡ [] }
+    ensures { WhereItStands decoder.old (λ t closed begun written. EndsWith t
+        (text_of closed begun) (traffic W.contents W.failures writer.old writer.new) written result) }
+{
+    let finished = decoder.finish(output);
+    put(output.bytes(), writer)?;
+    finished?;
+    Ok(())
+}

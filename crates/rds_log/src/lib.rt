@@ -1,0 +1,32 @@
+//! Logs of received groups, and what a receiver of them shows: `decode` reads a log and writes one line for
+//! each part of the view that changed.
+//!
+//! The one model is the list of a log's lines, whatever the reads that they come in. A line says a slot, or that
+//! it is to be skipped (`LineSays`); the slots have views, and what is written is the changes of these views
+//! (`LogWrites`). Bytes become lines and lines become output with no reader and no writer at hand: `decode` alone
+//! reads and writes, one write for each read, and before the next. Nothing here takes memory.
+//!
+//! ```text
+//! decode(&mut Told::new(reader), &mut Told::new(writer), 0xC201, Dwell::new(128)?)
+//! ```
+#![tactic(auto)]
+
+mod change;
+mod decoder;
+mod engine;
+mod fault;
+mod hexadecimal;
+mod kept;
+mod laws;
+mod lines;
+mod log_line;
+mod view_lines;
+
+pub use engine::decode;
+pub use fault::LogFault;
+pub use hexadecimal::word_at;
+pub use laws::bytes_write_one_output;
+pub use lines::Lines;
+
+#[cfg(test)]
+mod tests;

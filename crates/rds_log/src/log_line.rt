@@ -1,0 +1,136 @@
+//! One line of a log, and what it says.
+ghost use Rattle.std.specs.Prelude.{◌≡◌, ◌<◌, ◌≤◌, ◌+◌, ◌↔◌, ℕ, Option, length, slice_index, IsTrue, IfSome, IfNone};
+ghost use Rattle.rds_block.specs.declared.group.Group.{Group};
+ghost use Rattle.rds_log.specs.declared.log_line.Block.{Block};
+ghost use Rattle.rds_log.specs.declared.log_line.LogLine.{LogLine};
+ghost use Rattle.rds_log.specs.LogLines.{content_length};
+ghost use Rattle.rds_log.specs.LineSays.{Carry, HasDashes, IsBad, IsBlock, IsLaidOut, IsSkipped, LineSays, SaysSlot, word_of};
+
+use crate::hexadecimal::word_at;
+use rds_block::Group;
+
+/// How many bytes the four blocks of a slot line and the spaces between them take.
+const BLOCKS: usize = 19;
+
+/// How many bytes decide what a line says: the blocks, the byte after them, and one more, since a
+/// carriage return is dropped only at the end of a line.
+pub const DECIDING: usize = 21;
+
+/// What a line says.
+#[derive(Clone, Copy, Debug, PartialEq, Eq)]
+pub enum LogLine {
+    /// The line is no slot.
+    Skip,
+    /// The line is a slot with this group, or with none received.
+    Slot(Option<Group>),
+}
+
+/// A block of a slot line.
+#[derive(Clone, Copy, Debug, PartialEq, Eq)]
+pub enum Block {
+    /// Four hexadecimal digits.
+    Word(u16),
+    /// Four dashes.
+    Missing,
+}
+
+impl Block {
+    fn word(self) -> Option<u16>
+        ensures { result ≡ word_of self }
+    {
+        match self {
+            Block::Word(word) => Some(word),
+            Block::Missing => None,
+        }
+    }
+}
+
+/// What the line says, from its first bytes; `None` for a bad line.
+pub fn said_by(line: &[u8]) -> Option<LogLine>
+    ensures some { IfSome result (LineSays line.now) }
+    ensures none { IfNone result (IsBad line.now) }
+{
+    if is_skipped(line) {
+        return Some(LogLine::Skip);
+    }
+    if !is_laid_out(line) {
+        return None;
+    }
+    let slot = slot_of(line)?;
+    Some(LogLine::Slot(slot))
+}
+
+/// How many bytes the line has without one carriage return at its end.
+fn content_length(line: &[u8]) -> usize
+    ensures value { result ≡ content_length line.now }
+    ensures within { result ≤ length line.now }
+{
+    if line.len() > 0 && line[line.len() - 1] == b'\r' {
+        line.len() - 1
+    } else {
+        line.len()
+    }
+}
+
+fn is_skipped(line: &[u8]) -> bool
+    ensures { IsTrue result ↔ IsSkipped line.now }
+{
+    content_length(line) == 0 || line[0] == b'<' || line[0] == b'#' || line[0] == b'%'
+}
+
+fn is_laid_out(line: &[u8]) -> bool
+    ensures { IsTrue result ↔ IsLaidOut line.now }
+{
+    let length = content_length(line);
+    length >= BLOCKS
+        && line[4] == b' '
+        && line[9] == b' '
+        && line[14] == b' '
+        && (length == BLOCKS || line[BLOCKS] == b' ')
+}
+
+/// What the four blocks of the line carry; `None` where one of them is no block.
+fn slot_of(line: &[u8]) -> Option<Option<Group>>
+    requires { 19 ≤ length line.now }
+    ensures some { IfSome result (SaysSlot line.now) }
+    ensures none { IfNone result ((slot : Option Group) → SaysSlot line.now slot → ⊥) }
+{
+    let first = block_at(line, 0)?;
+    let second = block_at(line, 5)?;
+    let third = block_at(line, 10)?;
+    let fourth = block_at(line, 15)?;
+    Some(carried(first, second, third, fourth))
+}
+
+/// The group that the blocks carry; `None` where one of them is missing.
+fn carried(first: Block, second: Block, third: Block, fourth: Block) -> Option<Group>
+    ensures { Carry first second third fourth result }
+{
+    let blocks = [first.word()?, second.word()?, third.word()?, fourth.word()?];
+    Some(Group::from_blocks(blocks))
+}
+
+/// The block from the place on; `None` where there is none.
+fn block_at(line: &[u8], place: usize) -> Option<Block>
+    requires { place + 4 ≤ length line.now }
+    ensures some { IfSome result (IsBlock line.now place) }
+    ensures none { IfNone result ((block : Block) → IsBlock line.now place block → ⊥) }
+{
+    if let Some(word) = word_at(line, place) {
+        return Some(Block::Word(word));
+    }
+    if is_missing(line, place) {
+        return Some(Block::Missing);
+    }
+    None
+}
+
+fn is_missing(line: &[u8], place: usize) -> bool
+    requires { place + 4 ≤ length line.now }
+    ensures { IsTrue result ↔ HasDashes line.now place }
+{
+    line[place] == b'-'
+        && line[place + 1] == b'-'
+        && line[place + 2] == b'-'
+        && line[place + 3] == b'-'
+}
