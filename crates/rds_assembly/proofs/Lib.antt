@@ -1,3 +1,4 @@
-pub mod CellsLemmas
 pub mod FilledLemmas
+pub mod HeldLemmas
+pub mod LanesLemmas
 pub mod TextLemmas

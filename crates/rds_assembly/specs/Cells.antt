@@ -1,8 +1,8 @@
 -- The cells: which segments are held, a finite map from an address to the four bytes that stand there.
 -- Place i of a value is byte i % 4 of the cell at address i / 4 (IEC 62106, RadioText).
-use Rattle.std.specs.Prelude.{◌≡◌, ℕ, ◌+◌, ◌<◌, ◌/◌, ◌%◌, List, [], ◌∷◌, Option, Some, None, length, slice_index}
+use Rattle.std.specs.Prelude.{◌≡◌, ℕ, ◌<◌, ◌/◌, ◌%◌, List, Some, length, slice_index}
 use Rattle.std.specs.Ordering.{nat_cmp}
-use Rattle.std.specs.FinMap.{FinMap, from_entries, get}
+use Rattle.std.specs.FinMap.{FinMap, get}
 
 abbrev pub Cells : Type 0
 Cells = FinMap nat_cmp (List ℕ)
@@ -16,17 +16,3 @@ pub record HasByte (cells : Cells) (i b : ℕ) : Type 0 where
 -- the bytes of x are held at the places from 0 on
 pub record IsSpelled (cells : Cells) (x : List ℕ) : Type 0 where
   pub bytes : (i : ℕ) → i < length x → HasByte cells i (slice_index x i)
-
--- each place below n is held
-abbrev pub IsThereBelow : Cells → ℕ → Type 0
-IsThereBelow cells n = (i : ℕ) → i < n → (b : ℕ) × HasByte cells i b
-
--- the entries of a list of optional cells, the first of which has address a
-abbrev pub entries_of : ℕ → List (Option (List ℕ)) → List (ℕ × List ℕ)
-entries_of a [] = []
-entries_of a (None ∷ cells) = entries_of (a + 1) cells
-entries_of a (Some bytes ∷ cells) = (a, bytes) ∷ entries_of (a + 1) cells
-
--- the cells that a list of optional cells holds, by their addresses
-unfoldable pub held_cells : List (Option (List ℕ)) → Cells
-held_cells cells = from_entries (entries_of 0 cells)

@@ -1,6 +1,8 @@
 pub mod Cells
 pub mod Whole
 pub mod Body
+pub mod Held
+pub mod Lanes
 pub mod Value
 pub mod Filled
 pub mod ServiceLaws

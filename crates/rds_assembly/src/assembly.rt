@@ -1,24 +1,25 @@
 //! The segments held, and the value that they make whole.
-ghost use Rattle.std.specs.Prelude.{◌≡◌, ℕ, ◌<◌, ◌≤◌, ◌↔◌, IsFalse, IsTrue, IfSome, IfNone, List, [], length};
+ghost use Rattle.std.specs.Prelude.{◌≡◌, ℕ, ◌<◌, ◌≤◌, ◌↔◌, IsFalse, IsTrue, IfSome, IfNone, List};
 ghost use Rattle.std.specs.Ordering.{nat_cmp};
 ghost use Rattle.std.specs.FinMap as map;
-ghost use Rattle.rds_assembly.specs.Cells.{held_cells, IsSpelled, IsThereBelow};
 
 use crate::Service;
-use arrayvec::ArrayVec;
 use std::marker::{Model, PhantomData};
 
 /// The segments of one service that are held, each at its address. Callers see the map of cells.
 #[derive(Drop)]
 pub struct Assembly<S: Service> {
-    cells: [Option<[u8; 4]>; 16],
-    spelled: ArrayVec<u8, 64>,
-    is_whole: bool,
+    /// Segment a stands at the places 4 * a to 4 * a + 3.
+    bytes: [u8; 64],
+    /// Bit a says that segment a is held.
+    mask: u16,
+    /// How many of the bytes are the whole value, where there is one.
+    whole: Option<usize>,
     service: PhantomData<S>,
 }
 
 impl<S: Service> Model for Assembly<S> {
-    ghost use Rattle.std.specs.Prelude.{◌≡◌, ℕ, List, length, MatchBool};
+    ghost use Rattle.std.specs.Prelude.{◌≡◌, ℕ, ◌≤◌, List, length, take, MatchOption};
     ghost use Rattle.std.specs.Ordering.{nat_cmp};
     ghost use Rattle.std.specs.FinMap as map;
     ghost use Rattle.std.specs.Coded.{coded_ℕ, coded_list};
@@ -27,12 +28,13 @@ impl<S: Service> Model for Assembly<S> {
 
     ghost coded = { map.code coded_ℕ (coded_list coded_ℕ) };
 
-    ghost use Rattle.rds_assembly.specs.Cells.{held_cells};
+    ghost use Rattle.rds_assembly.specs.Held.{held_cells};
 
-    ghost view = { λ a. held_cells a.cells };
+    ghost view = { λ a. held_cells a.mask a.bytes };
 
-    ghost invariant = { λ a. (length a.cells ≡ 16)
-        × MatchBool a.is_whole (S.is_whole (held_cells a.cells) a.spelled.items) ((x : List ℕ) → S.is_whole (held_cells a.cells) x → ⊥) };
+    ghost invariant = { λ a. (length a.bytes ≡ 64) × MatchOption a.whole
+        ((x : List ℕ) → S.is_whole (held_cells a.mask a.bytes) x → ⊥)
+        (λ n. (n ≤ 64) × S.is_whole (held_cells a.mask a.bytes) (take n a.bytes)) };
 }
 
 impl<S: Service> Assembly<S> {
@@ -41,9 +43,9 @@ impl<S: Service> Assembly<S> {
         ensures { result ≡ map.empty }
     {
         Assembly {
-            cells: [None; 16],
-            spelled: ArrayVec::new(),
-            is_whole: false,
+            bytes: [0; 64],
+            mask: 0,
+            whole: None,
             service: PhantomData,
         }
     }
@@ -52,8 +54,8 @@ impl<S: Service> Assembly<S> {
     pub fn clear(&mut self)
         ensures { self.new ≡ map.empty }
     {
-        self.cells = [None; 16];
-        self.is_whole = false;
+        self.mask = 0;
+        self.whole = None;
     }
 
     /// Holds the segment at its address, in place of one that was held there. False where that one
@@ -63,17 +65,15 @@ impl<S: Service> Assembly<S> {
         ensures put { self.new ≡ map.insert self.old address bytes }
         ensures same { IsFalse result → self.new ≡ self.old }
     {
-        if self.cells[address as usize] == Some(bytes) {
+        let is_held = self.has(address);
+        let first = 4 * address as usize;
+        let segment = &mut self.bytes[first..first + 4];
+        if is_held && &*segment == bytes.as_slice() {
             return false;
         }
-        self.cells[address as usize] = Some(bytes);
-        self.spelled.clear();
-        if let Some(length) = S::length(&self.cells) {
-            spell(&self.cells, length, &mut self.spelled);
-            self.is_whole = true;
-        } else {
-            self.is_whole = false;
-        }
+        segment.copy_from_slice(&bytes);
+        self.mask |= 1 << address;
+        self.whole = S::length(&self.bytes, self.mask);
         true
     }
 
@@ -82,19 +82,14 @@ impl<S: Service> Assembly<S> {
         requires { address < S.SEGMENTS }
         ensures { result ≡ map.contains_key self.now address }
     {
-        self.cells[address as usize].is_some()
+        self.mask >> address & 1 == 1
     }
 
     /// Whether no segment is held.
     pub fn is_empty(&self) -> bool
         ensures { IsTrue result ↔ (self.now ≡ map.empty) }
     {
-        for cell in &self.cells {
-            if cell.is_some() {
-                return false;
-            }
-        }
-        true
+        self.mask == 0
     }
 
     /// The value that the segments held make whole, lent; `None` where they make none whole.
@@ -103,25 +98,7 @@ impl<S: Service> Assembly<S> {
         ensures only { IfSome result (λ x. (y : List ℕ) → S.is_whole self.now y → y ≡ x.now) }
         ensures none { IfNone result ((x : List ℕ) → S.is_whole self.now x → ⊥) }
     {
-        if self.is_whole {
-            Some(self.spelled.as_slice())
-        } else {
-            None
-        }
-    }
-}
-
-/// Spells the first bytes of the cells, in order.
-fn spell(cells: &[Option<[u8; 4]>; 16], count: usize, spelled: &mut ArrayVec<u8, 64>)
-    requires within { count ≤ 64 }
-    requires held { IsThereBelow (held_cells cells.now) count }
-    requires empty { spelled.old.items ≡ [] }
-    ensures long { length spelled.new.items ≡ count }
-    ensures spelled { IsSpelled (held_cells cells.now) spelled.new.items }
-{
-    for place in 0..count {
-        if let Some(cell) = cells[place / 4] {
-            spelled.push(cell[place % 4]);
-        }
+        let count = self.whole?;
+        Some(&self.bytes[..count])
     }
 }

@@ -17,6 +17,7 @@
 #![tactic(auto)]
 
 mod assembly;
+mod lanes;
 mod name;
 mod radio_text;
 mod refused;

@@ -1,9 +1,11 @@
 //! RadioText: up to 64 bytes in sixteen segments, ended by a carriage return where it is shorter.
-ghost use Rattle.std.specs.Prelude.{◌≡◌, ℕ, ◌<◌, ◌≤◌, IfSome, IfNone, List, length};
+ghost use Rattle.std.specs.Prelude.{◌≡◌, ℕ, ◌≤◌, IfSome, IfNone, List, take};
 ghost use Rattle.std.specs.FinMap as map;
-ghost use Rattle.rds_assembly.specs.Cells.{Cells, held_cells, IsSpelled, IsThereBelow};
+ghost use Rattle.rds_assembly.specs.Cells.{Cells};
+ghost use Rattle.rds_assembly.specs.Held.{held_cells};
 
 use crate::Service;
+use crate::lanes::{returns_in, spread};
 
 /// The byte that ends a text of fewer than 64 bytes (IEC 62106, RadioText).
 pub(crate) const CARRIAGE_RETURN: u8 = 0x0D;
@@ -40,13 +42,13 @@ impl Service for RadioText {
     ghost all = { all_text };
 
     /// The bytes before the first carriage return, or all 64, as long as no segment is missing.
-    fn length(cells: &[Option<[u8; 4]>; 16]) -> Option<usize> {
-        for place in 0..64 {
-            let cell = cells[place / 4]?;
-            if cell[place % 4] == CARRIAGE_RETURN {
-                return Some(place);
-            }
+    fn length(bytes: &[u8; 64], mask: u16) -> Option<usize> {
+        let found = returns_in(bytes) & spread(mask);
+        let place = found.trailing_zeros();
+        if place / 4 < mask.trailing_ones() || mask == u16::MAX {
+            Some(place as usize)
+        } else {
+            None
         }
-        Some(64)
     }
 }

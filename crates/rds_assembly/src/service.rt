@@ -1,7 +1,8 @@
 //! What a text service says of its segments.
-ghost use Rattle.std.specs.Prelude.{◌≡◌, ℕ, ◌<◌, ◌≤◌, IfSome, IfNone, List, length};
+ghost use Rattle.std.specs.Prelude.{◌≡◌, ℕ, ◌≤◌, IfSome, IfNone, List, take};
 ghost use Rattle.std.specs.FinMap as map;
-ghost use Rattle.rds_assembly.specs.Cells.{Cells, held_cells, IsSpelled, IsThereBelow};
+ghost use Rattle.rds_assembly.specs.Cells.{Cells};
+ghost use Rattle.rds_assembly.specs.Held.{held_cells};
 ghost use Rattle.rds_assembly.specs.Body.{AreAllHeld, AreSegmentsOf};
 
 /// A service whose values go out in segments of four bytes, each at an address.
@@ -20,13 +21,15 @@ pub trait Service {
     /// What is sent of a value, four bytes a segment.
     ghost body_of: { List ℕ → List ℕ };
 
-    /// How many bytes the whole value has, where the cells make one whole.
-    fn length(cells: &[Option<[u8; 4]>; 16]) -> Option<usize>
+    /// How many bytes the whole value has, where the segments held make one whole: its bytes are
+    /// the first of these. Segment a stands at the places 4 * a to 4 * a + 3, and is held where
+    /// bit a of the mask is 1.
+    fn length(bytes: &[u8; 64], mask: u16) -> Option<usize>
         ensures within { IfSome result (λ n. n ≤ 64) }
-        ensures held { IfSome result (λ n. IsThereBelow (held_cells cells.now) n) }
-        ensures found { IfSome result (λ n. (x : List ℕ) → length x ≡ n
-            → IsSpelled (held_cells cells.now) x → is_whole (held_cells cells.now) x) }
-        ensures none { IfNone result ((x : List ℕ) → is_whole (held_cells cells.now) x → ⊥) };
+        ensures whole { IfSome result (λ n. is_whole (held_cells mask bytes.now)
+            (take n bytes.now)) }
+        ensures none { IfNone result ((x : List ℕ)
+            → is_whole (held_cells mask bytes.now) x → ⊥) };
 
     /// An address has at most four bits.
     ghost few: { SEGMENTS ≤ 16 };

@@ -1,46 +1,69 @@
 use super::*;
 use std::test::Fail;
 
-/// A lone carriage return makes the empty text whole: shown as empty, not as none.
-#[test]
-fn empty_text(rt: HostRuntime) {
-    let mut text: Assembly<RadioText> = Assembly::new();
-    assert_eq!(rt; text.whole(), None);
-    let _ = text.put(0, *b"\r   ");
-    assert_eq!(rt; text.whole(), Some(b"".as_slice()));
+/// What is done to the segments held.
+#[derive(Clone, Copy, Debug)]
+enum Call {
+    Put(u8, [u8; 4]),
+    Clear,
 }
 
-/// Nothing is whole while the first segment is missing.
+/// What is whole after each call of one run. What was given up doesn't come back.
 #[test]
-fn two_segments(rt: HostRuntime) {
+fn one_run(rt: HostRuntime) {
+    let run: [(Call, Option<&[u8]>); 9] = [
+        (Call::Put(0, *b"HI\r "), Some(b"HI")),
+        (Call::Put(0, *b"ABBA"), None),
+        (Call::Put(1, *b"\r   "), Some(b"ABBA")),
+        (Call::Put(3, *b"\r   "), Some(b"ABBA")),
+        (Call::Put(1, *b"XXXX"), None),
+        (Call::Put(2, *b"YYYY"), Some(b"ABBAXXXXYYYY")),
+        (Call::Clear, None),
+        (Call::Put(2, *b"YYYY"), None),
+        (Call::Put(0, *b"ABBA"), None),
+    ];
     let mut text: Assembly<RadioText> = Assembly::new();
-    let _ = text.put(1, *b"\r   ");
     assert_eq!(rt; text.whole(), None);
-    let _ = text.put(0, *b"ABBA");
-    assert_eq!(rt; text.whole(), Some(b"ABBA".as_slice()));
-    let _ = text.put(3, *b"\r   ");
-    assert_eq!(rt; text.whole(), Some(b"ABBA".as_slice()));
-    let _ = text.put(1, *b"XXXX");
-    assert_eq!(rt; text.whole(), None);
-    let _ = text.put(2, *b"YYYY");
-    assert_eq!(rt; text.whole(), Some(b"ABBAXXXXYYYY".as_slice()));
-    text.clear();
-    assert_eq!(rt; text.whole(), None);
-    let _ = text.put(0, *b"ABBA");
-    assert_eq!(rt; text.whole(), None);
-}
-
-/// A text of 64 bytes has no carriage return, and one of 63 the last byte for it.
-#[test]
-fn longest_text(rt: HostRuntime) {
-    let mut text: Assembly<RadioText> = Assembly::new();
-    for address in 0..16u8 {
-        assert!(rt; text.whole().is_none());
-        let _ = text.put(address, *b"AAAA");
+    for (call, whole) in run {
+        match call {
+            Call::Put(address, bytes) => assert!(rt; text.put(address, bytes)),
+            Call::Clear => text.clear(),
+        }
+        assert_eq!(rt; text.whole(), whole, "after {call:?}");
     }
-    assert_eq!(rt; text.whole().map(|shown| shown.len()), Some(64));
-    let _ = text.put(15, *b"AAA\r");
-    assert_eq!(rt; text.whole().map(|shown| shown.len()), Some(63));
+}
+
+/// A lone carriage return at each of the 64 places, with all segments held, ends the text there.
+#[test]
+fn each_place(rt: HostRuntime) {
+    for place in 0..64usize {
+        let mut sent = [b'A'; 64];
+        sent[place] = 0x0D;
+        let mut text: Assembly<RadioText> = Assembly::new();
+        for address in 0..16u8 {
+            let first = 4 * address as usize;
+            let bytes = [
+                sent[first],
+                sent[first + 1],
+                sent[first + 2],
+                sent[first + 3],
+            ];
+            assert!(rt; text.put(address, bytes));
+        }
+        assert_eq!(rt; text.whole(), Some(&sent[..place]), "at {place}");
+    }
+}
+
+/// What is held already is no change.
+#[test]
+fn held_again(rt: HostRuntime) {
+    let mut text: Assembly<RadioText> = Assembly::new();
+    assert!(rt; text.put(15, [0; 4]));
+    assert!(rt; !text.put(15, [0; 4]));
+    assert!(rt; text.put(14, [0; 4]));
+    assert!(rt; text.put(15, [0, 0, 0, 1]));
+    text.clear();
+    assert!(rt; text.put(15, [0, 0, 0, 1]));
 }
 
 /// Both segments of a name are wanted, in either order; a carriage return is an ordinary byte of it.
@@ -48,50 +71,46 @@ fn longest_text(rt: HostRuntime) {
 fn names(rt: HostRuntime) {
     let mut name: Assembly<TypeName> = Assembly::new();
     assert!(rt; name.is_empty());
-    let _ = name.put(1, *b" FM ");
+    assert!(rt; name.put(1, *b" FM "));
     assert!(rt; name.has(1) && !name.has(0) && !name.is_empty());
     assert_eq!(rt; name.whole(), None);
-    let _ = name.put(0, *b"J\rZZ");
+    assert!(rt; name.put(0, *b"J\rZZ"));
     assert_eq!(rt; name.whole(), Some(b"J\rZZ FM ".as_slice()));
     name.clear();
     assert!(rt; name.is_empty() && !name.has(1));
 }
 
-/// A text of 63 bytes ends with a carriage return, and one of 64 with its own last byte.
+/// After a text come a carriage return and spaces, in a segment of their own where it needs one.
+/// All of its segments make it whole, and fewer don't.
 #[test]
-fn longest_texts(rt: HostRuntime) -> Result<(), Fail> {
-    let shorter = Text::new(&[b'A'; 63])?;
-    assert_eq!(rt; shorter.count(), 16);
-    assert_eq!(rt; shorter.segment(15), [0x41, 0x41, 0x41, 0x0D]);
-    let full = Text::new(&[b'A'; 64])?;
-    assert_eq!(rt; full.count(), 16);
-    assert_eq!(rt; full.segment(15), [0x41, 0x41, 0x41, 0x41]);
-    assert_eq!(rt; Text::new(&[b'A'; 65]), Err(TextRefused::TooLong));
+fn texts_there_and_back(rt: HostRuntime) -> Result<(), Fail> {
+    let texts: [(&[u8], u8, [u8; 4]); 6] = [
+        (b"", 1, [0x0D, 0x20, 0x20, 0x20]),
+        (b"HI", 1, [0x48, 0x49, 0x0D, 0x20]),
+        (b"ABBA", 2, [0x0D, 0x20, 0x20, 0x20]),
+        (b"NOW ON AIR", 3, [0x49, 0x52, 0x0D, 0x20]),
+        (&[b'A'; 63], 16, [0x41, 0x41, 0x41, 0x0D]),
+        (&[b'A'; 64], 16, [0x41, 0x41, 0x41, 0x41]),
+    ];
+    for (bytes, count, last) in texts {
+        let sent = Text::new(bytes)?;
+        assert_eq!(rt; sent.count(), count);
+        assert_eq!(rt; sent.segment(sent.count() - 1), last);
+        let mut held: Assembly<RadioText> = Assembly::new();
+        for address in 0..sent.count() {
+            assert_eq!(rt; held.whole(), None);
+            assert!(rt; held.put(address, sent.segment(address)));
+        }
+        assert_eq!(rt; held.whole(), Some(bytes));
+    }
     Ok(())
 }
 
-/// A line feed, an end of a headline and a soft hyphen may stand in a text, a carriage return not.
+/// A line feed, an end of a headline and a soft hyphen may stand in a text.
 #[test]
 fn bytes_of_texts(rt: HostRuntime) -> Result<(), Fail> {
-    assert_eq!(rt; Text::new(&[0x41, 0x0D]), Err(TextRefused::BadByte(1)));
     let marked = Text::new(&[0x41, 0x0A, 0x0B, 0x1F])?;
     assert_eq!(rt; marked.bytes(), [0x41, 0x0A, 0x0B, 0x1F].as_slice());
-    Ok(())
-}
-
-/// After a text come a carriage return and spaces, in a segment of their own where it needs one.
-#[test]
-fn segments_of_texts(rt: HostRuntime) -> Result<(), Fail> {
-    let none = Text::new(b"")?;
-    assert_eq!(rt; none.count(), 1);
-    assert_eq!(rt; none.segment(0), [0x0D, 0x20, 0x20, 0x20]);
-    let short = Text::new(b"HI")?;
-    assert_eq!(rt; short.count(), 1);
-    assert_eq!(rt; short.segment(0), [0x48, 0x49, 0x0D, 0x20]);
-    let four = Text::new(b"ABBA")?;
-    assert_eq!(rt; four.count(), 2);
-    assert_eq!(rt; four.segment(0), *b"ABBA");
-    assert_eq!(rt; four.segment(1), [0x0D, 0x20, 0x20, 0x20]);
     Ok(())
 }
 
@@ -109,7 +128,14 @@ fn segments_of_names(rt: HostRuntime) -> Result<(), Fail> {
 /// Each refusal, and what it prints.
 #[test]
 fn refused_bytes(rt: HostRuntime) -> Result<(), Fail> {
-    let rows: [(&[u8], TextRefused, &str); 2] = [
+    let texts: [(&[u8], TextRefused); 2] = [
+        (&[b'A'; 65], TextRefused::TooLong),
+        (&[0x41, 0x0D], TextRefused::BadByte(1)),
+    ];
+    for (bytes, refused) in texts {
+        assert_eq!(rt; Text::new(bytes), Err(refused));
+    }
+    let names: [(&[u8], TextRefused, &str); 2] = [
         (
             b"NINEBYTES",
             TextRefused::TooLong,
@@ -121,22 +147,9 @@ fn refused_bytes(rt: HostRuntime) -> Result<(), Fail> {
             "the byte at place 1 may not stand there",
         ),
     ];
-    for (bytes, refused, printed) in rows {
+    for (bytes, refused, printed) in names {
         assert_eq!(rt; Name::new(bytes), Err(refused));
         assert_eq!(rt; format!(in rt.alloc(); "{refused}")?.as_str(), printed);
     }
-    Ok(())
-}
-
-/// What a text's segments spell is the text.
-#[test]
-fn text_there_and_back(rt: HostRuntime) -> Result<(), Fail> {
-    let sent = Text::new(b"NOW ON AIR")?;
-    let mut held: Assembly<RadioText> = Assembly::new();
-    for address in 0..sent.count() {
-        assert_eq!(rt; held.whole(), None);
-        let _ = held.put(address, sent.segment(address));
-    }
-    assert_eq!(rt; held.whole(), Some(b"NOW ON AIR".as_slice()));
     Ok(())
 }

@@ -1,7 +1,8 @@
 //! Programme type names: eight bytes in two segments.
-ghost use Rattle.std.specs.Prelude.{◌≡◌, ℕ, ◌<◌, ◌≤◌, IfSome, IfNone, List, length};
+ghost use Rattle.std.specs.Prelude.{◌≡◌, ℕ, ◌≤◌, IfSome, IfNone, List, take};
 ghost use Rattle.std.specs.FinMap as map;
-ghost use Rattle.rds_assembly.specs.Cells.{Cells, held_cells, IsSpelled, IsThereBelow};
+ghost use Rattle.rds_assembly.specs.Cells.{Cells};
+ghost use Rattle.rds_assembly.specs.Held.{held_cells};
 
 use crate::Service;
 
@@ -40,8 +41,8 @@ impl Service for TypeName {
     ghost all = { all_name };
 
     /// All eight bytes, where both segments are held.
-    fn length(cells: &[Option<[u8; 4]>; 16]) -> Option<usize> {
-        if cells[0].is_some() && cells[1].is_some() {
+    fn length(_bytes: &[u8; 64], mask: u16) -> Option<usize> {
+        if mask & 0b11 == 0b11 {
             Some(NAME)
         } else {
             None

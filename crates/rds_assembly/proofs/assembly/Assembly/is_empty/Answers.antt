@@ -1,15 +1,11 @@
-use Rattle.std.proofs.Common.{◌≡◌, sym, ◌∙◌, arith, rules}
-use Rattle.std.specs.FinMap.{empty}
-use Rattle.rds_assembly.proofs.CellsLemmas.{all_empty, not_empty_by}
+use Rattle.std.proofs.Common.{◌≡◌, ap, sym, ◌∙◌, arith}
+use Rattle.std.proofs.lemmas.Bool.Decides.{nat_tests}
+use Rattle.rds_assembly.specs.Held.{held_cells}
+use Rattle.rds_assembly.proofs.HeldLemmas.{no_bit, nothing_held}
 use Rattle.rds_assembly.proofs.assembly.Assembly.is_empty.Goals as goal
 
-pub returns-then-is_some : goal.returns-then-is_some
-returns-then-is_some g c =
-    let no : c.args.self.now ≡ empty → ⊥ = λ e. not_empty_by c.self.inside.cells c.loop-cell.cell-index (sym c.is_some.ensures ∙ c.if-is_some.true) (c.self.view_is ∙ e) in
-    search rules
-
 pub returns : goal.returns
-returns g c =
-    let long = c.self.invariant.0 in
-    let yes : c.args.self.now ≡ empty = sym c.self.view_is ∙ all_empty c.self.inside.cells (λ k h. c.loop-cell.invariant k (omega arith)) in
-    search rules
+returns g c = (
+  λ t. let none : c.self.inside.mask ≡ 0 = grind (arith, nat_tests) in sym c.self.view_is ∙ ap (λ n. held_cells n c.self.inside.bytes) none ∙ nothing_held c.self.inside.bytes,
+  λ e. let none : c.self.inside.mask ≡ 0 = no_bit c.self.inside.mask c.self.inside.bytes (omega arith) (c.self.view_is ∙ e) in grind (arith, nat_tests),
+)

@@ -1,21 +1,34 @@
-use Rattle.std.proofs.Common.{◌≡◌, length, ap, sym, ◌∙◌, arith, rules}
-use Rattle.std.specs.FinMap.{insert}
-use Rattle.rds_assembly.proofs.CellsLemmas.{held_again, held_cells-put, same_cell}
+use Rattle.std.proofs.Common.{◌≡◌, ◌+◌, ◌-◌, ◌*◌, true, length, ap, sym, ◌∙◌, arith, rules, w16}
+use Rattle.std.specs.FinMap.{contains_key, insert}
+use borrow.Rule.Slice.PartMut.{mid_of, put_same}
+use Rattle.std.proofs.lemmas.Slice.Eq.{bytes_eq-Decides}
+use Rattle.rds_assembly.specs.Body.{segment_of}
+use Rattle.rds_assembly.specs.Held.{held_cells}
+use Rattle.std.proofs.lemmas.Nat.Bits.{bit_at_set_same, bit_at_set_other}
+use Rattle.rds_assembly.proofs.HeldLemmas.{held_again, put_held, others_stay, segment_stands}
 use Rattle.rds_assembly.proofs.assembly.Assembly.put.Goals as goal
-
-pub returns-in-Some-clause-put : goal.returns-in-Some-clause-put
-returns-in-Some-clause-put g c =
-    let long : length c.self.inside.cells ≡ 16 = search rules in
-    let few = g.met.S.Service.few in
-    held_cells-put _ _ _ (omega arith) ∙ ap (λ m. insert m c.args.address c.args.bytes) c.self.view_is
-
-pub returns-in_default-clause-put : goal.returns-in_default-clause-put
-returns-in_default-clause-put g c =
-    let long : length c.self.inside.cells ≡ 16 = search rules in
-    let few = g.met.S.Service.few in
-    held_cells-put _ _ _ (omega arith) ∙ ap (λ m. insert m c.args.address c.args.bytes) c.self.view_is
 
 pub returns-then-eq-clause-put : goal.returns-then-eq-clause-put
 returns-then-eq-clause-put g c =
-    let here = same_cell _ _ (sym c.eq.ensures ∙ c.if-eq.true) in
-    sym c.self.view_is ∙ held_again _ _ _ here ∙ ap (λ m. insert m c.args.address c.args.bytes) c.self.view_is
+    let a = c.args.address in
+    let few = g.met.S.Service.few in
+    let inside = c.self.inside in
+    let four : 4 * a + 4 - 4 * a ≡ 4 = omega arith in
+    let there : contains_key (held_cells inside.mask inside.bytes) a ≡ true = ap (λ m. contains_key m a) c.self.view_is ∙ sym c.has-is_held.ensures ∙ c.if-is_held.true in
+    let alike = (bytes_eq-Decides (mid_of (4 * a) (4 * a + 4 - 4 * a) inside.bytes) c.as_slice.result.now).0 (sym c.eq.ensures ∙ c.if-eq.true) in
+    let here : segment_of inside.bytes a ≡ c.args.bytes = rw four at alike ∙ c.as_slice.ensures in
+    ap (held_cells inside.mask) (put_same (4 * a) (4 * a + 4 - 4 * a) inside.bytes) ∙ held_again inside.mask a inside.bytes c.args.bytes (omega arith) there here
+    ∙ ap (λ m. insert m c.args.address c.args.bytes) c.self.view_is
+
+pub returns-clause-put : goal.returns-clause-put
+returns-clause-put g c =
+    let a = c.args.address in
+    let few = g.met.S.Service.few in
+    let held = c.self.invariant.0 in
+    let four : 4 * a + 4 - 4 * a ≡ 4 = omega arith in
+    let long : length c.args.bytes ≡ 4 = search rules in
+    let copied : length c.copy_from_slice.new.self ≡ 4 = ap length c.copy_from_slice.ensures.after ∙ long in
+    put_held c.self.inside.mask _ a c.self.inside.bytes _ c.args.bytes (omega arith) (bit_at_set_same w16 c.self.inside.mask a (omega arith)) (bit_at_set_other w16 c.self.inside.mask a (omega arith))
+    (segment_stands a _ c.self.inside.bytes c.copy_from_slice.new.self four copied (omega arith) ∙ c.copy_from_slice.ensures.after)
+    (others_stay a _ c.self.inside.bytes c.copy_from_slice.new.self four copied (omega arith))
+    ∙ ap (λ m. insert m c.args.address c.args.bytes) c.self.view_is

@@ -1,27 +1,24 @@
-use Rattle.std.proofs.Common.{ℕ, ◌/◌, ◌%◌, get_or, arith, below_more, ◌∙◌, subst}
-use Rattle.rds_assembly.specs.Cells.{held_cells, HasByte}
-use Rattle.rds_assembly.proofs.CellsLemmas.{get-held_cells, cell_has}
-use Rattle.rds_assembly.proofs.TextLemmas.{found_at, found_all, missing}
+use Rattle.std.proofs.Common.{◌≡◌, ℕ, ◌<◌, ◌^◌, List, length, bit_and, refl, ◌∙◌, inl, inr, arith}
+use Rattle.std.proofs.lemmas.Nat.Bits.{bit_at_and}
+use Rattle.std.proofs.lemmas.Nat.{and_le_l}
+use Rattle.rds_assembly.specs.Lanes.{AreReturns, IsSpread}
+use Rattle.rds_assembly.proofs.TextLemmas.{AreFound, found_none, found_whole}
 use Rattle.rds_assembly.proofs.radio_text.RadioTextService.length.Goals as goal
 
-pub returns-in_err-cell-clause-none : goal.returns-in_err-cell-clause-none
-returns-in_err-cell-clause-none c =
-    rw c.from_residual.ensures (missing (held_cells c.args.cells.now) c.loop-place.place c.loop-place.invariant (omega arith) (get-held_cells c.args.cells.now (c.loop-place.place / 4) ∙ c.in_err-cell.was))
+joined : (mask returns wide : ℕ) (bytes : List ℕ) → length bytes ≡ 64 → mask < 65536 → returns < 2 ^ 64 → AreReturns bytes returns → IsSpread mask wide → AreFound mask bytes (bit_and returns wide)
+joined mask returns wide bytes long fits narrow r s = record {
+  long = long;
+  fits = fits;
+  narrow = let least = and_le_l returns wide in omega arith;
+  joined = λ i. bit_at_and returns wide i ∙ rw (r i, s i) refl;
+}
 
-pub loop-place-preserved : goal.loop-place-preserved
-loop-place-preserved c =
-    below_more _ _ c.loop-place.invariant (get_or c.in_ok-cell.cell (c.loop-place.place % 4) 0, cell_has c.args.cells.now c.loop-place.place c.in_ok-cell.cell c.in_ok-cell.was, c.if-cell-place-eq-CARRIAGE_RETURN.false)
+pub returns-then-mask-eq65535-clause-whole : goal.returns-then-mask-eq65535-clause-whole
+returns-then-mask-eq65535-clause-whole c =
+    found_whole c.args.mask c.args.bytes.now _ (joined c.args.mask c.returns_in.result c.spread.result c.args.bytes.now c.told-bytes (omega arith) c.returns_in.type_inv c.returns_in.ensures c.spread.ensures)
+    (elim c.if-mask-eq65535.either [ inl upto ↦ inl (rw (← c.trailing_ones.ensures) upto) | inr full ↦ inr full.1 ])
 
-pub returns-clause-held : goal.returns-clause-held
-returns-clause-held c = λ i h. let w = c.loop-place.invariant i (omega arith) in (w.0, w.1)
-
-pub returns-clause-found : goal.returns-clause-found
-returns-clause-found c = found_all (held_cells c.args.cells.now) (λ k h. c.loop-place.invariant k (omega arith))
-
-pub returns-then-cell-place-eq-CARRIAGE_RETURN-clause-held : goal.returns-then-cell-place-eq-CARRIAGE_RETURN-clause-held
-returns-then-cell-place-eq-CARRIAGE_RETURN-clause-held c = λ i h. ((c.loop-place.invariant i h).0, (c.loop-place.invariant i h).1)
-
-pub returns-then-cell-place-eq-CARRIAGE_RETURN-clause-found : goal.returns-then-cell-place-eq-CARRIAGE_RETURN-clause-found
-returns-then-cell-place-eq-CARRIAGE_RETURN-clause-found c =
-    let here = cell_has c.args.cells.now c.loop-place.place c.in_ok-cell.cell c.in_ok-cell.was in
-    found_at (held_cells c.args.cells.now) c.loop-place.place c.loop-place.invariant (omega arith) (subst (λ (b : ℕ). HasByte (held_cells c.args.cells.now) c.loop-place.place b) c.if-cell-place-eq-CARRIAGE_RETURN.true here)
+pub returns-else-mask-eq65535-clause-none : goal.returns-else-mask-eq65535-clause-none
+returns-else-mask-eq65535-clause-none c =
+    found_none c.args.mask c.args.bytes.now _ (joined c.args.mask c.returns_in.result c.spread.result c.args.bytes.now c.told-bytes (omega arith) c.returns_in.type_inv c.returns_in.ensures c.spread.ensures)
+    (rw (← c.trailing_ones.ensures) c.if-mask-eq65535.false.0) c.if-mask-eq65535.false.1

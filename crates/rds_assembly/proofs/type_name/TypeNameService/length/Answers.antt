@@ -1,15 +1,35 @@
-use Rattle.std.proofs.Common.{sym, ◌∙◌, arith, refl}
-use Rattle.rds_assembly.proofs.CellsLemmas.{lacks_cell, two_cells}
+use Rattle.std.proofs.Common.{◌≡◌, ℕ, ◌/◌, ◌%◌, inl, inr, List, sym, ◌∙◌, arith}
+use Rattle.std.specs.Int.{bit_at}
+use Rattle.std.proofs.lemmas.Bool.{cases_lt}
+use Rattle.std.proofs.lemmas.List.{length-take-le}
+use Rattle.std.proofs.lemmas.Nat.{and_mask}
+use Rattle.rds_assembly.specs.Held.{held_cells}
+use Rattle.rds_assembly.specs.Whole.{IsWholeName}
+use Rattle.rds_assembly.proofs.HeldLemmas.{AreSetBelow, byte_set, spelled}
 use Rattle.rds_assembly.proofs.type_name.TypeNameService.length.Goals as goal
-use Rattle.rds_assembly.proofs.type_name.TypeNameService.length.Goals.{else-is_some-via-then-is_some+else-is_some-2, else-is_some-via-else-is_some}
 
-pub returns-then-is_some-2-clause-held : goal.returns-then-is_some-2-clause-held
-returns-then-is_some-2-clause-held c = two_cells c.args.cells.now (sym c.is_some.ensures ∙ c.if-is_some.true) (sym c.is_some-then-is_some.ensures ∙ c.if-is_some-2.true)
-
-pub returns-else-is_some-clause-none : goal.returns-else-is_some-clause-none
-returns-else-is_some-clause-none c x w =
-    let eight = w.eight in
-    elim c.else-is_some.branch [
-      | else-is_some-via-then-is_some+else-is_some-2 v ↦ lacks_cell c.args.cells.now 1 4 _ refl (sym v.is_some-then-is_some.ensures ∙ v.if-is_some-2.false) (w.spelled.bytes 4 (omega arith))
-      | else-is_some-via-else-is_some v ↦ lacks_cell c.args.cells.now 0 0 _ refl (sym c.is_some.ensures ∙ v.if-is_some.false) (w.spelled.bytes 0 (omega arith))
+-- the two lowest bits
+both_set : (mask : ℕ) → mask % 4 ≡ 3 → AreSetBelow mask 8
+both_set mask e i h =
+    elim (cases_lt i 4) [
+      | inl l ↦ (let at : i / 4 ≡ 0 = omega arith in let set : bit_at mask 0 ≡ 1 = omega arith in rw at set)
+      | inr l ↦ (let at : i / 4 ≡ 1 = omega arith in let set : bit_at mask 1 ≡ 1 = omega arith in rw at set)
     ]
+
+both_there : (mask : ℕ) (bytes x : List ℕ) → IsWholeName (held_cells mask bytes) x → mask % 4 ≡ 3
+both_there mask bytes x w =
+    let eight = w.eight in
+    let first : bit_at mask 0 ≡ 1 = byte_set mask bytes 0 _ (omega arith) (w.spelled.bytes 0 (omega arith)) in
+    let second : bit_at mask 1 ≡ 1 = byte_set mask bytes 4 _ (omega arith) (w.spelled.bytes 4 (omega arith)) in
+    omega arith
+
+pub returns-then-mask-eq3-clause-whole : goal.returns-then-mask-eq3-clause-whole
+returns-then-mask-eq3-clause-whole c =
+    let long = c.told-_bytes in
+    record {
+      eight = length-take-le 8 c.args._bytes.now (omega arith);
+      spelled = spelled c.args.mask c.args._bytes.now 8 (omega arith) long (both_set c.args.mask (sym (and_mask c.args.mask 2) ∙ c.if-mask-eq3.true));
+    }
+
+pub returns-else-mask-eq3-clause-none : goal.returns-else-mask-eq3-clause-none
+returns-else-mask-eq3-clause-none c x w = c.if-mask-eq3.false (and_mask c.args.mask 2 ∙ both_there c.args.mask c.args._bytes.now x w)
