@@ -41,11 +41,11 @@ impl Service for RadioText {
 
     ghost all = { all_text };
 
-    /// The bytes before the first carriage return, or all 64, as long as no segment is missing.
+    /// The bytes before the first carriage return held, or all 64, where all of them are held.
     fn length(bytes: &[u8; 64], mask: u16) -> Option<usize> {
-        let found = returns_in(bytes) & spread(mask);
-        let place = found.trailing_zeros();
-        if place / 4 < mask.trailing_ones() || mask == u16::MAX {
+        let held = spread(mask);
+        let place = (returns_in(bytes) & held).trailing_zeros();
+        if place <= held.trailing_ones() {
             Some(place as usize)
         } else {
             None
