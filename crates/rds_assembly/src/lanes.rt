@@ -17,11 +17,13 @@ pub(crate) fn returns_in(bytes: &[u8; 64]) -> u64
 pub(crate) fn spread(mask: u16) -> u64
     ensures { IsSpread mask result }
 {
-    let mut wide = 0u64;
-    for address in 0..16u32 {
-        if mask >> address & 1 == 1 {
-            wide |= 0x0Fu64 << (4 * address);
-        }
-    }
-    wide
+    // Named by how many of the mask's bits stand side by side: such runs begin at every fourth
+    // multiple of their length, until each bit alone has four places.
+    let sixteen = u64::from(mask);
+    let eights = (sixteen | sixteen << 24) & 0x0000_00FF_0000_00FF;
+    let fours = (eights | eights << 12) & 0x000F_000F_000F_000F;
+    let twos = (fours | fours << 6) & 0x0303_0303_0303_0303;
+    let ones = (twos | twos << 3) & 0x1111_1111_1111_1111;
+    let pairs = ones | ones << 1;
+    pairs | pairs << 2
 }
