@@ -1,5 +1,5 @@
--- Which cells sixteen segments side by side and a mask keep: segment a has the places 4 * a to 4 * a + 3, and is
--- held where bit a of the mask is 1 (this project's own rule).
+-- The cells that sixteen segments side by side and a mask hold: segment a has the places 4 * a to 4 * a + 3,
+-- and is held where bit a of the mask is 1 (this project's own rule).
 use Rattle.std.specs.Prelude.{ℕ, zero, suc, ◌==◌, List, if◌then◌else◌}
 use Rattle.std.specs.Int.{bit_at}
 use Rattle.std.specs.FinMap.{empty, insert}

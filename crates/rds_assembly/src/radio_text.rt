@@ -44,6 +44,7 @@ impl Service for RadioText {
     /// The bytes before the first carriage return held, or all 64, where all of them are held.
     fn length(bytes: &[u8; 64], mask: u16) -> Option<usize> {
         let held = spread(mask);
+        // The first carriage return held, or 64, the end of a full text.
         let place = (returns_in(bytes) & held).trailing_zeros();
         if place <= held.trailing_ones() {
             Some(place as usize)

@@ -66,7 +66,8 @@ fn held_again(rt: HostRuntime) {
     assert!(rt; text.put(15, [0, 0, 0, 1]));
 }
 
-/// Both segments of a name are wanted, in either order; a carriage return is an ordinary byte of it.
+/// Both segments of a name are wanted, in either order; a carriage return is an ordinary byte of
+/// it.
 #[test]
 fn names(rt: HostRuntime) {
     let mut name: Assembly<TypeName> = Assembly::new();
