@@ -1,8 +1,12 @@
--- Tags and pairs of tags are stored as their fields, so that a value that has them can stand in a `Result` (this
--- project's own).
+-- Codes: a station's head, a tag and a pair of tags are each stored as their fields.
 use Rattle.std.specs.Prelude.{ℕ, Bool, refl}
 use Rattle.std.specs.Coded.{Coded, code_by, coded×, coded_ℕ, coded_bool}
+use Rattle.rds_fields.specs.declared.head.Head.{Head}
 use Rattle.rds_fields.specs.Tag.{PairFields, TagFields}
+
+abbrev pub head_code : Coded Head
+head_code =
+    code_by (ℕ × (Bool × ℕ)) (coded× coded_ℕ (coded× coded_bool coded_ℕ)) (λ h. (h.pi, (h.tp, h.pty))) (λ p. record { pi = p.0; tp = p.1.0; pty = p.1.1 }) (λ _. refl)
 
 abbrev pub tag_code : Coded TagFields
 tag_code =
