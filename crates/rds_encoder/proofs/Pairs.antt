@@ -1,11 +1,13 @@
 -- A pair is on air with a text only.
-use Rattle.std.proofs.Common.{◌≡◌, ◌+◌, ℕ, List, [], ◌∷◌, Bool, true, false, nat_lt, nat_le, Option, Some, None, refl, sym, is_ok}
+use Rattle.std.proofs.Common.{◌≡◌, ◌+◌, ℕ, List, [], ◌∷◌, length, Bool, true, false, nat_lt, nat_le, Option, Some, None, Ok, Err, refl, sym, is_ok, option_map}
+use Rattle.rds_fields.specs.declared.pair.Which.TheVariants.{One, Two}
+use Rattle.rds_encoder.specs.declared.refusal.Refusal.TheVariants.{NoText, OutOfText}
 use Rattle.rds_fields.specs.declared.message.Message.TheVariants.{Tags}
-use Rattle.rds_fields.specs.Tag.{PairFields}
+use Rattle.rds_fields.specs.Tag.{PairFields, ends_in}
 use Rattle.rds_encoder.specs.Entries.{Entry, Restart, SetText, SetName, SetTags, Tick, restart_before, slot_of, text_moves}
-use Rattle.rds_encoder.specs.Plan.{OnAir, on_air}
+use Rattle.rds_encoder.specs.Plan.{OnAir, bytes_of, on_air}
 use Rattle.rds_encoder.specs.Reply.{reply_to}
-use Rattle.rds_encoder.specs.Tags.{pair_on_air, tags_reply}
+use Rattle.rds_encoder.specs.Tags.{fitting_reply, pair_on_air, tags_reply}
 use Rattle.rds_encoder.specs.Sent.{tags_due}
 
 -- nothing on air, no pair
@@ -41,3 +43,28 @@ with_pair m entries pair h = by_air (on_air m (text_moves entries)) refl
 pub due : (m now : ℕ) (on_air : Option OnAir) (held : Option PairFields) (air : OnAir) (pair : PairFields) (lasted : Bool) → on_air ≡ Some air → held ≡ Some pair
     → lasted ≡ nat_le (air.start + m) now → lasted ≡ true → Some (Tags pair) ≡ tags_due m now on_air held
 due m now on_air held air pair lasted on has test done = rw (on, has, sym test, done) refl
+
+-- the reply to a pair, where none is on air, or a text of these bytes
+pub no_text : (pair : PairFields) (o : Option OnAir) → None ≡ option_map bytes_of o → Err NoText ≡ fitting_reply pair o
+no_text pair None e = refl
+no_text pair (Some air) e = absurd (cc)
+
+pub one_out : (pair : PairFields) (o : Option OnAir) (x : List ℕ) → Some x ≡ option_map bytes_of o → ends_in (length x) pair.one ≡ false → Err (OutOfText One) ≡ fitting_reply pair o
+one_out pair None x e out = absurd (cc)
+one_out pair (Some air) x e out =
+    let same : x ≡ air.bytes = cc in
+    rw (rw same at out) refl
+
+pub two_out : (pair : PairFields) (o : Option OnAir) (x : List ℕ) → Some x ≡ option_map bytes_of o → ends_in (length x) pair.one ≡ true → ends_in (length x) pair.two ≡ false
+    → Err (OutOfText Two) ≡ fitting_reply pair o
+two_out pair None x e within out = absurd (cc)
+two_out pair (Some air) x e within out =
+    let same : x ≡ air.bytes = cc in
+    rw (rw same at within, rw same at out) refl
+
+pub both_in : (pair : PairFields) (o : Option OnAir) (x : List ℕ) → Some x ≡ option_map bytes_of o → ends_in (length x) pair.one ≡ true → ends_in (length x) pair.two ≡ true
+    → Ok tt ≡ fitting_reply pair o
+both_in pair None x e one two = absurd (cc)
+both_in pair (Some air) x e one two =
+    let same : x ≡ air.bytes = cc in
+    rw (rw same at one, rw same at two) refl

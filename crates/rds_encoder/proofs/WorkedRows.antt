@@ -3,12 +3,13 @@ use Rattle.std.proofs.Common.{◌≡◌, ℕ, Bool, true, false, List, [], ◌�
 use Rattle.rds_fields.specs.declared.message.Message.{Message}
 use Rattle.rds_fields.specs.declared.message.Message.TheVariants.{Text, Name, Tags}
 use Rattle.rds_fields.specs.declared.pair.Which.TheVariants.{One}
+use Rattle.rds_fields.specs.RadioTextPlus.{announcement}
 use Rattle.rds_fields.specs.Tag.{PairFields, TagFields}
 use Rattle.rds_encoder.specs.declared.refusal.Refusal.TheVariants.{Silent, Held, NoText, OutOfText}
 use Rattle.rds_encoder.specs.Entries.{Entry, Restart, SetText, SetName, SetTags, Tick, name_moves, text_moves}
 use Rattle.rds_encoder.specs.Plan.{on_air, plan_of}
 use Rattle.rds_encoder.specs.Reply.{reply_to}
-use Rattle.rds_encoder.specs.Sent.{announcement, sent_in}
+use Rattle.rds_encoder.specs.Sent.{sent_in}
 use Rattle.rds_encoder.specs.Tags.{pair_on_air, tags_reply}
 
 -- what each slot that ended sent

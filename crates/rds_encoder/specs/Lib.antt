@@ -2,6 +2,8 @@ pub mod Entries
 pub mod Reply
 pub mod Plan
 pub mod Tags
+pub mod Round
 pub mod Sent
 pub mod State
+pub mod Codes
 pub mod Standing

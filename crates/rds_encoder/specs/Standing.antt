@@ -1,12 +1,16 @@
 -- What an encoder holds after a list of entries. Lists have the newest first.
-use Rattle.std.specs.Prelude.{◌≡◌, ◌+◌, ◌-◌, ◌*◌, ◌%◌, ℕ, List, Option, Some, None, option_map}
+use Rattle.std.specs.Prelude.{◌≡◌, ◌+◌, ◌-◌, ◌*◌, ◌%◌, ℕ, List, ◌∷◌, Option, Some, None, option_map}
 use Rattle.rds_fields.specs.declared.head.Head.{Head}
 use Rattle.rds_encoder.specs.Entries.{Entry, Move, name_moves, restart_before, slot_of, text_moves}
 use Rattle.rds_encoder.specs.Plan.{OnAir, bytes_of, next_flag, on_air}
 use Rattle.rds_encoder.specs.Reply.{last_accepted}
 use Rattle.rds_encoder.specs.Sent.{next_address, turn_of}
-use Rattle.rds_encoder.specs.State.{EncoderState, HoldState, TextState}
+use Rattle.rds_encoder.specs.State.{EncoderState, HoldState, TextState, TrackState}
 use Rattle.rds_encoder.specs.Tags.{pair_on_air}
+
+-- the slots left of the silence
+abbrev pub silence_left : ℕ → List Move → ℕ
+silence_left m moves = restart_before moves + m - slot_of moves
 
 -- the slots left of a hold
 abbrev pub hold_left : ℕ → ℕ → Option ℕ → ℕ
@@ -18,6 +22,11 @@ pub record HoldsBack (m : ℕ) (hold : HoldState) (moves : List Move) : Type 0 w
   pub left : hold.left ≡ hold_left m (slot_of moves) (last_accepted m moves)
   pub flag : hold.next_flag ≡ next_flag m moves
 
+-- a service follows these moves, and keeps this of what is on air
+pub record Follows {V : Type 0} (m : ℕ) (kept : OnAir → V) (track : TrackState V) (moves : List Move) : Type 0 where
+  pub hold : HoldsBack m track.hold moves
+  pub on_air : track.on_air ≡ option_map kept (on_air m moves)
+
 -- the text on air with its next segment
 abbrev pub with_next : ℕ → List Move → OnAir → TextState
 with_next m moves air = record { bytes = air.bytes; next = next_address m moves air }
@@ -26,10 +35,16 @@ with_next m moves air = record { bytes = air.bytes; next = next_address m moves 
 pub record StandsAt (station : Head) (m : ℕ) (e : EncoderState) (entries : List Entry) : Type 0 where
   pub head : e.head ≡ station
   pub dwell : e.dwell ≡ m
-  pub silent : e.silent ≡ restart_before (text_moves entries) + m - slot_of (text_moves entries)
-  pub turn : e.turn ≡ turn_of m (text_moves entries) % 8
-  pub text_hold : HoldsBack m e.text_hold (text_moves entries)
-  pub name_hold : HoldsBack m e.name_hold (name_moves entries)
-  pub text : e.text ≡ option_map (with_next m (text_moves entries)) (on_air m (text_moves entries))
-  pub name : e.name ≡ option_map bytes_of (on_air m (name_moves entries))
+  pub silence : e.silence ≡ silence_left m (text_moves entries)
+  pub round : e.round ≡ turn_of m (text_moves entries) % 8
+  pub text : Follows m (with_next m (text_moves entries)) e.text (text_moves entries)
+  pub name : Follows m bytes_of e.name (name_moves entries)
   pub pair : e.pair ≡ pair_on_air m entries
+
+-- wherever the encoder stands, this holds of its station, of its dwell and of what it was told
+abbrev pub WhereItStands : EncoderState → (Head → ℕ → List Entry → Type 0) → Type 0
+WhereItStands e P = (station : Head) (m : ℕ) (entries : List Entry) → StandsAt station m e entries → P station m entries
+
+-- the encoder took the entry: it stands at what it was told before, and then the entry
+abbrev pub Takes : EncoderState → EncoderState → Entry → Type 0
+Takes old new entry = WhereItStands old (λ station m entries. StandsAt station m new (entry ∷ entries))

@@ -9,6 +9,11 @@ pub record HoldState : Type 0 where
   pub left : ℕ
   pub next_flag : Bool
 
+-- one service: its hold, and what of it is on air
+pub record TrackState (V : Type 0) : Type 0 where
+  pub hold : HoldState
+  pub on_air : Option V
+
 -- the text on air, and the address of its next segment
 pub record TextState : Type 0 where
   pub bytes : List ℕ
@@ -23,13 +28,12 @@ pub record IsTextState (t : TextState) : Type 0 where
 abbrev pub advanced : TextState → TextState
 advanced t = record { bytes = t.bytes; next = (t.next + 1) % segment_count (text_body t.bytes) }
 
+-- the place in the round is that of the next turn
 pub record EncoderState : Type 0 where
   pub head : Head
   pub dwell : ℕ
-  pub silent : ℕ
-  pub turn : ℕ
-  pub text_hold : HoldState
-  pub name_hold : HoldState
-  pub text : Option TextState
-  pub name : Option (List ℕ)
+  pub silence : ℕ
+  pub round : ℕ
+  pub text : TrackState TextState
+  pub name : TrackState (List ℕ)
   pub pair : Option PairFields

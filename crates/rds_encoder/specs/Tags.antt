@@ -1,17 +1,12 @@
 -- Pairs of tags: the reply to one that is set, and the one that is on air (this project's own rule: a pair
 -- belongs to the text for which it was accepted, and goes off air with it). Lists have the newest first.
-use Rattle.std.specs.Prelude.{◌+◌, ◌==◌, ◌||◌, ℕ, Bool, List, [], ◌∷◌, Option, Some, None, Ok, Err, is_ok, length, nat_le, if◌then◌else◌}
+use Rattle.std.specs.Prelude.{ℕ, List, [], ◌∷◌, Option, Some, None, Ok, Err, is_ok, length, if◌then◌else◌}
 use Rattle.rds_fields.specs.declared.pair.Which.TheVariants.{One, Two}
-use Rattle.rds_fields.specs.Tag.{PairFields, TagFields}
+use Rattle.rds_fields.specs.Tag.{PairFields, ends_in}
 use Rattle.rds_encoder.specs.declared.refusal.Refusal.TheVariants.{NoText, OutOfText}
 use Rattle.rds_encoder.specs.Entries.{Entry, Restart, SetText, SetName, SetTags, Tick, restart_before, slot_of, text_moves}
 use Rattle.rds_encoder.specs.Plan.{OnAir, on_air}
 use Rattle.rds_encoder.specs.Reply.{Reply, reply_to, unless_silent}
-
--- the tag ends in a text of n characters: the dummy does, of class 0; the length marker is the number of
--- characters less one (IEC 62106-6)
-abbrev pub ends_in : ℕ → TagFields → Bool
-ends_in n tag = tag.class == 0 || nat_le (tag.start + tag.extra + 1) n
 
 -- the reply to a pair for the text on air
 abbrev pub fitting_reply : PairFields → Option OnAir → Reply

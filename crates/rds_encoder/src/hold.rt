@@ -6,6 +6,7 @@ ghost use Rattle.rds_encoder.specs.Reply.{held_reply, last_accepted, reply_to};
 ghost use Rattle.rds_encoder.specs.Standing.{HoldsBack};
 
 use crate::Refusal;
+use rds_fields::Dwell;
 use std::marker::Model;
 
 /// For how many slots more one service holds its next text or name back, and the flag that it will have.
@@ -17,8 +18,11 @@ pub(crate) struct Hold {
 
 impl Model for Hold {
     ghost use Rattle.rds_encoder.specs.State.{HoldState};
+    ghost use Rattle.rds_encoder.specs.Codes.{hold_code};
 
     ghost Value = { HoldState };
+
+    ghost coded = { hold_code };
 
     ghost view = { λ h. record { left = h.left; next_flag = h.next_flag } };
 }
@@ -54,11 +58,11 @@ impl Hold {
     }
 
     /// A set is accepted: it goes on air, with the other flag.
-    pub(crate) fn accept(&mut self, dwell: u16)
+    pub(crate) fn accept(&mut self, dwell: Dwell)
         ensures { (moves : List Move) (x : List ℕ) → HoldsBack dwell self.old moves
             → reply_to dwell moves ≡ Ok tt → HoldsBack dwell self.new (Set x ∷ moves) }
     {
-        self.left = 2 * u32::from(dwell);
+        self.left = 2 * u32::from(dwell.get());
         self.next_flag = !self.next_flag;
     }
 
@@ -79,10 +83,10 @@ impl Hold {
     }
 
     /// Whether what is on air has been so for the dwell.
-    pub(crate) fn has_lasted(&self, dwell: u16) -> bool
+    pub(crate) fn has_lasted(&self, dwell: Dwell) -> bool
         ensures { (moves : List Move) (air : OnAir) → HoldsBack dwell self.now moves
             → on_air dwell moves ≡ Some air → result ≡ nat_le (air.start + dwell) (slot_of moves) }
     {
-        self.left <= u32::from(dwell)
+        self.left <= u32::from(dwell.get())
     }
 }

@@ -15,8 +15,12 @@
 mod encoder;
 mod hold;
 mod laws;
-mod on_air;
 mod refusal;
+mod round;
+mod silence;
+mod text_on_air;
+mod track;
+mod turn;
 mod wait;
 
 pub use encoder::Encoder;

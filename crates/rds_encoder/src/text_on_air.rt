@@ -1,10 +1,11 @@
 //! The text on air, segment by segment.
-ghost use Rattle.std.specs.Prelude.{◌≡◌};
+ghost use Rattle.std.specs.Prelude.{◌≡◌, option_map};
 ghost use Rattle.rds_fields.specs.declared.message.Message.{Message};
 ghost use Rattle.rds_assembly.specs.Body.{segment_of, text_body};
 ghost use Rattle.rds_assembly.specs.Value.{IsText};
 ghost use Rattle.rds_encoder.specs.State.{advanced};
 
+use crate::track::Track;
 use rds_assembly::Text;
 use rds_block::Place;
 use rds_fields::Message;
@@ -19,8 +20,11 @@ pub(crate) struct TextOnAir {
 
 impl Model for TextOnAir {
     ghost use Rattle.rds_encoder.specs.State.{IsTextState, TextState};
+    ghost use Rattle.rds_encoder.specs.Codes.{text_code};
 
     ghost Value = { TextState };
+
+    ghost coded = { text_code };
 
     ghost view = { λ t. record { bytes = t.text; next = t.next } };
 
@@ -60,5 +64,16 @@ impl TextOnAir {
         ensures { self.new ≡ advanced self.old }
     {
         self.next = (self.next + 1) % self.text.count();
+    }
+}
+
+impl Track<TextOnAir> {
+    /// The text on air goes on to its next segment.
+    pub(crate) fn advance(&mut self)
+        ensures { self.new ≡ record self.old { on_air = option_map advanced self.old.on_air } }
+    {
+        if let Some(text) = &mut self.on_air {
+            text.advance();
+        }
     }
 }

@@ -1,15 +1,11 @@
 use Rattle.std.proofs.Common.{◌∙◌, sym}
 use Rattle.rds_encoder.specs.Entries.{restart_before, slot_of, text_moves}
-use Rattle.rds_encoder.proofs.Replies.{passed_on, silence_over, silent_first}
+use Rattle.rds_encoder.proofs.Replies.{passed_on, silence_over}
 use Rattle.rds_encoder.proofs.encoder.Encoder.set_tags.Goals as goal
-
-pub returns-in_err-check_silence-clause-reply : goal.returns-in_err-check_silence-clause-reply
-returns-in_err-check_silence-clause-reply c station m entries st =
-    passed_on _ _ c.from_residual.ensures.1
-    ∙ sym (silent_first m (slot_of (text_moves entries)) (restart_before (text_moves entries)) _ _ (sym (c.in_err-check_silence.ensures station m entries st)))
 
 pub returns-in_err-check_tags-clause-reply : goal.returns-in_err-check_tags-clause-reply
 returns-in_err-check_tags-clause-reply c station m entries st =
+    let at = rw (← c.self.view_is) at st in
     passed_on _ _ c.from_residual-in_err-check_tags.ensures.1
     ∙ c.in_err-check_tags.ensures station m entries st
-    ∙ sym (silence_over m (slot_of (text_moves entries)) (restart_before (text_moves entries)) _ (sym (c.in_ok-check_silence.ensures station m entries st)))
+    ∙ sym (silence_over m (slot_of (text_moves entries)) (restart_before (text_moves entries)) _ (sym (c.in_ok-check.ensures m (text_moves entries) at.silence)))

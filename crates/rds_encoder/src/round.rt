@@ -1,0 +1,58 @@
+//! The round of eight turns.
+ghost use Rattle.std.specs.Prelude.{◌≡◌, ◌+◌, ◌%◌};
+ghost use Rattle.rds_encoder.specs.Round.{IsTurn, turn_in};
+
+use crate::turn::Turn;
+use std::marker::Model;
+
+/// The turns of a round, in order (this project's own schedule).
+const ROUND: [Turn; 8] = [
+    Turn::Text,
+    Turn::Name(0),
+    Turn::Text,
+    Turn::Name(1),
+    Turn::Text,
+    Turn::Announcement,
+    Turn::Text,
+    Turn::Tags,
+];
+
+/// The place in the round of the turn that is next.
+#[derive(Drop)]
+pub(crate) struct Round {
+    place: u8,
+}
+
+impl Model for Round {
+    ghost use Rattle.std.specs.Prelude.{◌<◌, ℕ};
+
+    ghost Value = { ℕ };
+
+    ghost view = { λ r. r.place };
+
+    ghost invariant = { λ r. r.place < 8 };
+}
+
+impl Round {
+    /// A round begins.
+    pub(crate) fn new() -> Round
+        ensures { result ≡ 0 }
+    {
+        Round { place: 0 }
+    }
+
+    /// The turn that is next.
+    pub(crate) fn turn(&self) -> Turn
+        ensures value { result ≡ turn_in self.now }
+        ensures own { IsTurn result }
+    {
+        ROUND[usize::from(self.place)]
+    }
+
+    /// Goes on to the turn after it; after the last comes the first.
+    pub(crate) fn advance(&mut self)
+        ensures { self.new ≡ (self.old + 1) % 8 }
+    {
+        self.place = (self.place + 1) % 8;
+    }
+}

@@ -1,0 +1,82 @@
+//! One service, texts or names: what of it is on air, and when it takes the next.
+ghost use Rattle.std.specs.Prelude.{◌≡◌, ◌+◌, ℕ, Bool, List, [], ◌∷◌, Option, Some, None, Ok, OnOk, OnErr, nat_le};
+ghost use Rattle.std.specs.Option.{option_copied};
+ghost use Rattle.rds_encoder.specs.Entries.{Move, Begin, Set, End, slot_of};
+ghost use Rattle.rds_encoder.specs.Plan.{OnAir, on_air};
+ghost use Rattle.rds_encoder.specs.Reply.{held_for, held_reply, last_accepted, reply_to};
+ghost use Rattle.rds_encoder.specs.Standing.{Follows, HoldsBack};
+
+use crate::Refusal;
+use crate::hold::Hold;
+use rds_fields::Dwell;
+use std::marker::Model;
+
+/// What of one service is on air, and for how long it holds the next back.
+#[derive(Drop)]
+pub(crate) struct Track<V> {
+    hold: Hold,
+    pub(crate) on_air: Option<V>,
+}
+
+impl<V> Model for Track<V> {
+    ghost use Rattle.rds_encoder.specs.State.{TrackState};
+    ghost use Rattle.rds_encoder.specs.Codes.{track_code};
+
+    ghost Value = { TrackState V };
+
+    ghost coded = { track_code V.code };
+
+    ghost view = { λ t. record { hold = t.hold; on_air = t.on_air } };
+}
+
+impl<V: Drop> Track<V> {
+    /// Nothing is on air.
+    pub(crate) fn new() -> Self
+        ensures first { (m : ℕ) (kept : OnAir → V) → Follows m kept result [] }
+        ensures again { (m : ℕ) (kept : OnAir → V) (moves : List Move)
+            → Follows m kept result (Begin ∷ moves) }
+    {
+        Track {
+            hold: Hold::new(),
+            on_air: None,
+        }
+    }
+
+    /// Puts the value on air in place of the one before, unless that one holds it back.
+    pub(crate) fn set(&mut self, value: V, dwell: Dwell) -> Result<(), Refusal>
+        ensures reply { (moves : List Move) → HoldsBack dwell self.old.hold moves
+            → result ≡ held_reply dwell (slot_of moves) (last_accepted dwell moves) }
+        ensures kept { OnErr result (self.new ≡ self.old) }
+        ensures value { OnOk result (self.new.on_air ≡ Some value) }
+        ensures hold { OnOk result ((moves : List Move) (x : List ℕ) → HoldsBack dwell self.old.hold moves
+            → reply_to dwell moves ≡ Ok tt → HoldsBack dwell self.new.hold (Set x ∷ moves)) }
+    {
+        self.hold.check()?;
+        self.hold.accept(dwell);
+        self.on_air = Some(value);
+        Ok(())
+    }
+
+    /// One slot ended.
+    pub(crate) fn end_slot(&mut self)
+        ensures hold { (m : ℕ) (free : Bool) (moves : List Move) → HoldsBack m self.old.hold moves
+            → HoldsBack m self.new.hold (End free ∷ moves) }
+        ensures on_air { self.new.on_air ≡ self.old.on_air }
+    {
+        self.hold.end_slot();
+    }
+
+    /// What is on air.
+    pub(crate) fn on_air(&self) -> Option<&V>
+        ensures { option_copied result ≡ self.now.on_air }
+    {
+        self.on_air.as_ref()
+    }
+
+    /// When it takes the next, and with which flag.
+    pub(crate) fn hold(&self) -> &Hold
+        ensures { result.now ≡ self.now.hold }
+    {
+        &self.hold
+    }
+}
