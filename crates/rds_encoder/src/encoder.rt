@@ -142,7 +142,7 @@ impl Encoder {
             (λ _ m entries. option_copied result ≡ option_map bytes_of (on_air m (text_moves entries))) }
         ensures text { IfSome result (λ x. IsText x.now) }
     {
-        Some(self.text.on_air()?.bytes())
+        Some(self.text.on_air.as_ref()?.bytes())
     }
 
     /// The name on air, lent: eight bytes, padded with spaces; `None` where none is.
@@ -151,7 +151,7 @@ impl Encoder {
             (λ _ m entries. option_copied result ≡ option_map bytes_of (on_air m (name_moves entries))) }
         ensures name { IfSome result (λ x. IsName x.now) }
     {
-        Some(self.name.on_air()?.bytes())
+        Some(self.name.on_air.as_ref()?.bytes())
     }
 
     /// The tags of the text on air, whether or not they are sent yet; `None` where it has none.
@@ -172,8 +172,8 @@ impl Encoder {
     {
         Wait {
             silent: self.silence.left(),
-            text: self.text.hold().left(),
-            name: self.name.hold().left(),
+            text: self.text.hold.left(),
+            name: self.name.hold.left(),
         }
     }
 
@@ -223,7 +223,7 @@ impl Encoder {
             (λ _ m entries. result ≡ text_segment m (text_moves entries) (on_air m (text_moves entries))) }
         ensures said { IfSome result (λ message. message ≢ Message.Other) }
     {
-        Some(self.text.on_air()?.segment(self.text.hold().flag()))
+        Some(self.text.on_air.as_ref()?.segment(self.text.hold.flag()))
     }
 
     /// A segment of the name on air.
@@ -233,9 +233,9 @@ impl Encoder {
             (λ _ m entries. result ≡ name_segment address (on_air m (name_moves entries))) }
         ensures said { IfSome result (λ message. message ≢ Message.Other) }
     {
-        let name = self.name.on_air()?;
+        let name = self.name.on_air.as_ref()?;
         Some(Message::Name {
-            flag: self.name.hold().flag(),
+            flag: self.name.hold.flag(),
             address: Place::new(address).unwrap(),
             bytes: name.segment(address),
         })
@@ -249,7 +249,7 @@ impl Encoder {
         ensures said { IfSome result (λ message. message ≢ Message.Other) }
     {
         let pair = self.tags()?;
-        if !self.text.hold().has_lasted(self.dwell) {
+        if !self.text.hold.has_lasted(self.dwell) {
             return None;
         }
         Some(Message::Tags(pair))

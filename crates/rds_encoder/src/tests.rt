@@ -2,10 +2,69 @@
 
 use super::*;
 use rds_assembly::{Name, Text};
-use rds_block::{Group, Place};
+use rds_block::Place;
 use rds_fields::{Dwell, Head, Tag, TagPair, Which};
 use std::process::Abort;
 use std::test::Fail;
+
+/// What is set.
+#[derive(Clone, Copy)]
+enum Set {
+    Text(Text),
+    Name(Name),
+    Tags(TagPair),
+}
+
+/// So many slots: what is set before the first of them ends, with each reply, and what each sends.
+#[derive(Clone, Copy)]
+struct Slots<'a> {
+    number: u32,
+    free: bool,
+    sets: &'a [(Set, Result<(), Refusal>)],
+    sent: Option<[u16; 4]>,
+}
+
+/// So many free slots.
+fn free<'a>(
+    number: u32,
+    sets: &'a [(Set, Result<(), Refusal>)],
+    sent: Option<[u16; 4]>,
+) -> Slots<'a> {
+    Slots {
+        number,
+        free: true,
+        sets,
+        sent,
+    }
+}
+
+/// So many slots that belong to other services, and send nothing of these.
+fn others<'a>(number: u32, sets: &'a [(Set, Result<(), Refusal>)]) -> Slots<'a> {
+    Slots {
+        number,
+        free: false,
+        sets,
+        sent: None,
+    }
+}
+
+/// Sets and ticks, row by row.
+fn play(rt: &impl Abort, encoder: &mut Encoder, rows: &[Slots]) {
+    for (row, slots) in rows.iter().enumerate() {
+        for (set, wanted) in slots.sets {
+            let reply = match *set {
+                Set::Text(text) => encoder.set_text(text),
+                Set::Name(name) => encoder.set_name(name),
+                Set::Tags(pair) => encoder.set_tags(pair),
+            };
+            assert_eq!(rt; reply, *wanted, "row {row}");
+        }
+        for _ in 0..slots.number {
+            let sent = encoder.tick(slots.free).map(|group| group.to_blocks());
+            assert_eq!(rt; sent, slots.sent, "row {row}");
+        }
+    }
+}
 
 /// An encoder of PI C201, TP 0, PTY 10 at a restart.
 fn restarted(dwell: u16) -> Result<Encoder, Fail> {
@@ -17,50 +76,67 @@ fn restarted(dwell: u16) -> Result<Encoder, Fail> {
     Ok(Encoder::new(head, Dwell::new(dwell).ok_or("dwell")?))
 }
 
-fn text(bytes: &[u8]) -> Result<Text, Fail> {
-    Ok(Text::new(bytes)?)
+fn text(bytes: &[u8]) -> Result<Set, Fail> {
+    Ok(Set::Text(Text::new(bytes)?))
 }
 
-/// A pair of a running item with toggle 0, the second tag the dummy; the first by class, start and length
-/// marker.
-fn pair(class: u8, start: u8, extra: u8) -> Result<TagPair, Fail> {
-    let one = Tag::new(class, start, extra)?;
-    let dummy = Tag::new(0, 0, 0)?;
-    Ok(TagPair::new(false, true, one, dummy)?)
+fn name(bytes: &[u8]) -> Result<Set, Fail> {
+    Ok(Set::Name(Name::new(bytes)?))
 }
 
-/// The words that the slot sends.
-fn sends(encoder: &mut Encoder, free: bool) -> Option<[u16; 4]> {
-    Some(encoder.tick(free)?.to_blocks())
+/// A pair of a running item with toggle 0; its tags by class, start and length marker.
+fn pair(one: (u8, u8, u8), two: (u8, u8, u8)) -> Result<TagPair, Fail> {
+    let one = Tag::new(one.0, one.1, one.2)?;
+    let two = Tag::new(two.0, two.1, two.2)?;
+    Ok(TagPair::new(false, true, one, two)?)
 }
 
-/// So many slots, free or not, that send nothing.
-fn sends_nothing(rt: &impl Abort, encoder: &mut Encoder, free: bool, slots: u32) {
-    for slot in 0..slots {
-        assert_eq!(rt; encoder.tick(free), None, "slot {slot}");
-    }
+fn wait(silent: u32, text: u32, name: u32) -> Wait {
+    Wait { silent, text, name }
 }
 
-/// The text `HI` with flag 0, and `YO` with each flag.
+const DUMMY: (u8, u8, u8) = (0, 0, 0);
+
+/// The text `HI` with flag 0 and with flag 1, and the text `YO`.
 const HI: [u16; 4] = [0xC201, 0x2140, 0x4849, 0x0D20];
+
+const HI_AGAIN: [u16; 4] = [0xC201, 0x2150, 0x4849, 0x0D20];
 
 const YO: [u16; 4] = [0xC201, 0x2140, 0x594F, 0x0D20];
 
 const YO_AGAIN: [u16; 4] = [0xC201, 0x2150, 0x594F, 0x0D20];
 
+/// The two segments of the name `JAZZ FM ` with flag 0, and then with flag 1.
+const JAZZ: [u16; 4] = [0xC201, 0xA140, 0x4A41, 0x5A5A];
+
+const FM: [u16; 4] = [0xC201, 0xA141, 0x2046, 0x4D20];
+
+const JAZZ_AGAIN: [u16; 4] = [0xC201, 0xA150, 0x4A41, 0x5A5A];
+
+const FM_AGAIN: [u16; 4] = [0xC201, 0xA151, 0x2046, 0x4D20];
+
+const ANNOUNCEMENT: [u16; 4] = [0xC201, 0x3156, 0x0000, 0x4BD7];
+
+/// The title `HI`.
+const TITLE: [u16; 4] = [0xC201, 0xB148, 0x2002, 0x0000];
+
 /// Silent for four slots; the text set in slot 4 is sent in it.
 #[test]
 fn silence_dwell_and_age(rt: HostRuntime) -> Result<(), Fail> {
     let mut encoder = restarted(4)?;
-    assert_eq!(rt; encoder.set_text(text(b"HI")?), Err(Refusal::Silent(4)));
-    sends_nothing(&rt, &mut encoder, true, 3);
-    assert_eq!(rt; encoder.set_text(text(b"HI")?), Err(Refusal::Silent(1)));
+    let hi = text(b"HI")?;
     assert_eq!(rt; encoder.text(), None);
-    sends_nothing(&rt, &mut encoder, true, 1);
-    assert_eq!(rt; encoder.set_text(text(b"HI")?), Ok(()));
+    play(
+        &rt,
+        &mut encoder,
+        &[
+            free(3, &[(hi, Err(Refusal::Silent(4)))], None),
+            free(1, &[(hi, Err(Refusal::Silent(1)))], None),
+            free(1, &[(hi, Ok(()))], Some(HI)),
+            others(4, &[]),
+        ],
+    );
     assert_eq!(rt; encoder.text(), Some(b"HI".as_slice()));
-    assert_eq!(rt; sends(&mut encoder, true), Some(HI));
-    sends_nothing(&rt, &mut encoder, false, 4);
     Ok(())
 }
 
@@ -68,16 +144,18 @@ fn silence_dwell_and_age(rt: HostRuntime) -> Result<(), Fail> {
 #[test]
 fn held_for_twice_the_dwell(rt: HostRuntime) -> Result<(), Fail> {
     let mut encoder = restarted(4)?;
-    sends_nothing(&rt, &mut encoder, false, 4);
-    let tags = pair(4, 0, 3)?;
-    assert_eq!(rt; encoder.set_tags(tags), Err(Refusal::NoText));
-    assert_eq!(rt; encoder.set_text(text(b"HI")?), Ok(()));
-    sends_nothing(&rt, &mut encoder, false, 7);
-    assert_eq!(rt; encoder.set_text(text(b"YO")?), Err(Refusal::Held(1)));
-    assert_eq!(rt; encoder.text(), Some(b"HI".as_slice()));
-    sends_nothing(&rt, &mut encoder, false, 1);
-    assert_eq!(rt; encoder.set_text(text(b"YO")?), Ok(()));
-    assert_eq!(rt; sends(&mut encoder, true), Some(YO_AGAIN));
+    let (hi, yo) = (text(b"HI")?, text(b"YO")?);
+    let tags = Set::Tags(pair((4, 0, 3), DUMMY)?);
+    play(
+        &rt,
+        &mut encoder,
+        &[
+            others(4, &[]),
+            others(7, &[(tags, Err(Refusal::NoText)), (hi, Ok(()))]),
+            others(1, &[(yo, Err(Refusal::Held(1)))]),
+            free(1, &[(yo, Ok(()))], Some(YO_AGAIN)),
+        ],
+    );
     Ok(())
 }
 
@@ -85,29 +163,55 @@ fn held_for_twice_the_dwell(rt: HostRuntime) -> Result<(), Fail> {
 #[test]
 fn restart_keeps_silence(rt: HostRuntime) -> Result<(), Fail> {
     let mut encoder = restarted(4)?;
-    sends_nothing(&rt, &mut encoder, true, 4);
-    assert_eq!(rt; encoder.set_text(text(b"HI")?), Ok(()));
-    assert_eq!(rt; sends(&mut encoder, true), Some(HI));
+    let (hi, yo) = (text(b"HI")?, text(b"YO")?);
+    play(
+        &rt,
+        &mut encoder,
+        &[free(4, &[], None), free(1, &[(hi, Ok(()))], Some(HI))],
+    );
     encoder = restarted(4)?;
     assert_eq!(rt; encoder.text(), None);
-    sends_nothing(&rt, &mut encoder, true, 3);
-    assert_eq!(rt; encoder.set_text(text(b"YO")?), Err(Refusal::Silent(1)));
-    sends_nothing(&rt, &mut encoder, true, 1);
-    assert_eq!(rt; encoder.set_text(text(b"YO")?), Ok(()));
-    assert_eq!(rt; sends(&mut encoder, true), Some(YO));
-    on_air_is_what_covers_the_slot();
+    play(
+        &rt,
+        &mut encoder,
+        &[
+            free(3, &[], None),
+            free(1, &[(yo, Err(Refusal::Silent(1)))], None),
+            free(1, &[(yo, Ok(()))], Some(YO)),
+        ],
+    );
     Ok(())
 }
 
-/// A tag of 64 characters ends in a text of 64 bytes, and not in one of 63.
+/// Tags that end in the text, and those that end one character behind it.
 #[test]
 fn refused_tags(rt: HostRuntime) -> Result<(), Fail> {
-    let whole = pair(1, 0, 63)?;
-    for (length, reply) in [(64, Ok(())), (63, Err(Refusal::OutOfText(Which::One)))] {
+    let whole = pair((1, 0, 63), DUMMY)?;
+    let title = pair((4, 0, 3), (1, 7, 7))?;
+    let late_title = pair((4, 0, 3), (1, 7, 8))?;
+    let late_both = pair((4, 15, 0), (1, 7, 8))?;
+    let last = pair(DUMMY, (1, 14, 0))?;
+    let rows = [
+        ([b'A'; 64].as_slice(), whole, Ok(())),
+        (&[b'A'; 63], whole, Err(Refusal::OutOfText(Which::One))),
+        (b"ABBA - WATERLOO", title, Ok(())),
+        (b"ABBA - WATERLOO", last, Ok(())),
+        (
+            b"ABBA - WATERLOO",
+            late_title,
+            Err(Refusal::OutOfText(Which::Two)),
+        ),
+        (
+            b"ABBA - WATERLOO",
+            late_both,
+            Err(Refusal::OutOfText(Which::One)),
+        ),
+    ];
+    for (bytes, pair, reply) in rows {
         let mut encoder = restarted(1)?;
-        sends_nothing(&rt, &mut encoder, true, 1);
-        assert_eq!(rt; encoder.set_text(text(&[b'A'; 64][..length])?), Ok(()));
-        assert_eq!(rt; encoder.set_tags(whole), reply);
+        play(&rt, &mut encoder, &[free(1, &[], None)]);
+        assert_eq!(rt; encoder.set_text(Text::new(bytes)?), Ok(()));
+        assert_eq!(rt; encoder.set_tags(pair), reply);
         assert_eq!(rt; encoder.tags().is_some(), reply.is_ok());
     }
     Ok(())
@@ -117,63 +221,71 @@ fn refused_tags(rt: HostRuntime) -> Result<(), Fail> {
 #[test]
 fn whole_round(rt: HostRuntime) -> Result<(), Fail> {
     let mut encoder = restarted(1)?;
-    let hi = text(b"HI")?;
-    let jazz = Name::new(b"JAZZ FM")?;
-    let title = pair(1, 0, 1)?;
+    let (hi, jazz) = (text(b"HI")?, name(b"JAZZ FM")?);
+    let title = pair((1, 0, 1), DUMMY)?;
+    let long = Set::Tags(pair((1, 0, 2), DUMMY)?);
+    let tags = Set::Tags(title);
 
-    assert_eq!(rt;
-        encoder.wait(),
-        Wait {
-            silent: 1,
-            text: 0,
-            name: 0
-        }
+    assert_eq!(rt; encoder.wait(), wait(1, 0, 0));
+    let silent = Err(Refusal::Silent(1));
+    play(
+        &rt,
+        &mut encoder,
+        &[
+            free(1, &[(hi, silent), (tags, silent), (jazz, silent)], None),
+            free(
+                1,
+                &[(tags, Err(Refusal::NoText)), (hi, Ok(())), (jazz, Ok(()))],
+                Some(HI),
+            ),
+        ],
     );
-    assert_eq!(rt; encoder.set_text(hi), Err(Refusal::Silent(1)));
-    assert_eq!(rt; encoder.set_tags(title), Err(Refusal::Silent(1)));
-    assert_eq!(rt; encoder.set_name(jazz), Err(Refusal::Silent(1)));
-    assert_eq!(rt; encoder.tick(true), None);
 
-    assert_eq!(rt; encoder.set_tags(title), Err(Refusal::NoText));
-    assert_eq!(rt; encoder.set_text(hi), Ok(()));
-    assert_eq!(rt; encoder.set_name(jazz), Ok(()));
     assert_eq!(rt; encoder.name(), Some(b"JAZZ FM ".as_slice()));
-    assert_eq!(rt; sends(&mut encoder, true), Some(HI));
-
-    assert_eq!(rt;
-        encoder.wait(),
-        Wait {
-            silent: 0,
-            text: 1,
-            name: 1
-        }
-    );
-    assert_eq!(rt; encoder.set_text(hi), Err(Refusal::Held(1)));
-    assert_eq!(rt; encoder.set_name(jazz), Err(Refusal::Held(1)));
-    assert_eq!(rt;
-        sends(&mut encoder, true),
-        Some([0xC201, 0xA140, 0x4A41, 0x5A5A])
-    );
-
-    assert_eq!(rt; encoder.set_text(hi), Ok(()));
-    assert_eq!(rt; encoder.set_tags(title), Ok(()));
-    assert_eq!(rt;
-        encoder.set_tags(pair(1, 0, 2)?),
-        Err(Refusal::OutOfText(Which::One))
+    assert_eq!(rt; encoder.wait(), wait(0, 1, 1));
+    let held = Err(Refusal::Held(1));
+    let out = Err(Refusal::OutOfText(Which::One));
+    play(
+        &rt,
+        &mut encoder,
+        &[
+            free(1, &[(hi, held), (jazz, held)], Some(JAZZ)),
+            free(
+                1,
+                &[(hi, Ok(())), (tags, Ok(())), (long, out)],
+                Some(HI_AGAIN),
+            ),
+            free(1, &[], Some(FM)),
+            free(1, &[], Some(HI_AGAIN)),
+            free(1, &[], Some(ANNOUNCEMENT)),
+            free(1, &[], Some(HI_AGAIN)),
+            free(1, &[], Some(TITLE)),
+        ],
     );
     assert_eq!(rt; encoder.tags(), Some(title));
-    let hi_again = [0xC201, 0x2150, 0x4849, 0x0D20];
-    let sent = [
-        hi_again,
-        [0xC201, 0xA141, 0x2046, 0x4D20],
-        hi_again,
-        [0xC201, 0x3156, 0x0000, 0x4BD7],
-        hi_again,
-        [0xC201, 0xB148, 0x2002, 0x0000],
-    ];
-    for words in sent {
-        assert_eq!(rt; sends(&mut encoder, true), Some(words));
-    }
+    Ok(())
+}
+
+/// The second name has flag 1, also where it is the same: at a dwell of 1 it is taken in slot 3, between its turns.
+#[test]
+fn second_name(rt: HostRuntime) -> Result<(), Fail> {
+    let mut encoder = restarted(1)?;
+    let jazz = name(b"JAZZ FM ")?;
+    play(
+        &rt,
+        &mut encoder,
+        &[
+            free(1, &[], None),
+            free(1, &[(jazz, Ok(()))], None),
+            free(1, &[], Some(JAZZ)),
+            free(1, &[(jazz, Ok(()))], None),
+            free(1, &[], Some(FM_AGAIN)),
+            free(1, &[], None),
+            free(1, &[], Some(ANNOUNCEMENT)),
+            free(3, &[], None),
+            free(1, &[], Some(JAZZ_AGAIN)),
+        ],
+    );
     Ok(())
 }
 
@@ -181,45 +293,58 @@ fn whole_round(rt: HostRuntime) -> Result<(), Fail> {
 #[test]
 fn tags_after_the_dwell(rt: HostRuntime) -> Result<(), Fail> {
     let mut encoder = restarted(16)?;
-    sends_nothing(&rt, &mut encoder, true, 16);
-    assert_eq!(rt; encoder.set_text(text(b"HI")?), Ok(()));
-    assert_eq!(rt; sends(&mut encoder, true), Some(HI));
-    assert_eq!(rt; encoder.set_tags(pair(1, 0, 1)?), Ok(()));
+    play(
+        &rt,
+        &mut encoder,
+        &[
+            free(16, &[], None),
+            free(1, &[(text(b"HI")?, Ok(()))], Some(HI)),
+        ],
+    );
+    assert_eq!(rt; encoder.set_tags(pair((1, 0, 1), DUMMY)?), Ok(()));
     for slot in 17..39 {
-        let number = sends(&mut encoder, true).map(|words| words[1] >> 12);
+        let number = encoder.tick(true).map(|group| group.number.get());
         assert!(rt; number != Some(11), "slot {slot}");
     }
-    assert_eq!(rt;
-        sends(&mut encoder, true),
-        Some([0xC201, 0xB148, 0x2002, 0x0000])
-    );
+    play(&rt, &mut encoder, &[free(1, &[], Some(TITLE))]);
     Ok(())
 }
 
-/// The counters stop at their limits: after 200,000 slots without a free one a set is taken and sent.
+/// The longest dwell: silent for it, and held back for twice as long. The counters stop at 0.
 #[test]
-fn long_run_without_a_free_slot(rt: HostRuntime) -> Result<(), Fail> {
-    let mut encoder = restarted(4)?;
-    sends_nothing(&rt, &mut encoder, false, 4);
-    assert_eq!(rt; encoder.set_text(text(b"HI")?), Ok(()));
-    sends_nothing(&rt, &mut encoder, false, 200_000);
-    assert_eq!(rt;
-        encoder.wait(),
-        Wait {
-            silent: 0,
-            text: 0,
-            name: 0
-        }
+fn longest_dwell(rt: HostRuntime) -> Result<(), Fail> {
+    let mut encoder = restarted(65535)?;
+    let (hi, yo) = (text(b"HI")?, text(b"YO")?);
+    assert_eq!(rt; encoder.wait(), wait(65535, 0, 0));
+    play(
+        &rt,
+        &mut encoder,
+        &[
+            others(65534, &[(hi, Err(Refusal::Silent(65535)))]),
+            others(1, &[(hi, Err(Refusal::Silent(1)))]),
+            free(
+                1,
+                &[(hi, Ok(())), (yo, Err(Refusal::Held(131_070)))],
+                Some(HI),
+            ),
+            others(131_068, &[(yo, Err(Refusal::Held(131_069)))]),
+            others(1, &[(yo, Err(Refusal::Held(1)))]),
+            others(70_000, &[]),
+        ],
     );
-    assert_eq!(rt; encoder.set_text(text(b"YO")?), Ok(()));
-    assert_eq!(rt; sends(&mut encoder, true), Some(YO_AGAIN));
+    assert_eq!(rt; encoder.wait(), wait(0, 0, 0));
+    play(
+        &rt,
+        &mut encoder,
+        &[free(1, &[(yo, Ok(()))], None), free(1, &[], Some(YO_AGAIN))],
+    );
     Ok(())
 }
 
 /// What a refusal prints.
 #[test]
 fn printed_refusals(rt: HostRuntime) -> Result<(), Fail> {
-    let printed = [
+    let rows = [
         (Refusal::Silent(3), "silent for 3 slots more"),
         (Refusal::Held(2), "held back for 2 slots more"),
         (Refusal::NoText, "no text is on air"),
@@ -232,8 +357,15 @@ fn printed_refusals(rt: HostRuntime) -> Result<(), Fail> {
             "the second tag does not end in the text",
         ),
     ];
-    for (refusal, words) in printed {
+    for (refusal, words) in rows {
         assert_eq!(rt; format!(in rt.alloc(); "{refusal}")?.as_str(), words);
     }
+    Ok(())
+}
+
+/// Laws do nothing when they run.
+#[test]
+fn laws(_rt: HostRuntime) -> Result<(), Fail> {
+    on_air_is_what_covers_the_slot();
     Ok(())
 }

@@ -1,9 +1,8 @@
 //! One service, texts or names: what of it is on air, and when it takes the next.
-ghost use Rattle.std.specs.Prelude.{◌≡◌, ◌+◌, ℕ, Bool, List, [], ◌∷◌, Option, Some, None, Ok, OnOk, OnErr, nat_le};
-ghost use Rattle.std.specs.Option.{option_copied};
+ghost use Rattle.std.specs.Prelude.{◌≡◌, ◌+◌, ℕ, Bool, List, [], ◌∷◌, Some, Ok, OnOk, OnErr};
 ghost use Rattle.rds_encoder.specs.Entries.{Move, Begin, Set, End, slot_of};
-ghost use Rattle.rds_encoder.specs.Plan.{OnAir, on_air};
-ghost use Rattle.rds_encoder.specs.Reply.{held_for, held_reply, last_accepted, reply_to};
+ghost use Rattle.rds_encoder.specs.Plan.{OnAir};
+ghost use Rattle.rds_encoder.specs.Reply.{held_reply, last_accepted, reply_to};
 ghost use Rattle.rds_encoder.specs.Standing.{Follows, HoldsBack};
 
 use crate::Refusal;
@@ -14,7 +13,7 @@ use std::marker::Model;
 /// What of one service is on air, and for how long it holds the next back.
 #[derive(Drop)]
 pub(crate) struct Track<V> {
-    hold: Hold,
+    pub(crate) hold: Hold,
     pub(crate) on_air: Option<V>,
 }
 
@@ -64,19 +63,5 @@ impl<V: Drop> Track<V> {
         ensures on_air { self.new.on_air ≡ self.old.on_air }
     {
         self.hold.end_slot();
-    }
-
-    /// What is on air.
-    pub(crate) fn on_air(&self) -> Option<&V>
-        ensures { option_copied result ≡ self.now.on_air }
-    {
-        self.on_air.as_ref()
-    }
-
-    /// When it takes the next, and with which flag.
-    pub(crate) fn hold(&self) -> &Hold
-        ensures { result.now ≡ self.now.hold }
-    {
-        &self.hold
     }
 }

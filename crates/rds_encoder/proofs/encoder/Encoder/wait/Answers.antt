@@ -1,15 +1,14 @@
-use Rattle.std.proofs.Common.{ap, ◌∙◌, sym}
+use Rattle.std.proofs.Common.{◌∙◌, sym}
 use Rattle.rds_encoder.specs.Entries.{name_moves, text_moves}
-use Rattle.rds_encoder.specs.State.{HoldState}
 use Rattle.rds_encoder.proofs.Replies.{left_of_hold}
 use Rattle.rds_encoder.proofs.encoder.Encoder.wait.Goals as goal
 
 pub returns-clause-text : goal.returns-clause-text
 returns-clause-text c station m entries st =
-    let at = rw (← c.self.view_is) at st in
-    c.left-2.ensures ∙ ap (λ (h : HoldState). h.left) c.hold.ensures ∙ at.text.hold.left ∙ sym (left_of_hold m (text_moves entries))
+    let at = rw (← c.self.view_is, ← c.self-inside.view_is) at st in
+    c.left-2.ensures ∙ at.text.hold.left ∙ sym (left_of_hold m (text_moves entries))
 
 pub returns-clause-name : goal.returns-clause-name
 returns-clause-name c station m entries st =
-    let at = rw (← c.self.view_is) at st in
-    c.left-3.ensures ∙ ap (λ (h : HoldState). h.left) c.hold-2.ensures ∙ at.name.hold.left ∙ sym (left_of_hold m (name_moves entries))
+    let at = rw (← c.self.view_is, ← c.self-inside.view_is) at st in
+    c.left-3.ensures ∙ at.name.hold.left ∙ sym (left_of_hold m (name_moves entries))
