@@ -6,3 +6,7 @@ pub mod Sets
 pub mod Groups
 pub mod Covered
 pub mod WorkedRows
+pub mod Numbers
+pub mod Spacing
+pub mod Lasting
+pub mod Sending

@@ -40,9 +40,9 @@ with_pair m entries pair h = by_air (on_air m (text_moves entries)) refl
     by_air (Some air) e = (air, e)
 
 -- the tags are due once the text has been on air for the dwell
-pub due : (m now : ℕ) (on_air : Option OnAir) (held : Option PairFields) (air : OnAir) (pair : PairFields) (lasted : Bool) → on_air ≡ Some air → held ≡ Some pair
-    → lasted ≡ nat_le (air.start + m) now → lasted ≡ true → Some (Tags pair) ≡ tags_due m now on_air held
-due m now on_air held air pair lasted on has test done = rw (on, has, sym test, done) refl
+pub due : (m now : ℕ) (on_air : Option OnAir) (told : Option PairFields) (air : OnAir) (pair : PairFields) (lasted : Bool) → on_air ≡ Some air → told ≡ Some pair
+    → lasted ≡ nat_le (air.start + m) now → lasted ≡ true → Some (Tags pair) ≡ tags_due m now on_air told
+due m now on_air told air pair lasted on has test done = rw (on, has, sym test, done) refl
 
 -- the reply to a pair, where none is on air, or a text of these bytes
 pub no_text : (pair : PairFields) (o : Option OnAir) → None ≡ option_map bytes_of o → Err NoText ≡ fitting_reply pair o

@@ -48,11 +48,11 @@ left_of_hold m moves = by_test (nat_lt (slot_of moves) (restart_before moves + m
   where
     by_last : (o : Option ℕ) → held_for (held_reply m (slot_of moves) o) ≡ hold_left m (slot_of moves) o
     by_last None = refl
-    by_last (Some a) = by_held (nat_lt (slot_of moves) (a + 2 * m)) refl
+    by_last (Some a) = by_hold (nat_lt (slot_of moves) (a + 2 * m)) refl
       where
-        by_held : (b : Bool) → nat_lt (slot_of moves) (a + 2 * m) ≡ b → held_for (held_reply m (slot_of moves) (Some a)) ≡ hold_left m (slot_of moves) (Some a)
-        by_held true t = rw t refl
-        by_held false t =
+        by_hold : (b : Bool) → nat_lt (slot_of moves) (a + 2 * m) ≡ b → held_for (held_reply m (slot_of moves) (Some a)) ≡ hold_left m (slot_of moves) (Some a)
+        by_hold true t = rw t refl
+        by_hold false t =
             let over : a + 2 * m - slot_of moves ≡ 0 = grind (arith, nat_tests) in
             rw t (sym over)
 

@@ -1,6 +1,6 @@
 -- One more slot that ended: what the encoder goes on to hold stands at the longer list.
 use Rattle.std.proofs.Common.{◌≡◌, ◌≢◌, ℕ, zero, suc, ◌+◌, ◌-◌, ◌%◌, ◌<◌, ◌≤◌, List, [], ◌∷◌, Bool, true, false, nat_le, Option, Some, None, refl, sym, ap, ◌∙◌, arith, option_map, ◌⊎◌, inl, inr}
-use Rattle.std.specs.Prelude.{◌&&◌, ◌==◌}
+use Rattle.std.specs.Prelude.{◌&&◌, ◌↔◌}
 use Rattle.std.proofs.Math.Nat.{suc-mod}
 use Rattle.std.proofs.lemmas.Bool.{and_right}
 use Rattle.rds_encoder.proofs.OnAir.{air_since}
@@ -105,6 +105,13 @@ text_or_other (suc (suc (suc (suc (suc zero))))) h = inr (refl, λ e. cc)
 text_or_other (suc (suc (suc (suc (suc (suc zero)))))) h = inl (refl, refl)
 text_or_other (suc (suc (suc (suc (suc (suc (suc zero))))))) h = inr (refl, λ e. cc)
 text_or_other (suc (suc (suc (suc (suc (suc (suc (suc n)))))))) h = absurd (omega arith)
+
+pub even_is_text : (number : ℕ) → (number % 2 ≡ 0) ↔ (turn_in (number % 8) ≡ Text)
+even_is_text number = by_turn (text_or_other (number % 8) (omega arith))
+  where
+    by_turn : ((number % 8 % 2 ≡ 0) × (turn_in (number % 8) ≡ Text)) ⊎ ((number % 8 % 2 ≡ 1) × (turn_in (number % 8) ≢ Text)) → (number % 2 ≡ 0) ↔ (turn_in (number % 8) ≡ Text)
+    by_turn (inl even) = ((λ e. even.1), (λ e. omega (arith, even.0)))
+    by_turn (inr odd) = ((λ e. absurd (omega (arith, odd.0, e))), (λ e. absurd (odd.1 e)))
 
 -- the encoder between the end of the turn and the end of the slot
 pub record AfterTurn (station : Head) (m : ℕ) (free : Bool) (entries : List Entry) (e : EncoderState) : Type 0 where

@@ -74,13 +74,13 @@ sent_to_8 = refl
 planned_to_8 : plan_of 4 8 (text_moves accepted_in_4) ≡ record { start = 4; end = 8; flag = false; bytes = hi } ∷ []
 planned_to_8 = refl
 
--- held for twice the dwell: a text that was accepted in slot 4 holds the next one back to slot 11, at a dwell
--- of 4
+-- held back for twice the dwell: a text that was accepted in slot 4 holds the next one back to slot 11, at a
+-- dwell of 4
 abbrev reaches_11 : List Entry
 reaches_11 = other_slots 7 ++ SetText hi ∷ other_slots 4
 
-held_in_11 : reply_to 4 (text_moves reaches_11) ≡ Err (Held 1)
-held_in_11 = refl
+held_back_in_11 : reply_to 4 (text_moves reaches_11) ≡ Err (Held 1)
+held_back_in_11 = refl
 
 abbrev reaches_12 : List Entry
 reaches_12 = Tick false ∷ SetText yo ∷ reaches_11
@@ -143,11 +143,11 @@ no_text_in_1 = refl
 abbrev to_slot_2 : List Entry
 to_slot_2 = Tick true ∷ SetName jazz ∷ SetText hi ∷ to_slot_1
 
-text_held_in_2 : reply_to 1 (text_moves to_slot_2) ≡ Err (Held 1)
-text_held_in_2 = refl
+text_held_back_in_2 : reply_to 1 (text_moves to_slot_2) ≡ Err (Held 1)
+text_held_back_in_2 = refl
 
-name_held_in_2 : reply_to 1 (name_moves to_slot_2) ≡ Err (Held 1)
-name_held_in_2 = refl
+name_held_back_in_2 : reply_to 1 (name_moves to_slot_2) ≡ Err (Held 1)
+name_held_back_in_2 = refl
 
 abbrev to_slot_3 : List Entry
 to_slot_3 = SetTags title ∷ SetText hi ∷ Tick true ∷ to_slot_2

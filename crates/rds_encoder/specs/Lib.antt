@@ -7,3 +7,5 @@ pub mod Sent
 pub mod State
 pub mod Codes
 pub mod Standing
+pub mod Spaced
+pub mod Laws

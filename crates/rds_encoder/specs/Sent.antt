@@ -19,8 +19,8 @@ use Rattle.rds_encoder.specs.Tags.{pair_on_air}
 abbrev pub one_if : Bool → ℕ
 one_if test = if test then 1 else 0
 
--- how many slots there were from slot a on that meet a test: of whether the slot was free, and of the moves before
--- its end
+-- how many slots there were from slot a on that meet a test: of whether the slot was free, and of the moves
+-- before its end
 abbrev pub count_from : (Bool → List Move → Bool) → ℕ → List Move → ℕ
 count_from test a [] = 0
 count_from test a (Begin ∷ before) = count_from test a before

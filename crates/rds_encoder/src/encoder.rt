@@ -83,7 +83,8 @@ impl Encoder {
     /// `Silent` for the dwell after a restart, then `Held` for twice the dwell after the text before (this
     /// project's own rule), each with the slots that are left.
     pub fn set_text(&mut self, text: Text) -> Result<(), Refusal>
-        ensures reply { WhereItStands self.old (λ _ m entries. result ≡ reply_to m (text_moves entries)) }
+        ensures reply { WhereItStands self.old
+            (λ _ m entries. result ≡ reply_to m (text_moves entries)) }
         ensures stands { Takes self.old self.new (SetText text) }
         ensures kept { OnErr result (self.new ≡ self.old) }
     {
@@ -99,7 +100,8 @@ impl Encoder {
     /// `Silent` for the dwell after a restart, then `Held` for twice the dwell after the name before (this
     /// project's own rule), each with the slots that are left.
     pub fn set_name(&mut self, name: Name) -> Result<(), Refusal>
-        ensures reply { WhereItStands self.old (λ _ m entries. result ≡ reply_to m (name_moves entries)) }
+        ensures reply { WhereItStands self.old
+            (λ _ m entries. result ≡ reply_to m (name_moves entries)) }
         ensures stands { Takes self.old self.new (SetName name) }
         ensures kept { OnErr result (self.new ≡ self.old) }
     {
@@ -139,7 +141,8 @@ impl Encoder {
     /// The text on air, lent: up to 64 bytes; `None` where none is.
     pub fn text(&self) -> Option<&[u8]>
         ensures on_air { WhereItStands self.now
-            (λ _ m entries. option_copied result ≡ option_map bytes_of (on_air m (text_moves entries))) }
+            (λ _ m entries. option_copied result
+            ≡ option_map bytes_of (on_air m (text_moves entries))) }
         ensures text { IfSome result (λ x. IsText x.now) }
     {
         Some(self.text.on_air.as_ref()?.bytes())
@@ -148,7 +151,8 @@ impl Encoder {
     /// The name on air, lent: eight bytes, padded with spaces; `None` where none is.
     pub fn name(&self) -> Option<&[u8]>
         ensures on_air { WhereItStands self.now
-            (λ _ m entries. option_copied result ≡ option_map bytes_of (on_air m (name_moves entries))) }
+            (λ _ m entries. option_copied result
+            ≡ option_map bytes_of (on_air m (name_moves entries))) }
         ensures name { IfSome result (λ x. IsName x.now) }
     {
         Some(self.name.on_air.as_ref()?.bytes())
@@ -196,7 +200,8 @@ impl Encoder {
 
     /// Whether the slot has a turn.
     fn has_turn(&self, free: bool) -> bool
-        ensures { WhereItStands self.now (λ _ m entries. result ≡ is_turn m free (text_moves entries)) }
+        ensures { WhereItStands self.now
+            (λ _ m entries. result ≡ is_turn m free (text_moves entries)) }
     {
         free && self.silence.is_over()
     }
@@ -220,7 +225,8 @@ impl Encoder {
     /// The next segment of the text on air.
     fn text_segment(&self) -> Option<Message>
         ensures sent { WhereItStands self.now
-            (λ _ m entries. result ≡ text_segment m (text_moves entries) (on_air m (text_moves entries))) }
+            (λ _ m entries. result
+            ≡ text_segment m (text_moves entries) (on_air m (text_moves entries))) }
         ensures said { IfSome result (λ message. message ≢ Message.Other) }
     {
         Some(self.text.on_air.as_ref()?.segment(self.text.hold.flag()))

@@ -1,16 +1,49 @@
-//! What holds of all broadcasts.
-ghost use Rattle.std.specs.Prelude.{◌≡◌, ◌<◌, ℕ, List, Option, Some};
-ghost use Rattle.rds_encoder.specs.Entries.{Move, slot_of};
-ghost use Rattle.rds_encoder.specs.Plan.{Broadcast, Covers, HasNumber, OnAir, ending_in, endless, on_air, plan_of};
+//! What holds of all broadcasts, and of all that is sent.
+ghost use Rattle.rds_encoder.specs.Laws.{ANameSegmentIsOfTheNameOnAir, ANumberIsBelowTheLength, ANumberNamesOne, ATextSegmentIsOfTheTextOnAir, EachNumberNamesOne, EvenTurnsAreTheTexts, OnlyWhatIsOnAirCoversTheSlot, SpacedAreFarApart, SpacedAreInOrder, SpacedOfOneFlagAreFarApart, TagsAreOfTheTextOnAir, ThePairEndsInTheText, ThePlanIsSpaced, WhatIsOnAirBegan, WhatIsOnAirIsPlanned, WhatIsOnAirWasOnAir, WhatIsPlannedWasAccepted, WhatWasOnAirStaysPlanned};
 
 /// What is on air in the slot that is reached is the broadcast of the plan that covers the slot; where none
 /// covers it, nothing is on air.
 pub fn on_air_is_what_covers_the_slot()
-    ensures planned { (m : ℕ) (moves : List Move) (air : OnAir) → on_air m moves ≡ Some air
-        → (k : ℕ) × HasNumber (plan_of m (slot_of moves) moves) k (ending_in (slot_of moves) air) }
-    ensures covers { (m : ℕ) (moves : List Move) (air : OnAir) → on_air m moves ≡ Some air
-        → Covers (ending_in (slot_of moves) air) (slot_of moves) }
-    ensures only { (m : ℕ) (moves : List Move) (k : ℕ) (b : Broadcast) → 0 < m
-        → HasNumber (plan_of m (slot_of moves) moves) k b → Covers b (slot_of moves)
-        → on_air m moves ≡ Some (endless b) }
+    ensures planned { WhatIsOnAirIsPlanned }
+    ensures only { OnlyWhatIsOnAirCoversTheSlot }
+{}
+
+/// What is on air began after the silence, and was on air in each slot since.
+pub fn on_air_from_its_start_on()
+    ensures began { WhatIsOnAirBegan }
+    ensures was { WhatIsOnAirWasOnAir }
+{}
+
+/// What was on air as a slot ended is planned, whatever came later, and what is planned was accepted.
+pub fn planned_is_what_was_on_air()
+    ensures stays { WhatWasOnAirStaysPlanned }
+    ensures accepted { WhatIsPlannedWasAccepted }
+{}
+
+/// Broadcasts do not overlap, and stand so far apart that the flag tells neighbours from each other.
+pub fn broadcasts_are_spaced()
+    ensures spaced { ThePlanIsSpaced }
+    ensures order { SpacedAreInOrder }
+    ensures far { SpacedAreFarApart }
+    ensures one_flag { SpacedOfOneFlagAreFarApart }
+{}
+
+/// The numbers below the length of a plan name one broadcast each.
+pub fn numbers_name_broadcasts()
+    ensures one { ANumberNamesOne }
+    ensures below { ANumberIsBelowTheLength }
+    ensures each { EachNumberNamesOne }
+{}
+
+/// What is sent is of what is on air, and tags that are sent end in their text.
+pub fn sent_is_of_what_is_on_air()
+    ensures text { ATextSegmentIsOfTheTextOnAir }
+    ensures name { ANameSegmentIsOfTheNameOnAir }
+    ensures tags { TagsAreOfTheTextOnAir }
+    ensures ends { ThePairEndsInTheText }
+{}
+
+/// The turns with an even number are the text's.
+pub fn even_turns_are_the_texts()
+    ensures { EvenTurnsAreTheTexts }
 {}

@@ -15,7 +15,7 @@ enum Set {
     Tags(TagPair),
 }
 
-/// So many slots: what is set before the first of them ends, with each reply, and what each sends.
+/// So many slots: what is set before the first of them ends, with each reply, and what each of them sends.
 #[derive(Clone, Copy)]
 struct Slots<'a> {
     number: u32,
@@ -243,13 +243,13 @@ fn whole_round(rt: HostRuntime) -> Result<(), Fail> {
 
     assert_eq!(rt; encoder.name(), Some(b"JAZZ FM ".as_slice()));
     assert_eq!(rt; encoder.wait(), wait(0, 1, 1));
-    let held = Err(Refusal::Held(1));
+    let held_back = Err(Refusal::Held(1));
     let out = Err(Refusal::OutOfText(Which::One));
     play(
         &rt,
         &mut encoder,
         &[
-            free(1, &[(hi, held), (jazz, held)], Some(JAZZ)),
+            free(1, &[(hi, held_back), (jazz, held_back)], Some(JAZZ)),
             free(
                 1,
                 &[(hi, Ok(())), (tags, Ok(())), (long, out)],
@@ -266,7 +266,7 @@ fn whole_round(rt: HostRuntime) -> Result<(), Fail> {
     Ok(())
 }
 
-/// The second name has flag 1, also where it is the same: at a dwell of 1 it is taken in slot 3, between its turns.
+/// The second name has flag 1, also where it is the same: at a dwell of 1, in slot 3, between two turns of names.
 #[test]
 fn second_name(rt: HostRuntime) -> Result<(), Fail> {
     let mut encoder = restarted(1)?;
@@ -367,5 +367,11 @@ fn printed_refusals(rt: HostRuntime) -> Result<(), Fail> {
 #[test]
 fn laws(_rt: HostRuntime) -> Result<(), Fail> {
     on_air_is_what_covers_the_slot();
+    on_air_from_its_start_on();
+    planned_is_what_was_on_air();
+    broadcasts_are_spaced();
+    numbers_name_broadcasts();
+    sent_is_of_what_is_on_air();
+    even_turns_are_the_texts();
     Ok(())
 }

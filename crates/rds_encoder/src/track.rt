@@ -47,8 +47,9 @@ impl<V: Drop> Track<V> {
             → result ≡ held_reply dwell (slot_of moves) (last_accepted dwell moves) }
         ensures kept { OnErr result (self.new ≡ self.old) }
         ensures value { OnOk result (self.new.on_air ≡ Some value) }
-        ensures hold { OnOk result ((moves : List Move) (x : List ℕ) → HoldsBack dwell self.old.hold moves
-            → reply_to dwell moves ≡ Ok tt → HoldsBack dwell self.new.hold (Set x ∷ moves)) }
+        ensures hold { OnOk result ((moves : List Move) (x : List ℕ)
+            → HoldsBack dwell self.old.hold moves → reply_to dwell moves ≡ Ok tt
+            → HoldsBack dwell self.new.hold (Set x ∷ moves)) }
     {
         self.hold.check()?;
         self.hold.accept(dwell);

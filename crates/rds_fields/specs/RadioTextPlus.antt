@@ -1,5 +1,5 @@
--- How RadioText Plus is announced: by the code of group type 11A, which carries its tags (IEC 62106, group 3A), and by
--- its application identification (IEC 62106-6).
+-- How RadioText Plus is announced: by the code of group type 11A, which carries its tags (IEC 62106, group 3A),
+-- and by its application identification (IEC 62106-6).
 use Rattle.std.specs.Prelude.{ℕ}
 use Rattle.rds_fields.specs.declared.message.Message.{Message}
 use Rattle.rds_fields.specs.declared.message.Message.TheVariants.{Announce}

@@ -1,6 +1,6 @@
 -- A tag names a piece of the text: its class, the place of its first character from 0, and a length
 -- marker, the number of its characters less one (IEC 62106-6, RadioText Plus).
-use Rattle.std.specs.Prelude.{◌≡◌, ℕ, ◌+◌, ◌<◌, ◌==◌, ◌||◌, ◌&&◌, List, Bool, Option, Some, None, length, take, drop, nat_le, nat_lt, if◌then◌else◌}
+use Rattle.std.specs.Prelude.{◌≡◌, ℕ, ◌+◌, ◌<◌, ◌==◌, ◌||◌, ◌&&◌, List, Bool, true, Option, Some, None, length, take, drop, nat_le, nat_lt, if◌then◌else◌}
 
 -- the three numbers of a tag
 pub record TagFields : Type 0 where
@@ -36,6 +36,11 @@ end_of tag = tag.start + tag.extra + 1
 -- the tag ends in a text of n characters; the dummy, which names no piece, ends in every text
 abbrev pub ends_in : ℕ → TagFields → Bool
 ends_in n tag = tag.class == 0 || nat_le (end_of tag) n
+
+-- both tags of a pair end in a text of n characters
+pub record BothEndIn (n : ℕ) (pair : PairFields) : Type 0 where
+  pub one : ends_in n pair.one ≡ true
+  pub two : ends_in n pair.two ≡ true
 
 -- the piece that a tag names in a text: none where it is the dummy, or does not end in the text
 abbrev pub piece_in : List ℕ → TagFields → Option (List ℕ)

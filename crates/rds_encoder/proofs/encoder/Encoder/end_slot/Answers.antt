@@ -1,4 +1,4 @@
-use Rattle.std.proofs.Common.{ap, ◌∙◌, sym}
+use Rattle.std.proofs.Common.{◌∙◌, sym}
 use Rattle.rds_encoder.specs.Entries.{name_moves, text_moves}
 use Rattle.rds_encoder.proofs.Turns.{AfterTurn, no_turn, slot_over, turn_over}
 use Rattle.rds_encoder.proofs.encoder.Encoder.end_slot.Goals as goal

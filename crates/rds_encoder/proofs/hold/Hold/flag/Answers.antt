@@ -5,5 +5,5 @@ use Rattle.rds_encoder.proofs.hold.Hold.flag.Goals as goal
 
 pub returns : goal.returns
 returns c m moves air h on =
-    let held = rw (← c.self.view_is) at h in
-    ap not held.flag ∙ flag_on_air m moves air on
+    let hold = rw (← c.self.view_is) at h in
+    ap not hold.flag ∙ flag_on_air m moves air on

@@ -1,0 +1,58 @@
+-- Broadcasts by their numbers.
+use Rattle.std.proofs.Common.{◌≡◌, ◌+◌, ◌-◌, ◌<◌, ◌≤◌, ℕ, zero, suc, List, [], ◌∷◌, length, refl, sym, ◌∙◌, subst, inl, inr, arith}
+use Rattle.std.proofs.lemmas.Bool.{cases_lt}
+use Rattle.rds_encoder.specs.Plan.{Broadcast, HasNumber}
+use Rattle.rds_encoder.specs.Spaced.{IsSpaced}
+
+pub below : (plan : List Broadcast) (k : ℕ) (b : Broadcast) → HasNumber plan k b → k < length plan
+below [] k b p = absurd p
+below (c ∷ older) k b (inl p) = omega arith
+below (c ∷ older) k b (inr p) = omega (arith, below older k b p)
+
+pub only_one : (plan : List Broadcast) (k : ℕ) (a b : Broadcast) → HasNumber plan k a → HasNumber plan k b → a ≡ b
+only_one [] k a b p q = absurd p
+only_one (c ∷ older) k a b (inl p) (inl q) = p.1 ∙ sym q.1
+only_one (c ∷ older) k a b (inl p) (inr q) = absurd (omega (arith, below older k b q))
+only_one (c ∷ older) k a b (inr p) (inl q) = absurd (omega (arith, below older k a p))
+only_one (c ∷ older) k a b (inr p) (inr q) = only_one older k a b p q
+
+pub there : (plan : List Broadcast) (k : ℕ) → k < length plan → (b : Broadcast) × HasNumber plan k b
+there [] k h = absurd (omega arith)
+there (c ∷ older) k h = elim (cases_lt k (length older)) [
+  | inl less ↦ (let w = there older k less in (w.0, inr w.1))
+  | inr more ↦ (c, inl (omega arith, refl))
+]
+
+at_number : (plan : List Broadcast) (k l : ℕ) (b : Broadcast) → k ≡ l → HasNumber plan k b → HasNumber plan l b
+at_number plan k l b e p = subst (λ (n : ℕ). HasNumber plan n b) e p
+
+-- the one before a broadcast
+before_it : (plan : List Broadcast) (k l : ℕ) (b : Broadcast) → HasNumber plan l b → k < l → (a : Broadcast) × HasNumber plan k a
+before_it plan k l b q h = there plan k (omega (arith, below plan l b q))
+
+ordered_by : (d : ℕ) (plan : List Broadcast) (n k : ℕ) (a b : Broadcast) → IsSpaced d plan → HasNumber plan k a → HasNumber plan (k + 1 + n) b → a.end < b.start
+ordered_by d plan zero k a b s p q = s.order k a b p (at_number plan _ _ b (omega arith) q)
+ordered_by d plan (suc n) k a b s p q =
+    let w = before_it plan (k + 1 + n) (k + 1 + suc n) b q (omega arith) in
+    let rest = ordered_by d plan n k a w.0 s p w.1 in
+    omega (arith, rest, s.lasts (k + 1 + n) w.0 w.1, s.order (k + 1 + n) w.0 b w.1 (at_number plan _ _ b (omega arith) q))
+
+pub ordered : (d : ℕ) (plan : List Broadcast) (k l : ℕ) (a b : Broadcast) → IsSpaced d plan → HasNumber plan k a → HasNumber plan l b → k < l → a.end < b.start
+ordered d plan k l a b s p q h = (let e : l ≡ k + 1 + (l - (k + 1)) = omega arith in ordered_by d plan (l - (k + 1)) k a b s p (at_number plan _ _ b e q))
+
+far_by : (d : ℕ) (plan : List Broadcast) (n k : ℕ) (a b : Broadcast) → IsSpaced d plan → HasNumber plan k a → HasNumber plan (k + 2 + n) b → a.end + d ≤ b.start
+far_by d plan zero k a b s p q = s.far k a b p (at_number plan _ _ b (omega arith) q)
+far_by d plan (suc n) k a b s p q =
+    let w = before_it plan (k + 2 + n) (k + 2 + suc n) b q (omega arith) in
+    let rest = far_by d plan n k a w.0 s p w.1 in
+    omega (arith, rest, s.lasts (k + 2 + n) w.0 w.1, s.order (k + 2 + n) w.0 b w.1 (at_number plan _ _ b (omega arith) q))
+
+pub far_apart : (d : ℕ) (plan : List Broadcast) (k l : ℕ) (a b : Broadcast) → IsSpaced d plan → HasNumber plan k a → HasNumber plan l b → k + 2 ≤ l → a.end + d ≤ b.start
+far_apart d plan k l a b s p q h = (let e : l ≡ k + 2 + (l - (k + 2)) = omega arith in far_by d plan (l - (k + 2)) k a b s p (at_number plan _ _ b e q))
+
+-- broadcasts of one flag are d slots apart
+pub one_flag_apart : (d : ℕ) (plan : List Broadcast) (k l : ℕ) (a b : Broadcast) → IsSpaced d plan → HasNumber plan k a → HasNumber plan l b → k < l → a.flag ≡ b.flag → a.end + d ≤ b.start
+one_flag_apart d plan k l a b s p q h e = elim (cases_lt (k + 1) l) [
+  | inl more ↦ far_apart d plan k l a b s p q (omega arith)
+  | inr next ↦ elim (s.apart k a b p (at_number plan _ _ b (omega arith) q)) [ inl differ ↦ absurd (differ e) | inr far ↦ far ]
+]
