@@ -10,3 +10,4 @@ pub mod Numbers
 pub mod Spacing
 pub mod Lasting
 pub mod Sending
+pub mod Delivering

@@ -13,10 +13,13 @@ use Rattle.rds_encoder.specs.Sent.{sent_in}
 use Rattle.rds_encoder.specs.Spaced.{IsOnePerSlot, IsSpaced}
 use Rattle.rds_encoder.specs.Tags.{pair_on_air}
 
--- what is on air is planned: in a broadcast that ends, as yet, in the slot that is reached, and covers it
+-- what is on air is planned, in a broadcast that as yet ends in the slot that is reached
 abbrev pub WhatIsOnAirIsPlanned : Type 0
-WhatIsOnAirIsPlanned = (m : ℕ) (moves : List Move) (air : OnAir) → on_air m moves ≡ Some air
-    → ((k : ℕ) × HasNumber (plan_of m (slot_of moves) moves) k (ending_in (slot_of moves) air)) × Covers (ending_in (slot_of moves) air) (slot_of moves)
+WhatIsOnAirIsPlanned = (m : ℕ) (moves : List Move) (air : OnAir) → on_air m moves ≡ Some air → (k : ℕ) × HasNumber (plan_of m (slot_of moves) moves) k (ending_in (slot_of moves) air)
+
+-- and that broadcast covers the slot
+abbrev pub WhatIsOnAirCoversTheSlot : Type 0
+WhatIsOnAirCoversTheSlot = (m : ℕ) (moves : List Move) (air : OnAir) → on_air m moves ≡ Some air → Covers (ending_in (slot_of moves) air) (slot_of moves)
 
 -- no other broadcast covers the slot that is reached
 abbrev pub OnlyWhatIsOnAirCoversTheSlot : Type 0

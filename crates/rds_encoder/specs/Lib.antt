@@ -9,3 +9,4 @@ pub mod Codes
 pub mod Standing
 pub mod Spaced
 pub mod Laws
+pub mod Delivery

@@ -1,10 +1,12 @@
 //! What holds of all broadcasts, and of all that is sent.
-ghost use Rattle.rds_encoder.specs.Laws.{ANameSegmentIsOfTheNameOnAir, ANumberIsBelowTheLength, ANumberNamesOne, ATextSegmentIsOfTheTextOnAir, EachNumberNamesOne, EvenTurnsAreTheTexts, OnlyWhatIsOnAirCoversTheSlot, SpacedAreFarApart, SpacedAreInOrder, SpacedOfOneFlagAreFarApart, TagsAreOfTheTextOnAir, ThePairEndsInTheText, ThePlanIsSpaced, WhatIsOnAirBegan, WhatIsOnAirIsPlanned, WhatIsOnAirWasOnAir, WhatIsPlannedWasAccepted, WhatWasOnAirStaysPlanned};
+ghost use Rattle.rds_encoder.specs.Delivery.{ANameIsSentWhole, ATextIsSentWhole};
+ghost use Rattle.rds_encoder.specs.Laws.{ANameSegmentIsOfTheNameOnAir, ANumberIsBelowTheLength, ANumberNamesOne, ATextSegmentIsOfTheTextOnAir, EachNumberNamesOne, EvenTurnsAreTheTexts, OnlyWhatIsOnAirCoversTheSlot, SpacedAreFarApart, SpacedAreInOrder, SpacedOfOneFlagAreFarApart, TagsAreOfTheTextOnAir, ThePairEndsInTheText, ThePlanIsSpaced, WhatIsOnAirBegan, WhatIsOnAirCoversTheSlot, WhatIsOnAirIsPlanned, WhatIsOnAirWasOnAir, WhatIsPlannedWasAccepted, WhatWasOnAirStaysPlanned};
 
 /// What is on air in the slot that is reached is the broadcast of the plan that covers the slot; where none
 /// covers it, nothing is on air.
 pub fn on_air_is_what_covers_the_slot()
     ensures planned { WhatIsOnAirIsPlanned }
+    ensures covers { WhatIsOnAirCoversTheSlot }
     ensures only { OnlyWhatIsOnAirCoversTheSlot }
 {}
 
@@ -46,4 +48,11 @@ pub fn sent_is_of_what_is_on_air()
 /// The turns with an even number are the text's.
 pub fn even_turns_are_the_texts()
     ensures { EvenTurnsAreTheTexts }
+{}
+
+/// While a text is on air, twice as many free slots as it has segments send each of them; while a name is, eight
+/// free slots send both of its own.
+pub fn on_air_is_sent_whole()
+    ensures text { ATextIsSentWhole }
+    ensures name { ANameIsSentWhole }
 {}

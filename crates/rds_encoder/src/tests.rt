@@ -373,5 +373,6 @@ fn laws(_rt: HostRuntime) -> Result<(), Fail> {
     numbers_name_broadcasts();
     sent_is_of_what_is_on_air();
     even_turns_are_the_texts();
+    on_air_is_sent_whole();
     Ok(())
 }
