@@ -1,5 +1,5 @@
 //! The segments held, and the value that they make whole.
-ghost use Rattle.std.specs.Prelude.{◌≡◌, ℕ, ◌<◌, ◌≤◌, ◌↔◌, IsFalse, IsTrue, IfSome, IfNone, List};
+ghost use Rattle.std.specs.Prelude.{◌≡◌, ℕ, ◌<◌, ◌≤◌, ◌↔◌, IsFalse, IsTrue, IfSome, IfNone, List, length};
 ghost use Rattle.std.specs.Ordering.{nat_cmp};
 ghost use Rattle.std.specs.FinMap as map;
 
@@ -68,7 +68,7 @@ impl<S: Service> Assembly<S> {
         let is_held = self.has(address);
         let first = 4 * address as usize;
         let segment = &mut self.bytes[first..first + 4];
-        if is_held && &*segment == bytes.as_slice() {
+        if is_held && is_same(segment, &bytes) {
             return false;
         }
         segment.copy_from_slice(&bytes);
@@ -101,4 +101,15 @@ impl<S: Service> Assembly<S> {
         let count = self.whole?;
         Some(&self.bytes[..count])
     }
+}
+
+/// Whether the four bytes are these. Compared one by one, they become one comparison of a word.
+fn is_same(segment: &[u8], bytes: &[u8; 4]) -> bool
+    requires { length segment.now ≡ 4 }
+    ensures { IsTrue result ↔ (segment.now ≡ bytes.now) }
+{
+    segment[0] == bytes[0]
+        && segment[1] == bytes[1]
+        && segment[2] == bytes[2]
+        && segment[3] == bytes[3]
 }

@@ -7,7 +7,7 @@ use crate::kept::KeptView;
 use crate::lines::Lines;
 use rds_block::Group;
 use rds_fields::Dwell;
-use rds_receiver::Receiver;
+use rds_receiver::{Receiver, View};
 
 /// Feeds a receiver slot by slot, and gives a line for each part of its view that changed.
 #[derive(Drop)]
@@ -45,9 +45,25 @@ impl ViewLines {
             self.slot += 1;
             return;
         }
-        let now = self.receiver.view();
-        push_changes(self.slot, self.shown.lent(), now, lines);
-        self.shown = KeptView::of(now);
+        show(self.slot, &mut self.shown, self.receiver.view(), lines);
         self.slot += 1;
     }
+}
+
+ghost use Rattle.rds_receiver.specs.Lent.{view_lent};
+ghost use Rattle.rds_log.specs.Kept.{view_kept};
+ghost use Rattle.rds_log.specs.Output.{change};
+
+/// Appends the line of each part that differs from what was shown, and keeps what is shown now.
+///
+/// Few slots come here. It stands apart so that the others pay nothing for its copies.
+#[inline(never)]
+fn show<const N: usize>(slot: u64, shown: &mut KeptView, now: View<'_>, lines: &mut Lines<N>)
+    requires { length lines.old + 1600 ≤ N }
+    ensures changes { lines.new ≡ lines.old ++ change slot (view_kept shown.old) (view_lent now.entry) }
+    ensures kept { view_kept shown.new ≡ view_lent now.entry }
+    ensures room { length lines.new ≤ length lines.old + 1600 }
+{
+    push_changes(slot, shown.lent(), now, lines);
+    *shown = KeptView::of(now);
 }

@@ -1,6 +1,4 @@
-use Rattle.std.proofs.Common.{◌∷◌, ◌++◌, ap, refl, ◌∙◌}
-use Rattle.rds_log.specs.Output.{change}
-use Rattle.rds_receiver.specs.Shown.{ShownView}
+use Rattle.std.proofs.Common.{◌∷◌, refl}
 use Rattle.rds_receiver.specs.Lent.{view_lent}
 use Rattle.rds_log.proofs.Views.{slot_given, slot_same}
 use Rattle.rds_log.proofs.view_lines.ViewLines.slot.Goals as goal
@@ -13,5 +11,5 @@ returns-then-not-slot-clause-change g c t slots written s =
 pub returns-clause-change : goal.returns-clause-change
 returns-clause-change g c t slots written s =
     let receiver = c.slot.ensures.stands t slots s.receiver in
-    slot_given t c.args.self.now _ slots written c.args.lines.now c.push_changes.new.lines c.args.group (view_lent c.view-now.result) s
-    receiver (c.view-now.ensures t (c.args.group ∷ slots) receiver) refl c.of-self.ensures (c.push_changes.ensures.changes ∙ ap (λ (v : ShownView). c.args.lines.now ++ change c.args.self.now.slot v (view_lent c.view-now.result)) c.lent.ensures)
+    slot_given t c.args.self.now _ slots written c.args.lines.now c.show.new.lines c.args.group (view_lent c.view.result) s
+    receiver (c.view.ensures t (c.args.group ∷ slots) receiver) refl c.show.ensures.kept c.show.ensures.changes
