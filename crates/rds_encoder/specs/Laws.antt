@@ -63,14 +63,15 @@ WhatIsPlannedWasAccepted = (m end : ℕ) (moves : List Move) (k : ℕ) (b : Broa
 abbrev pub ThePlanIsSpaced : Type 0
 ThePlanIsSpaced = (m end : ℕ) (moves : List Move) → 0 < m → IsOnePerSlot moves → IfSome (on_air m moves) (λ air. air.start ≤ end) → IsSpaced m (plan_of m end moves)
 
--- a number names one broadcast
+-- a number names at most one broadcast
 abbrev pub ANumberNamesOne : Type 0
 ANumberNamesOne = (plan : List Broadcast) (k : ℕ) (a b : Broadcast) → HasNumber plan k a → HasNumber plan k b → a ≡ b
 
--- the numbers are those below the length of the plan
+-- a number is below the length of the plan
 abbrev pub ANumberIsBelowTheLength : Type 0
 ANumberIsBelowTheLength = (plan : List Broadcast) (k : ℕ) (b : Broadcast) → HasNumber plan k b → k < length plan
 
+-- each number below the length of the plan names a broadcast
 abbrev pub EachNumberNamesOne : Type 0
 EachNumberNamesOne = (plan : List Broadcast) (k : ℕ) → k < length plan → (b : Broadcast) × HasNumber plan k b
 
@@ -78,10 +79,11 @@ EachNumberNamesOne = (plan : List Broadcast) (k : ℕ) → k < length plan → (
 abbrev pub SpacedAreInOrder : Type 0
 SpacedAreInOrder = (d : ℕ) (plan : List Broadcast) (k l : ℕ) (a b : Broadcast) → IsSpaced d plan → HasNumber plan k a → HasNumber plan l b → k < l → a.end < b.start
 
--- those with another one between them are d slots apart, and so are those with one flag
+-- those with another one between them are d slots apart
 abbrev pub SpacedAreFarApart : Type 0
 SpacedAreFarApart = (d : ℕ) (plan : List Broadcast) (k l : ℕ) (a b : Broadcast) → IsSpaced d plan → HasNumber plan k a → HasNumber plan l b → k + 2 ≤ l → a.end + d ≤ b.start
 
+-- those of one flag are d slots apart
 abbrev pub SpacedOfOneFlagAreFarApart : Type 0
 SpacedOfOneFlagAreFarApart = (d : ℕ) (plan : List Broadcast) (k l : ℕ) (a b : Broadcast) → IsSpaced d plan → HasNumber plan k a → HasNumber plan l b → k < l → a.flag ≡ b.flag → a.end + d ≤ b.start
 

@@ -7,62 +7,42 @@ use rds_fields::{Dwell, Head, Tag, TagPair, Which};
 use std::process::Abort;
 use std::test::Fail;
 
-/// What is set.
+/// A text, a name or tags that are set, with the reply; so many free slots, with what each sends; so many that
+/// belong to other services and send nothing of these.
 #[derive(Clone, Copy)]
-enum Set {
-    Text(Text),
-    Name(Name),
-    Tags(TagPair),
-}
-
-/// So many slots: what is set before the first of them ends, with each reply, and what each of them sends.
-#[derive(Clone, Copy)]
-struct Slots<'a> {
-    number: u32,
-    free: bool,
-    sets: &'a [(Set, Result<(), Refusal>)],
-    sent: Option<[u16; 4]>,
-}
-
-/// So many free slots.
-fn free<'a>(
-    number: u32,
-    sets: &'a [(Set, Result<(), Refusal>)],
-    sent: Option<[u16; 4]>,
-) -> Slots<'a> {
-    Slots {
-        number,
-        free: true,
-        sets,
-        sent,
-    }
-}
-
-/// So many slots that belong to other services, and send nothing of these.
-fn others<'a>(number: u32, sets: &'a [(Set, Result<(), Refusal>)]) -> Slots<'a> {
-    Slots {
-        number,
-        free: false,
-        sets,
-        sent: None,
-    }
+enum Row {
+    Text([u8; 2], Result<(), Refusal>),
+    Name([u8; 7], Result<(), Refusal>),
+    Tags(TagPair, Result<(), Refusal>),
+    Free(u32, Option<[u16; 4]>),
+    Others(u32),
 }
 
 /// Sets and ticks, row by row.
-fn play(rt: &impl Abort, encoder: &mut Encoder, rows: &[Slots]) {
-    for (row, slots) in rows.iter().enumerate() {
-        for (set, wanted) in slots.sets {
-            let reply = match *set {
-                Set::Text(text) => encoder.set_text(text),
-                Set::Name(name) => encoder.set_name(name),
-                Set::Tags(pair) => encoder.set_tags(pair),
-            };
-            assert_eq!(rt; reply, *wanted, "row {row}");
+fn play(rt: &impl Abort, encoder: &mut Encoder, rows: &[Row]) -> Result<(), Fail> {
+    for (place, row) in rows.iter().enumerate() {
+        match *row {
+            Row::Text(bytes, reply) => {
+                assert_eq!(rt; encoder.set_text(text(bytes)?), reply, "row {place}");
+            }
+            Row::Name(bytes, reply) => {
+                assert_eq!(rt; encoder.set_name(name(bytes)?), reply, "row {place}");
+            }
+            Row::Tags(pair, reply) => {
+                assert_eq!(rt; encoder.set_tags(pair), reply, "row {place}");
+            }
+            Row::Free(slots, wanted) => send(rt, encoder, true, slots, wanted),
+            Row::Others(slots) => send(rt, encoder, false, slots, None),
         }
-        for _ in 0..slots.number {
-            let sent = encoder.tick(slots.free).map(|group| group.to_blocks());
-            assert_eq!(rt; sent, slots.sent, "row {row}");
-        }
+    }
+    Ok(())
+}
+
+/// So many slots, each of which sends these words.
+fn send(rt: &impl Abort, encoder: &mut Encoder, free: bool, slots: u32, wanted: Option<[u16; 4]>) {
+    for slot in 0..slots {
+        let sent = encoder.tick(free).map(|group| group.to_blocks());
+        assert_eq!(rt; sent, wanted, "slot {slot}");
     }
 }
 
@@ -76,12 +56,12 @@ fn restarted(dwell: u16) -> Result<Encoder, Fail> {
     Ok(Encoder::new(head, Dwell::new(dwell).ok_or("dwell")?))
 }
 
-fn text(bytes: &[u8]) -> Result<Set, Fail> {
-    Ok(Set::Text(Text::new(bytes)?))
+fn text(bytes: [u8; 2]) -> Result<Text, Fail> {
+    Ok(Text::new(&bytes)?)
 }
 
-fn name(bytes: &[u8]) -> Result<Set, Fail> {
-    Ok(Set::Name(Name::new(bytes)?))
+fn name(bytes: [u8; 7]) -> Result<Name, Fail> {
+    Ok(Name::new(&bytes)?)
 }
 
 /// A pair of a running item with toggle 0; its tags by class, start and length marker.
@@ -124,18 +104,20 @@ const TITLE: [u16; 4] = [0xC201, 0xB148, 0x2002, 0x0000];
 #[test]
 fn silence_dwell_and_age(rt: HostRuntime) -> Result<(), Fail> {
     let mut encoder = restarted(4)?;
-    let hi = text(b"HI")?;
     assert_eq!(rt; encoder.text(), None);
     play(
         &rt,
         &mut encoder,
         &[
-            free(3, &[(hi, Err(Refusal::Silent(4)))], None),
-            free(1, &[(hi, Err(Refusal::Silent(1)))], None),
-            free(1, &[(hi, Ok(()))], Some(HI)),
-            others(4, &[]),
+            Row::Text(*b"HI", Err(Refusal::Silent(4))),
+            Row::Free(3, None),
+            Row::Text(*b"HI", Err(Refusal::Silent(1))),
+            Row::Free(1, None),
+            Row::Text(*b"HI", Ok(())),
+            Row::Free(1, Some(HI)),
+            Row::Others(4),
         ],
-    );
+    )?;
     assert_eq!(rt; encoder.text(), Some(b"HI".as_slice()));
     Ok(())
 }
@@ -144,43 +126,49 @@ fn silence_dwell_and_age(rt: HostRuntime) -> Result<(), Fail> {
 #[test]
 fn held_for_twice_the_dwell(rt: HostRuntime) -> Result<(), Fail> {
     let mut encoder = restarted(4)?;
-    let (hi, yo) = (text(b"HI")?, text(b"YO")?);
-    let tags = Set::Tags(pair((4, 0, 3), DUMMY)?);
+    let tags = pair((4, 0, 3), DUMMY)?;
     play(
         &rt,
         &mut encoder,
         &[
-            others(4, &[]),
-            others(7, &[(tags, Err(Refusal::NoText)), (hi, Ok(()))]),
-            others(1, &[(yo, Err(Refusal::Held(1)))]),
-            free(1, &[(yo, Ok(()))], Some(YO_AGAIN)),
+            Row::Others(4),
+            Row::Tags(tags, Err(Refusal::NoText)),
+            Row::Text(*b"HI", Ok(())),
+            Row::Others(7),
+            Row::Text(*b"YO", Err(Refusal::Held(1))),
+            Row::Others(1),
+            Row::Text(*b"YO", Ok(())),
+            Row::Free(1, Some(YO_AGAIN)),
         ],
-    );
-    Ok(())
+    )
 }
 
 /// A restart, which is a new encoder, in slot 5: silent up to slot 8, and the next text has flag 0 again.
 #[test]
 fn restart_keeps_silence(rt: HostRuntime) -> Result<(), Fail> {
     let mut encoder = restarted(4)?;
-    let (hi, yo) = (text(b"HI")?, text(b"YO")?);
     play(
         &rt,
         &mut encoder,
-        &[free(4, &[], None), free(1, &[(hi, Ok(()))], Some(HI))],
-    );
+        &[
+            Row::Free(4, None),
+            Row::Text(*b"HI", Ok(())),
+            Row::Free(1, Some(HI)),
+        ],
+    )?;
     encoder = restarted(4)?;
     assert_eq!(rt; encoder.text(), None);
     play(
         &rt,
         &mut encoder,
         &[
-            free(3, &[], None),
-            free(1, &[(yo, Err(Refusal::Silent(1)))], None),
-            free(1, &[(yo, Ok(()))], Some(YO)),
+            Row::Free(3, None),
+            Row::Text(*b"YO", Err(Refusal::Silent(1))),
+            Row::Free(1, None),
+            Row::Text(*b"YO", Ok(())),
+            Row::Free(1, Some(YO)),
         ],
-    );
-    Ok(())
+    )
 }
 
 /// Tags that end in the text, and those that end one character behind it.
@@ -209,7 +197,7 @@ fn refused_tags(rt: HostRuntime) -> Result<(), Fail> {
     ];
     for (bytes, pair, reply) in rows {
         let mut encoder = restarted(1)?;
-        play(&rt, &mut encoder, &[free(1, &[], None)]);
+        play(&rt, &mut encoder, &[Row::Free(1, None)])?;
         assert_eq!(rt; encoder.set_text(Text::new(bytes)?), Ok(()));
         assert_eq!(rt; encoder.set_tags(pair), reply);
         assert_eq!(rt; encoder.tags().is_some(), reply.is_ok());
@@ -221,10 +209,8 @@ fn refused_tags(rt: HostRuntime) -> Result<(), Fail> {
 #[test]
 fn whole_round(rt: HostRuntime) -> Result<(), Fail> {
     let mut encoder = restarted(1)?;
-    let (hi, jazz) = (text(b"HI")?, name(b"JAZZ FM")?);
     let title = pair((1, 0, 1), DUMMY)?;
-    let long = Set::Tags(pair((1, 0, 2), DUMMY)?);
-    let tags = Set::Tags(title);
+    let long = pair((1, 0, 2), DUMMY)?;
 
     assert_eq!(rt; encoder.wait(), wait(1, 0, 0));
     let silent = Err(Refusal::Silent(1));
@@ -232,14 +218,16 @@ fn whole_round(rt: HostRuntime) -> Result<(), Fail> {
         &rt,
         &mut encoder,
         &[
-            free(1, &[(hi, silent), (tags, silent), (jazz, silent)], None),
-            free(
-                1,
-                &[(tags, Err(Refusal::NoText)), (hi, Ok(())), (jazz, Ok(()))],
-                Some(HI),
-            ),
+            Row::Text(*b"HI", silent),
+            Row::Tags(title, silent),
+            Row::Name(*b"JAZZ FM", silent),
+            Row::Free(1, None),
+            Row::Tags(title, Err(Refusal::NoText)),
+            Row::Text(*b"HI", Ok(())),
+            Row::Name(*b"JAZZ FM", Ok(())),
+            Row::Free(1, Some(HI)),
         ],
-    );
+    )?;
 
     assert_eq!(rt; encoder.name(), Some(b"JAZZ FM ".as_slice()));
     assert_eq!(rt; encoder.wait(), wait(0, 1, 1));
@@ -249,19 +237,20 @@ fn whole_round(rt: HostRuntime) -> Result<(), Fail> {
         &rt,
         &mut encoder,
         &[
-            free(1, &[(hi, held_back), (jazz, held_back)], Some(JAZZ)),
-            free(
-                1,
-                &[(hi, Ok(())), (tags, Ok(())), (long, out)],
-                Some(HI_AGAIN),
-            ),
-            free(1, &[], Some(FM)),
-            free(1, &[], Some(HI_AGAIN)),
-            free(1, &[], Some(ANNOUNCEMENT)),
-            free(1, &[], Some(HI_AGAIN)),
-            free(1, &[], Some(TITLE)),
+            Row::Text(*b"HI", held_back),
+            Row::Name(*b"JAZZ FM", held_back),
+            Row::Free(1, Some(JAZZ)),
+            Row::Text(*b"HI", Ok(())),
+            Row::Tags(title, Ok(())),
+            Row::Tags(long, out),
+            Row::Free(1, Some(HI_AGAIN)),
+            Row::Free(1, Some(FM)),
+            Row::Free(1, Some(HI_AGAIN)),
+            Row::Free(1, Some(ANNOUNCEMENT)),
+            Row::Free(1, Some(HI_AGAIN)),
+            Row::Free(1, Some(TITLE)),
         ],
-    );
+    )?;
     assert_eq!(rt; encoder.tags(), Some(title));
     Ok(())
 }
@@ -270,23 +259,23 @@ fn whole_round(rt: HostRuntime) -> Result<(), Fail> {
 #[test]
 fn second_name(rt: HostRuntime) -> Result<(), Fail> {
     let mut encoder = restarted(1)?;
-    let jazz = name(b"JAZZ FM ")?;
     play(
         &rt,
         &mut encoder,
         &[
-            free(1, &[], None),
-            free(1, &[(jazz, Ok(()))], None),
-            free(1, &[], Some(JAZZ)),
-            free(1, &[(jazz, Ok(()))], None),
-            free(1, &[], Some(FM_AGAIN)),
-            free(1, &[], None),
-            free(1, &[], Some(ANNOUNCEMENT)),
-            free(3, &[], None),
-            free(1, &[], Some(JAZZ_AGAIN)),
+            Row::Free(1, None),
+            Row::Name(*b"JAZZ FM", Ok(())),
+            Row::Free(1, None),
+            Row::Free(1, Some(JAZZ)),
+            Row::Name(*b"JAZZ FM", Ok(())),
+            Row::Free(1, None),
+            Row::Free(1, Some(FM_AGAIN)),
+            Row::Free(1, None),
+            Row::Free(1, Some(ANNOUNCEMENT)),
+            Row::Free(3, None),
+            Row::Free(1, Some(JAZZ_AGAIN)),
         ],
-    );
-    Ok(())
+    )
 }
 
 /// At a dwell of 16 the tags of a text of slot 16 wait for slot 32; their turn is in slot 39.
@@ -297,48 +286,51 @@ fn tags_after_the_dwell(rt: HostRuntime) -> Result<(), Fail> {
         &rt,
         &mut encoder,
         &[
-            free(16, &[], None),
-            free(1, &[(text(b"HI")?, Ok(()))], Some(HI)),
+            Row::Free(16, None),
+            Row::Text(*b"HI", Ok(())),
+            Row::Free(1, Some(HI)),
         ],
-    );
+    )?;
     assert_eq!(rt; encoder.set_tags(pair((1, 0, 1), DUMMY)?), Ok(()));
     for slot in 17..39 {
         let number = encoder.tick(true).map(|group| group.number.get());
         assert!(rt; number != Some(11), "slot {slot}");
     }
-    play(&rt, &mut encoder, &[free(1, &[], Some(TITLE))]);
-    Ok(())
+    play(&rt, &mut encoder, &[Row::Free(1, Some(TITLE))])
 }
 
 /// The longest dwell: silent for it, and held back for twice as long. The counters stop at 0.
 #[test]
 fn longest_dwell(rt: HostRuntime) -> Result<(), Fail> {
     let mut encoder = restarted(65535)?;
-    let (hi, yo) = (text(b"HI")?, text(b"YO")?);
     assert_eq!(rt; encoder.wait(), wait(65535, 0, 0));
     play(
         &rt,
         &mut encoder,
         &[
-            others(65534, &[(hi, Err(Refusal::Silent(65535)))]),
-            others(1, &[(hi, Err(Refusal::Silent(1)))]),
-            free(
-                1,
-                &[(hi, Ok(())), (yo, Err(Refusal::Held(131_070)))],
-                Some(HI),
-            ),
-            others(131_068, &[(yo, Err(Refusal::Held(131_069)))]),
-            others(1, &[(yo, Err(Refusal::Held(1)))]),
-            others(70_000, &[]),
+            Row::Text(*b"HI", Err(Refusal::Silent(65535))),
+            Row::Others(65534),
+            Row::Text(*b"HI", Err(Refusal::Silent(1))),
+            Row::Others(1),
+            Row::Text(*b"HI", Ok(())),
+            Row::Text(*b"YO", Err(Refusal::Held(131_070))),
+            Row::Free(1, Some(HI)),
+            Row::Text(*b"YO", Err(Refusal::Held(131_069))),
+            Row::Others(131_068),
+            Row::Text(*b"YO", Err(Refusal::Held(1))),
+            Row::Others(70_001),
         ],
-    );
+    )?;
     assert_eq!(rt; encoder.wait(), wait(0, 0, 0));
     play(
         &rt,
         &mut encoder,
-        &[free(1, &[(yo, Ok(()))], None), free(1, &[], Some(YO_AGAIN))],
-    );
-    Ok(())
+        &[
+            Row::Text(*b"YO", Ok(())),
+            Row::Free(1, None),
+            Row::Free(1, Some(YO_AGAIN)),
+        ],
+    )
 }
 
 /// What a refusal prints.
