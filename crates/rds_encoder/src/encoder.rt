@@ -1,5 +1,5 @@
 //! An encoder, slot by slot.
-ghost use Rattle.std.specs.Prelude.{◌≡◌, ◌≢◌, ◌+◌, ◌%◌, ◌<◌, ◌≤◌, ℕ, Ok, List, [], ◌∷◌, Option, Some, IfSome, OnErr, option_map};
+ghost use Rattle.std.specs.Prelude.{◌≡◌, ◌≢◌, ◌+◌, ◌%◌, ◌<◌, List, [], ◌∷◌, IfSome, OnErr, option_map};
 ghost use Rattle.std.specs.Option.{option_copied};
 ghost use Rattle.rds_fields.specs.declared.message.Message.{Message};
 ghost use Rattle.rds_assembly.specs.Value.{IsName, IsText};
@@ -9,7 +9,7 @@ ghost use Rattle.rds_encoder.specs.Reply.{held_for, reply_to, silent_for};
 ghost use Rattle.rds_encoder.specs.Round.{turn_in};
 ghost use Rattle.rds_encoder.specs.Sent.{IsSent, is_turn, name_segment, sent_in, tags_due, text_segment};
 ghost use Rattle.rds_encoder.specs.Standing.{StandsAt, Takes, WhereItStands};
-ghost use Rattle.rds_encoder.specs.State.{EncoderState, advanced};
+ghost use Rattle.rds_encoder.specs.State.{advanced};
 ghost use Rattle.rds_encoder.specs.Tags.{fitting_reply, pair_on_air, tags_reply};
 
 use crate::round::Round;
