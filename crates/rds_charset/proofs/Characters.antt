@@ -9,101 +9,101 @@ use Rattle.std.specs.Char.{len_utf8}
 use Rattle.std.specs.List.{list_all, enumerate_from, position}
 use Rattle.std.proofs.lemmas.Option.{slice_get-get_or}
 use Rattle.std.specs.Option.{option_or, option_map}
-use Rattle.rds_charset.specs.declared.table.Run.{Run as HeldRun}
-use Rattle.rds_charset.specs.Runs.{run_of}
-use Rattle.rds_charset.specs.Table.{Run, table, character_in, character_at, character_of, byte_in, byte_at, byte_of, FitsInBytes}
+use Rattle.rds_charset.specs.declared.table.Stretch.{Stretch as HeldStretch}
+use Rattle.rds_charset.specs.Stretches.{stretch_of}
+use Rattle.rds_charset.specs.Table.{Stretch, table, character_in, character_at, character_of, byte_in, byte_at, byte_of, FitsInBytes}
 
--- the run at hand has the byte, or the ones after it are asked
-pub character_in-found : (runs : List HeldRun) (i : ℕ) (d : HeldRun) (byte character : ℕ) → i < length runs → character_at (run_of (get_or runs i d)) byte ≡ Some character → character_in (map run_of (drop i runs)) byte ≡ Some character
-character_in-found runs i d byte character within here =
-    at_drop_more (λ rest. character_in (map run_of rest) byte) runs i d within ∙ ap (λ found. option_or found (character_in (map run_of (drop (i + 1) runs)) byte)) here
+-- the stretch at hand has the byte, or the ones after it are asked
+pub character_in-found : (stretches : List HeldStretch) (i : ℕ) (d : HeldStretch) (byte character : ℕ) → i < length stretches → character_at (stretch_of (get_or stretches i d)) byte ≡ Some character → character_in (map stretch_of (drop i stretches)) byte ≡ Some character
+character_in-found stretches i d byte character within here =
+    at_drop_more (λ rest. character_in (map stretch_of rest) byte) stretches i d within ∙ ap (λ found. option_or found (character_in (map stretch_of (drop (i + 1) stretches)) byte)) here
 
-pub character_in-passed : (runs : List HeldRun) (i : ℕ) (d : HeldRun) (byte : ℕ) → i < length runs → character_at (run_of (get_or runs i d)) byte ≡ None → character_in (map run_of (drop i runs)) byte ≡ character_in (map run_of (drop (i + 1) runs)) byte
-character_in-passed runs i d byte within here =
-    at_drop_more (λ rest. character_in (map run_of rest) byte) runs i d within ∙ ap (λ found. option_or found (character_in (map run_of (drop (i + 1) runs)) byte)) here
+pub character_in-passed : (stretches : List HeldStretch) (i : ℕ) (d : HeldStretch) (byte : ℕ) → i < length stretches → character_at (stretch_of (get_or stretches i d)) byte ≡ None → character_in (map stretch_of (drop i stretches)) byte ≡ character_in (map stretch_of (drop (i + 1) stretches)) byte
+character_in-passed stretches i d byte within here =
+    at_drop_more (λ rest. character_in (map stretch_of rest) byte) stretches i d within ∙ ap (λ found. option_or found (character_in (map stretch_of (drop (i + 1) stretches)) byte)) here
 
 -- likewise for a character
-pub byte_in-found : (runs : List HeldRun) (i : ℕ) (d : HeldRun) (character byte : ℕ) → i < length runs → byte_at (run_of (get_or runs i d)) character ≡ Some byte → byte_in (map run_of (drop i runs)) character ≡ Some byte
-byte_in-found runs i d character byte within here =
-    at_drop_more (λ rest. byte_in (map run_of rest) character) runs i d within ∙ ap (λ found. option_or found (byte_in (map run_of (drop (i + 1) runs)) character)) here
+pub byte_in-found : (stretches : List HeldStretch) (i : ℕ) (d : HeldStretch) (character byte : ℕ) → i < length stretches → byte_at (stretch_of (get_or stretches i d)) character ≡ Some byte → byte_in (map stretch_of (drop i stretches)) character ≡ Some byte
+byte_in-found stretches i d character byte within here =
+    at_drop_more (λ rest. byte_in (map stretch_of rest) character) stretches i d within ∙ ap (λ found. option_or found (byte_in (map stretch_of (drop (i + 1) stretches)) character)) here
 
-pub byte_in-passed : (runs : List HeldRun) (i : ℕ) (d : HeldRun) (character : ℕ) → i < length runs → byte_at (run_of (get_or runs i d)) character ≡ None → byte_in (map run_of (drop i runs)) character ≡ byte_in (map run_of (drop (i + 1) runs)) character
-byte_in-passed runs i d character within here =
-    at_drop_more (λ rest. byte_in (map run_of rest) character) runs i d within ∙ ap (λ found. option_or found (byte_in (map run_of (drop (i + 1) runs)) character)) here
+pub byte_in-passed : (stretches : List HeldStretch) (i : ℕ) (d : HeldStretch) (character : ℕ) → i < length stretches → byte_at (stretch_of (get_or stretches i d)) character ≡ None → byte_in (map stretch_of (drop i stretches)) character ≡ byte_in (map stretch_of (drop (i + 1) stretches)) character
+byte_in-passed stretches i d character within here =
+    at_drop_more (λ rest. byte_in (map stretch_of rest) character) stretches i d within ∙ ap (λ found. option_or found (byte_in (map stretch_of (drop (i + 1) stretches)) character)) here
 
--- whether a run's bytes are bytes
-abbrev fits : Run → Bool
-fits run = nat_le (run.0 + length run.1) 256
+-- whether a stretch's bytes are bytes
+abbrev fits : Stretch → Bool
+fits stretch = nat_le (stretch.0 + length stretch.1) 256
 
 all_fit : list_all fits table ≡ true
 all_fit = refl
 
-FitsInBytes-from_fits : (run : Run) (b : Bool) → fits run ≡ b → (b ≡ false → list_all fits table ≡ false) → FitsInBytes run
-FitsInBytes-from_fits run true is _ = grind (arith, nat_tests)
-FitsInBytes-from_fits run false is unfit = let e : true ≡ false = sym all_fit ∙ unfit refl in grind arith
+FitsInBytes-from_fits : (stretch : Stretch) (b : Bool) → fits stretch ≡ b → (b ≡ false → list_all fits table ≡ false) → FitsInBytes stretch
+FitsInBytes-from_fits stretch true is _ = grind (arith, nat_tests)
+FitsInBytes-from_fits stretch false is unfit = let e : true ≡ false = sym all_fit ∙ unfit refl in grind arith
 
-pub held-FitsInBytes : (runs : List HeldRun) (i : ℕ) (d : HeldRun) → map run_of runs ≡ table → i < length runs → FitsInBytes (run_of (get_or runs i d))
-held-FitsInBytes runs i d are within = FitsInBytes-from_fits (run_of (get_or runs i d)) (fits (run_of (get_or runs i d))) refl
-    (λ unfit. ap (list_all fits) (sym are) ∙ list_all-map fits run_of runs ∙ list_all_at (λ run. fits (run_of run)) runs i d within unfit)
+pub held-FitsInBytes : (stretches : List HeldStretch) (i : ℕ) (d : HeldStretch) → map stretch_of stretches ≡ table → i < length stretches → FitsInBytes (stretch_of (get_or stretches i d))
+held-FitsInBytes stretches i d are within = FitsInBytes-from_fits (stretch_of (get_or stretches i d)) (fits (stretch_of (get_or stretches i d))) refl
+    (λ unfit. ap (list_all fits) (sym are) ∙ list_all-map fits stretch_of stretches ∙ list_all_at (λ stretch. fits (stretch_of stretch)) stretches i d within unfit)
 
 -- every byte that has a character, with that character
-abbrev entries_in : List Run → List (ℕ × ℕ)
+abbrev entries_in : List Stretch → List (ℕ × ℕ)
 entries_in [] = []
-entries_in (run ∷ runs) = enumerate_from run.0 run.1 ++ entries_in runs
+entries_in (stretch ∷ stretches) = enumerate_from stretch.0 stretch.1 ++ entries_in stretches
 
 -- what a test says of all entries, it says of one
-holds_in_run : (test : ℕ → ℕ → Bool) (first : ℕ) (characters : List ℕ) (place character : ℕ) → list_all (λ e. test e.0 e.1) (enumerate_from first characters) ≡ true → slice_get characters place ≡ Some character → test (first + place) character ≡ true
-holds_in_run test first [] place character all here = absurd (cc)
-holds_in_run test first (known ∷ characters) zero character all here =
+holds_in_stretch : (test : ℕ → ℕ → Bool) (first : ℕ) (characters : List ℕ) (place character : ℕ) → list_all (λ e. test e.0 e.1) (enumerate_from first characters) ≡ true → slice_get characters place ≡ Some character → test (first + place) character ≡ true
+holds_in_stretch test first [] place character all here = absurd (cc)
+holds_in_stretch test first (known ∷ characters) zero character all here =
     let at_first : test first known ≡ true = (and_parts _ _ all).0 in
     let same : known ≡ character = cc in
     let sum : first + 0 ≡ first = omega arith in
     rw (sum, ← same) at_first
-holds_in_run test first (known ∷ characters) (suc place) character all here =
+holds_in_stretch test first (known ∷ characters) (suc place) character all here =
     let sum : first + suc place ≡ first + 1 + place = omega arith in
-    rw sum (holds_in_run test (first + 1) characters place character (and_parts _ _ all).1 here)
+    rw sum (holds_in_stretch test (first + 1) characters place character (and_parts _ _ all).1 here)
 
-holds_at_run : (test : ℕ → ℕ → Bool) (run : Run) (runs : List Run) (place character : ℕ) → list_all (λ e. test e.0 e.1) (entries_in (run ∷ runs)) ≡ true → slice_get run.1 place ≡ Some character → test (run.0 + place) character ≡ true
-holds_at_run test run runs place character all here = holds_in_run test run.0 run.1 place character (and_parts _ _ (sym (list_all-append (λ e. test e.0 e.1) (enumerate_from run.0 run.1) (entries_in runs)) ∙ all)).0 here
+holds_at_stretch : (test : ℕ → ℕ → Bool) (stretch : Stretch) (stretches : List Stretch) (place character : ℕ) → list_all (λ e. test e.0 e.1) (entries_in (stretch ∷ stretches)) ≡ true → slice_get stretch.1 place ≡ Some character → test (stretch.0 + place) character ≡ true
+holds_at_stretch test stretch stretches place character all here = holds_in_stretch test stretch.0 stretch.1 place character (and_parts _ _ (sym (list_all-append (λ e. test e.0 e.1) (enumerate_from stretch.0 stretch.1) (entries_in stretches)) ∙ all)).0 here
 
-holds_at_rest : (test : ℕ → ℕ → Bool) (run : Run) (runs : List Run) → list_all (λ e. test e.0 e.1) (entries_in (run ∷ runs)) ≡ true → list_all (λ e. test e.0 e.1) (entries_in runs) ≡ true
-holds_at_rest test run runs all = (and_parts _ _ (sym (list_all-append (λ e. test e.0 e.1) (enumerate_from run.0 run.1) (entries_in runs)) ∙ all)).1
+holds_at_rest : (test : ℕ → ℕ → Bool) (stretch : Stretch) (stretches : List Stretch) → list_all (λ e. test e.0 e.1) (entries_in (stretch ∷ stretches)) ≡ true → list_all (λ e. test e.0 e.1) (entries_in stretches) ≡ true
+holds_at_rest test stretch stretches all = (and_parts _ _ (sym (list_all-append (λ e. test e.0 e.1) (enumerate_from stretch.0 stretch.1) (entries_in stretches)) ∙ all)).1
 
-found_at : (test : ℕ → ℕ → Bool) (run : Run) (runs : List Run) (byte character : ℕ) → list_all (λ e. test e.0 e.1) (entries_in (run ∷ runs)) ≡ true → (b : Bool) → nat_le run.0 byte ≡ b → (if b then slice_get run.1 (byte - run.0) else None) ≡ Some character → test byte character ≡ true
-found_at test run runs byte character all true is here =
-    let within : run.0 ≤ byte = grind (arith, nat_tests) in
-    let sum : run.0 + (byte - run.0) ≡ byte = omega arith in
-    let holds : test (run.0 + (byte - run.0)) character ≡ true = holds_at_run test run runs (byte - run.0) character all here in
+found_at : (test : ℕ → ℕ → Bool) (stretch : Stretch) (stretches : List Stretch) (byte character : ℕ) → list_all (λ e. test e.0 e.1) (entries_in (stretch ∷ stretches)) ≡ true → (b : Bool) → nat_le stretch.0 byte ≡ b → (if b then slice_get stretch.1 (byte - stretch.0) else None) ≡ Some character → test byte character ≡ true
+found_at test stretch stretches byte character all true is here =
+    let within : stretch.0 ≤ byte = grind (arith, nat_tests) in
+    let sum : stretch.0 + (byte - stretch.0) ≡ byte = omega arith in
+    let holds : test (stretch.0 + (byte - stretch.0)) character ≡ true = holds_at_stretch test stretch stretches (byte - stretch.0) character all here in
     rw sum at holds
-found_at test run runs byte character all false is here = absurd (cc)
+found_at test stretch stretches byte character all false is here = absurd (cc)
 
-holds_at_byte : (test : ℕ → ℕ → Bool) (runs : List Run) (byte character : ℕ) → list_all (λ e. test e.0 e.1) (entries_in runs) ≡ true → character_in runs byte ≡ Some character → test byte character ≡ true
+holds_at_byte : (test : ℕ → ℕ → Bool) (stretches : List Stretch) (byte character : ℕ) → list_all (λ e. test e.0 e.1) (entries_in stretches) ≡ true → character_in stretches byte ≡ Some character → test byte character ≡ true
 holds_at_byte test [] byte character all here = absurd (cc)
-holds_at_byte test (run ∷ runs) byte character all here = by_run (character_at run byte) refl here (holds_at_byte test runs byte character (holds_at_rest test run runs all))
+holds_at_byte test (stretch ∷ stretches) byte character all here = by_stretch (character_at stretch byte) refl here (holds_at_byte test stretches byte character (holds_at_rest test stretch stretches all))
   where
-    by_run : (found : Option ℕ) → character_at run byte ≡ found → option_or found (character_in runs byte) ≡ Some character → (character_in runs byte ≡ Some character → test byte character ≡ true) → test byte character ≡ true
-    by_run None none here later = later here
-    by_run (Some found) some here later = found_at test run runs byte character all (nat_le run.0 byte) refl (some ∙ here)
+    by_stretch : (found : Option ℕ) → character_at stretch byte ≡ found → option_or found (character_in stretches byte) ≡ Some character → (character_in stretches byte ≡ Some character → test byte character ≡ true) → test byte character ≡ true
+    by_stretch None none here later = later here
+    by_stretch (Some found) some here later = found_at test stretch stretches byte character all (nat_le stretch.0 byte) refl (some ∙ here)
 
-placed_at : (test : ℕ → ℕ → Bool) (run : Run) (runs : List Run) (character byte : ℕ) → list_all (λ e. test e.0 e.1) (entries_in (run ∷ runs)) ≡ true → byte_at run character ≡ Some byte → test byte character ≡ true
-placed_at test run runs character byte all here = by_place (position (λ known. known == character) run.1) refl here
+placed_at : (test : ℕ → ℕ → Bool) (stretch : Stretch) (stretches : List Stretch) (character byte : ℕ) → list_all (λ e. test e.0 e.1) (entries_in (stretch ∷ stretches)) ≡ true → byte_at stretch character ≡ Some byte → test byte character ≡ true
+placed_at test stretch stretches character byte all here = by_place (position (λ known. known == character) stretch.1) refl here
   where
-    by_place : (found : Option ℕ) → position (λ known. known == character) run.1 ≡ found → option_map (λ place. run.0 + place) found ≡ Some byte → test byte character ≡ true
+    by_place : (found : Option ℕ) → position (λ known. known == character) stretch.1 ≡ found → option_map (λ place. stretch.0 + place) found ≡ Some byte → test byte character ≡ true
     by_place None none here = absurd (cc)
     by_place (Some place) some here =
-        let at_place = position-Some (λ known. known == character) run.1 place 0 some in
-        let same : get_or run.1 place 0 ≡ character = eqb-true _ _ at_place.1 in
-        let known : slice_get run.1 place ≡ Some character = slice_get-get_or run.1 place 0 at_place.0 ∙ ap Some same in
-        let sum : run.0 + place ≡ byte = cc in
-        rw sum at (holds_at_run test run runs place character all known)
+        let at_place = position-Some (λ known. known == character) stretch.1 place 0 some in
+        let same : get_or stretch.1 place 0 ≡ character = eqb-true _ _ at_place.1 in
+        let known : slice_get stretch.1 place ≡ Some character = slice_get-get_or stretch.1 place 0 at_place.0 ∙ ap Some same in
+        let sum : stretch.0 + place ≡ byte = cc in
+        rw sum at (holds_at_stretch test stretch stretches place character all known)
 
-holds_at_character : (test : ℕ → ℕ → Bool) (runs : List Run) (character byte : ℕ) → list_all (λ e. test e.0 e.1) (entries_in runs) ≡ true → byte_in runs character ≡ Some byte → test byte character ≡ true
+holds_at_character : (test : ℕ → ℕ → Bool) (stretches : List Stretch) (character byte : ℕ) → list_all (λ e. test e.0 e.1) (entries_in stretches) ≡ true → byte_in stretches character ≡ Some byte → test byte character ≡ true
 holds_at_character test [] character byte all here = absurd (cc)
-holds_at_character test (run ∷ runs) character byte all here = by_run (byte_at run character) refl here (holds_at_character test runs character byte (holds_at_rest test run runs all))
+holds_at_character test (stretch ∷ stretches) character byte all here = by_stretch (byte_at stretch character) refl here (holds_at_character test stretches character byte (holds_at_rest test stretch stretches all))
   where
-    by_run : (found : Option ℕ) → byte_at run character ≡ found → option_or found (byte_in runs character) ≡ Some byte → (byte_in runs character ≡ Some byte → test byte character ≡ true) → test byte character ≡ true
-    by_run None none here later = later here
-    by_run (Some found) some here later = placed_at test run runs character byte all (some ∙ here)
+    by_stretch : (found : Option ℕ) → byte_at stretch character ≡ found → option_or found (byte_in stretches character) ≡ Some byte → (byte_in stretches character ≡ Some byte → test byte character ≡ true) → test byte character ≡ true
+    by_stretch None none here later = later here
+    by_stretch (Some found) some here later = placed_at test stretch stretches character byte all (some ∙ here)
 
 abbrev is_number : Option ℕ → ℕ → Bool
 is_number None n = false

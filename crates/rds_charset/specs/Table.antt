@@ -5,11 +5,11 @@ use Rattle.std.specs.List.{range_with_len}
 use Rattle.std.specs.Option.{option_or}
 
 -- bytes that follow one another: the first of them, and their characters by code point
-abbrev pub Run : Type 0
-Run = ℕ × List ℕ
+abbrev pub Stretch : Type 0
+Stretch = ℕ × List ℕ
 
 -- every byte that has a character: those up to 0x7D have the one that they have in ASCII
-abbrev pub table : List Run
+abbrev pub table : List Stretch
 table = (0x20, range_with_len 0x20 4)
     ∷ (0x25, range_with_len 0x25 55)
     ∷ (0x5D, range_with_len 0x5D 1)
@@ -27,31 +27,31 @@ table = (0x20, range_with_len 0x20 4)
     ∷ (0xD0, 0xC2 ∷ 0xC4 ∷ 0xCA ∷ 0xCB ∷ 0xCE ∷ 0xCF ∷ 0xD4 ∷ 0xD6 ∷ 0xDB ∷ 0xDC ∷ [])
     ∷ []
 
--- the run's bytes are bytes
-abbrev pub FitsInBytes : Run → Type 0
-FitsInBytes run = run.0 + length run.1 ≤ 256
+-- the stretch's bytes are bytes
+abbrev pub FitsInBytes : Stretch → Type 0
+FitsInBytes stretch = stretch.0 + length stretch.1 ≤ 256
 
--- the character of a byte in a run
-abbrev pub character_at : Run → ℕ → Option ℕ
-character_at run byte = if nat_le run.0 byte then slice_get run.1 (byte - run.0) else None
+-- the character of a byte in a stretch
+abbrev pub character_at : Stretch → ℕ → Option ℕ
+character_at stretch byte = if nat_le stretch.0 byte then slice_get stretch.1 (byte - stretch.0) else None
 
--- the character of a byte in the first run that has the byte
-abbrev pub character_in : List Run → ℕ → Option ℕ
+-- the character of a byte in the first stretch that has the byte
+abbrev pub character_in : List Stretch → ℕ → Option ℕ
 character_in [] byte = None
-character_in (run ∷ runs) byte = option_or (character_at run byte) (character_in runs byte)
+character_in (stretch ∷ stretches) byte = option_or (character_at stretch byte) (character_in stretches byte)
 
 -- the character of a byte
 unfoldable pub character_of : ℕ → Option ℕ
 character_of byte = character_in table byte
 
--- the byte of a character in a run
-abbrev pub byte_at : Run → ℕ → Option ℕ
-byte_at run character = option_map (λ place. run.0 + place) (position (λ known. known == character) run.1)
+-- the byte of a character in a stretch
+abbrev pub byte_at : Stretch → ℕ → Option ℕ
+byte_at stretch character = option_map (λ place. stretch.0 + place) (position (λ known. known == character) stretch.1)
 
--- the byte of a character in the first run that has the character
-abbrev pub byte_in : List Run → ℕ → Option ℕ
+-- the byte of a character in the first stretch that has the character
+abbrev pub byte_in : List Stretch → ℕ → Option ℕ
 byte_in [] character = None
-byte_in (run ∷ runs) character = option_or (byte_at run character) (byte_in runs character)
+byte_in (stretch ∷ stretches) character = option_or (byte_at stretch character) (byte_in stretches character)
 
 -- the byte of a character
 unfoldable pub byte_of : ℕ → Option ℕ

@@ -1,30 +1,30 @@
 //! The characters that a text on the air can have, and the bytes that stand for them.
 
 ghost use Rattle.std.specs.Prelude.{◌≡◌, map};
-ghost use Rattle.rds_charset.specs.Runs.{run_of};
+ghost use Rattle.rds_charset.specs.Stretches.{stretch_of};
 ghost use Rattle.rds_charset.specs.Table.{byte_at, byte_of, character_at, character_of};
 ghost use Rattle.rds_charset.specs.Table.{FitsInBytes, table};
 
 /// Bytes that follow one another, and the characters that they stand for.
 #[derive(Clone, Copy)]
-struct Run {
+struct Stretch {
     first: u8,
     characters: &'static [char],
 }
 
-impl Run {
-    /// The character of the byte, if the byte is one of the run's.
+impl Stretch {
+    /// The character of the byte, if the byte is one of the stretch's.
     fn character_of(&self, byte: u8) -> Option<char>
-        ensures { result ≡ character_at (run_of self.now) byte }
+        ensures { result ≡ character_at (stretch_of self.now) byte }
     {
         let place = byte.checked_sub(self.first)?;
         self.characters.get(usize::from(place)).copied()
     }
 
-    /// The byte of the character, if the character is one of the run's.
+    /// The byte of the character, if the character is one of the stretch's.
     fn byte_of(&self, character: char) -> Option<u8>
-        requires { FitsInBytes (run_of self.now) }
-        ensures { result ≡ byte_at (run_of self.now) character }
+        requires { FitsInBytes (stretch_of self.now) }
+        ensures { result ≡ byte_at (stretch_of self.now) character }
     {
         let place = self
             .characters
@@ -38,12 +38,12 @@ impl Run {
 ///
 /// This is the project's own table. It follows the basic one of IEC 62106 where that one has a
 /// letter of Western Europe, and nothing rests on the likeness.
-static TABLE: [Run; 10] = [
-    Run {
+static TABLE: [Stretch; 10] = [
+    Stretch {
         first: 0x20,
         characters: &[' ', '!', '"', '#'],
     },
-    Run {
+    Stretch {
         first: 0x25,
         characters: &[
             '%', '&', '\'', '(', ')', '*', '+', ',', '-', '.', '/', '0', '1', '2', '3', '4', '5',
@@ -52,46 +52,46 @@ static TABLE: [Run; 10] = [
             'X', 'Y', 'Z', '[',
         ],
     },
-    Run {
+    Stretch {
         first: 0x5D,
         characters: &[']'],
     },
-    Run {
+    Stretch {
         first: 0x5F,
         characters: &['_'],
     },
-    Run {
+    Stretch {
         first: 0x61,
         characters: &[
             'a', 'b', 'c', 'd', 'e', 'f', 'g', 'h', 'i', 'j', 'k', 'l', 'm', 'n', 'o', 'p', 'q',
             'r', 's', 't', 'u', 'v', 'w', 'x', 'y', 'z', '{', '|', '}',
         ],
     },
-    Run {
+    Stretch {
         first: 0x80,
         characters: &['á', 'à', 'é', 'è', 'í', 'ì', 'ó', 'ò', 'ú', 'ù', 'Ñ', 'Ç'],
     },
-    Run {
+    Stretch {
         first: 0x90,
         characters: &['â', 'ä', 'ê', 'ë', 'î', 'ï', 'ô', 'ö', 'û', 'ü', 'ñ', 'ç'],
     },
-    Run {
+    Stretch {
         first: 0xA9,
         characters: &['€', '£', '$'],
     },
-    Run {
+    Stretch {
         first: 0xC0,
         characters: &['Á', 'À', 'É', 'È', 'Í', 'Ì', 'Ó', 'Ò', 'Ú', 'Ù'],
     },
-    Run {
+    Stretch {
         first: 0xD0,
         characters: &['Â', 'Ä', 'Ê', 'Ë', 'Î', 'Ï', 'Ô', 'Ö', 'Û', 'Ü'],
     },
 ];
 
-/// The table, run by run.
-fn table() -> &'static [Run]
-    ensures { map run_of result.now ≡ table }
+/// The table, stretch by stretch.
+fn table() -> &'static [Stretch]
+    ensures { map stretch_of result.now ≡ table }
 {
     &TABLE
 }
@@ -100,8 +100,8 @@ fn table() -> &'static [Run]
 pub(crate) fn character_of(byte: u8) -> Option<char>
     ensures { result ≡ character_of byte }
 {
-    for run in table() {
-        if let Some(character) = run.character_of(byte) {
+    for stretch in table() {
+        if let Some(character) = stretch.character_of(byte) {
             return Some(character);
         }
     }
@@ -112,8 +112,8 @@ pub(crate) fn character_of(byte: u8) -> Option<char>
 pub(crate) fn byte_of(character: char) -> Option<u8>
     ensures { result ≡ byte_of character }
 {
-    for run in table() {
-        if let Some(byte) = run.byte_of(character) {
+    for stretch in table() {
+        if let Some(byte) = stretch.byte_of(character) {
             return Some(byte);
         }
     }

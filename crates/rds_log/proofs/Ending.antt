@@ -1,5 +1,5 @@
 -- How the engine goes on and ends: what the decoder gives, and what the writer took of it.
-use Rattle.std.proofs.Common.{◌≡◌, ◌≢◌, ◌+◌, ◌<◌, ◌≤◌, ◌⊎◌, ℕ, List, [], ◌∷◌, ◌++◌, take, drop, length, length-append, Option, append_assoc, Ok, Err, ap, sym, ◌∙◌, refl, arith, inl, inr}
+use Rattle.std.proofs.Common.{◌≡◌, ◌+◌, ◌<◌, ◌≤◌, ℕ, List, [], ◌∷◌, ◌++◌, take, drop, length, length-append, Option, append_assoc, Ok, Err, ap, sym, ◌∙◌, refl, arith, inl, inr}
 use Rattle.std.specs.Prelude.{MatchResult, Result}
 use Rattle.std.proofs.lemmas.List.{append-nil, take-append-drop}
 use Rattle.std.proofs.Math.Seq.{take-add}
@@ -8,10 +8,10 @@ use Rattle.std.specs.Io.KnownBytes.{Appends, Consumes, IsAtEnd, Keeps}
 use Rattle.rds_charset.specs.Told.{AppendsPrefix, Failed, Traffic}
 use Rattle.rds_charset.specs.Puts.{AppendsPrefix-append}
 use Rattle.rds_receiver.specs.Receipts.{Tuning}
-use Rattle.rds_log.specs.LogLines.{AreLines, Line, line_feed, text_of}
-use Rattle.rds_log.specs.Decoding.{LinesWrite, tuned}
-use Rattle.rds_log.specs.Standing.{DecoderStandsAt, Ends, FailsIn, GivesLine, GoesOn, IsBadAt}
-use Rattle.rds_log.specs.Engine.{Decodes, DecodesAll, EndsWith, Feeds, Finishes, GoesThrough, StopsAtBadLine, StopsAtWrite, StopsBetween}
+use Rattle.rds_log.specs.LogLines.{Line, line_feed, text_of}
+use Rattle.rds_log.specs.Decoding.{LinesWrite}
+use Rattle.rds_log.specs.Standing.{DecoderStandsAt, Ends, FailsIn, GoesOn, IsBadAt}
+use Rattle.rds_log.specs.Engine.{Decodes, EndsWith, Feeds, Finishes, GoesThrough, StopsAtBadLine, StopsAtWrite, StopsBetween}
 use Rattle.rds_log.specs.declared.decoder.Decoder.{Decoder}
 use Rattle.rds_log.specs.declared.fault.BadLine as fault
 use Rattle.rds_log.specs.declared.fault.LogFault.{LogFault}

@@ -10,7 +10,6 @@ use Rattle.rds_log.specs.LineSays.{IsBad, LineSays}
 use Rattle.rds_log.specs.Viewing.{ViewsStandAt}
 use Rattle.rds_log.specs.Standing.{DecoderStandsAt, FailsIn, GivesLine, GoesOn, IsBadAt}
 use Rattle.rds_log.specs.declared.decoder.Decoder.{Decoder}
-use Rattle.rds_log.specs.declared.log_line.LogLine.{LogLine}
 use Rattle.rds_log.specs.declared.log_line.LogLine.TheVariants.{Skip, Slot}
 
 -- more bytes of the line that is begun

@@ -8,7 +8,7 @@ use Rattle.rds_block.specs.declared.group.Group.{Group}
 use Rattle.rds_receiver.specs.Receipts.{Tuning}
 use Rattle.rds_receiver.specs.Shown.{IsView, ShownView}
 use Rattle.rds_receiver.specs.Standing.{StandsAt}
-use Rattle.rds_log.specs.Output.{change, changes_of, is_same_item, is_same_tag, is_same_text, newest, nothing_shown}
+use Rattle.rds_log.specs.Output.{change, is_same_item, is_same_tag, is_same_text, newest, nothing_shown}
 use Rattle.rds_log.specs.Decoding.{AreViews}
 use Rattle.rds_log.specs.Kept.{view_kept}
 use Rattle.rds_log.specs.Viewing.{ViewsStandAt}

@@ -1,6 +1,6 @@
 -- What a line of a log says: that it is to be skipped, or which group a slot has. It is told by places and
 -- lengths, byte i of the line at place i. This is the project's own format.
-use Rattle.std.specs.Prelude.{◌≡◌, ◌⊎◌, ◌<◌, ◌≤◌, ◌+◌, ℕ, [], ◌∷◌, Option, Some, None, slice_index}
+use Rattle.std.specs.Prelude.{◌≡◌, ◌⊎◌, ◌≤◌, ◌+◌, ℕ, [], ◌∷◌, Option, Some, None, slice_index}
 use Rattle.rds_block.specs.declared.group.Group.{Group}
 use Rattle.rds_block.specs.Words.{AreWordsOf}
 use Rattle.rds_log.specs.Digits.{HasWord}

@@ -1,6 +1,6 @@
 -- The view that a receiver lends.
-use Rattle.std.specs.Prelude.{◌≤◌, ℕ, List, Option, length, option_map}
-use Rattle.std.specs.Option.{ForSome, option_copied}
+use Rattle.std.specs.Prelude.{ℕ, List, Option, option_map}
+use Rattle.std.specs.Option.{option_copied}
 use Rattle.std.specs.Borrow.{Bor}
 use Rattle.rds_receiver.specs.Shown as shown
 use Rattle.rds_receiver.specs.declared.view.View as lent

@@ -1,7 +1,6 @@
 -- What the whole program does with its words: `decode --pi HHHH` decodes a log, and nothing else is taken.
 -- This is the project's own command line. r is what a call did to the reader, w what it did to the writer.
 use Rattle.std.specs.Prelude.{◌≡◌, ◌⊎◌, ◌^◌, ◌++◌, ◌∷◌, ℕ, List, [], codes, decimal, length, Option, Ok, Err, Result}
-use Rattle.std.specs.Io.KnownBytes.{Appends}
 use Rattle.rds_charset.specs.Puts.{Puts}
 use Rattle.rds_charset.specs.Told.{PutsNothing, Traffic}
 use Rattle.rds_charset.specs.declared.output.WriteFault.{WriteFault}

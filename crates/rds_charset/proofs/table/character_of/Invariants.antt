@@ -1,7 +1,7 @@
 use Rattle.std.proofs.Common.{◌≡◌, drop, map}
-use Rattle.rds_charset.specs.Runs.{run_of}
+use Rattle.rds_charset.specs.Stretches.{stretch_of}
 use Rattle.rds_charset.specs.Table.{character_in, character_of}
 use Rattle.rds_charset.proofs.table.character_of.Given as goal
 
-abbrev pub invariant-loop-run : goal.invariant-loop-run
-invariant-loop-run l = character_in (map run_of (drop l.run-index l.run-items)) l.byte ≡ character_of l.byte
+abbrev pub invariant-loop-stretch : goal.invariant-loop-stretch
+invariant-loop-stretch l = character_in (map stretch_of (drop l.stretch-index l.stretch-items)) l.byte ≡ character_of l.byte

@@ -1,4 +1,4 @@
-use Rattle.std.proofs.Common.{◌≡◌, ℕ, ◌++◌, ◌+◌, length, length-drop, take, arith}
+use Rattle.std.proofs.Common.{◌≡◌, ℕ, ◌++◌, length-drop, take, arith}
 use Rattle.std.proofs.lemmas.List.{length-take, take_all}
 use Rattle.std.proofs.lemmas.Result.{err_from_is_err_and}
 use Rattle.rds_log.specs.LogLines.{text_of}

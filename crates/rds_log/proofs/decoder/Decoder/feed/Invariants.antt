@@ -1,4 +1,4 @@
-use Rattle.std.proofs.Common.{◌≡◌, ◌≤◌, ◌+◌, ◌-◌, [], take, length}
+use Rattle.std.proofs.Common.{◌≡◌, ◌≤◌, ◌+◌, ◌-◌, take, length}
 use Rattle.rds_log.specs.Standing.{GoesOn, WhereItStands}
 use Rattle.rds_log.proofs.decoder.Decoder.feed.Given as goal
 

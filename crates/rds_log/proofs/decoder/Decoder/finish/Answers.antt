@@ -1,4 +1,4 @@
-use Rattle.std.proofs.Common.{ap, subst, ◌≡◌, ◌++◌, [], inl, inr, refl, length, take, arith}
+use Rattle.std.proofs.Common.{ap, subst, ◌≡◌, [], inl, inr, refl, length, take, arith}
 use Rattle.std.proofs.lemmas.List.{append-nil}
 use Rattle.std.proofs.lemmas.Result.{MatchResult-weaker}
 use Rattle.std.proofs.lemmas.Grind.{common_steps}

@@ -1,4 +1,4 @@
-use Rattle.std.proofs.Common.{◌≡◌, ◌++◌, ℕ, ap, take, ◌∙◌}
+use Rattle.std.proofs.Common.{◌++◌, ℕ, ap, take, ◌∙◌}
 use Rattle.rds_log.proofs.Going.{kept_in_room}
 use Rattle.rds_log.proofs.decoder.Decoder.keep.Goals as goal
 
