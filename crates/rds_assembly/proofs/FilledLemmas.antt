@@ -15,9 +15,9 @@ joined a b n m e f h = omega arith
 
 pub written : (n : ℕ) (x : List ℕ) → length x ≡ n → IsText x → IsFilled n (x ++ drop n (replicate 64 0))
 written n x e t =
-    let within : n ≤ 64 = (let long = t.long in omega arith) in
+    let within : n ≤ 64 = (let long = t.at_most in omega arith) in
     record {
-      long = length-append x (drop n (replicate 64 0)) ∙ joined (length x) _ n 64 e (rest_long n 64) within;
+      full = length-append x (drop n (replicate 64 0)) ∙ joined (length x) _ n 64 e (rest_long n 64) within;
       within = within;
       zeros = ap (λ k. drop k (x ++ drop n (replicate 64 0))) (sym e) ∙ drop-append_seam x (drop n (replicate 64 0)) ∙ drop-replicate n 64 0;
       text = subst IsText (sym (front n x _ e)) t;

@@ -6,7 +6,7 @@ use Rattle.rds_assembly.specs.Value.{IsText}
 
 -- the first bytes of the buffer are a text, and the others are zeros
 pub record IsFilled (end : ℕ) (buffer : List ℕ) : Type 0 where
-  pub long : length buffer ≡ 64
+  pub full : length buffer ≡ 64
   pub within : end ≤ 64
   pub zeros : drop end buffer ≡ replicate (64 - end) 0
   pub text : IsText (take end buffer)
@@ -16,7 +16,7 @@ abbrev pub filled : List ℕ → List ℕ
 filled x = x ++ replicate (64 - length x) 0
 
 pub end_back : (end : ℕ) (buffer : List ℕ) → IsFilled end buffer → length (take end buffer) ≡ end
-end_back end buffer h = (let w = h.within in let l = h.long in length-take-le end buffer (omega arith))
+end_back end buffer h = (let w = h.within in let l = h.full in length-take-le end buffer (omega arith))
 
 pub filled_back : (end : ℕ) (buffer : List ℕ) → IsFilled end buffer → filled (take end buffer) ≡ buffer
 filled_back end buffer h =

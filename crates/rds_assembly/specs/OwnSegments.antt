@@ -66,7 +66,7 @@ own_text cells x y t own w =
       | inl e ↦ same_number_lists y x e (λ k h. byte_of _ cells k _ own (w.spelled.bytes k h) ∙ text_below x k (omega arith))
       | inr u ↦ elim u [
         | inl shorter ↦ absurd (elim w.ends [
-          | inl full ↦ (let long = t.long in omega arith)
+          | inl full ↦ (let long = t.at_most in omega arith)
           | inr end ↦ no_return x t (length y) shorter (sym (text_below x (length y) shorter) ∙ sym (byte_of _ cells (length y) 13 own end.1))
         ])
         | inr longer ↦ absurd (w.plain (length x) longer (byte_of _ cells (length x) _ own (w.spelled.bytes (length x) longer) ∙ text_end x (below longer w.ends)))
@@ -85,12 +85,12 @@ all_text cells x t all = record {
 }
   where
     within : (i : ℕ) → i < length x → i / 4 < segment_count (text_body x)
-    within i h = let long = t.long in text_within x i long (omega arith) (omega arith)
+    within i h = let long = t.at_most in text_within x i long (omega arith) (omega arith)
 
     by_order : (length x ≡ 64) ⊎ ((length x < 64) ⊎ (64 < length x)) → (length x ≡ 64) ⊎ ((length x < 64) × HasByte cells (length x) 13)
     by_order (inl e) = inl e
-    by_order (inr (inl h)) = inr (h, rw (text_end x h) at (byte_held _ cells (length x) all (text_within x (length x) t.long (omega arith) h)))
-    by_order (inr (inr h)) = (let long = t.long in absurd (omega arith))
+    by_order (inr (inl h)) = inr (h, rw (text_end x h) at (byte_held _ cells (length x) all (text_within x (length x) t.at_most (omega arith) h)))
+    by_order (inr (inr h)) = (let long = t.at_most in absurd (omega arith))
 
 -- a name is its own body
 name_alone : (x : List ℕ) → IsName x → name_body x ≡ x

@@ -14,7 +14,7 @@ is_name_byte b = nat_le 32 b
 
 -- at most so many bytes, each allowed
 pub record AreBytes (most : ℕ) (is_allowed : ℕ → Bool) (x : List ℕ) : Type 0 where
-  pub long : length x ≤ most
+  pub at_most : length x ≤ most
   pub bytes : (i : ℕ) → i < length x → slice_index x i < 256
   pub allowed : (i : ℕ) → i < length x → is_allowed (slice_index x i) ≡ true
 

@@ -1,4 +1,3 @@
 pub mod Shifts
-pub mod OneMessage
 pub mod OneGroup
 pub mod Written

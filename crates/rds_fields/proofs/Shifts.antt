@@ -3,7 +3,7 @@ use Rattle.std.proofs.Common.{◌≡◌, ℕ, zero, suc, ◌+◌, ◌*◌, ◌<�
 use Rattle.std.specs.Int.{from_bool}
 use Rattle.std.proofs.lemmas.Nat.{and_mask}
 use mathlib.Core.Bool.{not}
-use Rattle.rds_block.proofs.SecondWord.{or_above}
+use Rattle.rds_block.specs.SecondWord.{or_above}
 use Rattle.rds_fields.specs.Bits.{Sent, FitsBits, bits_of}
 
 -- the three parts of the 37 bits joined

@@ -2,7 +2,7 @@
 use Rattle.std.proofs.Common.{◌≡◌, ℕ, refl}
 use Rattle.rds_fields.specs.Tag.{TagFields, PairFields, IsTag, IsPair}
 use Rattle.rds_fields.specs.Bits.{FitsBits, bits_of, sent_of, IsRead, SpellsPair}
-use Rattle.rds_block.proofs.SecondWord.{from_bool-lt}
+use Rattle.rds_block.specs.SecondWord.{from_bool-lt}
 
 pub sent_of-fit : (p : PairFields) → IsPair p → FitsBits (sent_of p)
 sent_of-fit p h = record {

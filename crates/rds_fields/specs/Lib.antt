@@ -4,3 +4,4 @@ pub mod Spells
 pub mod Canonical
 pub mod RadioTextPlus
 pub mod Codes
+pub mod OneMessage

@@ -58,7 +58,7 @@ same_slot p q slot s says = record {
 
 same_layout : (p q : Line) → SameStart p q → IsLaidOut p → IsLaidOut q
 same_layout p q s laid = record {
-  long = omega (arith, s.to);
+  at_least = omega (arith, s.to);
   first_space = sym (s.bytes 4 (omega arith)) ∙ laid.first_space;
   second_space = sym (s.bytes 9 (omega arith)) ∙ laid.second_space;
   third_space = sym (s.bytes 14 (omega arith)) ∙ laid.third_space;

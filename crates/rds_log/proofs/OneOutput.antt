@@ -5,12 +5,12 @@ use Rattle.std.proofs.lemmas.List.Elements.{All-head, All-tail}
 use Rattle.std.specs.Char.{digit_value}
 use Rattle.std.proofs.lemmas.Grind.{common_steps}
 use Rattle.rds_block.specs.declared.group.Group.{Group}
-use Rattle.rds_block.proofs.SecondWord.{same_group}
+use Rattle.rds_block.specs.SecondWord.{same_group}
 use Rattle.rds_log.specs.LogLines.{AreLines, IsLine, Line, line_feed, text_of}
 use Rattle.rds_log.specs.LineSays.{Carry, IsBlock, IsMark, IsSkipped, LineSays, SaysSlot}
 use Rattle.rds_receiver.specs.Receipts.{Tuning}
 use Rattle.rds_receiver.specs.Shown.{ShownView}
-use Rattle.rds_receiver.proofs.OneView.{same_view}
+use Rattle.rds_receiver.specs.OneView.{same_view}
 use Rattle.rds_log.specs.Output.{changes_of}
 use Rattle.rds_log.specs.Decoding.{AreSlots, AreViews, LogWrites}
 use Rattle.rds_log.specs.declared.log_line.Block.{Block}
@@ -105,7 +105,7 @@ begins line Missing p = inr p.first
 
 -- a line that is skipped is no slot
 not_both : (line : Line) (slot : Option Group) → IsSkipped line → LineSays line (Slot slot) → ⊥
-not_both line slot (inl empty) (laid, says) = omega (arith, empty, laid.long)
+not_both line slot (inl empty) (laid, says) = omega (arith, empty, laid.at_least)
 not_both line slot (inr mark) (laid, says) = no_mark (get_or line 0 0) mark (begins line says.a says.first)
 
 pub same_said : (line : Line) (said other : LogLine) → LineSays line said → LineSays line other → said ≡ other

@@ -10,9 +10,33 @@ use Rattle.rds_log.specs.declared.log_line.Block.TheVariants.{Word, Missing}
 use Rattle.rds_log.specs.declared.log_line.LogLine.{LogLine}
 use Rattle.rds_log.specs.declared.log_line.LogLine.TheVariants.{Skip, Slot}
 
--- `<`, `#` or `%`: the first byte of a line that is no slot
+abbrev pub space : ℕ
+space = 32
+
+abbrev pub dash : ℕ
+dash = 45
+
+abbrev pub less_than : ℕ
+less_than = 60
+
+abbrev pub number_sign : ℕ
+number_sign = 35
+
+abbrev pub percent_sign : ℕ
+percent_sign = 37
+
+-- how many bytes the four blocks of a slot line and the spaces between them take
+abbrev pub blocks : ℕ
+blocks = 19
+
+-- how many first bytes decide what a line says: the blocks, the byte after them, and one more, since a carriage
+-- return is dropped only at the end of a line
+abbrev pub deciding : ℕ
+deciding = 21
+
+-- the first byte of a line that is no slot
 abbrev pub IsMark : ℕ → Type 0
-IsMark b = (b ≡ 60) ⊎ (b ≡ 35) ⊎ (b ≡ 37)
+IsMark b = (b ≡ less_than) ⊎ (b ≡ number_sign) ⊎ (b ≡ percent_sign)
 
 -- an empty line, or one that a mark begins
 abbrev pub IsSkipped : Line → Type 0
@@ -20,10 +44,10 @@ IsSkipped line = (content_length line ≡ 0) ⊎ IsMark (slice_index line 0)
 
 -- four dashes stand from the place on
 pub record HasDashes (line : Line) (at : ℕ) : Type 0 where
-  pub first : slice_index line at ≡ 45
-  pub second : slice_index line (at + 1) ≡ 45
-  pub third : slice_index line (at + 2) ≡ 45
-  pub fourth : slice_index line (at + 3) ≡ 45
+  pub first : slice_index line at ≡ dash
+  pub second : slice_index line (at + 1) ≡ dash
+  pub third : slice_index line (at + 2) ≡ dash
+  pub fourth : slice_index line (at + 3) ≡ dash
 
 -- the block stands from the place on
 abbrev pub IsBlock : Line → ℕ → Block → Type 0
@@ -37,11 +61,11 @@ word_of Missing = None
 
 -- one space between the blocks, and after them the end or one more space
 pub record IsLaidOut (line : Line) : Type 0 where
-  pub long : 19 ≤ content_length line
-  pub first_space : slice_index line 4 ≡ 32
-  pub second_space : slice_index line 9 ≡ 32
-  pub third_space : slice_index line 14 ≡ 32
-  pub ends : (content_length line ≡ 19) ⊎ (slice_index line 19 ≡ 32)
+  pub at_least : blocks ≤ content_length line
+  pub first_space : slice_index line 4 ≡ space
+  pub second_space : slice_index line 9 ≡ space
+  pub third_space : slice_index line 14 ≡ space
+  pub ends : (content_length line ≡ blocks) ⊎ (slice_index line blocks ≡ space)
 
 -- the group that four blocks carry: none where one of them is missing
 abbrev pub Carry : Block → Block → Block → Block → Option Group → Type 0

@@ -4,14 +4,14 @@ use Rattle.std.specs.Prelude.{◌≡◌, ◌≢◌, ◌⊎◌, ◌+◌, ◌++◌
 use Rattle.rds_block.specs.declared.group.Group.{Group}
 use Rattle.rds_receiver.specs.Receipts.{Tuning}
 use Rattle.rds_log.specs.LogLines.{IsLine, Line, line_feed, text_of}
-use Rattle.rds_log.specs.LineSays.{IsBad}
+use Rattle.rds_log.specs.LineSays.{IsBad, deciding}
 use Rattle.rds_log.specs.Decoding.{AreSlots, LinesWrite}
 use Rattle.rds_log.specs.Viewing.{ViewsStandAt}
 use Rattle.rds_log.specs.declared.decoder.Decoder.{Decoder}
 
 -- the decoder took the closed lines and the bytes of the begun one, and gave the output of the closed ones
 pub record DecoderStandsAt (t : Tuning) (d : Decoder) (closed : List Line) (begun : Line) (written : List ℕ) : Type 0 where
-  pub kept : d.kept.items ≡ take 21 begun
+  pub kept : d.kept.items ≡ take deciding begun
   pub count : d.lines ≡ length closed
   pub lines : All IsLine closed
   pub line : IsLine begun

@@ -2,7 +2,6 @@ pub mod Runs
 pub mod Pairs
 pub mod Steps
 pub mod Longest
-pub mod OneView
 pub mod Shows
 pub mod WorkedRows
 pub mod Alike

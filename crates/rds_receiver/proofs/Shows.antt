@@ -13,7 +13,7 @@ use Rattle.rds_receiver.specs.Shown.{IsNameShown, IsShown, IsTextShown}
 use Rattle.rds_receiver.specs.Standing.{StandsAt}
 use Rattle.rds_receiver.specs.State.{ReceiverState}
 use Rattle.rds_receiver.specs.Tags.{cut_by, item_of, pair_from, pair_held, tag_in, tag_of}
-use Rattle.rds_receiver.proofs.OneView.{same_heard}
+use Rattle.rds_receiver.specs.OneView.{same_heard}
 use Rattle.rds_receiver.proofs.Runs.{run_at_newest}
 
 -- the cells and the pair held are those of the definition, for whatever was heard

@@ -7,3 +7,4 @@ pub mod State
 pub mod Codes
 pub mod Lent
 pub mod Standing
+pub mod OneView

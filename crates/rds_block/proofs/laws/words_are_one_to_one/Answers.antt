@@ -1,4 +1,4 @@
-use Rattle.rds_block.proofs.SecondWord.{same_group}
+use Rattle.rds_block.specs.SecondWord.{same_group}
 use Rattle.rds_block.proofs.laws.words_are_one_to_one.Goals as goal
 
 pub returns-clause-one_group : goal.returns-clause-one_group

@@ -1,4 +1,4 @@
-use Rattle.rds_fields.proofs.OneMessage.{same_message}
+use Rattle.rds_fields.specs.OneMessage.{same_message}
 use Rattle.rds_fields.proofs.laws.one_message.Goals as goal
 
 pub returns : goal.returns

@@ -1,4 +1,4 @@
-use Rattle.rds_receiver.proofs.OneView.{same_view}
+use Rattle.rds_receiver.specs.OneView.{same_view}
 use Rattle.rds_receiver.proofs.laws.one_view.Goals as goal
 
 pub returns : goal.returns

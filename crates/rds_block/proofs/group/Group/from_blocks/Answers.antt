@@ -1,6 +1,6 @@
 use Rattle.std.proofs.Common.{◌≡◌, ◌/◌, [], ◌∷◌, bit_and, get_or, length, ap, ◌∙◌, rules, arith}
 use Rattle.std.proofs.lemmas.Nat.{and_mask}
-use Rattle.rds_block.proofs.SecondWord.{second_word_read, four}
+use Rattle.rds_block.specs.SecondWord.{second_word_read, four}
 use Rattle.rds_block.proofs.group.Group.from_blocks.Goals as goal
 
 pub returns : goal.returns

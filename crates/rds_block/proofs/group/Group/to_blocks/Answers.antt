@@ -1,6 +1,6 @@
 use Rattle.std.proofs.Common.{arith}
 use Rattle.std.specs.Int.{from_bool}
-use Rattle.rds_block.proofs.SecondWord.{second_word_joined, from_bool-lt}
+use Rattle.rds_block.specs.SecondWord.{second_word_joined, from_bool-lt}
 use Rattle.rds_block.proofs.group.Group.to_blocks.Goals as goal
 
 pub returns : goal.returns

@@ -1,5 +1,5 @@
 use Rattle.std.proofs.Common.{◌/◌, ◌%◌, ◌∙◌, sym, arith}
-use Rattle.rds_fields.proofs.OneMessage.{same_message}
+use Rattle.rds_fields.specs.OneMessage.{same_message}
 use Rattle.rds_fields.proofs.message.Message.group.Goals as goal
 
 pub returns-in-Text-clause-read_again : goal.returns-in-Text-clause-read_again

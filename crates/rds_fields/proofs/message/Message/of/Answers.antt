@@ -1,5 +1,5 @@
 use Rattle.std.proofs.Common.{◌/◌, ◌%◌, arith}
-use Rattle.rds_fields.proofs.OneMessage.{same_message}
+use Rattle.rds_fields.specs.OneMessage.{same_message}
 use Rattle.rds_fields.proofs.Shifts.{text_low, name_low}
 use Rattle.rds_fields.proofs.message.Message.of.Goals as goal
 

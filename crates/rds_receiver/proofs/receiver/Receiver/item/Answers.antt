@@ -1,7 +1,7 @@
 use Rattle.std.proofs.Common.{◌≡◌, ℕ, List, Option, Some, None, sym, ap, ◌∙◌}
 use Rattle.rds_receiver.specs.State.{ReceiverState}
 use Rattle.rds_receiver.specs.Tags.{item_of, pair_held}
-use Rattle.rds_receiver.proofs.OneView.{same_text_shown}
+use Rattle.rds_receiver.specs.OneView.{same_text_shown}
 use Rattle.rds_receiver.proofs.Shows.{item_shown, no_item, pair_is}
 use Rattle.rds_receiver.proofs.receiver.Receiver.item.Goals as goal
 

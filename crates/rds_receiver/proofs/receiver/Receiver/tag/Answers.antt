@@ -3,7 +3,7 @@ use Rattle.std.specs.Prelude.{option_map}
 use Rattle.rds_fields.specs.Tag.{TagFields}
 use Rattle.rds_receiver.specs.State.{ReceiverState}
 use Rattle.rds_receiver.specs.Tags.{cut_by, pair_held, tag_in, tag_of}
-use Rattle.rds_receiver.proofs.OneView.{same_text_shown}
+use Rattle.rds_receiver.specs.OneView.{same_text_shown}
 use Rattle.rds_receiver.proofs.Shows.{first_tag, no_tag, pair_is, second_tag, tag_shown}
 use Rattle.rds_receiver.proofs.receiver.Receiver.tag.Goals as goal
 use Rattle.rds_receiver.proofs.receiver.Receiver.tag.Goals.{in-One, in-Two}

@@ -3,7 +3,7 @@ use Rattle.std.proofs.Common.{◌≡◌, ℕ, List, [], ◌∷◌, Option, Some,
 use Rattle.rds_block.specs.declared.group.Group.{Group}
 use Rattle.rds_fields.specs.declared.message.Message.{Message}
 use Rattle.rds_fields.specs.declared.pair.Which.TheVariants.{One, Two}
-use Rattle.rds_fields.proofs.OneMessage.{same_message}
+use Rattle.rds_fields.specs.OneMessage.{same_message}
 use Rattle.rds_assembly.specs.Cells.{Cells}
 use Rattle.rds_assembly.specs.ServiceLaws.{one_name, one_text}
 use Rattle.rds_receiver.specs.Receipts.{AreHeard, Hears, Tuning, name_piece, text_piece}

@@ -1,7 +1,7 @@
 -- A group spells one message.
 use Rattle.std.proofs.Common.{◌≡◌, ℕ, zero, suc, List, get_or, refl, sym, ap, ◌∙◌, arith}
 use Rattle.rds_block.specs.declared.group.Group.{Group}
-use Rattle.rds_block.proofs.SecondWord.{four, from_bool-lt, same_bool}
+use Rattle.rds_block.specs.SecondWord.{four, from_bool-lt, same_bool}
 use Rattle.rds_fields.specs.declared.message.Message.{Message}
 use Rattle.rds_fields.specs.declared.message.Message.TheVariants.{Text, Name, Announce, Tags, Other}
 use Rattle.rds_fields.specs.Tag.{TagFields, PairFields}
