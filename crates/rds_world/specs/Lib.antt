@@ -1,2 +1,7 @@
 pub mod Marks
 pub mod Lawful
+pub mod Late
+pub mod Plans
+pub mod Source
+pub mod Safe
+pub mod Laws

@@ -1,0 +1,64 @@
+-- What holds of all plans, logs and inputs. Lists have the newest first.
+use Rattle.std.specs.Prelude.{◌≡◌, ◌+◌, ◌-◌, ◌<◌, ◌↔◌, ℕ, List, [], ◌∷◌, Option, length}
+use Rattle.std.specs.List.{All, AllZip}
+use Rattle.rds_block.specs.declared.group.Group.{Group}
+use Rattle.rds_fields.specs.declared.head.Head.{Head}
+use Rattle.rds_fields.specs.declared.message.Message.{Message}
+use Rattle.rds_encoder.specs.Plan.{Broadcast}
+use Rattle.rds_encoder.specs.Sent.{IsSent}
+use Rattle.rds_encoder.specs.Spaced.{IsSpaced}
+use Rattle.rds_receiver.specs.Receipts.{AreHeard, Segment}
+use Rattle.rds_receiver.specs.Shown.{IsView, ShownView}
+use Rattle.rds_world.specs.Late.{Input, InputOf, IsHeardLate, IsHeardOnTime}
+use Rattle.rds_world.specs.Plans.{AreLawful, Plans}
+use Rattle.rds_world.specs.Safe.{AreSafe, Listener, ListensTo}
+use Rattle.rds_world.specs.Source.{IsSource}
+
+-- plans that are lawful for the dwell and the lateness make every slot safe for any number of receivers
+abbrev pub LawfulPlansAreSafe : Type 0
+LawfulPlansAreSafe =
+    (m k t : ℕ) (plans : Plans) (log : List (Option Message)) (receivers : List Listener)
+    → AreLawful (m + k) plans log → All (ListensTo k m t log) receivers → AreSafe (m + k) m t plans log receivers
+
+-- a run has at most one source
+abbrev pub ARunHasOneSource : Type 0
+ARunHasOneSource =
+    (d : ℕ) (plan : List Broadcast) (input : Input) (the_run : List Segment) (k l : ℕ) (a b : Broadcast) → IsSpaced d plan
+    → IsSource plan input the_run k a → IsSource plan input the_run l b → (k ≡ l) × (a ≡ b)
+
+-- what is heard no slot late is each entry of the log or nothing
+abbrev pub NoSlotLateIsOnTime : Type 0
+NoSlotLateIsOnTime =
+    (log : List (Option Message)) (first : ℕ) (heard : List (Option Message))
+    → ((origins : List (Option ℕ)) × IsHeardLate 0 log record { first = first; heard = heard; origins = origins })
+    ↔ IsHeardOnTime log first heard
+
+-- what is late as groups is late as messages
+abbrev pub LateGroupsAreLateMessages : Type 0
+LateGroupsAreLateMessages =
+    (pi k first : ℕ) (sent handed : List (Option Group)) (origins : List (Option ℕ)) (log heard : List (Option Message))
+    → AreHeard pi sent log → AreHeard pi handed heard
+    → IsHeardLate k sent record { first = first; heard = handed; origins = origins }
+    → IsHeardLate k log record { first = first; heard = heard; origins = origins }
+
+-- a receiver that was handed the groups of a station late, and shows their view, listens to what was sent
+abbrev pub WhoIsHandedGroupsListens : Type 0
+WhoIsHandedGroupsListens =
+    (station : Head) (k m t : ℕ) (log : List (Option Message)) (sent : List (Option Group)) (input : InputOf Group) (view : ShownView)
+    → AllZip (IsSent station) log sent → IsHeardLate k sent input → input.first + length input.heard ≡ t + 1
+    → (v : IsView record { programme = station.pi; dwell = m; first = input.first } input.heard view)
+    → ListensTo k m t log record { input = record { first = input.first; heard = v.0; origins = input.origins }; view = view }
+
+-- plans lawful for this many slots, and a slot in which one receiver, at most k slots late, is not safe
+pub record IsUnsafe (d m k : ℕ) : Type 0 where
+  pub plans : Plans
+  pub log : List (Option Message)
+  pub lawful : AreLawful d plans log
+  pub t : ℕ
+  pub receiver : Listener
+  pub listens : ListensTo k m t log receiver
+  pub fails : AreSafe (m + k) m t plans log (receiver ∷ []) → ⊥
+
+-- no fewer slots than the dwell and the lateness make every slot safe
+abbrev pub TheDwellIsTheLeast : Type 0
+TheDwellIsTheLeast = (m k : ℕ) → 1 < m → IsUnsafe (m + k - 1) m k
