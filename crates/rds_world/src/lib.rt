@@ -4,3 +4,7 @@
 //! Lists of slots have the newest first. Whatever the slots are, each text that a receiver shows was on air within
 //! the last dwell.
 #![tactic(auto)]
+
+mod laws;
+
+pub use laws::one_source;

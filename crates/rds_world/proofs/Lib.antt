@@ -1,0 +1,5 @@
+pub mod Entries
+pub mod Hearing
+pub mod OneBroadcast
+pub mod Bytes
+pub mod Sources
