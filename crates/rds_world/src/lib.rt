@@ -7,4 +7,4 @@
 
 mod laws;
 
-pub use laws::one_source;
+pub use laws::{one_source, safe_by_plans};

@@ -1,0 +1,57 @@
+-- Lawful plans make every slot safe for any number of receivers.
+use Rattle.std.proofs.Common.{◌≡◌, ◌+◌, ℕ, List, Option, slice_index_or, ap}
+use Rattle.std.specs.List.{All}
+use Rattle.rds_fields.specs.declared.message.Message.{Message}
+use Rattle.rds_fields.specs.declared.message.Message.TheVariants.{Text, Name, Announce, Tags, Other}
+use Rattle.rds_assembly.specs.Whole.{IsWholeName, IsWholeText}
+use Rattle.rds_receiver.specs.Receipts.{name_piece, text_piece}
+use Rattle.rds_world.specs.Lawful.{names, texts}
+use Rattle.rds_world.specs.Marks.{Sends, name_mark, text_mark}
+use Rattle.rds_world.specs.Plans.{AreLawful, Plans}
+use Rattle.rds_world.specs.Safe.{AreNeighbours, AreSafe, Listener, ListensTo}
+use Rattle.rds_world.specs.Source.{name_run, text_run}
+use Rattle.rds_world.proofs.Bytes.{name_service, text_service}
+use Rattle.rds_world.proofs.OneBroadcast.{PicksWhatIsMarked, PlanLaws, RunLiesInOne, heard_run_lies}
+use Rattle.rds_world.proofs.Pairs.{shows_tags}
+use Rattle.rds_world.proofs.Sources.{near_sources, shown_on_air}
+
+text_pieces_marked : PicksWhatIsMarked text_piece text_mark
+text_pieces_marked (Text f a b) p e = (let same : record { flag = f; address = a; bytes = b } ≡ p = cc in ap Sends same)
+text_pieces_marked (Name f a b) p e = absurd (cc)
+text_pieces_marked (Announce code bits aid) p e = absurd (cc)
+text_pieces_marked (Tags pair) p e = absurd (cc)
+text_pieces_marked Other p e = absurd (cc)
+
+name_pieces_marked : PicksWhatIsMarked name_piece name_mark
+name_pieces_marked (Text f a b) p e = absurd (cc)
+name_pieces_marked (Name f a b) p e = (let same : record { flag = f; address = a; bytes = b } ≡ p = cc in ap Sends same)
+name_pieces_marked (Announce code bits aid) p e = absurd (cc)
+name_pieces_marked (Tags pair) p e = absurd (cc)
+name_pieces_marked Other p e = absurd (cc)
+
+module _ (laws : PlanLaws) (m k t : ℕ) (plans : Plans) (log : List (Option Message)) (law : AreLawful (m + k) plans log) where
+  text_lies : (r : Listener) → ListensTo k m t log r → RunLiesInOne m k t texts plans.text r.input (text_run m r.input)
+  text_lies r h = heard_run_lies laws m k t texts text_piece text_mark plans.text log r.input text_pieces_marked law.text h.late h.now
+
+  name_lies : (r : Listener) → ListensTo k m t log r → RunLiesInOne m k t names plans.name r.input (name_run m r.input)
+  name_lies r h = heard_run_lies laws m k t names name_piece name_mark plans.name log r.input name_pieces_marked law.name h.late h.now
+
+  neighbours : (x y : Listener) → ListensTo k m t log x → ListensTo k m t log y → AreNeighbours m plans x y
+  neighbours x y h i = record {
+    texts = near_sources laws m k t texts plans.text x.input (text_run m x.input) y.input (text_run m y.input) law.text.spaced (text_lies x h) (text_lies y i);
+    names = near_sources laws m k t names plans.name x.input (name_run m x.input) y.input (name_run m y.input) law.name.spaced (name_lies x h) (name_lies y i);
+  }
+
+  pub are_safe : (receivers : List Listener) → All (ListensTo k m t log) receivers → AreSafe (m + k) m t plans log receivers
+  are_safe receivers all = record {
+    texts = λ i d h.
+        let r = slice_index_or receivers i d in
+        shown_on_air m k t texts IsWholeText plans.text r.input (text_run m r.input) r.view.text text_service law.text.values (text_lies r (all i d h)) (all i d h).shows.text;
+    names = λ i d h.
+        let r = slice_index_or receivers i d in
+        shown_on_air m k t names IsWholeName plans.name r.input (name_run m r.input) r.view.name name_service law.name.values (name_lies r (all i d h)) (all i d h).shows.name;
+    tags = λ i d h.
+        let r = slice_index_or receivers i d in
+        shows_tags laws m k t plans.text log r.input r.view law.text (all i d h).late (all i d h).now (text_lies r (all i d h)) (all i d h).shows;
+    neighbours = λ i d h j e g. neighbours (slice_index_or receivers i d) (slice_index_or receivers j e) (all i d h) (all j e g);
+  }
