@@ -5,3 +5,5 @@ pub mod Bytes
 pub mod Sources
 pub mod Pairs
 pub mod Safety
+pub mod OnTime
+pub mod Groups

@@ -1,7 +1,8 @@
 //! What holds of all plans, logs and inputs.
-ghost use Rattle.rds_world.specs.Laws.{ARunHasOneSource, LawfulPlansAreSafe};
+ghost use Rattle.rds_world.specs.Laws.{ARunHasOneSource, LateGroupsAreLateMessages, LawfulPlansAreSafe, NoSlotLateIsOnTime, WhoIsHandedGroupsListens};
 
 use rds_encoder::{broadcasts_are_spaced, numbers_name_broadcasts};
+use rds_fields::one_message;
 
 /// Plans that are lawful for the dwell and the lateness make every slot safe for any number of receivers.
 pub fn safe_by_plans()
@@ -17,4 +18,23 @@ pub fn one_source()
 {
     broadcasts_are_spaced();
     numbers_name_broadcasts();
+}
+
+/// What is heard no slot late is each entry of the log or nothing, and all that is so was heard no slot late.
+pub fn on_time()
+    ensures { NoSlotLateIsOnTime }
+{}
+
+/// What is late as groups is late as messages.
+pub fn late_as_messages()
+    ensures { LateGroupsAreLateMessages }
+{
+    one_message();
+}
+
+/// A receiver that was handed the groups of a station late, and shows their view, listens to what was sent.
+pub fn groups_listen()
+    ensures { WhoIsHandedGroupsListens }
+{
+    one_message();
 }

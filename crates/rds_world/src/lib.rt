@@ -7,4 +7,4 @@
 
 mod laws;
 
-pub use laws::{one_source, safe_by_plans};
+pub use laws::{groups_listen, late_as_messages, on_time, one_source, safe_by_plans};
