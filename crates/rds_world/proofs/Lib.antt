@@ -7,3 +7,5 @@ pub mod Pairs
 pub mod Safety
 pub mod OnTime
 pub mod Groups
+pub mod Received
+pub mod Stepped

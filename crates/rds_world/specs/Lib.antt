@@ -5,3 +5,8 @@ pub mod Plans
 pub mod Source
 pub mod Safe
 pub mod Laws
+pub mod Event
+pub mod Slots
+pub mod State
+pub mod Replies
+pub mod Standing

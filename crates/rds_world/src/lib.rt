@@ -1,10 +1,20 @@
-//! Slots of a station and its receivers: an encoder, the groups that it sends, and receivers that get each group or
-//! nothing.
+//! A station and its receivers, slot by slot: an encoder, and up to eight receivers that each get the group
+//! that is sent, or nothing.
 //!
-//! Lists of slots have the newest first. Whatever the slots are, each text that a receiver shows was on air within
-//! the last dwell.
+//! Lists of slots have the newest first. Whatever the slots are, each text that a receiver shows was on air
+//! within the last dwell.
 #![tactic(auto)]
 
+mod event;
 mod laws;
+mod receivers;
+mod reply;
+mod slots;
+mod station;
+mod world;
 
+pub use event::{Command, Reception, SlotEvent};
 pub use laws::{groups_listen, late_as_messages, on_time, one_source, safe_by_plans};
+pub use reply::{Answer, Reply, StepRefused, WorldRefused};
+pub use slots::{PlayRefused, play};
+pub use world::{Config, World};

@@ -1,0 +1,62 @@
+-- What a receiver has heard after one more slot, and one of several receivers after it was written.
+use Rattle.std.proofs.Common.{◌≡◌, ◌≢◌, ◌<◌, ℕ, zero, suc, List, [], ◌∷◌, Option, Some, None, refl, ap, subst, inl, take, length, arith}
+use Rattle.std.specs.List.{AllByRecursion}
+use Rattle.std.specs.Prelude.{slice_get, slice_set}
+use Rattle.rds_block.specs.declared.group.Group.{Group}
+use Rattle.rds_fields.specs.declared.head.Head.{Head}
+use Rattle.rds_fields.specs.declared.message.Message.{Message}
+use Rattle.rds_encoder.specs.Sent.{IsSent}
+use Rattle.rds_receiver.specs.Receipts.{Hears}
+use Rattle.rds_receiver.specs.Standing.{StandsAt, WhereItStands}
+use Rattle.rds_receiver.specs.State.{ReceiverState}
+use Rattle.rds_world.specs.Late.{Input}
+use Rattle.rds_world.specs.Standing.{HasHeard, IsNew}
+
+-- what the station sends, its receivers hear
+pub hears_sent : (station : Head) (sent : Option Message) (group : Option Group) → IsSent station sent group → Hears station.pi group sent
+hears_sent station None None s = refl
+hears_sent station None (Some group) s = absurd s
+hears_sent station (Some message) None s = absurd s
+hears_sent station (Some message) (Some group) s = inl (s.head.pi, s.spelled)
+
+abbrev input_from : ℕ → List (Option Message) → List (Option ℕ) → Input
+input_from first heard origins = record { first = first; heard = heard; origins = origins }
+
+-- one more group was handled, and it was heard so
+pub hears_more : (station : Head) (m : ℕ) (input : Input) (old new : ReceiverState) (group : Option Group) (heard : Option Message) (origin : Option ℕ)
+    → Hears station.pi group heard → WhereItStands old (λ t groups. StandsAt t new (group ∷ groups))
+    → HasHeard station m input old → HasHeard station m (input_from input.first (heard ∷ input.heard) (origin ∷ input.origins)) new
+hears_more station m input old new group heard origin hears goes_on has = record {
+  groups = group ∷ has.groups;
+  spelled = (hears, has.spelled);
+  stands = goes_on record { programme = station.pi; dwell = m; first = input.first } has.groups has.stands;
+}
+
+pub heard_nothing : (station : Head) (m first : ℕ) (r : ReceiverState) → IsNew station m r
+    → HasHeard station m (input_from first [] []) r
+heard_nothing station m first r begins = record { groups = []; spelled = tt; stands = begins first }
+
+-- one receiver was written
+pub other_kept : (rs : List ReceiverState) (i k : ℕ) (r : ReceiverState) → k ≢ i → slice_get (slice_set rs i r) k ≡ slice_get rs k
+other_kept [] i k r ne = refl
+other_kept (x ∷ rs) zero zero r ne = absurd (ne refl)
+other_kept (x ∷ rs) zero (suc k) r ne = refl
+other_kept (x ∷ rs) (suc i) zero r ne = refl
+other_kept (x ∷ rs) (suc i) (suc k) r ne = other_kept rs i k r (λ e. ne (ap suc e))
+
+pub written : (rs : List ReceiverState) (i : ℕ) (r s : ReceiverState) → slice_get (slice_set rs i r) i ≡ Some s → r ≡ s
+written [] i r s e = absurd (cc)
+written (x ∷ rs) zero r s e = cc
+written (x ∷ rs) (suc i) r s e = written rs i r s e
+
+-- one of the first is one of all
+pub one_of_first : (P : ReceiverState → Type 0) (n : ℕ) (rs : List ReceiverState) (i : ℕ) (r : ReceiverState) → AllByRecursion P rs → slice_get (take n rs) i ≡ Some r → P r
+one_of_first P zero rs i r all e = absurd (cc)
+one_of_first P (suc n) [] i r all e = absurd (cc)
+one_of_first P (suc n) (x ∷ rs) zero r all e = subst P (cc) all.0
+one_of_first P (suc n) (x ∷ rs) (suc i) r all e = one_of_first P n rs i r all.1 e
+
+-- a receiver that stands has a dwell of some slots
+pub some_slots : (station : Head) (m : ℕ) (rs : List ReceiverState) → AllByRecursion (IsNew station m) rs → 0 < length rs → 0 < m
+some_slots station m [] all some = absurd (omega (arith, some))
+some_slots station m (r ∷ rs) all some = (all.0 0).holds.lasts

@@ -1,0 +1,52 @@
+//! What happens in a slot.
+use arrayvec::ArrayVec;
+use rds_assembly::{Name, Text};
+use rds_fields::TagPair;
+use std::marker::Model;
+
+/// What the encoder is told at the start of a slot: at most one thing.
+#[derive(Clone, Copy)]
+pub enum Command {
+    /// Nothing.
+    Quiet,
+    /// The encoder begins anew, and is silent for the dwell.
+    Restart,
+    /// A text is set.
+    SetText(Text),
+    /// A name is set.
+    SetName(Name),
+    /// The text on air is given tags.
+    SetTags(TagPair),
+}
+
+/// What a receiver gets of a slot.
+#[derive(Clone, Copy, Default)]
+pub enum Reception {
+    /// The group that is sent, or nothing where none is.
+    Got,
+    /// Nothing.
+    #[default]
+    Lost,
+    /// A new receiver stands in its place, and gets nothing of this slot.
+    Restart,
+}
+
+/// One slot: a command, whether the station lends the slot to the text services, and what each receiver gets.
+#[derive(Drop)]
+pub struct SlotEvent {
+    pub command: Command,
+    pub free: bool,
+    pub receptions: ArrayVec<Reception, 8>,
+}
+
+impl Model for SlotEvent {
+    ghost use Rattle.rds_world.specs.Event.{Event};
+
+    ghost Value = { Event };
+
+    ghost view = { λ e. record {
+      command = e.command;
+      free = e.free;
+      receptions = e.receptions.items;
+    } };
+}

@@ -1,0 +1,38 @@
+//! What a slot gives, and why a slot or a world is refused.
+use rds_block::Group;
+use rds_encoder::Refusal;
+
+/// The reply to a command.
+#[derive(Clone, Copy)]
+pub enum Reply {
+    /// There was none.
+    Quiet,
+    /// The encoder restarted.
+    Restarted,
+    /// A text, a name or tags were accepted.
+    Done,
+    /// They were refused; the slot goes on.
+    Refused(Refusal),
+}
+
+/// What a slot gave.
+#[derive(Clone, Copy)]
+pub struct Answer {
+    pub reply: Reply,
+    /// The group that was sent; `None` where none was.
+    pub sent: Option<Group>,
+}
+
+/// Why a world is not made.
+#[derive(Clone, Copy, Debug, PartialEq, Eq)]
+pub enum WorldRefused {
+    /// More than 8 receivers.
+    TooManyReceivers,
+}
+
+/// Why a slot is not taken.
+#[derive(Clone, Copy, Debug, PartialEq, Eq)]
+pub enum StepRefused {
+    /// It has another number of receptions than there are receivers.
+    ReceiverCount,
+}

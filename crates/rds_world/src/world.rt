@@ -1,0 +1,127 @@
+//! A station and its receivers, slot by slot.
+ghost use Rattle.std.specs.Prelude.{◌≡◌, ◌≢◌, ◌<◌, ◌↔◌, [], ◌∷◌, IsErr, IsSome, IfOk, IfSome, OnErr, OnOk, length, option_map};
+ghost use Rattle.std.specs.Option.{option_copied};
+ghost use Rattle.rds_encoder.specs.Entries.{name_moves, text_moves};
+ghost use Rattle.rds_encoder.specs.Plan.{bytes_of, on_air};
+ghost use Rattle.rds_encoder.specs.Sent.{IsSent};
+ghost use Rattle.rds_receiver.specs.Shown.{ShownView};
+ghost use Rattle.rds_world.specs.Replies.{reply_at};
+ghost use Rattle.rds_world.specs.Slots.{entries, input_of, sent_at};
+ghost use Rattle.rds_world.specs.Standing.{HasHeard, IsViewOfInput, Shows, StandsAt, WhereItStands};
+
+use crate::receivers::{eight_receivers, hand_out};
+use crate::station::obey;
+use crate::{Answer, SlotEvent, StepRefused, WorldRefused};
+use rds_encoder::Encoder;
+use rds_fields::{Dwell, Head};
+use rds_receiver::Receiver;
+use std::marker::Model;
+
+/// The head of every group that the station sends, and the dwell in slots, the encoder's and the receivers'.
+#[derive(Clone, Copy)]
+pub struct Config {
+    pub head: Head,
+    pub dwell: Dwell,
+}
+
+/// One encoder and up to eight receivers of its programme.
+///
+/// `StandsAt` is the relation between a world and the list of its slots: a new one stands at the empty list,
+/// and each `step` goes on to the list with that slot.
+#[derive(Drop)]
+pub struct World {
+    config: Config,
+    encoder: Encoder,
+    receivers: [Receiver; 8],
+    count: usize,
+}
+
+impl Model for World {
+    ghost use Rattle.std.specs.Prelude.{◌≡◌, ◌≤◌, length, take};
+    ghost use Rattle.std.specs.Coded.{codes};
+    ghost use Rattle.rds_receiver.specs.Codes.{receiver_code};
+    ghost use Rattle.rds_world.specs.State.{WorldState};
+
+    ghost Value = { WorldState };
+
+    ghost coded = { Prim.hlevel (codes, receiver_code) };
+
+    ghost view = { λ w. record {
+      head = w.config.head;
+      dwell = w.config.dwell;
+      encoder = w.encoder;
+      receivers = take w.count w.receivers;
+    } };
+
+    ghost invariant = { λ w. (w.count ≤ 8) × (length w.receivers ≡ 8) };
+}
+
+impl World {
+    /// A world before its first slot: the encoder at a restart, and receivers that heard nothing yet.
+    pub fn new(config: Config, receivers: usize) -> Result<World, WorldRefused>
+        ensures refused { IsErr result ↔ (8 < receivers) }
+        ensures count { IfOk result (λ w. length w.receivers ≡ receivers) }
+        ensures stands { IfOk result (λ w. StandsAt config.head config.dwell w []) }
+    {
+        if receivers > 8 {
+            return Err(WorldRefused::TooManyReceivers);
+        }
+        Ok(World {
+            config,
+            encoder: Encoder::new(config.head, config.dwell),
+            receivers: eight_receivers(&config),
+            count: receivers,
+        })
+    }
+
+    /// One slot: the command, then the encoder's part, then the receivers'. A command that is refused is
+    /// answered, and the slot goes on.
+    pub fn step(&mut self, event: &SlotEvent) -> Result<Answer, StepRefused>
+        ensures refused { IsErr result ↔ (length event.now.receptions ≢ length self.old.receivers) }
+        ensures kept { OnErr result (self.new ≡ self.old) }
+        ensures count { length self.new.receivers ≡ length self.old.receivers }
+        ensures reply { WhereItStands self.old (λ _ m events.
+            IfOk result (λ answer. answer.reply ≡ reply_at m event.now.command (entries events))) }
+        ensures sent { WhereItStands self.old (λ station m events.
+            IfOk result (λ answer. IsSent station (sent_at m event.now events) answer.sent)) }
+        ensures stands { WhereItStands self.old (λ station m events.
+            OnOk result (StandsAt station m self.new (event.now ∷ events))) }
+    {
+        let receptions = event.receptions.as_slice();
+        if receptions.len() != self.count {
+            return Err(StepRefused::ReceiverCount);
+        }
+        let reply = obey(&mut self.encoder, &self.config, event.command);
+        let sent = self.encoder.tick(event.free);
+        let handed = sent;
+        hand_out(
+            &mut self.receivers[..self.count],
+            &self.config,
+            receptions,
+            handed,
+        );
+        Ok(Answer { reply, sent })
+    }
+
+    /// The text and the name on air, lent: up to 64 bytes, and eight; `None` where none is.
+    pub fn on_air(&self) -> (Option<&[u8]>, Option<&[u8]>)
+        ensures text { WhereItStands self.now (λ _ m events.
+            option_copied result.0 ≡ option_map bytes_of (on_air m (text_moves (entries events)))) }
+        ensures name { WhereItStands self.now (λ _ m events.
+            option_copied result.1 ≡ option_map bytes_of (on_air m (name_moves (entries events)))) }
+    {
+        (self.encoder.text(), self.encoder.name())
+    }
+
+    /// Receiver i; they are counted from 0.
+    pub fn receiver(&self, i: usize) -> Option<&Receiver>
+        ensures there { IsSome result ↔ (i < length self.now.receivers) }
+        ensures heard { WhereItStands self.now (λ station m events.
+            IfSome result (λ r. HasHeard station m (input_of m i events) r.now)) }
+        ensures shows { WhereItStands self.now (λ station m events.
+            IfSome result (λ r. (view : ShownView) → Shows r.now view
+            → IsViewOfInput station m (input_of m i events) view)) }
+    {
+        self.receivers[..self.count].get(i)
+    }
+}
