@@ -9,3 +9,4 @@ pub mod OnTime
 pub mod Groups
 pub mod Received
 pub mod Stepped
+pub mod LawfulStation

@@ -10,3 +10,4 @@ pub mod Slots
 pub mod State
 pub mod Replies
 pub mod Standing
+pub mod Station

@@ -1,0 +1,17 @@
+//! What holds of a station, whatever its slots are.
+ghost use Rattle.rds_world.specs.Station.{TheEncoderIsLawful};
+
+use rds_encoder::{
+    broadcasts_are_spaced, on_air_from_its_start_on, planned_is_what_was_on_air,
+    sent_is_of_what_is_on_air,
+};
+
+/// What an encoder sends is lawful for its plans.
+pub fn the_encoder_is_lawful()
+    ensures { TheEncoderIsLawful }
+{
+    broadcasts_are_spaced();
+    on_air_from_its_start_on();
+    planned_is_what_was_on_air();
+    sent_is_of_what_is_on_air();
+}
