@@ -10,3 +10,5 @@ pub mod Groups
 pub mod Received
 pub mod Stepped
 pub mod LawfulStation
+pub mod InTime
+pub mod SafeWorld

@@ -11,3 +11,4 @@ pub mod State
 pub mod Replies
 pub mod Standing
 pub mod Station
+pub mod SafeSlots

@@ -1,6 +1,7 @@
 //! A world by all of its slots.
 ghost use Rattle.std.specs.Prelude.{◌≡◌, ◌<◌, ◌↔◌, IfErr, IfOk, length, reverse};
 ghost use Rattle.rds_world.specs.Replies.{IsPlayRefused};
+ghost use Rattle.rds_world.specs.SafeSlots.{OnlyWhatWasOnAirIsShown};
 ghost use Rattle.rds_world.specs.Standing.{StandsAt};
 
 use crate::{Config, SlotEvent, World};
@@ -18,6 +19,8 @@ pub enum PlayRefused {
 pub fn play(config: Config, receivers: usize, events: &[SlotEvent]) -> Result<World, PlayRefused>
     ensures stands { IfOk result (λ w. StandsAt config.head config.dwell w (reverse events.now)) }
     ensures count { IfOk result (λ w. length w.receivers ≡ receivers) }
+    ensures safe { IfOk result (λ w.
+        OnlyWhatWasOnAirIsShown config.dwell (reverse events.now) w.receivers) }
     ensures refused { IfErr result (λ r. IsPlayRefused receivers events.now r) }
 {
     let Ok(mut world) = World::new(config, receivers) else {

@@ -1,10 +1,13 @@
-//! What holds of a station, whatever its slots are.
+//! What holds of a station and its receivers, whatever the slots are.
+ghost use Rattle.rds_world.specs.SafeSlots.{EveryWorldShowsOnlyWhatWasOnAir};
 ghost use Rattle.rds_world.specs.Station.{TheEncoderIsLawful};
 
+use crate::safe_by_plans;
 use rds_encoder::{
     broadcasts_are_spaced, on_air_from_its_start_on, planned_is_what_was_on_air,
     sent_is_of_what_is_on_air,
 };
+use rds_fields::one_message;
 
 /// What an encoder sends is lawful for its plans.
 pub fn the_encoder_is_lawful()
@@ -14,4 +17,13 @@ pub fn the_encoder_is_lawful()
     on_air_from_its_start_on();
     planned_is_what_was_on_air();
     sent_is_of_what_is_on_air();
+}
+
+/// The receivers of a world show only what was on air, wherever it stands.
+pub fn only_what_was_on_air_is_shown()
+    ensures { EveryWorldShowsOnlyWhatWasOnAir }
+{
+    the_encoder_is_lawful();
+    safe_by_plans();
+    one_message();
 }

@@ -6,12 +6,13 @@ ghost use Rattle.rds_encoder.specs.Plan.{bytes_of, on_air};
 ghost use Rattle.rds_encoder.specs.Sent.{IsSent};
 ghost use Rattle.rds_receiver.specs.Shown.{ShownView};
 ghost use Rattle.rds_world.specs.Replies.{reply_at};
+ghost use Rattle.rds_world.specs.SafeSlots.{OnlyWhatWasOnAirIsShown};
 ghost use Rattle.rds_world.specs.Slots.{entries, input_of, sent_at};
 ghost use Rattle.rds_world.specs.Standing.{HasHeard, IsViewOfInput, Shows, StandsAt, WhereItStands};
 
 use crate::receivers::{eight_receivers, hand_out};
 use crate::station::obey;
-use crate::{Answer, SlotEvent, StepRefused, WorldRefused};
+use crate::{Answer, SlotEvent, StepRefused, WorldRefused, only_what_was_on_air_is_shown};
 use rds_encoder::Encoder;
 use rds_fields::{Dwell, Head};
 use rds_receiver::Receiver;
@@ -86,7 +87,11 @@ impl World {
             IfOk result (λ answer. IsSent station (sent_at m event.now events) answer.sent)) }
         ensures stands { WhereItStands self.old (λ station m events.
             OnOk result (StandsAt station m self.new (event.now ∷ events))) }
+        ensures safe { WhereItStands self.old (λ _ m events.
+            OnOk result (OnlyWhatWasOnAirIsShown m (event.now ∷ events) self.new.receivers)) }
     {
+        // the law by which `safe` holds
+        only_what_was_on_air_is_shown();
         let receptions = event.receptions.as_slice();
         if receptions.len() != self.count {
             return Err(StepRefused::ReceiverCount);

@@ -4,6 +4,7 @@ use Rattle.std.proofs.lemmas.Option.{slice_get_read}
 use Rattle.std.proofs.lemmas.Bool.{cases_order}
 use Rattle.std.specs.Prelude.{true, is_ok, OnOk, Result, Ok, Err, slice_get, slice_index_or}
 use Rattle.rds_world.specs.Event.{Event}
+use Rattle.rds_world.specs.SafeSlots.{OnlyWhatWasOnAirIsShown}
 use Rattle.rds_world.specs.Standing.{StandsAt}
 use Rattle.rds_world.proofs.slots.play.Goals as goal
 
@@ -18,11 +19,12 @@ one_later xs i x h e =
 
 pub loop-i-preserved : goal.loop-i-preserved
 loop-i-preserved c =
+    let station = c.args.config.head in
+    let m = c.args.config.dwell in
     let i = c.loop-i.i in
     let events = c.args.events.now in
     let e = c.index-events-i.result in
     let has_more = c.step.ensures.refused in
-    let stands = c.step.ensures.stands c.args.config.head c.args.config.dwell _ c.loop-i.invariant.stands in
     let same : length e.receptions ≡ length c.loop-i.world.receivers =
     elim (cases_order (length e.receptions) (length c.loop-i.world.receivers)) [
       | inl same ↦ same
@@ -32,8 +34,11 @@ loop-i-preserved c =
       ]
     ] in
     let right : length e.receptions ≡ c.args.receivers = same ∙ c.loop-i.invariant.count in
+    let later = one_later events i e c.loop-i-test.true c.index-events-i.is in
+    let step = c.step.ensures in
     record {
-      stands = subst (λ (xs : List Event). StandsAt c.args.config.head c.args.config.dwell c.step.new.self xs) (one_later events i e c.loop-i-test.true c.index-events-i.is) (on_ok c.step.result _ c.if-is_err.ensures.negation stands);
-      count = c.step.ensures.count ∙ c.loop-i.invariant.count;
+      stands = subst (λ (xs : List Event). StandsAt station m c.step.new.self xs) later (on_ok c.step.result _ c.if-is_err.ensures.negation (step.stands station m _ c.loop-i.invariant.stands));
+      safe = subst (λ (xs : List Event). OnlyWhatWasOnAirIsShown m xs c.step.new.self.receivers) later (on_ok c.step.result _ c.if-is_err.ensures.negation (step.safe station m _ c.loop-i.invariant.stands));
+      count = step.count ∙ c.loop-i.invariant.count;
       good = below_more _ _ c.loop-i.invariant.good (let at : slice_get events i ≡ Some e = slice_get_read events (length events) i e refl c.loop-i-test.true c.index-events-i.is in rw at right);
     }

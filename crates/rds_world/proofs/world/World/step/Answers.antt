@@ -46,3 +46,6 @@ returns-clause-stands c station m events st =
     (rw c.as_slice-receptions.ensures.value at heard) in
     subst (λ (x : Event). StandsAt station m new (x ∷ events)) same
     (stepped station m old new events now at refl refl c.obey-reply.ensures.value ticked all)
+
+pub returns-clause-safe : goal.returns-clause-safe
+returns-clause-safe c station m events st = c.only_what_was_on_air_is_shown.ensures station m _ _ (returns-clause-stands c station m events st)

@@ -1,0 +1,32 @@
+-- The promise of this crate (this project's own rule): receivers show only what was on air. Lists have the newest
+-- first.
+use Rattle.std.specs.Prelude.{ℕ, ◌+◌, List, [], ◌∷◌, length}
+use Rattle.std.specs.List.{AllZip}
+use Rattle.rds_fields.specs.declared.head.Head.{Head}
+use Rattle.rds_receiver.specs.Shown.{ShownView}
+use Rattle.rds_receiver.specs.State.{ReceiverState}
+use Rattle.rds_world.specs.Event.{Event}
+use Rattle.rds_world.specs.Safe.{AreSafe, Listener}
+use Rattle.rds_world.specs.Slots.{input_of, log, plans_of}
+use Rattle.rds_world.specs.Standing.{Shows, StandsAt}
+use Rattle.rds_world.specs.State.{WorldState}
+
+-- the receivers from number i on: what each got, and what it shows
+abbrev pub listeners : ℕ → List Event → ℕ → List ShownView → List Listener
+listeners d events i [] = []
+listeners d events i (view ∷ views) = record { input = input_of d i events; view = view } ∷ listeners d events (i + 1) views
+
+-- For every list of slots, in each of which the encoder or any receiver may restart and each receiver gets the
+-- group sent or nothing: at the end of the newest slot every whole text or name that these receivers show was on
+-- air within the last m slots, every tag shown was sent for the text shown, and any two receivers show the same
+-- broadcast or two neighbouring ones. Here m is the dwell, of the encoder and of the receivers.
+abbrev pub OnlyWhatWasOnAirIsShown : ℕ → List Event → List ReceiverState → Type 0
+OnlyWhatWasOnAirIsShown m [] receivers = Unit {0}
+OnlyWhatWasOnAirIsShown m (newest ∷ before) receivers =
+    (views : List ShownView) → AllZip Shows receivers views
+    → AreSafe m m (length before) (plans_of m (newest ∷ before)) (log m (newest ∷ before)) (listeners m (newest ∷ before) 0 views)
+
+-- so it is in every world, wherever it stands
+abbrev pub EveryWorldShowsOnlyWhatWasOnAir : Type 0
+EveryWorldShowsOnlyWhatWasOnAir =
+    (station : Head) (m : ℕ) (w : WorldState) (events : List Event) → StandsAt station m w events → OnlyWhatWasOnAirIsShown m events w.receivers
