@@ -12,3 +12,4 @@ pub mod Stepped
 pub mod LawfulStation
 pub mod InTime
 pub mod SafeWorld
+pub mod Least

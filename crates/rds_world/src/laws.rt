@@ -1,5 +1,5 @@
 //! What holds of all plans, logs and inputs.
-ghost use Rattle.rds_world.specs.Laws.{ARunHasOneSource, LateGroupsAreLateMessages, LawfulPlansAreSafe, NoSlotLateIsOnTime, WhoIsHandedGroupsListens};
+ghost use Rattle.rds_world.specs.Laws.{ARunHasOneSource, LateGroupsAreLateMessages, LawfulPlansAreSafe, NoSlotLateIsOnTime, TheDwellIsTheLeast, WhoIsHandedGroupsListens};
 
 use rds_encoder::{broadcasts_are_spaced, numbers_name_broadcasts};
 use rds_fields::one_message;
@@ -38,3 +38,9 @@ pub fn groups_listen()
 {
     one_message();
 }
+
+/// No fewer slots than the dwell and the lateness do: with one less between two texts there are a log and a receiver
+/// that mixes them.
+pub fn the_dwell_is_the_least()
+    ensures { TheDwellIsTheLeast }
+{}

@@ -15,7 +15,9 @@ mod station_laws;
 mod world;
 
 pub use event::{Command, Reception, SlotEvent};
-pub use laws::{groups_listen, late_as_messages, on_time, one_source, safe_by_plans};
+pub use laws::{
+    groups_listen, late_as_messages, on_time, one_source, safe_by_plans, the_dwell_is_the_least,
+};
 pub use reply::{Answer, Reply, StepRefused, WorldRefused};
 pub use slots::{PlayRefused, play};
 pub use station_laws::{only_what_was_on_air_is_shown, the_encoder_is_lawful};
