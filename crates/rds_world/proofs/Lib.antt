@@ -13,3 +13,4 @@ pub mod LawfulStation
 pub mod InTime
 pub mod SafeWorld
 pub mod Least
+pub mod WorkedRows
