@@ -44,3 +44,21 @@ pub fn groups_listen()
 pub fn the_dwell_is_the_least()
     ensures { TheDwellIsTheLeast }
 {}
+
+#[cfg(test)]
+mod tests {
+    use super::*;
+    use std::test::Fail;
+
+    /// Laws do nothing when they run.
+    #[test]
+    fn laws(_rt: HostRuntime) -> Result<(), Fail> {
+        safe_by_plans();
+        one_source();
+        on_time();
+        late_as_messages();
+        groups_listen();
+        the_dwell_is_the_least();
+        Ok(())
+    }
+}
