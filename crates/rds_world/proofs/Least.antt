@@ -1,6 +1,7 @@
--- The dwell and the lateness are the least. `AAAA` is on air in slot 0 alone and `BBBB` in slot c alone, both with flag
--- 0. The receiver begins in slot k: it is handed the first segment of `AAAA` k slots late, n slots of nothing, and
--- then the second segment of `BBBB` on time. For it the two came less than its dwell apart, so it shows `AAAA`.
+-- The dwell and the lateness are the least. `AAAA` is on air in slot 0 alone and `BBBB` in slot c alone, both
+-- with flag 0. The receiver begins in slot k: it is handed the first segment of `AAAA` k slots late, n slots of
+-- nothing, and then the second segment of `BBBB` on time. For it the two came less than its dwell apart, so it
+-- shows `AAAA`.
 use Rattle.std.proofs.Common.{◌≡◌, ◌≢◌, ◌⊎◌, ◌+◌, ◌-◌, ◌<◌, ℕ, zero, suc, true, false, List, [], ◌∷◌, length, slice_index, Option, Some, None, refl, sym, ap, ◌∙◌, subst, inl, inr, arith}
 use Rattle.std.specs.Prelude.{nat_lt}
 use Rattle.std.specs.FinMap.{empty, get, insert}
@@ -295,7 +296,7 @@ not_on_air k n d t text_plan e w =
       | inr p ↦ omega (arith, sent, w.source.covers.to, ap (λ (x : Broadcast). x.end) p.1)
     ]
 
-at_two_or_more : (n k : ℕ) → IsUnsafe (n + 2 + k - 1) (n + 2) k
+at_two_or_more : (n k : ℕ) → IsUnsafe (n + 2 + k - 1) (n + 2 + k) (n + 2) k
 at_two_or_more n k =
     let d : n + k + 1 ≡ n + 2 + k - 1 = omega arith in
     record {
@@ -311,5 +312,8 @@ at_two_or_more n k =
       fails = λ safe. not_on_air k n (n + 2 + k) (n + k + 1) (plan (n + k + 1)) refl (safe.texts 0 (receiver k n) (omega arith));
     }
 
-pub the_least : (m k : ℕ) → 1 < m → IsUnsafe (m + k - 1) m k
-the_least m k h = subst (λ (x : ℕ). IsUnsafe (x + k - 1) x k) (let e : m - 2 + 2 ≡ m = omega arith in e) (at_two_or_more (m - 2) k)
+pub one_slot_less : (m k : ℕ) → 1 < m → IsUnsafe (m + k - 1) (m + k) m k
+one_slot_less m k h = subst (λ (x : ℕ). IsUnsafe (x + k - 1) (x + k) x k) (let e : m - 2 + 2 ≡ m = omega arith in e) (at_two_or_more (m - 2) k)
+
+pub one_slot_less_on_time : (m : ℕ) → 1 < m → IsUnsafe (m - 1) m m 0
+one_slot_less_on_time m h = subst (λ (d : ℕ). IsUnsafe (d - 1) d m 0) (let e : m + 0 ≡ m = omega arith in e) (one_slot_less m 0 h)

@@ -1,7 +1,6 @@
 -- One more entry of a late input, and inputs that are no slot late.
-use Rattle.std.proofs.Common.{◌≡◌, ◌⊎◌, ◌+◌, ◌<◌, ℕ, List, [], ◌∷◌, length, Option, Some, None, refl, sym, subst, inl, inr, arith}
-use Rattle.rds_fields.specs.declared.message.Message.{Message}
-use Rattle.rds_world.specs.Late.{HasEntry, InputOf, IsAsItsOriginSays, IsHeardLate, IsHeardOnTime, IsLate, SentIn}
+use Rattle.std.proofs.Common.{◌≡◌, ◌⊎◌, ◌+◌, ◌<◌, ℕ, suc, List, [], ◌∷◌, length, Option, Some, None, refl, sym, ap, subst, inl, inr, arith}
+use Rattle.rds_world.specs.Late.{HasEntry, InputOf, IsAsItsOriginSays, IsHeardLate, IsHeardOnTime, IsLate, SentIn, own_origins}
 use Rattle.rds_world.proofs.Entries.{before_end, entry_beside}
 
 abbrev pub input_of : {X : Type 0} → ℕ → List (Option X) → List (Option ℕ) → InputOf X
@@ -35,8 +34,8 @@ one_more {X} k log first heard origins o x late says after = record {
     rising t u r s (inr p) (inr q) l = late.rising t u r s p q l
 
 -- no slot late, each entry is that of its slot
-pub each_on_time : (log : List (Option Message)) (first : ℕ) (heard : List (Option Message)) (origins : List (Option ℕ)) → IsHeardLate 0 log (input_of first heard origins) → IsHeardOnTime log first heard
-each_on_time log first heard origins late t entry a = by (entry_beside first heard origins t entry late.beside a)
+pub each_on_time : {X : Type 0} (log : List (Option X)) (first : ℕ) (heard : List (Option X)) (origins : List (Option ℕ)) → IsHeardLate 0 log (input_of first heard origins) → IsHeardOnTime log first heard
+each_on_time {X} log first heard origins late t entry a = by (entry_beside first heard origins t entry late.beside a)
   where
     by : (origin : Option ℕ) × HasEntry first origins t origin → (entry ≡ None) ⊎ SentIn log t entry
     by (None, o) = inl (late.each t None entry o a)
@@ -47,36 +46,33 @@ each_on_time log first heard origins late t entry a = by (entry_beside first hea
         let same : s ≡ t = omega arith in
         inr (subst (λ n. SentIn log n entry) same is.sent)
 
--- origins that are the slots themselves
-record OwnSlots (log : List (Option Message)) (first : ℕ) (heard : List (Option Message)) : Type 0 where
-  origins : List (Option ℕ)
-  late : IsHeardLate 0 log (input_of first heard origins)
-  own : (t s : ℕ) → HasEntry first origins t (Some s) → s ≡ t
+own_long : {X : Type 0} (first : ℕ) (heard : List (Option X)) → length (own_origins first heard) ≡ length heard
+own_long first [] = refl
+own_long first (None ∷ before) = ap suc (own_long first before)
+own_long first (Some x ∷ before) = ap suc (own_long first before)
 
-own_slots : (log : List (Option Message)) (first : ℕ) (heard : List (Option Message)) → IsHeardOnTime log first heard → OwnSlots log first heard
-own_slots log first [] each = record { origins = []; late = nothing_heard 0 log first; own = λ t s a. absurd a }
-own_slots log first (x ∷ before) each = by (each (first + length before) x (inl (refl, refl))) (own_slots log first before (λ t entry a. each t entry (inr a)))
+-- each of its own origins is the slot itself
+origin_is_slot : {X : Type 0} (first : ℕ) (heard : List (Option X)) (t s : ℕ) → HasEntry first (own_origins first heard) t (Some s) → (s ≡ t) × (t < first + length heard)
+origin_is_slot first [] t s a = absurd a
+origin_is_slot first (None ∷ before) t s (inl p) = (let bad = p.1 in absurd (cc))
+origin_is_slot first (None ∷ before) t s (inr p) = (let rest = origin_is_slot first before t s p in (rest.0, omega (arith, rest.1)))
+origin_is_slot first (Some x ∷ before) t s (inl p) =
+    let origin = p.1 in
+    let s_is : s ≡ first + length before = cc in
+    (omega (arith, own_long first before, p.0), omega (arith, own_long first before, p.0))
+origin_is_slot first (Some x ∷ before) t s (inr p) = (let rest = origin_is_slot first before t s p in (rest.0, omega (arith, rest.1)))
+
+-- what is on time is no slot late
+pub no_slot_late : {X : Type 0} (log : List (Option X)) (first : ℕ) (heard : List (Option X)) → IsHeardOnTime log first heard → IsHeardLate 0 log (input_of first heard (own_origins first heard))
+no_slot_late log first [] each = nothing_heard 0 log first
+no_slot_late log first (None ∷ before) each =
+    one_more 0 log first before (own_origins first before) None None (no_slot_late log first before (λ t entry a. each t entry (inr a))) refl (λ r u s e a. absurd (cc))
+no_slot_late {X} log first (Some x ∷ before) each = by (each (first + length before) (Some x) (inl (refl, refl))) (no_slot_late log first before (λ t entry a. each t entry (inr a)))
   where
-    by : (x ≡ None) ⊎ SentIn log (first + length before) x → OwnSlots log first before → OwnSlots log first (x ∷ before)
-    by (inl none) w = record {
-      origins = None ∷ w.origins;
-      late = one_more 0 log first before w.origins None x w.late none (λ r u s e a. absurd (cc));
-      own = lost;
-    }
-      where
-        lost : (t s : ℕ) → HasEntry first (None ∷ w.origins) t (Some s) → s ≡ t
-        lost t s (inl p) = (let bad = p.1 in absurd (cc))
-        lost t s (inr p) = w.own t s p
-    by (inr sent) w = record {
-      origins = Some (first + length before) ∷ w.origins;
-      late = one_more 0 log first before w.origins (Some (first + length before)) x w.late record { sent = sent; past = omega arith; late = omega arith }
-          (λ r u s e a. (let r_is : first + length before ≡ r = cc in omega (arith, w.own u s a, before_end first w.origins u (Some s) a, w.late.beside)));
-      own = got;
-    }
-      where
-        got : (t s : ℕ) → HasEntry first (Some (first + length before) ∷ w.origins) t (Some s) → s ≡ t
-        got t s (inl p) = (let e = p.1 in let s_is : s ≡ first + length before = cc in omega (arith, w.late.beside, p.0))
-        got t s (inr p) = w.own t s p
-
-pub no_slot_late : (log : List (Option Message)) (first : ℕ) (heard : List (Option Message)) → IsHeardOnTime log first heard → (origins : List (Option ℕ)) × IsHeardLate 0 log (input_of first heard origins)
-no_slot_late log first heard each = (let own = own_slots log first heard each in (own.origins, own.late))
+    by : (Some x ≡ None) ⊎ SentIn log (first + length before) (Some x) → IsHeardLate 0 log (input_of first before (own_origins first before))
+        → IsHeardLate 0 log (input_of first (Some x ∷ before) (own_origins first (Some x ∷ before)))
+    by (inl none) late = absurd (cc)
+    by (inr sent) late =
+        one_more 0 log first before (own_origins first before) (Some (first + length before)) (Some x) late
+        record { sent = sent; past = omega arith; late = omega arith }
+        (λ r u s e a. (let r_is : first + length before ≡ r = cc in let own = origin_is_slot first before u s a in omega (arith, own.0, own.1)))

@@ -1,27 +1,20 @@
--- A run, which knows one bit of its broadcast, lies in one broadcast: two neighbours of it have one flag, and were
--- sent less than d slots apart.
+-- A run, which knows one bit of its broadcast, lies in one broadcast: two neighbours of it have one flag, and
+-- were sent less than d slots apart.
 use Rattle.std.proofs.Common.{◌≡◌, ◌+◌, ◌<◌, ◌≤◌, ℕ, Bool, true, false, List, [], ◌∷◌, length, Option, Some, ◌&&◌, refl, sym, ap, ◌∙◌, subst, inl, inr, arith}
 use Rattle.std.specs.Prelude.{nat_lt}
 use Rattle.std.specs.List.{AllByRecursion}
 use Rattle.std.proofs.lemmas.Bool.{and_parts, cases_order, cond_both, ltb-true}
 use Rattle.rds_fields.specs.declared.message.Message.{Message}
-use Rattle.rds_encoder.specs.Laws.{ANumberNamesOne, SpacedAreFarApart, SpacedAreInOrder, SpacedOfOneFlagAreFarApart}
 use Rattle.rds_encoder.specs.Plan.{Broadcast, Covers, HasNumber}
 use Rattle.rds_encoder.specs.Spaced.{IsSpaced}
 use Rattle.rds_receiver.specs.Receipts.{Piece, Segment, segments}
 use Rattle.rds_receiver.specs.Run.{is_same, run, run_at, run_before}
 use Rattle.rds_world.specs.Late.{CameFrom, Input, IsHeardLate}
 use Rattle.rds_world.specs.Lawful.{HasOne, HasPiece, IsLawful, Kind}
+use Rattle.rds_world.specs.Laws.{PlanLaws}
 use Rattle.rds_world.specs.Marks.{Mark, Sends, marks}
 use Rattle.rds_world.proofs.Entries.{arrival, mark_sent}
 use Rattle.rds_world.proofs.Hearing.{AreFalling, IsPicked, all_picked, segments_fall}
-
--- what the encoder's laws say of the broadcasts of a plan
-pub record PlanLaws : Type 0 where
-  pub one : ANumberNamesOne
-  pub order : SpacedAreInOrder
-  pub far : SpacedAreFarApart
-  pub one_flag : SpacedOfOneFlagAreFarApart
 
 -- broadcasts of one flag that cover slots less than d apart are one
 one_number : PlanLaws → (d : ℕ) (plan : List Broadcast) (k l : ℕ) (a b : Broadcast) (s r : ℕ) → IsSpaced d plan → HasNumber plan k a → HasNumber plan l b

@@ -1,5 +1,5 @@
--- The pair of tags that is held was sent in the source of the text: after the first segment of its run was sent, and
--- so early that no later text had lasted for d slots.
+-- The pair of tags that is held was sent in the source of the text: after the first segment of its run was
+-- sent, and so early that no later text had lasted for d slots.
 use Rattle.std.proofs.Common.{◌≡◌, ◌⊎◌, ◌+◌, ◌<◌, ◌≤◌, ◌&&◌, ◌||◌, ◌==◌, ℕ, Bool, true, false, List, [], ◌∷◌, length, Option, Some, None, refl, sym, ap, subst, inl, inr, arith}
 use Rattle.std.specs.Prelude.{IfSome, nat_le, nat_lt, option_map, take, drop}
 use Rattle.std.proofs.lemmas.Bool.{and_parts, cases_order, cond_both, eqb-true, leb-true, ltb-true}
@@ -16,12 +16,13 @@ use Rattle.rds_receiver.specs.Shown.{ShowsView, ShownView}
 use Rattle.rds_receiver.specs.Tags.{cut_by, is_known, item_of, pair_from, pair_held, pair_since, says_of_rtplus, tag_of, unless_contrary}
 use Rattle.rds_world.specs.Late.{CameFrom, HasEntry, Input, IsHeardLate}
 use Rattle.rds_world.specs.Lawful.{IsLawful, Kind, texts}
+use Rattle.rds_world.specs.Laws.{PlanLaws}
 use Rattle.rds_world.specs.Marks.{IsSent, Tagged, marks, text_mark}
 use Rattle.rds_world.specs.Safe.{NamesPiece, ShowsNoTags, ShowsTagsOf}
 use Rattle.rds_world.specs.Source.{text_run}
 use Rattle.rds_world.proofs.Bytes.{bytes_of_run, text_service}
 use Rattle.rds_world.proofs.Entries.{arrival, before_end, mark_sent}
-use Rattle.rds_world.proofs.OneBroadcast.{AreOf, LiesInOne, PlanLaws, RunLiesInOne}
+use Rattle.rds_world.proofs.OneBroadcast.{AreOf, LiesInOne, RunLiesInOne}
 use Rattle.rds_world.proofs.Sources.{source_of}
 
 -- the pair was heard later than slot `since`

@@ -1,17 +1,18 @@
 -- Lawful plans make every slot safe for any number of receivers.
-use Rattle.std.proofs.Common.{◌≡◌, ◌+◌, ℕ, List, Option, slice_index_or, ap}
+use Rattle.std.proofs.Common.{◌≡◌, ◌+◌, ℕ, List, Option, slice_index_or, sym, ap, subst, arith}
 use Rattle.std.specs.List.{All}
 use Rattle.rds_fields.specs.declared.message.Message.{Message}
 use Rattle.rds_fields.specs.declared.message.Message.TheVariants.{Text, Name, Announce, Tags, Other}
 use Rattle.rds_assembly.specs.Whole.{IsWholeName, IsWholeText}
 use Rattle.rds_receiver.specs.Receipts.{name_piece, text_piece}
 use Rattle.rds_world.specs.Lawful.{names, texts}
+use Rattle.rds_world.specs.Laws.{PlanLaws}
 use Rattle.rds_world.specs.Marks.{Sends, name_mark, text_mark}
 use Rattle.rds_world.specs.Plans.{AreLawful, Plans}
 use Rattle.rds_world.specs.Safe.{AreNeighbours, AreSafe, Listener, ListensTo}
 use Rattle.rds_world.specs.Source.{name_run, text_run}
 use Rattle.rds_world.proofs.Bytes.{name_service, text_service}
-use Rattle.rds_world.proofs.OneBroadcast.{PicksWhatIsMarked, PlanLaws, RunLiesInOne, heard_run_lies}
+use Rattle.rds_world.proofs.OneBroadcast.{PicksWhatIsMarked, RunLiesInOne, heard_run_lies}
 use Rattle.rds_world.proofs.Pairs.{shows_tags}
 use Rattle.rds_world.proofs.Sources.{near_sources, shown_on_air}
 
@@ -55,3 +56,11 @@ module _ (laws : PlanLaws) (m k t : ℕ) (plans : Plans) (log : List (Option Mes
         shows_tags laws m k t plans.text log r.input r.view law.text (all i d h).late (all i d h).now (text_lies r (all i d h)) (all i d h).shows;
     neighbours = λ i d h j e g. neighbours (slice_index_or receivers i d) (slice_index_or receivers j e) (all i d h) (all j e g);
   }
+
+-- where no receiver is late, the dwell does
+pub are_safe_on_time : PlanLaws → (m t : ℕ) (plans : Plans) (log : List (Option Message)) (receivers : List Listener)
+    → AreLawful m plans log → All (ListensTo 0 m t log) receivers → AreSafe m m t plans log receivers
+are_safe_on_time laws m t plans log receivers law all =
+    let none_late : m + 0 ≡ m = omega arith in
+    subst (λ (d : ℕ). AreSafe d m t plans log receivers) none_late
+    (are_safe laws m 0 t plans log (subst (λ (d : ℕ). AreLawful d plans log) (sym none_late) law) receivers all)

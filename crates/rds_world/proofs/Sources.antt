@@ -10,11 +10,12 @@ use Rattle.rds_receiver.specs.Run.{cells_of}
 use Rattle.rds_receiver.specs.Shown.{IsShown}
 use Rattle.rds_world.specs.Late.{Input}
 use Rattle.rds_world.specs.Lawful.{Kind}
+use Rattle.rds_world.specs.Laws.{PlanLaws}
 use Rattle.rds_world.specs.Safe.{HaveNearSources, WasOnAir}
 use Rattle.rds_world.specs.Source.{IsSource, LastWasSentIn}
 use Rattle.rds_world.proofs.Bytes.{HasValues, IsService, bytes_of_run}
 use Rattle.rds_world.proofs.Entries.{one_origin}
-use Rattle.rds_world.proofs.OneBroadcast.{LiesInOne, PlanLaws, RunLiesInOne}
+use Rattle.rds_world.proofs.OneBroadcast.{LiesInOne, RunLiesInOne}
 
 -- the source that a run has
 pub source_of : (m k t : ℕ) (kind : Kind) (plan : List Broadcast) (input : Input) (g : Segment) (older : List Segment)

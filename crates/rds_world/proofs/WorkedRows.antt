@@ -29,8 +29,8 @@ nothing n = replicate n None
 abbrev lost : ℕ → List (Option ℕ)
 lost n = replicate n None
 
--- two skipped flags: at a dwell of 4 with every slot free, `FIRST SONG` is set in slot 4, `OTHER SONG` in slot 12
--- and `THIRD SONG` in slot 20, with the flag of the first again
+-- two skipped flags: at a dwell of 4 with every slot free, `FIRST SONG` is set in slot 4, `OTHER SONG` in slot
+-- 12 and `THIRD SONG` in slot 20, with the flag of the first again
 abbrev first_song : List ℕ
 first_song = 0x46 ∷ 0x49 ∷ 0x52 ∷ 0x53 ∷ 0x54 ∷ 0x20 ∷ 0x53 ∷ 0x4F ∷ 0x4E ∷ 0x47 ∷ []
 
@@ -123,8 +123,8 @@ mix_was_not w = by w.source.slot w.source.sent w.broadcast w.source.planned w.so
         omega (arith, covers.to, ap (λ (x : Broadcast). x.end) first.1)
     by slot (inl now) b (inr (inr (inr none))) covers e = none
 
--- neighbours in one slot: at a dwell of 4, `ONE` is on air from slot 4 on and `TWO` from slot 12 on. The group of slot
--- 12 is lost for one of two receivers
+-- neighbours in one slot: at a dwell of 4, `ONE` is on air from slot 4 on and `TWO` from slot 12 on. The group
+-- of slot 12 is lost for one of two receivers
 abbrev one : List ℕ
 one = 0x4F ∷ 0x4E ∷ 0x45 ∷ []
 

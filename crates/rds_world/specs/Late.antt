@@ -53,3 +53,9 @@ pub record IsHeardLate {X : Type 0} (k : ℕ) (log : List (Option X)) (input : I
 abbrev pub IsHeardOnTime : {X : Type 0} → List (Option X) → ℕ → List (Option X) → Type 0
 IsHeardOnTime {X} log first heard =
     (t : ℕ) (entry : Option X) → HasEntry first heard t entry → (entry ≡ None) ⊎ SentIn log t entry
+
+-- the origins of an input that is on time: each entry was sent in its own slot
+abbrev pub own_origins : {X : Type 0} → ℕ → List (Option X) → List (Option ℕ)
+own_origins first [] = []
+own_origins first (None ∷ before) = None ∷ own_origins first before
+own_origins first (Some x ∷ before) = Some (first + length before) ∷ own_origins first before

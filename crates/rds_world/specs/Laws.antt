@@ -1,24 +1,38 @@
 -- What holds of all plans, logs and inputs. Lists have the newest first.
-use Rattle.std.specs.Prelude.{◌≡◌, ◌+◌, ◌-◌, ◌<◌, ◌↔◌, ℕ, List, [], ◌∷◌, Option, length}
+use Rattle.std.specs.Prelude.{◌≡◌, ◌+◌, ◌-◌, ◌<◌, ℕ, List, [], ◌∷◌, Option, length}
 use Rattle.std.specs.List.{All, AllZip}
 use Rattle.rds_block.specs.declared.group.Group.{Group}
 use Rattle.rds_fields.specs.declared.head.Head.{Head}
 use Rattle.rds_fields.specs.declared.message.Message.{Message}
+use Rattle.rds_encoder.specs.Laws.{ANumberNamesOne, SpacedAreFarApart, SpacedAreInOrder, SpacedOfOneFlagAreFarApart}
 use Rattle.rds_encoder.specs.Plan.{Broadcast}
 use Rattle.rds_encoder.specs.Sent.{IsSent}
 use Rattle.rds_encoder.specs.Spaced.{IsSpaced}
 use Rattle.rds_receiver.specs.Receipts.{AreHeard, Segment}
 use Rattle.rds_receiver.specs.Shown.{IsView, ShownView}
-use Rattle.rds_world.specs.Late.{Input, InputOf, IsHeardLate, IsHeardOnTime}
+use Rattle.rds_world.specs.Late.{Input, InputOf, IsHeardLate, IsHeardOnTime, own_origins}
 use Rattle.rds_world.specs.Plans.{AreLawful, Plans}
 use Rattle.rds_world.specs.Safe.{AreSafe, Listener, ListensTo}
 use Rattle.rds_world.specs.Source.{IsSource}
+
+-- what holds of the broadcasts of all plans: a number names one, and spaced ones stand in order and far apart
+pub record PlanLaws : Type 0 where
+  pub one : ANumberNamesOne
+  pub order : SpacedAreInOrder
+  pub far : SpacedAreFarApart
+  pub one_flag : SpacedOfOneFlagAreFarApart
 
 -- plans that are lawful for the dwell and the lateness make every slot safe for any number of receivers
 abbrev pub LawfulPlansAreSafe : Type 0
 LawfulPlansAreSafe =
     (m k t : ℕ) (plans : Plans) (log : List (Option Message)) (receivers : List Listener)
     → AreLawful (m + k) plans log → All (ListensTo k m t log) receivers → AreSafe (m + k) m t plans log receivers
+
+-- where all receivers are on time, plans that are lawful for their dwell do
+abbrev pub LawfulPlansAreSafeOnTime : Type 0
+LawfulPlansAreSafeOnTime =
+    (m t : ℕ) (plans : Plans) (log : List (Option Message)) (receivers : List Listener)
+    → AreLawful m plans log → All (ListensTo 0 m t log) receivers → AreSafe m m t plans log receivers
 
 -- a run has at most one source
 abbrev pub ARunHasOneSource : Type 0
@@ -29,9 +43,14 @@ ARunHasOneSource =
 -- what is heard no slot late is each entry of the log or nothing
 abbrev pub NoSlotLateIsOnTime : Type 0
 NoSlotLateIsOnTime =
-    (log : List (Option Message)) (first : ℕ) (heard : List (Option Message))
-    → ((origins : List (Option ℕ)) × IsHeardLate 0 log record { first = first; heard = heard; origins = origins })
-    ↔ IsHeardOnTime log first heard
+    (log : List (Option Message)) (first : ℕ) (heard : List (Option Message)) (origins : List (Option ℕ))
+    → IsHeardLate 0 log record { first = first; heard = heard; origins = origins } → IsHeardOnTime log first heard
+
+-- and what is so was heard no slot late, where each entry was sent in its own slot
+abbrev pub OnTimeIsNoSlotLate : Type 0
+OnTimeIsNoSlotLate =
+    (log : List (Option Message)) (first : ℕ) (heard : List (Option Message)) → IsHeardOnTime log first heard
+    → IsHeardLate 0 log record { first = first; heard = heard; origins = own_origins first heard }
 
 -- what is late as groups is late as messages
 abbrev pub LateGroupsAreLateMessages : Type 0
@@ -49,16 +68,21 @@ WhoIsHandedGroupsListens =
     → (v : IsView record { programme = station.pi; dwell = m; first = input.first } input.heard view)
     → ListensTo k m t log record { input = record { first = input.first; heard = v.0; origins = input.origins }; view = view }
 
--- plans lawful for this many slots, and a slot in which one receiver, at most k slots late, is not safe
-pub record IsUnsafe (d m k : ℕ) : Type 0 where
+-- plans that are lawful for so many slots, and a slot that is not safe for d, with one receiver, of dwell m, at
+-- most k slots late
+pub record IsUnsafe (slots d m k : ℕ) : Type 0 where
   pub plans : Plans
   pub log : List (Option Message)
-  pub lawful : AreLawful d plans log
+  pub lawful : AreLawful slots plans log
   pub t : ℕ
   pub receiver : Listener
   pub listens : ListensTo k m t log receiver
-  pub fails : AreSafe (m + k) m t plans log (receiver ∷ []) → ⊥
+  pub fails : AreSafe d m t plans log (receiver ∷ []) → ⊥
 
--- no fewer slots than the dwell and the lateness make every slot safe
-abbrev pub TheDwellIsTheLeast : Type 0
-TheDwellIsTheLeast = (m k : ℕ) → 1 < m → IsUnsafe (m + k - 1) m k
+-- plans that are lawful for one slot less than the dwell and the lateness are not enough
+abbrev pub OneSlotLessIsUnsafe : Type 0
+OneSlotLessIsUnsafe = (m k : ℕ) → 1 < m → IsUnsafe (m + k - 1) (m + k) m k
+
+-- so the least dwell of a station whose receivers are on time is theirs
+abbrev pub OneSlotLessIsUnsafeOnTime : Type 0
+OneSlotLessIsUnsafeOnTime = (m : ℕ) → 1 < m → IsUnsafe (m - 1) m m 0

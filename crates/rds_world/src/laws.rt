@@ -1,28 +1,36 @@
 //! What holds of all plans, logs and inputs.
-ghost use Rattle.rds_world.specs.Laws.{ARunHasOneSource, LateGroupsAreLateMessages, LawfulPlansAreSafe, NoSlotLateIsOnTime, TheDwellIsTheLeast, WhoIsHandedGroupsListens};
+ghost use Rattle.rds_world.specs.Laws.{ARunHasOneSource, LateGroupsAreLateMessages, LawfulPlansAreSafe, LawfulPlansAreSafeOnTime, NoSlotLateIsOnTime, OnTimeIsNoSlotLate, OneSlotLessIsUnsafe, OneSlotLessIsUnsafeOnTime, PlanLaws, WhoIsHandedGroupsListens};
 
 use rds_encoder::{broadcasts_are_spaced, numbers_name_broadcasts};
 use rds_fields::one_message;
 
 /// Plans that are lawful for the dwell and the lateness make every slot safe for any number of receivers.
 pub fn safe_by_plans()
-    ensures { LawfulPlansAreSafe }
+    ensures late { LawfulPlansAreSafe }
+    ensures on_time { LawfulPlansAreSafeOnTime }
 {
-    broadcasts_are_spaced();
-    numbers_name_broadcasts();
+    plan_laws();
 }
 
 /// A run has at most one source.
 pub fn one_source()
     ensures { ARunHasOneSource }
 {
+    plan_laws();
+}
+
+// What rds_encoder's laws say of all plans, as one record.
+fn plan_laws()
+    ensures { PlanLaws }
+{
     broadcasts_are_spaced();
     numbers_name_broadcasts();
 }
 
-/// What is heard no slot late is each entry of the log or nothing, and all that is so was heard no slot late.
+/// To hear no slot late is to hear each entry of the log or nothing in its place.
 pub fn on_time()
-    ensures { NoSlotLateIsOnTime }
+    ensures each { NoSlotLateIsOnTime }
+    ensures own { OnTimeIsNoSlotLate }
 {}
 
 /// What is late as groups is late as messages.
@@ -39,10 +47,11 @@ pub fn groups_listen()
     one_message();
 }
 
-/// No fewer slots than the dwell and the lateness do: with one less between two texts there are a log and a receiver
-/// that mixes them.
+/// One slot less than the dwell and the lateness is not enough: there are plans, a log and a receiver that mixes two
+/// texts.
 pub fn the_dwell_is_the_least()
-    ensures { TheDwellIsTheLeast }
+    ensures late { OneSlotLessIsUnsafe }
+    ensures on_time { OneSlotLessIsUnsafeOnTime }
 {}
 
 #[cfg(test)]
