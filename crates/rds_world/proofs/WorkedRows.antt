@@ -5,6 +5,7 @@ use Rattle.rds_fields.specs.declared.message.Message.TheVariants.{Text}
 use Rattle.rds_encoder.specs.Entries.{Entry, Restart, SetText, SetName, SetTags, Tick, text_moves}
 use Rattle.rds_encoder.specs.Plan.{Broadcast, Covers, HasNumber, plan_of}
 use Rattle.rds_encoder.specs.Sent.{sent_in}
+use Rattle.rds_receiver.specs.Receipts.{Segment}
 use Rattle.rds_world.specs.Late.{CameFrom, HasEntry, Input, IsHeardLate, IsHeardOnTime}
 use Rattle.rds_world.specs.Safe.{NamesPiece, WasOnAir}
 use Rattle.rds_world.specs.Source.{IsSource, text_run}
@@ -82,8 +83,11 @@ heard_in_20 = record {
   origins = Some 20 ∷ lost 11 ++ Some 8 ∷ None ∷ Some 6 ∷ lost 6;
 }
 
+abbrev third_segment : ℕ → ℕ → List ℕ → Segment
+third_segment slot address bytes = record { slot = slot; piece = record { flag = false; address = address; bytes = bytes } }
+
 -- in slot 20 its run is the newest segment alone, so that `THIRT SONG` is not made whole
-run_in_20 : text_run 4 heard_in_20 ≡ record { slot = 20; piece = record { flag = false; address = 0; bytes = 0x54 ∷ 0x48 ∷ 0x49 ∷ 0x52 ∷ [] } } ∷ []
+run_in_20 : text_run 4 heard_in_20 ≡ third_segment 20 0 (0x54 ∷ 0x48 ∷ 0x49 ∷ 0x52 ∷ []) ∷ []
 run_in_20 = refl
 
 -- and its source is the third broadcast
@@ -122,6 +126,24 @@ mix_was_not w = by w.source.slot w.source.sent w.broadcast w.source.planned w.so
         let in_20 : slot ≡ 20 = (let o = now.1 in cc) in
         omega (arith, covers.to, ap (λ (x : Broadcast). x.end) first.1)
     by slot (inl now) b (inr (inr (inr none))) covers e = none
+
+-- in slot 24 its run is the three segments of the third song, and the source the same
+abbrev heard_in_24 : Input
+heard_in_24 = record {
+  first = 0;
+  heard = take 4 (sent 4 (free_slots 4 ++ three_songs)) ++ heard_in_20.heard;
+  origins = Some 24 ∷ Some 23 ∷ Some 22 ∷ Some 21 ∷ heard_in_20.origins;
+}
+
+run_in_24 : text_run 4 heard_in_24
+    ≡ third_segment 24 2 (0x4E ∷ 0x47 ∷ 0x0D ∷ 0x20 ∷ [])
+    ∷ third_segment 22 1 (0x44 ∷ 0x20 ∷ 0x53 ∷ 0x4F ∷ [])
+    ∷ third_segment 20 0 (0x54 ∷ 0x48 ∷ 0x49 ∷ 0x52 ∷ [])
+    ∷ []
+run_in_24 = refl
+
+source_in_24 : IsSource (songs 24) heard_in_24 (text_run 4 heard_in_24) 2 (third_broadcast 24)
+source_in_24 = record { planned = inl (refl, refl); slot = 24; sent = inl (refl, refl); covers = record { from = omega arith; to = omega arith } }
 
 -- neighbours in one slot: at a dwell of 4, `ONE` is on air from slot 4 on and `TWO` from slot 12 on. The group
 -- of slot 12 is lost for one of two receivers
