@@ -63,14 +63,14 @@ below_four P a b c d (suc (suc (suc (suc i)))) h = absurd (omega arith)
 
 as_are_text : IsText four_as
 as_are_text = record {
-  long = omega arith;
+  at_most = omega arith;
   bytes = below_four (λ i. slice_index four_as i < 256) (omega arith) (omega arith) (omega arith) (omega arith);
   allowed = below_four (λ i. is_text_byte (slice_index four_as i) ≡ true) refl refl refl refl;
 }
 
 bs_are_text : IsText four_bs
 bs_are_text = record {
-  long = omega arith;
+  at_most = omega arith;
   bytes = below_four (λ i. slice_index four_bs i < 256) (omega arith) (omega arith) (omega arith) (omega arith);
   allowed = below_four (λ i. is_text_byte (slice_index four_bs i) ≡ true) refl refl refl refl;
 }
