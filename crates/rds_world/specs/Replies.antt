@@ -1,5 +1,5 @@
 -- The replies of a world: to a command, and to a list of slots that it is to play (this project's own rule).
-use Rattle.std.specs.Prelude.{◌≡◌, ◌≢◌, ◌<◌, IfSome, ℕ, List, Ok, Err, length, slice_get}
+use Rattle.std.specs.Prelude.{◌≡◌, ◌≢◌, ◌<◌, ◌≤◌, IfSome, ℕ, List, Ok, Err, length, slice_get}
 use Rattle.rds_encoder.specs.Entries.{Entry, name_moves, text_moves}
 use Rattle.rds_encoder.specs.Reply.{reply_to}
 use Rattle.rds_encoder.specs.Reply as encoder
@@ -26,12 +26,20 @@ reply_at d (SetText x) before = answered (reply_to d (text_moves before))
 reply_at d (SetName x) before = answered (reply_to d (name_moves before))
 reply_at d (SetTags pair) before = answered (tags_reply d pair before)
 
--- the event at this place is the first that names another number of receivers; here the oldest event is the
--- first of the list
+-- the event at this place names so many receivers; here the oldest event is the first of the list
+abbrev pub Names : ℕ → List Event → ℕ → Type 0
+Names receivers events place = IfSome (slice_get events place) (λ e. length e.receptions ≡ receivers)
+
+-- slots that can be played: with at most eight receivers, which each event names
+pub record CanBePlayed (receivers : ℕ) (events : List Event) : Type 0 where
+  pub few : receivers ≤ 8
+  pub each : (place : ℕ) → place < length events → Names receivers events place
+
+-- the event at this place is the first that names another number of receivers
 pub record IsFirstOfAnotherCount (receivers : ℕ) (events : List Event) (place : ℕ) : Type 0 where
-  pub there : place < length events
   pub other : IfSome (slice_get events place) (λ e. length e.receptions ≢ receivers)
-  pub first : (k : ℕ) → k < place → IfSome (slice_get events k) (λ e. length e.receptions ≡ receivers)
+  pub there : place < length events
+  pub first : (k : ℕ) → k < place → Names receivers events k
 
 -- why slots are not played
 abbrev pub IsPlayRefused : ℕ → List Event → PlayRefused → Type 0

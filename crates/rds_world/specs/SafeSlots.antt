@@ -1,5 +1,5 @@
--- The promise of this crate (this project's own rule): receivers show only what was on air. Lists have the newest
--- first.
+-- The promise of this crate (this project's own rule): receivers show only what was on air. Lists have the
+-- newest first.
 use Rattle.std.specs.Prelude.{ℕ, ◌+◌, List, [], ◌∷◌, length}
 use Rattle.std.specs.List.{AllZip}
 use Rattle.rds_fields.specs.declared.head.Head.{Head}
@@ -17,9 +17,9 @@ listeners d events i [] = []
 listeners d events i (view ∷ views) = record { input = input_of d i events; view = view } ∷ listeners d events (i + 1) views
 
 -- For every list of slots, in each of which the encoder or any receiver may restart and each receiver gets the
--- group sent or nothing: at the end of the newest slot every whole text or name that these receivers show was on
--- air within the last m slots, every tag shown was sent for the text shown, and any two receivers show the same
--- broadcast or two neighbouring ones. Here m is the dwell, of the encoder and of the receivers.
+-- group sent or nothing: at the end of the newest slot every whole text or name that these receivers show was
+-- on air within the last m slots, every tag shown was sent for the text shown, and any two receivers show the
+-- same broadcast or two neighbouring ones. Here m is the dwell, of the encoder and of the receivers.
 abbrev pub OnlyWhatWasOnAirIsShown : ℕ → List Event → List ReceiverState → Type 0
 OnlyWhatWasOnAirIsShown m [] receivers = Unit {0}
 OnlyWhatWasOnAirIsShown m (newest ∷ before) receivers =

@@ -22,3 +22,6 @@ pub use reply::{Answer, Reply, StepRefused, WorldRefused};
 pub use slots::{PlayRefused, play};
 pub use station_laws::{only_what_was_on_air_is_shown, the_encoder_is_lawful};
 pub use world::{Config, World};
+
+#[cfg(test)]
+mod tests;

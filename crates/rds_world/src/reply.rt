@@ -3,7 +3,7 @@ use rds_block::Group;
 use rds_encoder::Refusal;
 
 /// The reply to a command.
-#[derive(Clone, Copy)]
+#[derive(Clone, Copy, Debug, PartialEq, Eq)]
 pub enum Reply {
     /// There was none.
     Quiet,
@@ -16,7 +16,7 @@ pub enum Reply {
 }
 
 /// What a slot gave.
-#[derive(Clone, Copy)]
+#[derive(Clone, Copy, Debug, PartialEq, Eq)]
 pub struct Answer {
     pub reply: Reply,
     /// The group that was sent; `None` where none was.

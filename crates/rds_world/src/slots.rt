@@ -1,6 +1,6 @@
 //! A world by all of its slots.
-ghost use Rattle.std.specs.Prelude.{◌≡◌, ◌<◌, ◌↔◌, IfErr, IfOk, length, reverse};
-ghost use Rattle.rds_world.specs.Replies.{IsPlayRefused};
+ghost use Rattle.std.specs.Prelude.{◌≡◌, ◌<◌, ◌↔◌, IfErr, IfOk, IsOk, length, reverse};
+ghost use Rattle.rds_world.specs.Replies.{CanBePlayed, IsPlayRefused};
 ghost use Rattle.rds_world.specs.SafeSlots.{OnlyWhatWasOnAirIsShown};
 ghost use Rattle.rds_world.specs.Standing.{StandsAt};
 
@@ -21,6 +21,7 @@ pub fn play(config: Config, receivers: usize, events: &[SlotEvent]) -> Result<Wo
     ensures count { IfOk result (λ w. length w.receivers ≡ receivers) }
     ensures safe { IfOk result (λ w.
         OnlyWhatWasOnAirIsShown config.dwell (reverse events.now) w.receivers) }
+    ensures taken { IsOk result → CanBePlayed receivers events.now }
     ensures refused { IfErr result (λ r. IsPlayRefused receivers events.now r) }
 {
     let Ok(mut world) = World::new(config, receivers) else {

@@ -1,6 +1,5 @@
 use Rattle.std.proofs.Common.{◌≡◌, ◌<◌, ℕ, length, reverse, take}
-use Rattle.std.specs.Prelude.{IfSome, slice_get}
-use Rattle.rds_world.specs.Event.{Event}
+use Rattle.rds_world.specs.Replies.{Names}
 use Rattle.rds_world.specs.SafeSlots.{OnlyWhatWasOnAirIsShown}
 use Rattle.rds_world.specs.Standing.{StandsAt}
 use Rattle.rds_world.proofs.slots.play.Given as goal
@@ -10,5 +9,5 @@ invariant-loop-i l = record {
   stands : StandsAt l.fn.config.head l.fn.config.dwell l.world (reverse (take l.i l.events));
   safe : OnlyWhatWasOnAirIsShown l.fn.config.dwell (reverse (take l.i l.events)) l.world.receivers;
   count : length l.world.receivers ≡ l.fn.receivers;
-  good : (k : ℕ) → k < l.i → IfSome (slice_get l.events k) (λ (e : Event). length e.receptions ≡ l.fn.receivers);
+  good : (k : ℕ) → k < l.i → Names l.fn.receivers l.events k;
 }

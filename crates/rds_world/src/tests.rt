@@ -1,0 +1,394 @@
+//! Worked rows of a station and its receivers: what each slot answers and sends, and what is shown at its end.
+
+use super::*;
+use arrayvec::ArrayVec;
+use rds_assembly::{Name, Text};
+use rds_block::Place;
+use rds_encoder::Refusal;
+use rds_fields::{Dwell, Head, Tag, TagPair, Which};
+use std::process::Abort;
+use std::test::Fail;
+
+const GOT: Reception = Reception::Got;
+
+const LOST: Reception = Reception::Lost;
+
+/// So many slots of a world of up to three receivers: what happens in each, its reply and what it sends, and the
+/// text that each receiver shows at its end.
+#[derive(Clone, Copy)]
+struct Row {
+    slots: u32,
+    command: Command,
+    free: bool,
+    receptions: [Reception; 3],
+    reply: Reply,
+    sent: Option<[u16; 4]>,
+    texts: [Option<Text>; 3],
+}
+
+/// So many free slots with no command that every receiver gets; nothing is sent, and nothing is shown.
+fn quiet(slots: u32) -> Row {
+    Row {
+        slots,
+        command: Command::Quiet,
+        free: true,
+        receptions: [GOT, GOT, GOT],
+        reply: Reply::Quiet,
+        sent: None,
+        texts: [None, None, None],
+    }
+}
+
+/// Such a slot with a command and its reply.
+fn told(command: Command, reply: Reply) -> Row {
+    Row {
+        command,
+        reply,
+        ..quiet(1)
+    }
+}
+
+impl Row {
+    fn of_others(self) -> Row {
+        Row {
+            free: false,
+            ..self
+        }
+    }
+
+    fn got_by(self, receptions: [Reception; 3]) -> Row {
+        Row { receptions, ..self }
+    }
+
+    fn sends(self, words: [u16; 4]) -> Row {
+        Row {
+            sent: Some(words),
+            ..self
+        }
+    }
+
+    fn shows(self, texts: [Option<Text>; 3]) -> Row {
+        Row { texts, ..self }
+    }
+}
+
+/// Plays the rows on a new world of so many receivers, whose dwell is four slots, and gives that world.
+fn played(rt: &impl Abort, receivers: usize, rows: &[Row]) -> Result<World, Fail> {
+    let mut world = World::new(config()?, receivers).ok().ok_or("receivers")?;
+    for (place, row) in rows.iter().enumerate() {
+        for slot in 0..row.slots {
+            let receptions = row.receptions.get(..receivers).ok_or("receivers")?;
+            let event = slot_event(row.command, row.free, receptions)?;
+            let answer = world.step(&event).ok().ok_or("receptions")?;
+            assert_eq!(rt; answer.reply, row.reply, "row {place}, slot {slot}");
+            let sent = answer.sent.map(|group| group.to_blocks());
+            assert_eq!(rt; sent, row.sent, "row {place}, slot {slot}");
+            assert_texts(rt, &world, receivers, row)?;
+        }
+    }
+    Ok(world)
+}
+
+fn assert_texts(rt: &impl Abort, world: &World, receivers: usize, row: &Row) -> Result<(), Fail> {
+    for (i, text) in row.texts.iter().take(receivers).enumerate() {
+        let wanted = text.as_ref().map(|text| text.bytes());
+        assert_eq!(rt;
+            world.receiver(i).ok_or("receiver")?.text(),
+            wanted,
+            "receiver {i}"
+        );
+    }
+    Ok(())
+}
+
+fn slot_event(command: Command, free: bool, each: &[Reception]) -> Result<SlotEvent, Fail> {
+    let mut receptions = ArrayVec::new();
+    for reception in each {
+        receptions.try_push(*reception).ok().ok_or("receptions")?;
+    }
+    Ok(SlotEvent {
+        command,
+        free,
+        receptions,
+    })
+}
+
+/// PI C201, TP 0, PTY 10, and a dwell of four slots.
+fn config() -> Result<Config, Fail> {
+    let head = Head {
+        pi: 0xC201,
+        tp: false,
+        pty: Place::new(10).ok_or("pty")?,
+    };
+    Ok(Config {
+        head,
+        dwell: Dwell::new(4).ok_or("dwell")?,
+    })
+}
+
+fn set_text(bytes: &[u8]) -> Result<Command, Fail> {
+    Ok(Command::SetText(text(bytes)?))
+}
+
+fn text(bytes: &[u8]) -> Result<Text, Fail> {
+    Ok(Text::new(bytes)?)
+}
+
+/// A pair of a running item with toggle 1; its tags by class, start and length marker.
+fn set_tags(one: (u8, u8, u8), two: (u8, u8, u8)) -> Result<Command, Fail> {
+    let one = Tag::new(one.0, one.1, one.2)?;
+    let two = Tag::new(two.0, two.1, two.2)?;
+    Ok(Command::SetTags(TagPair::new(true, true, one, two)?))
+}
+
+/// The texts `HI` and `YO` with flag 0.
+const HI: [u16; 4] = [0xC201, 0x2140, 0x4849, 0x0D20];
+
+const YO: [u16; 4] = [0xC201, 0x2140, 0x594F, 0x0D20];
+
+/// The text `YO` with flag 1.
+const YO_AGAIN: [u16; 4] = [0xC201, 0x2150, 0x594F, 0x0D20];
+
+const ANNOUNCEMENT: [u16; 4] = [0xC201, 0x3156, 0x0000, 0x4BD7];
+
+/// The first receiver shows this.
+fn first(bytes: &[u8]) -> Result<[Option<Text>; 3], Fail> {
+    Ok([Some(text(bytes)?), None, None])
+}
+
+/// Silent for four slots; the text set in slot 4 is sent in it, and shown up to slot 7.
+#[test]
+fn silence_dwell_and_age(rt: HostRuntime) -> Result<(), Fail> {
+    let hi = set_text(b"HI")?;
+    let rows = [
+        told(hi, Reply::Refused(Refusal::Silent(4))),
+        quiet(2),
+        told(hi, Reply::Refused(Refusal::Silent(1))),
+        told(hi, Reply::Done).sends(HI).shows(first(b"HI")?),
+        quiet(3).of_others().shows(first(b"HI")?),
+        quiet(1).of_others(),
+    ];
+    played(&rt, 1, &rows)?;
+    Ok(())
+}
+
+/// A text accepted in slot 4 holds the next one back up to slot 11; no slot before 12 is free.
+#[test]
+fn held_for_twice_the_dwell(rt: HostRuntime) -> Result<(), Fail> {
+    let yo = set_text(b"YO")?;
+    let rows = [
+        quiet(4).of_others(),
+        told(set_text(b"HI")?, Reply::Done).of_others(),
+        quiet(6).of_others(),
+        told(yo, Reply::Refused(Refusal::Held(1))).of_others(),
+        told(yo, Reply::Done).sends(YO_AGAIN).shows(first(b"YO")?),
+    ];
+    let world = played(&rt, 1, &rows)?;
+    assert_eq!(rt; world.on_air(), (Some(b"YO".as_slice()), None));
+
+    let tags = set_tags((4, 0, 3), (1, 7, 7))?;
+    let rows = [quiet(4), told(tags, Reply::Refused(Refusal::NoText))];
+    played(&rt, 0, &rows)?;
+    Ok(())
+}
+
+/// A restart in slot 5: nothing is on air, the encoder is silent up to slot 8, and the next text has flag 0 again.
+/// The receiver shows the text of before for the dwell.
+#[test]
+fn restart_keeps_silence(rt: HostRuntime) -> Result<(), Fail> {
+    let yo = set_text(b"YO")?;
+    let rows = [
+        quiet(4),
+        told(set_text(b"HI")?, Reply::Done)
+            .sends(HI)
+            .shows(first(b"HI")?),
+        told(Command::Restart, Reply::Restarted).shows(first(b"HI")?),
+        quiet(2).shows(first(b"HI")?),
+        told(yo, Reply::Refused(Refusal::Silent(1))),
+        told(yo, Reply::Done).sends(YO).shows(first(b"YO")?),
+    ];
+    let silent = played(&rt, 1, &rows[..5])?;
+    assert_eq!(rt; silent.on_air(), (None, None));
+    played(&rt, 1, &rows)?;
+    Ok(())
+}
+
+/// The second receiver loses the announcement, and the third every segment: only the first shows the tags.
+#[test]
+fn tags_on_air(rt: HostRuntime) -> Result<(), Fail> {
+    let song = text(b"ABBA - WATERLOO")?;
+    let third_loses = [GOT, GOT, LOST];
+    let whole = quiet(1).shows([Some(song), Some(song), None]);
+    let rows = [
+        quiet(4),
+        told(Command::SetText(song), Reply::Done)
+            .sends([0xC201, 0x2140, 0x4142, 0x4241])
+            .got_by(third_loses),
+        told(set_tags((4, 0, 3), (1, 7, 7))?, Reply::Done).got_by(third_loses),
+        quiet(1)
+            .sends([0xC201, 0x2141, 0x202D, 0x2057])
+            .got_by(third_loses),
+        quiet(1).got_by(third_loses),
+        quiet(1)
+            .sends([0xC201, 0x2142, 0x4154, 0x4552])
+            .got_by(third_loses),
+        quiet(1).sends(ANNOUNCEMENT).got_by([GOT, LOST, GOT]),
+        whole
+            .sends([0xC201, 0x2143, 0x4C4F, 0x4F0D])
+            .got_by(third_loses),
+        whole.sends([0xC201, 0xB158, 0x8006, 0x08E7]),
+    ];
+    let world = played(&rt, 3, &rows)?;
+    let first = world.receiver(0).ok_or("receiver")?;
+    assert_eq!(rt; first.item(), Some((true, true)));
+    assert_eq!(rt; first.tag(Which::One), Some((4, b"ABBA".as_slice())));
+    assert_eq!(rt; first.tag(Which::Two), Some((1, b"WATERLOO".as_slice())));
+    for i in 1..3 {
+        let other = world.receiver(i).ok_or("receiver")?;
+        assert_eq!(rt; other.item(), None);
+        assert_eq!(rt; other.tag(Which::One), None);
+    }
+    Ok(())
+}
+
+/// Two segments of the first song are received, none of the second, and all of the third, which has the flag of
+/// the first. With the other third text the pieces of the first song would make it whole four slots too early.
+#[test]
+fn two_skipped_flags(rt: HostRuntime) -> Result<(), Fail> {
+    for third in [b"THIRD SONG", b"THIRT SONG"] {
+        let mut world = World::new(config()?, 1).ok().ok_or("receivers")?;
+        for slot in 0..25 {
+            let command = match slot {
+                4 => set_text(b"FIRST SONG")?,
+                12 => set_text(b"OTHER SONG")?,
+                20 => set_text(third)?,
+                _ => Command::Quiet,
+            };
+            let reception = match slot {
+                6 | 8 | 20..25 => GOT,
+                _ => LOST,
+            };
+            let answer = world.step(&slot_event(command, true, &[reception])?);
+            let reply = answer.ok().ok_or("receptions")?.reply;
+            let wanted = match slot {
+                4 | 12 | 20 => Reply::Done,
+                _ => Reply::Quiet,
+            };
+            assert_eq!(rt; reply, wanted, "slot {slot}");
+            let shown = world.receiver(0).ok_or("receiver")?.text();
+            let wanted = (slot == 24).then_some(third.as_slice());
+            assert_eq!(rt; shown, wanted, "slot {slot}");
+        }
+    }
+    Ok(())
+}
+
+/// The second receiver loses the first segment of the next text: in slots 12 and 13 it shows the one before.
+#[test]
+fn neighbours_in_one_slot(rt: HostRuntime) -> Result<(), Fail> {
+    let one = Some(text(b"ONE")?);
+    let two = Some(text(b"TWO")?);
+    let first = [0xC201, 0x2140, 0x4F4E, 0x450D];
+    let second = [0xC201, 0x2150, 0x5457, 0x4F0D];
+    let ones = quiet(1).shows([one, one, None]);
+    let rows = [
+        quiet(4),
+        told(set_text(b"ONE")?, Reply::Done)
+            .sends(first)
+            .shows([one, one, None]),
+        ones,
+        ones.sends(first),
+        ones,
+        ones.sends(first),
+        ones.sends(ANNOUNCEMENT),
+        ones.sends(first),
+        ones,
+        told(set_text(b"TWO")?, Reply::Done)
+            .sends(second)
+            .got_by([GOT, LOST, LOST])
+            .shows([two, one, None]),
+        quiet(1).shows([two, one, None]),
+        quiet(1).sends(second).shows([two, two, None]),
+    ];
+    played(&rt, 2, &rows)?;
+    Ok(())
+}
+
+/// A name is sent in two turns; a receiver that restarts between them does not show it.
+#[test]
+fn jazz_name(rt: HostRuntime) -> Result<(), Fail> {
+    let name = Some(b"JAZZ FM ".as_slice());
+    let set_name = Command::SetName(Name::new(b"JAZZ FM")?);
+    for (reception, shown) in [(GOT, name), (LOST, name), (Reception::Restart, None)] {
+        let rows = [
+            quiet(4),
+            told(set_name, Reply::Done),
+            quiet(1).sends([0xC201, 0xA140, 0x4A41, 0x5A5A]),
+            quiet(1).got_by([reception, LOST, LOST]),
+            quiet(1).sends([0xC201, 0xA141, 0x2046, 0x4D20]),
+        ];
+        let world = played(&rt, 1, &rows)?;
+        assert_eq!(rt; world.receiver(0).ok_or("receiver")?.name(), shown);
+        assert_eq!(rt; world.on_air(), (None, name));
+    }
+    Ok(())
+}
+
+/// A ninth receiver, and a slot with one reception in a world of two, which leaves the world as it was.
+#[test]
+fn refused_words(rt: HostRuntime) -> Result<(), Fail> {
+    let nine = World::new(config()?, 9).err();
+    assert_eq!(rt; nine, Some(WorldRefused::TooManyReceivers));
+    let hi = text(b"HI")?;
+    let both = [Some(hi), Some(hi), None];
+    let rows = [
+        quiet(4),
+        told(Command::SetText(hi), Reply::Done)
+            .sends(HI)
+            .shows(both),
+    ];
+    let mut world = played(&rt, 2, &rows)?;
+    let short = slot_event(Command::Restart, true, &[LOST])?;
+    assert!(rt; world.step(&short).is_err());
+    assert_eq!(rt; world.on_air(), (Some(b"HI".as_slice()), None));
+    assert!(rt; world.receiver(2).is_none());
+    Ok(())
+}
+
+/// Slots in one call, and those that are not played.
+#[test]
+fn played_slots(rt: HostRuntime) -> Result<(), Fail> {
+    let both = [GOT, Reception::default()];
+    let events = [
+        slot_event(Command::Quiet, true, &both)?,
+        slot_event(Command::Quiet, true, &[GOT])?,
+    ];
+    let nine = PlayRefused::TooManyReceivers;
+    assert_eq!(rt; play(config()?, 9, &events).err(), Some(nine));
+    let second = PlayRefused::ReceiverCount(1);
+    assert_eq!(rt; play(config()?, 2, &events).err(), Some(second));
+    let hi = set_text(b"HI")?;
+    let slots = [
+        slot_event(Command::Quiet, true, &both)?,
+        slot_event(Command::Quiet, true, &both)?,
+        slot_event(Command::Quiet, true, &both)?,
+        slot_event(Command::Quiet, true, &both)?,
+        slot_event(hi, true, &both)?,
+    ];
+    let world = play(config()?, 2, &slots).ok().ok_or("played")?;
+    assert_eq!(rt; world.on_air().0, Some(b"HI".as_slice()));
+    assert_eq!(rt;
+        world.receiver(0).ok_or("receiver")?.text(),
+        Some(b"HI".as_slice())
+    );
+    assert_eq!(rt; world.receiver(1).ok_or("receiver")?.text(), None);
+    Ok(())
+}
+
+/// Laws do nothing when they run.
+#[test]
+fn station_laws(_rt: HostRuntime) -> Result<(), Fail> {
+    the_encoder_is_lawful();
+    only_what_was_on_air_is_shown();
+    Ok(())
+}
