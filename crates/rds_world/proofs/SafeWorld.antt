@@ -7,11 +7,12 @@ use Rattle.rds_block.specs.declared.group.Group.{Group}
 use Rattle.rds_fields.specs.declared.head.Head.{Head}
 use Rattle.rds_fields.specs.declared.message.Message.{Message}
 use Rattle.rds_receiver.specs.Receipts.{AreHeard, Hears}
+use Rattle.rds_receiver.specs.OneView.{same_heard}
 use Rattle.rds_receiver.specs.Shown.{ShowsView, ShownView}
 use Rattle.rds_receiver.specs.State.{ReceiverState}
 use Rattle.rds_world.specs.Event.{Event}
 use Rattle.rds_world.specs.Late.{Input}
-use Rattle.rds_world.specs.Laws.{LawfulPlansAreSafe}
+use Rattle.rds_world.specs.Laws.{LawfulPlansAreSafeOnTime}
 use Rattle.rds_world.specs.Plans.{AreLawful}
 use Rattle.rds_world.specs.Safe.{AreSafe, ListensTo}
 use Rattle.rds_world.specs.SafeSlots.{OnlyWhatWasOnAirIsShown, listeners}
@@ -19,69 +20,45 @@ use Rattle.rds_world.specs.Slots.{input_of, log, plans_of}
 use Rattle.rds_world.specs.Standing.{HasHeard, Shows, StandsAt, tuned_to}
 use Rattle.rds_world.specs.State.{WorldState}
 use Rattle.rds_world.specs.Station.{TheEncoderIsLawful}
-use Rattle.rds_world.proofs.Groups.{OneMessage}
 use Rattle.rds_world.proofs.InTime.{in_time, input_reaches}
 
--- of groups one list of messages is heard
-one_heard : OneMessage → (pi : ℕ) (group : Option Group) (m n : Option Message) → Hears pi group m → Hears pi group n → m ≡ n
-one_heard one pi None m n p q = p ∙ sym q
-one_heard one pi (Some g) m n (inr p) (inr q) = p.1 ∙ sym q.1
-one_heard one pi (Some g) m n (inl p) (inr q) = absurd (q.0 p.0)
-one_heard one pi (Some g) m n (inr p) (inl q) = absurd (p.0 q.0)
-one_heard one pi (Some g) (Some m) (Some n) (inl p) (inl q) = ap Some (one m n g p.1 q.1)
-one_heard one pi (Some g) None n (inl p) (inl q) = absurd p.1
-one_heard one pi (Some g) (Some m) None (inl p) (inl q) = absurd q.1
-
-same_heard : OneMessage → (pi : ℕ) (groups : List (Option Group)) (heard other : List (Option Message)) → AreHeard pi groups heard → AreHeard pi groups other → heard ≡ other
-same_heard one pi [] [] [] p q = refl
-same_heard one pi [] [] (n ∷ other) p q = absurd q
-same_heard one pi [] (m ∷ heard) other p q = absurd p
-same_heard one pi (g ∷ groups) [] other p q = absurd p
-same_heard one pi (g ∷ groups) (m ∷ heard) [] p q = absurd q
-same_heard one pi (g ∷ groups) (m ∷ heard) (n ∷ other) p q =
-    let first : m ≡ n = one_heard one pi g m n p.0 q.0 in
-    let rest : heard ≡ other = same_heard one pi groups heard other p.1 q.1 in
-    ap (λ (x : Option Message). x ∷ heard) first ∙ ap (λ (xs : List (Option Message)). n ∷ xs) rest
-
 -- what a receiver shows is the view of what it heard
-shows_view : OneMessage → (station : Head) (m : ℕ) (input : Input) (r : ReceiverState) (view : ShownView) → HasHeard station m input r → Shows r view → ShowsView m input.first input.heard view
-shows_view one station m input r view has shows =
+shows_view : (station : Head) (m : ℕ) (input : Input) (r : ReceiverState) (view : ShownView) → HasHeard station m input r → Shows r view → ShowsView m input.first input.heard view
+shows_view station m input r view has shows =
     let v = shows (tuned_to station m input) has.groups has.stands in
-    subst (λ (heard : List (Option Message)). ShowsView m input.first heard view) (same_heard one station.pi has.groups v.0 input.heard v.1 has.spelled) v.2
+    subst (λ (heard : List (Option Message)). ShowsView m input.first heard view) (same_heard station.pi has.groups v.0 input.heard v.1 has.spelled) v.2
 
-listens : OneMessage → (station : Head) (m : ℕ) (e : Event) (before : List Event) (i : ℕ) (r : ReceiverState) (view : ShownView)
+listens : (station : Head) (m : ℕ) (e : Event) (before : List Event) (i : ℕ) (r : ReceiverState) (view : ShownView)
     → HasHeard station m (input_of m i (e ∷ before)) r → Shows r view
     → ListensTo 0 m (length before) (log m (e ∷ before)) record { input = input_of m i (e ∷ before); view = view }
-listens one station m e before i r view has shows = record {
+listens station m e before i r view has shows = record {
   late = in_time m i (e ∷ before);
   now = input_reaches m i (e ∷ before) ∙ omega arith;
-  shows = shows_view one station m (input_of m i (e ∷ before)) r view has shows;
+  shows = shows_view station m (input_of m i (e ∷ before)) r view has shows;
 }
 
-all_listen : OneMessage → (station : Head) (m : ℕ) (e : Event) (before : List Event) (i : ℕ) (receivers : List ReceiverState) (views : List ShownView)
+all_listen : (station : Head) (m : ℕ) (e : Event) (before : List Event) (i : ℕ) (receivers : List ReceiverState) (views : List ShownView)
     → ((k : ℕ) (r : ReceiverState) → slice_get receivers k ≡ Some r → HasHeard station m (input_of m (i + k) (e ∷ before)) r) → AllZip Shows receivers views
     → AllByRecursion (ListensTo 0 m (length before) (log m (e ∷ before))) (listeners m (e ∷ before) i views)
-all_listen one station m e before i [] [] has shows = tt
-all_listen one station m e before i [] (view ∷ views) has shows = absurd shows
-all_listen one station m e before i (r ∷ receivers) [] has shows = absurd shows
-all_listen one station m e before i (r ∷ receivers) (view ∷ views) has shows =
+all_listen station m e before i [] [] has shows = tt
+all_listen station m e before i [] (view ∷ views) has shows = absurd shows
+all_listen station m e before i (r ∷ receivers) [] has shows = absurd shows
+all_listen station m e before i (r ∷ receivers) (view ∷ views) has shows =
     let here : i + 0 ≡ i = omega arith in (
-      listens one station m e before i r view (subst (λ n. HasHeard station m (input_of m n (e ∷ before)) r) here (has 0 r refl)) shows.0,
-      all_listen one station m e before (i + 1) receivers views
+      listens station m e before i r view (subst (λ n. HasHeard station m (input_of m n (e ∷ before)) r) here (has 0 r refl)) shows.0,
+      all_listen station m e before (i + 1) receivers views
           (λ k s at.
           let next : i + suc k ≡ i + 1 + k = omega arith in
           subst (λ n. HasHeard station m (input_of m n (e ∷ before)) s) next (has (suc k) s at))
           shows.1,
     )
 
-pub safe_world : TheEncoderIsLawful → LawfulPlansAreSafe → OneMessage → (station : Head) (m : ℕ) (w : WorldState) (events : List Event) → StandsAt station m w events → OnlyWhatWasOnAirIsShown m events w.receivers
-safe_world lawful safe one station m w [] st = tt
-safe_world lawful safe one station m w (e ∷ before) st = λ views shows.
+pub safe_world : TheEncoderIsLawful → LawfulPlansAreSafeOnTime → (station : Head) (m : ℕ) (w : WorldState) (events : List Event) → StandsAt station m w events → OnlyWhatWasOnAirIsShown m events w.receivers
+safe_world lawful safe station m w [] st = tt
+safe_world lawful safe station m w (e ∷ before) st = λ views shows.
     let events = e ∷ before in
-    let own : m ≡ m + 0 = omega arith in
-    let law : AreLawful (m + 0) (plans_of m events) (log m events) = subst (λ n. AreLawful n (plans_of m events) (log m events)) own (lawful m events st.lasts st.values) in
     let all : AllByRecursion (ListensTo 0 m (length before) (log m events)) (listeners m events 0 views) =
-    all_listen one station m e before 0 w.receivers views
+    all_listen station m e before 0 w.receivers views
     (λ k r at. (let same : k ≡ 0 + k = omega arith in subst (λ n. HasHeard station m (input_of m n events) r) same (st.receivers.each k r at))) shows in
-    subst (λ n. AreSafe n m (length before) (plans_of m events) (log m events) (listeners m events 0 views)) (sym own)
-    (safe m 0 (length before) (plans_of m events) (log m events) (listeners m events 0 views) law (All-from_recursion _ (listeners m events 0 views) all))
+    safe m (length before) (plans_of m events) (log m events) (listeners m events 0 views) (lawful m events st.lasts st.values)
+        (All-from_recursion _ (listeners m events 0 views) all)

@@ -7,7 +7,6 @@ use rds_encoder::{
     broadcasts_are_spaced, on_air_from_its_start_on, planned_is_what_was_on_air,
     sent_is_of_what_is_on_air,
 };
-use rds_fields::one_message;
 
 /// What an encoder sends is lawful for its plans.
 pub fn the_encoder_is_lawful()
@@ -25,5 +24,4 @@ pub fn only_what_was_on_air_is_shown()
 {
     the_encoder_is_lawful();
     safe_by_plans();
-    one_message();
 }
