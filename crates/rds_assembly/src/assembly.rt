@@ -103,13 +103,11 @@ impl<S: Service> Assembly<S> {
     }
 }
 
-/// Whether the four bytes are these. Compared one by one, they become one comparison of a word.
+/// Whether the four bytes are these, compared as one word.
 fn is_same(segment: &[u8], bytes: &[u8; 4]) -> bool
     requires { length segment.now ≡ 4 }
     ensures { IsTrue result ↔ (segment.now ≡ bytes.now) }
 {
-    segment[0] == bytes[0]
-        && segment[1] == bytes[1]
-        && segment[2] == bytes[2]
-        && segment[3] == bytes[3]
+    let held = [segment[0], segment[1], segment[2], segment[3]];
+    u32::from_le_bytes(held) == u32::from_le_bytes(*bytes)
 }
