@@ -1,7 +1,7 @@
--- When a plan of broadcasts is lawful for what one service was sent (this project's own rule): the broadcasts are
--- spaced, each has a value that may be sent, and whatever was sent is of one of them. A plan is told by numbers of
--- broadcasts and of slots alone, so that it may come from an encoder or from a log. Lists have the newest first, and
--- the number of a broadcast counts from the oldest.
+-- When a plan of broadcasts is lawful for what one service was sent (this project's own rule): the broadcasts
+-- are spaced, each has a value that may be sent, and whatever was sent is of one of them. A plan is told by
+-- numbers of broadcasts and of slots alone, so that it may come from an encoder or from a log. Lists have the
+-- newest first, and the number of a broadcast counts from the oldest.
 use Rattle.std.specs.Prelude.{◌≡◌, ◌≤◌, ◌<◌, ◌+◌, ℕ, List, length}
 use Rattle.rds_fields.specs.Tag.{BothEndIn, PairFields}
 use Rattle.rds_assembly.specs.Body.{name_body, segment_count, segment_of, text_body}

@@ -1,5 +1,5 @@
--- What one service, texts or names, was sent in each slot of a log: a piece of a value, tags for it, or nothing of
--- it. Lists have the newest first, so the slot of a mark is the number of marks before it.
+-- What one service, texts or names, was sent in each slot of a log: a piece of a value, tags for it, or nothing
+-- of it. Lists have the newest first, so the slot of a mark is the number of marks before it.
 use Rattle.std.specs.Prelude.{◌≡◌, ◌⊎◌, ℕ, List, [], ◌∷◌, Option, Some, None, length}
 use Rattle.rds_fields.specs.declared.message.Message.{Message}
 use Rattle.rds_fields.specs.declared.message.Message.TheVariants.{Text, Name, Announce, Tags, Other}
