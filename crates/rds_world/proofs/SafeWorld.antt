@@ -1,20 +1,17 @@
 -- The receivers of a world listen to what its encoder sends, so that what they show is safe.
-use Rattle.std.proofs.Common.{◌≡◌, ◌+◌, ℕ, suc, List, [], ◌∷◌, Option, Some, None, refl, sym, ap, ◌∙◌, subst, inl, inr, arith, length}
+use Rattle.std.proofs.Common.{◌≡◌, ◌+◌, ℕ, suc, List, [], ◌∷◌, Option, Some, refl, ◌∙◌, subst, arith, length}
 use Rattle.std.specs.List.{AllByRecursion, AllZip}
 use Rattle.std.specs.Prelude.{slice_get}
 use Rattle.std.proofs.lemmas.List.Elements.{All-from_recursion}
-use Rattle.rds_block.specs.declared.group.Group.{Group}
 use Rattle.rds_fields.specs.declared.head.Head.{Head}
 use Rattle.rds_fields.specs.declared.message.Message.{Message}
-use Rattle.rds_receiver.specs.Receipts.{AreHeard, Hears}
 use Rattle.rds_receiver.specs.OneView.{same_heard}
 use Rattle.rds_receiver.specs.Shown.{ShowsView, ShownView}
 use Rattle.rds_receiver.specs.State.{ReceiverState}
 use Rattle.rds_world.specs.Event.{Event}
 use Rattle.rds_world.specs.Late.{Input}
 use Rattle.rds_world.specs.Laws.{LawfulPlansAreSafeOnTime}
-use Rattle.rds_world.specs.Plans.{AreLawful}
-use Rattle.rds_world.specs.Safe.{AreSafe, ListensTo}
+use Rattle.rds_world.specs.Safe.{ListensTo}
 use Rattle.rds_world.specs.SafeSlots.{OnlyWhatWasOnAirIsShown, listeners}
 use Rattle.rds_world.specs.Slots.{input_of, log, plans_of}
 use Rattle.rds_world.specs.Standing.{HasHeard, Shows, StandsAt, tuned_to}
@@ -61,4 +58,4 @@ safe_world lawful safe station m w (e ∷ before) st = λ views shows.
     all_listen station m e before 0 w.receivers views
     (λ k r at. (let same : k ≡ 0 + k = omega arith in subst (λ n. HasHeard station m (input_of m n events) r) same (st.receivers.each k r at))) shows in
     safe m (length before) (plans_of m events) (log m events) (listeners m events 0 views) (lawful m events st.lasts st.values)
-        (All-from_recursion _ (listeners m events 0 views) all)
+    (All-from_recursion _ (listeners m events 0 views) all)

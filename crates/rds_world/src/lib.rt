@@ -24,4 +24,6 @@ pub use station_laws::{only_what_was_on_air_is_shown, the_encoder_is_lawful};
 pub use world::{Config, World};
 
 #[cfg(test)]
+mod plain_tests;
+#[cfg(test)]
 mod tests;

@@ -101,7 +101,11 @@ fn assert_texts(rt: &impl Abort, world: &World, receivers: usize, row: &Row) -> 
     Ok(())
 }
 
-fn slot_event(command: Command, free: bool, each: &[Reception]) -> Result<SlotEvent, Fail> {
+pub(crate) fn slot_event(
+    command: Command,
+    free: bool,
+    each: &[Reception],
+) -> Result<SlotEvent, Fail> {
     let mut receptions = ArrayVec::new();
     for reception in each {
         receptions.try_push(*reception).ok().ok_or("receptions")?;
@@ -114,7 +118,7 @@ fn slot_event(command: Command, free: bool, each: &[Reception]) -> Result<SlotEv
 }
 
 /// PI C201, TP 0, PTY 10, and a dwell of four slots.
-fn config() -> Result<Config, Fail> {
+pub(crate) fn config() -> Result<Config, Fail> {
     let head = Head {
         pi: 0xC201,
         tp: false,

@@ -1,0 +1,312 @@
+//! A plain check beside the theorem: many worlds from fixed seeds, in which what receivers show is looked up in
+//! a diary of all that was on air.
+
+use crate::tests::{config, slot_event};
+use crate::{Command, Reception, Reply, World};
+use rds_assembly::{Name, Text};
+use rds_encoder::Encoder;
+use rds_fields::{Dwell, Tag, TagPair, Which};
+use rds_receiver::Receiver;
+use std::alloc::Global;
+use std::process::Abort;
+use std::test::Fail;
+
+/// The dwell of the station.
+const DWELL: usize = 4;
+
+/// How many slots each world has.
+const SLOTS: u32 = 64;
+
+/// How many worlds.
+const WORLDS: u32 = 200;
+
+const TEXTS: [&[u8]; 4] = [b"FIRST SONG", b"THIRD SONG", b"OTHER SONG", b"HI"];
+
+const NAMES: [&[u8]; 2] = [b"JAZZ FM ", b"NEWS NOW"];
+
+/// A generator of small numbers.
+#[derive(Drop)]
+struct Dice {
+    state: u32,
+}
+
+impl Dice {
+    /// A number from 0 to 63.
+    fn roll(&mut self) -> usize {
+        self.state = self
+            .state
+            .wrapping_mul(1_664_525)
+            .wrapping_add(1_013_904_223);
+        (self.state >> 26) as usize
+    }
+
+    /// What the station is told.
+    fn told(&mut self) -> Told {
+        match self.roll() {
+            0..3 => Told::Restart,
+            3..24 => Told::Text(TEXTS[self.roll() % 4]),
+            24..32 => Told::Name(NAMES[self.roll() % 2]),
+            32..44 => Told::Tags,
+            _ => Told::Nothing,
+        }
+    }
+
+    fn reception(&mut self) -> Reception {
+        match self.roll() {
+            0..2 => Reception::Restart,
+            2..20 => Reception::Lost,
+            _ => Reception::Got,
+        }
+    }
+}
+
+/// What the station is told in a slot.
+#[derive(Clone, Copy)]
+enum Told {
+    Nothing,
+    Restart,
+    Text(&'static [u8]),
+    Name(&'static [u8]),
+    Tags,
+}
+
+impl Told {
+    fn command(self) -> Result<Command, Fail> {
+        Ok(match self {
+            Told::Nothing => Command::Quiet,
+            Told::Restart => Command::Restart,
+            Told::Text(bytes) => Command::SetText(Text::new(bytes)?),
+            Told::Name(bytes) => Command::SetName(Name::new(bytes)?),
+            Told::Tags => Command::SetTags(tags()?),
+        })
+    }
+}
+
+/// The last four characters as a title, and no other tag.
+fn tags() -> Result<TagPair, Fail> {
+    Ok(TagPair::new(true, true, Tag::new(1, 6, 3)?, Tag::new(0, 0, 0)?)?)
+}
+
+/// What is on air, by its number among all of its service.
+#[derive(Clone, Copy)]
+struct OnAir {
+    number: u32,
+    bytes: &'static [u8],
+}
+
+/// What was on air of one service in each slot.
+#[derive(Drop)]
+struct Diary {
+    now: Option<OnAir>,
+    slots: Vec<Option<OnAir>>,
+    count: u32,
+}
+
+impl Diary {
+    fn new(alloc: Global) -> Diary {
+        Diary {
+            now: None,
+            slots: Vec::new(alloc),
+            count: 0,
+        }
+    }
+
+    /// A value was accepted.
+    fn accepted(&mut self, bytes: &'static [u8]) {
+        self.count = self.count.wrapping_add(1);
+        self.now = Some(OnAir {
+            number: self.count,
+            bytes,
+        });
+    }
+
+    /// A slot ends.
+    fn end_slot(&mut self) -> Result<(), Fail> {
+        let now = self.now;
+        self.slots.push(now)?;
+        Ok(())
+    }
+
+    /// The numbers of what was on air with these bytes in the last so many slots.
+    fn numbers(&self, alloc: Global, within: usize, bytes: &[u8]) -> Result<Vec<u32>, Fail> {
+        let mut numbers = Vec::new(alloc);
+        for on_air in self.slots.iter().rev().take(within) {
+            if let Some(on_air) = on_air {
+                if on_air.bytes == bytes {
+                    numbers.push(on_air.number)?;
+                }
+            }
+        }
+        Ok(numbers)
+    }
+
+    /// Whether each value shown was on air in the last so many slots.
+    fn are_right(
+        &self,
+        alloc: Global,
+        within: usize,
+        shown: &[Option<&[u8]>],
+    ) -> Result<bool, Fail> {
+        let mut right = true;
+        for bytes in shown {
+            if let Some(bytes) = bytes {
+                right = right && !self.numbers(alloc, within, bytes)?.is_empty();
+            }
+        }
+        Ok(right)
+    }
+
+    /// Whether both values were on air with one number, or with neighbouring ones.
+    fn are_near(
+        &self,
+        alloc: Global,
+        within: usize,
+        one: &[u8],
+        other: &[u8],
+    ) -> Result<bool, Fail> {
+        let others = self.numbers(alloc, within, other)?;
+        for number in self.numbers(alloc, within, one)?.iter() {
+            if others.iter().any(|it| it.abs_diff(*number) < 2) {
+                return Ok(true);
+            }
+        }
+        Ok(false)
+    }
+}
+
+/// Diaries of texts and of names.
+#[derive(Drop)]
+struct Diaries {
+    texts: Diary,
+    names: Diary,
+}
+
+impl Diaries {
+    fn new(alloc: Global) -> Diaries {
+        Diaries {
+            texts: Diary::new(alloc),
+            names: Diary::new(alloc),
+        }
+    }
+
+    /// Notes a slot: what the station was told, and whether that was accepted.
+    fn note(&mut self, told: Told, done: bool) -> Result<(), Fail> {
+        match told {
+            Told::Restart => {
+                self.texts.now = None;
+                self.names.now = None;
+            }
+            Told::Text(bytes) if done => self.texts.accepted(bytes),
+            Told::Name(bytes) if done => self.names.accepted(bytes),
+            _ => {}
+        }
+        self.texts.end_slot()?;
+        self.names.end_slot()?;
+        Ok(())
+    }
+}
+
+/// A tag that is shown beside a text is the title sent for it: its last four characters.
+fn is_title(text: Option<&[u8]>, tag: Option<(u8, &[u8])>) -> bool {
+    match (text, tag) {
+        (_, None) => true,
+        (Some(text), Some((class, piece))) => class == 1 && text.get(6..10) == Some(piece),
+        (None, Some(_)) => false,
+    }
+}
+
+/// Plays a world from a seed, and checks each slot.
+fn play(rt: &impl Abort, alloc: Global, seed: u32) -> Result<(), Fail> {
+    let mut dice = Dice { state: seed };
+    let mut world = World::new(config()?, 2).ok().ok_or("receivers")?;
+    let mut diaries = Diaries::new(alloc);
+    for slot in 0..SLOTS {
+        let told = dice.told();
+        let free = dice.roll() > 7;
+        let receptions = [dice.reception(), dice.reception()];
+        let event = slot_event(told.command()?, free, &receptions)?;
+        let answer = world.step(&event).ok().ok_or("receptions")?;
+        diaries.note(told, answer.reply == Reply::Done)?;
+        let one = world.receiver(0).ok_or("receiver")?;
+        let two = world.receiver(1).ok_or("receiver")?;
+        assert!(rt;
+            diaries
+                .texts
+                .are_right(alloc, DWELL, &[one.text(), two.text()])?,
+            "seed {seed}, slot {slot}"
+        );
+        assert!(rt;
+            diaries
+                .names
+                .are_right(alloc, DWELL, &[one.name(), two.name()])?,
+            "seed {seed}, slot {slot}"
+        );
+        assert!(rt;
+            is_title(one.text(), one.tag(Which::One)),
+            "seed {seed}, slot {slot}"
+        );
+        assert!(rt;
+            is_title(two.text(), two.tag(Which::One)),
+            "seed {seed}, slot {slot}"
+        );
+        if let (Some(one), Some(two)) = (one.text(), two.text()) {
+            assert!(rt;
+                diaries.texts.are_near(alloc, DWELL, one, two)?,
+                "seed {seed}, slot {slot}"
+            );
+        }
+    }
+    Ok(())
+}
+
+/// What the theorem says of all worlds, looked up in some.
+#[test]
+fn worlds(rt: HostRuntime) -> Result<(), Fail> {
+    for seed in 0..WORLDS {
+        play(&rt, rt.alloc(), seed)?;
+    }
+    Ok(())
+}
+
+/// Whether a receiver of twice the encoder's dwell ever shows a text that was not on air within its dwell.
+fn mixes(alloc: Global, seed: u32) -> Result<bool, Fail> {
+    let mut dice = Dice { state: seed };
+    let config = config()?;
+    let mut encoder = Encoder::new(config.head, config.dwell);
+    let twice = Dwell::new(8).ok_or("dwell")?;
+    let mut receiver = Receiver::new(config.head.pi, twice);
+    let mut diaries = Diaries::new(alloc);
+    let mut right = true;
+    for _slot in 0..SLOTS {
+        let told = dice.told();
+        let done = match told {
+            Told::Text(bytes) => encoder.set_text(Text::new(bytes)?).is_ok(),
+            Told::Restart => {
+                encoder = Encoder::new(config.head, config.dwell);
+                true
+            }
+            _ => false,
+        };
+        let group = encoder.tick(dice.roll() > 7);
+        match dice.reception() {
+            Reception::Got => receiver.slot(group),
+            _ => receiver.slot(None),
+        };
+        diaries.note(told, done)?;
+        right = right && diaries.texts.are_right(alloc, 8, &[receiver.text()])?;
+    }
+    Ok(!right)
+}
+
+/// The check can fail: it finds a mix where the receiver's dwell is not the encoder's.
+#[test]
+fn twice_the_dwell_mixes(rt: HostRuntime) -> Result<(), Fail> {
+    let mut mixed: u32 = 0;
+    for seed in 0..WORLDS {
+        if mixes(rt.alloc(), seed)? {
+            mixed = mixed.wrapping_add(1);
+        }
+    }
+    assert!(rt; mixed > 0);
+    Ok(())
+}
