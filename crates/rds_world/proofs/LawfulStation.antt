@@ -46,14 +46,14 @@ accepted_value P m slot x (End free ∷ before) all was = accepted_value P m slo
 
 -- one service: what it was told in a slot is at most one move, of a value, and then the end of the slot
 pub record IsService (IsValue : List ℕ → Type 0) (moves : List Entry → List Move) : Type 0 where
-  none : moves [] ≡ []
-  slot : (e : Event) (before : List Event) → moves (entries (e ∷ before)) ≡ End e.free ∷ moves (commanded e.command (entries before))
-  longer : (c : Command) (before : List Entry) → (told : List Move) × (moves (commanded c before) ≡ told ++ moves before)
-  same_slot : (c : Command) (before : List Entry) → slot_of (moves (commanded c before)) ≡ slot_of (moves before)
-  values : (c : Command) (before : List Entry) → SetsAValue c → AllSetAre IsValue (moves before) → AllSetAre IsValue (moves (commanded c before))
-  once : (c : Command) (before : List Entry) → IsUntold (moves before) → IsOnePerSlot (moves before) → IsOnePerSlot (moves (commanded c before))
+  pub none : moves [] ≡ []
+  pub slot : (e : Event) (before : List Event) → moves (entries (e ∷ before)) ≡ End e.free ∷ moves (commanded e.command (entries before))
+  pub longer : (c : Command) (before : List Entry) → (told : List Move) × (moves (commanded c before) ≡ told ++ moves before)
+  pub same_slot : (c : Command) (before : List Entry) → slot_of (moves (commanded c before)) ≡ slot_of (moves before)
+  pub values : (c : Command) (before : List Entry) → SetsAValue c → AllSetAre IsValue (moves before) → AllSetAre IsValue (moves (commanded c before))
+  pub once : (c : Command) (before : List Entry) → IsUntold (moves before) → IsOnePerSlot (moves before) → IsOnePerSlot (moves (commanded c before))
 
-text_service : IsService IsText text_moves
+pub text_service : IsService IsText text_moves
 text_service = record { none = refl; slot = λ e before. refl; longer = longer; same_slot = same_slot; values = values; once = once }
   where
     longer : (c : Command) (before : List Entry) → (told : List Move) × (text_moves (commanded c before) ≡ told ++ text_moves before)
@@ -84,7 +84,7 @@ text_service = record { none = refl; slot = λ e before. refl; longer = longer; 
     once (SetName x) before untold one = one
     once (SetTags pair) before untold one = one
 
-name_service : IsService IsName name_moves
+pub name_service : IsService IsName name_moves
 name_service = record { none = refl; slot = λ e before. refl; longer = longer; same_slot = same_slot; values = values; once = once }
   where
     longer : (c : Command) (before : List Entry) → (told : List Move) × (name_moves (commanded c before) ≡ told ++ name_moves before)
@@ -126,7 +126,7 @@ record WasSentIn (of : Option Message → Mark) (moves : List Entry → List Mov
   told : moves (entries events) ≡ since ++ End event.free ∷ moves (commanded event.command (entries before))
 
 module _ (IsValue : List ℕ → Type 0) (of : Option Message → Mark) (moves : List Entry → List Move) (service : IsService IsValue moves) where
-  reaches : (events : List Event) → slot_of (moves (entries events)) ≡ length events
+  pub reaches : (events : List Event) → slot_of (moves (entries events)) ≡ length events
   reaches [] = ap slot_of service.none
   reaches (e ∷ before) = ap slot_of (service.slot e before) ∙ omega (arith, service.same_slot e.command (entries before), reaches before)
 

@@ -14,3 +14,6 @@ pub mod InTime
 pub mod SafeWorld
 pub mod Least
 pub mod WorkedRows
+pub mod SentWhole
+pub mod HeldWhole
+pub mod Delivered

@@ -20,7 +20,7 @@ use Rattle.rds_world.specs.Station.{TheEncoderIsLawful}
 use Rattle.rds_world.proofs.InTime.{in_time, input_reaches}
 
 -- what a receiver shows is the view of what it heard
-shows_view : (station : Head) (m : ℕ) (input : Input) (r : ReceiverState) (view : ShownView) → HasHeard station m input r → Shows r view → ShowsView m input.first input.heard view
+pub shows_view : (station : Head) (m : ℕ) (input : Input) (r : ReceiverState) (view : ShownView) → HasHeard station m input r → Shows r view → ShowsView m input.first input.heard view
 shows_view station m input r view has shows =
     let v = shows (tuned_to station m input) has.groups has.stands in
     subst (λ (heard : List (Option Message)). ShowsView m input.first heard view) (same_heard station.pi has.groups v.0 input.heard v.1 has.spelled) v.2

@@ -12,3 +12,4 @@ pub mod Replies
 pub mod Standing
 pub mod Station
 pub mod SafeSlots
+pub mod Delivery

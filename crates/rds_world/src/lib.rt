@@ -20,7 +20,7 @@ pub use laws::{
 };
 pub use reply::{Answer, Reply, StepRefused, WorldRefused};
 pub use slots::{PlayRefused, play};
-pub use station_laws::{only_what_was_on_air_is_shown, the_encoder_is_lawful};
+pub use station_laws::{on_air_is_delivered, only_what_was_on_air_is_shown, the_encoder_is_lawful};
 pub use world::{Config, World};
 
 #[cfg(test)]

@@ -13,8 +13,8 @@ const GOT: Reception = Reception::Got;
 
 const LOST: Reception = Reception::Lost;
 
-/// So many slots of a world of up to three receivers: what happens in each, its reply and what it sends, and the
-/// text that each receiver shows at its end.
+/// So many slots of a world of up to three receivers: what happens in each, its reply and what it sends, and
+/// the text that each receiver shows at its end.
 #[derive(Clone, Copy)]
 struct Row {
     slots: u32,
@@ -196,8 +196,8 @@ fn held_for_twice_the_dwell(rt: HostRuntime) -> Result<(), Fail> {
     Ok(())
 }
 
-/// A restart in slot 5: nothing is on air, the encoder is silent up to slot 8, and the next text has flag 0 again.
-/// The receiver shows the text of before for the dwell.
+/// A restart in slot 5: nothing is on air, the encoder is silent up to slot 8, and the next text has flag 0
+/// again. The receiver shows the text of before for the dwell.
 #[test]
 fn restart_keeps_silence(rt: HostRuntime) -> Result<(), Fail> {
     let yo = set_text(b"YO")?;
@@ -394,5 +394,6 @@ fn played_slots(rt: HostRuntime) -> Result<(), Fail> {
 fn station_laws(_rt: HostRuntime) -> Result<(), Fail> {
     the_encoder_is_lawful();
     only_what_was_on_air_is_shown();
+    on_air_is_delivered();
     Ok(())
 }
