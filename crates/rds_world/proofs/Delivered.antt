@@ -31,7 +31,8 @@ use Rattle.rds_world.proofs.Bytes.{name_service, text_service}
 use Rattle.rds_world.proofs.HeldWhole.{CameSince, came_in, in_segments, shown_whole}
 use Rattle.rds_world.proofs.InTime.{in_time, input_reaches}
 use Rattle.rds_world.proofs.LawfulStation as lawful
-use Rattle.rds_world.proofs.OneBroadcast.{PicksWhatIsMarked, PlanLaws}
+use Rattle.rds_world.specs.Laws.{PlanLaws}
+use Rattle.rds_world.proofs.OneBroadcast.{PicksWhatIsMarked}
 use Rattle.rds_world.proofs.SafeWorld.{shows_view}
 use Rattle.rds_world.proofs.SentWhole.{IsMoves, free_told, heard_among, moves_of_names, moves_of_texts, throughout, told_parts, told_since, told_until}
 
@@ -67,7 +68,7 @@ some_segments x t = by (nat_eq (length x) 64) refl
     by false e = (
         let long = length-append x (13 ∷ replicate (3 - length x % 4) 32) in
         let spaces = length-replicate {A = ℕ} (3 - length x % 4) 32 in
-        let short : length x ≤ 64 = t.long in
+        let short : length x ≤ 64 = t.at_most in
         let other : length x < 64 = grind (arith, nat_tests) in
         rw e (omega (arith, long, spaces), omega (arith, long, spaces, other))
         )

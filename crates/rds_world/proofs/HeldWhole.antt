@@ -17,7 +17,8 @@ use Rattle.rds_world.specs.Marks.{Mark, marks}
 use Rattle.rds_world.proofs.Bytes.{IsService, bytes_of_run, get-put}
 use Rattle.rds_world.proofs.Entries.{arrival, before_end, mark_sent}
 use Rattle.rds_world.proofs.Hearing.{AreFalling, IsPicked, all_picked, segments_fall}
-use Rattle.rds_world.proofs.OneBroadcast.{AreOf, IsSegmentOf, PicksWhatIsMarked, PlanLaws, RunLiesInOne, heard_run_lies}
+use Rattle.rds_world.specs.Laws.{PlanLaws}
+use Rattle.rds_world.proofs.OneBroadcast.{AreOf, IsSegmentOf, PicksWhatIsMarked, RunLiesInOne, heard_run_lies}
 
 -- one of the segments
 abbrev pub IsIn : List Segment → Segment → Type 0

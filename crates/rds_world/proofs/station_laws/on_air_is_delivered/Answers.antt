@@ -1,5 +1,5 @@
 use Rattle.rds_world.proofs.Delivered.{DeliveryLaws, any_text_delivered, name_delivered, text_delivered}
-use Rattle.rds_world.proofs.OneBroadcast.{PlanLaws}
+use Rattle.rds_world.specs.Laws.{PlanLaws}
 use Rattle.rds_world.proofs.station_laws.on_air_is_delivered.Goals as goal
 
 laws_of : goal.After-on_air_is_sent_whole → DeliveryLaws
