@@ -215,46 +215,35 @@ fn is_title(text: Option<&[u8]>, tag: Option<(u8, &[u8])>) -> bool {
     }
 }
 
+/// Checks what the receivers of the world show at the end of a slot.
+fn check(rt: &impl Abort, alloc: Global, world: &World, diaries: &Diaries) -> Result<(), Fail> {
+    let one = world.receiver(0).ok_or("receiver")?;
+    let two = world.receiver(1).ok_or("receiver")?;
+    let texts = [one.text(), two.text()];
+    let names = [one.name(), two.name()];
+    assert!(rt; diaries.texts.are_right(alloc, DWELL, &texts)?);
+    assert!(rt; diaries.names.are_right(alloc, DWELL, &names)?);
+    assert!(rt; is_title(one.text(), one.tag(Which::One)));
+    assert!(rt; is_title(two.text(), two.tag(Which::One)));
+    if let (Some(one), Some(two)) = (one.text(), two.text()) {
+        assert!(rt; diaries.texts.are_near(alloc, DWELL, one, two)?);
+    }
+    Ok(())
+}
+
 /// Plays a world from a seed, and checks each slot.
 fn play(rt: &impl Abort, alloc: Global, seed: u32) -> Result<(), Fail> {
     let mut dice = Dice { state: seed };
     let mut world = World::new(config()?, 2).ok().ok_or("receivers")?;
     let mut diaries = Diaries::new(alloc);
-    for slot in 0..SLOTS {
+    for _slot in 0..SLOTS {
         let told = dice.told();
         let free = dice.roll() > 7;
         let receptions = [dice.reception(), dice.reception()];
         let event = slot_event(told.command()?, free, &receptions)?;
         let answer = world.step(&event).ok().ok_or("receptions")?;
         diaries.note(told, answer.reply == Reply::Done)?;
-        let one = world.receiver(0).ok_or("receiver")?;
-        let two = world.receiver(1).ok_or("receiver")?;
-        assert!(rt;
-            diaries
-                .texts
-                .are_right(alloc, DWELL, &[one.text(), two.text()])?,
-            "seed {seed}, slot {slot}"
-        );
-        assert!(rt;
-            diaries
-                .names
-                .are_right(alloc, DWELL, &[one.name(), two.name()])?,
-            "seed {seed}, slot {slot}"
-        );
-        assert!(rt;
-            is_title(one.text(), one.tag(Which::One)),
-            "seed {seed}, slot {slot}"
-        );
-        assert!(rt;
-            is_title(two.text(), two.tag(Which::One)),
-            "seed {seed}, slot {slot}"
-        );
-        if let (Some(one), Some(two)) = (one.text(), two.text()) {
-            assert!(rt;
-                diaries.texts.are_near(alloc, DWELL, one, two)?,
-                "seed {seed}, slot {slot}"
-            );
-        }
+        check(rt, alloc, &world, &diaries)?;
     }
     Ok(())
 }
