@@ -17,7 +17,7 @@ pub(crate) fn returns_in(bytes: &[u8; 64]) -> u64
 pub(crate) fn spread(mask: u16) -> u64
     ensures { IsSpread mask result }
 {
-    // Named by how many of the mask's bits stand side by side: such runs begin at every fourth
+    // Named by how many of the mask's bits stand side by side: such pieces begin at every fourth
     // multiple of their length, until each bit alone has four places.
     let sixteen = u64::from(mask);
     let eights = (sixteen | sixteen << 24) & 0x0000_00FF_0000_00FF;

@@ -72,6 +72,20 @@ same_bool false false e = refl
 same_bool true false e = absurd (omega arith)
 same_bool false true e = absurd (omega arith)
 
+-- groups with equal fields are equal
+pub equal_fields : (g h : Group) → g.pi ≡ h.pi → g.number ≡ h.number → g.version ≡ h.version → g.tp ≡ h.tp → g.pty ≡ h.pty → g.low ≡ h.low → g.c ≡ h.c → g.d ≡ h.d → g ≡ h
+equal_fields g h pi number version tp pty low c d =
+    λ i. record {
+      pi = pi i;
+      number = number i;
+      version = version i;
+      tp = tp i;
+      pty = pty i;
+      low = low i;
+      c = c i;
+      d = d i;
+    }
+
 -- groups with the same words are one
 pub same_group : (words : List ℕ) (g h : Group) → AreWordsOf words g → AreWordsOf words h → g ≡ h
 same_group words g h fg fh =
@@ -89,13 +103,4 @@ same_group words g h fg fh =
     let tp = same_bool g.tp h.tp (omega arith) in
     let pty : g.pty ≡ h.pty = omega arith in
     let low : g.low ≡ h.low = omega arith in
-    λ i. record {
-      pi = pi i;
-      number = number i;
-      version = version i;
-      tp = tp i;
-      pty = pty i;
-      low = low i;
-      c = c i;
-      d = d i;
-    }
+    equal_fields g h pi number version tp pty low c d

@@ -2,6 +2,7 @@
 use Rattle.std.proofs.Common.{◌≡◌, ◌≢◌, ℕ, zero, suc, ◌+◌, ◌*◌, ◌<◌, ◌^◌, refl, sym, ◌∙◌, arith}
 use Rattle.std.specs.Int.{from_bool}
 use Rattle.rds_block.specs.declared.group.Group.{Group}
+use Rattle.rds_block.specs.SecondWord.{equal_fields}
 use Rattle.rds_fields.specs.declared.head.Head.{Head}
 use Rattle.rds_fields.specs.declared.message.Message.{Message}
 use Rattle.rds_fields.specs.declared.message.Message.TheVariants.{Text, Name, Announce, Tags, Other}
@@ -18,16 +19,7 @@ same_fields n head g h og oh hg hh low c d =
     let version : g.version ≡ h.version = og.version ∙ sym oh.version in
     let tp : g.tp ≡ h.tp = hg.tp ∙ sym hh.tp in
     let pty : g.pty ≡ h.pty = hg.pty ∙ sym hh.pty in
-    λ i. record {
-      pi = pi i;
-      number = number i;
-      version = version i;
-      tp = tp i;
-      pty = pty i;
-      low = low i;
-      c = c i;
-      d = d i;
-    }
+    equal_fields g h pi number version tp pty low c d
 
 -- a field beside class k that is read as v, and is 0 where k is, is v
 field_of_plain : (k v s : ℕ) → (0 < k → v ≡ s) → (k ≡ 0 → v ≡ 0) → (k ≡ 0 → s ≡ 0) → s ≡ v

@@ -1,6 +1,6 @@
 //! The bytes of a log, from line feed to line feed.
 ghost use Rattle.std.specs.Prelude.{◌≡◌, ◌⊎◌, ◌≤◌, ◌<◌, ◌+◌, ◌-◌, ◌^◌, ◌++◌, ◌∷◌, [], ℕ, List, IfNone, IfOk, IfSome, MatchResult, Option, length, take};
-ghost use Rattle.rds_log.specs.LineSays.{IsBad, LineSays};
+ghost use Rattle.rds_log.specs.LineSays.{IsBad, LineSays, deciding};
 ghost use Rattle.rds_log.specs.LogLines.{EndsAt, IsLine, Line};
 
 use crate::change::SLOT;
@@ -115,9 +115,9 @@ impl Decoder {
 
     /// What the line that is begun says where these are its last bytes; `None` for a bad line.
     fn said(&mut self, last: &[u8]) -> Option<LogLine>
-        ensures some { (begun : Line) → self.old.kept.items ≡ take 21 begun
+        ensures some { (begun : Line) → self.old.kept.items ≡ take deciding begun
             → IfSome result (LineSays (begun ++ last.now)) }
-        ensures none { (begun : Line) → self.old.kept.items ≡ take 21 begun
+        ensures none { (begun : Line) → self.old.kept.items ≡ take deciding begun
             → IfNone result (IsBad (begun ++ last.now)) }
         ensures lines { self.new.lines ≡ self.old.lines }
         ensures views { self.new.views ≡ self.old.views }
@@ -131,7 +131,7 @@ impl Decoder {
 
     /// Keeps those of the next bytes of the line that decide what it says.
     fn keep(&mut self, bytes: &[u8])
-        ensures kept { self.new.kept.items ≡ take 21 (self.old.kept.items ++ bytes.now) }
+        ensures kept { self.new.kept.items ≡ take deciding (self.old.kept.items ++ bytes.now) }
         ensures lines { self.new.lines ≡ self.old.lines }
         ensures views { self.new.views ≡ self.old.views }
     {

@@ -131,14 +131,16 @@ fn dwell() -> Result<Dwell, Fail> {
     Ok(Dwell::new(128).ok_or("dwell")?)
 }
 
-fn decoded(alloc: Global, log: &[u8]) -> Result<(Result<(), LogFault>, Vec<u8>), Fail> {
+/// How a log ended, and its output.
+type Decoded = (Result<(), LogFault>, Vec<u8>);
+
+fn decoded(alloc: Global, log: &[u8]) -> Result<Decoded, Fail> {
+    decoded_for(alloc, log, 0xC201, dwell()?)
+}
+
+fn decoded_for(alloc: Global, log: &[u8], pi: u16, dwell: Dwell) -> Result<Decoded, Fail> {
     let mut output = Vec::new(alloc);
-    let done = decode(
-        &mut Told::new(log),
-        &mut Told::new(&mut output),
-        0xC201,
-        dwell()?,
-    );
+    let done = decode(&mut Told::new(log), &mut Told::new(&mut output), pi, dwell);
     Ok((done, output))
 }
 
@@ -186,14 +188,8 @@ fn shown_for_the_dwell(rt: HostRuntime) -> Result<(), Fail> {
             log.extend_from_slice(b"---- ---- ---- ----\n")?;
         }
         let wanted = format!(in rt.alloc(); "0 text \"HI\"\n{slots} text none\n")?;
-        let mut output = Vec::new(rt.alloc());
         let dwell = Dwell::new(slots).ok_or("dwell")?;
-        let done = decode(
-            &mut Told::new(log.as_slice()),
-            &mut Told::new(&mut output),
-            0xC201,
-            dwell,
-        );
+        let (done, output) = decoded_for(rt.alloc(), log.as_slice(), 0xC201, dwell)?;
         assert_eq!(rt; output.as_slice(), wanted.as_bytes());
         assert_eq!(rt; done, Ok(()));
     }
@@ -211,13 +207,7 @@ fn another_programme(rt: HostRuntime) -> Result<(), Fail> {
         (0xFFFF, b""),
     ];
     for (pi, wanted) in rows {
-        let mut output = Vec::new(rt.alloc());
-        let done = decode(
-            &mut Told::new(log.as_slice()),
-            &mut Told::new(&mut output),
-            pi,
-            dwell()?,
-        );
+        let (done, output) = decoded_for(rt.alloc(), log, pi, dwell()?)?;
         assert_eq!(rt; output.as_slice(), wanted);
         assert_eq!(rt; done, Ok(()));
     }
@@ -367,53 +357,72 @@ impl Write for Counting<'_> {
     }
 }
 
-/// The output of a line is out before the next read, and each read that has output has one write.
-#[test]
-fn output_before_the_next_read(rt: HostRuntime) -> Result<(), Fail> {
+/// What was seen of the reader and the writer of two texts: how many reads and writes there were, how many bytes
+/// the writer had taken at each read and at the end, and how often each of the two failed.
+#[derive(Drop)]
+struct Seen {
+    done: Result<(), LogFault>,
+    reads: u64,
+    writes: u64,
+    at_reads: Vec<usize>,
+    taken: usize,
+    failures: (u64, u64),
+}
+
+/// Decodes two texts, at most so many bytes a read. The reader and the writer fail at these calls, at 0 at none.
+fn decoded_watched(
+    alloc: Global,
+    most: usize,
+    read_fails: u64,
+    write_fails: u64,
+) -> Result<Seen, Fail> {
     let reads = Cell::new(0);
     let taken = Cell::new(0);
     let writes = Cell::new(0);
-    let mut seen = Vec::new(rt.alloc());
-    let done = decode(
-        &mut Told::new(Watched {
+    let mut at_reads = Vec::new(alloc);
+    let (done, failures) = {
+        let mut reader = Told::new(Watched {
             left: TWO_TEXTS,
-            most: 20,
-            fails_at: 0,
+            most,
+            fails_at: read_fails,
             reads: &reads,
             taken: &taken,
-            seen: &mut seen,
-        }),
-        &mut Told::new(Counting {
+            seen: &mut at_reads,
+        });
+        let mut writer = Told::new(Counting {
             taken: &taken,
             writes: &writes,
-            fails_at: 0,
-        }),
-        0xC201,
-        dwell()?,
-    );
-    assert_eq!(rt; done, Ok(()));
-    assert_eq!(rt; seen.as_slice(), [0, 12, 24].as_slice());
-    assert_eq!(rt; (reads.get(), writes.get()), (3, 2));
+            fails_at: write_fails,
+        });
+        let done = decode(&mut reader, &mut writer, 0xC201, dwell()?);
+        (done, (reader.failures(), writer.failures()))
+    };
+    Ok(Seen {
+        done,
+        reads: reads.get(),
+        writes: writes.get(),
+        at_reads,
+        taken: taken.get(),
+        failures,
+    })
+}
+
+/// The output of a line is out before the next read, and each read that has output has one write.
+#[test]
+fn output_before_the_next_read(rt: HostRuntime) -> Result<(), Fail> {
+    let seen = decoded_watched(rt.alloc(), 20, 0, 0)?;
+    assert_eq!(rt; seen.done, Ok(()));
+    assert_eq!(rt; seen.at_reads.as_slice(), [0, 12, 24].as_slice());
+    assert_eq!(rt; (seen.reads, seen.writes), (3, 2));
     Ok(())
 }
 
 /// Lines that come in one read go out in one write.
 #[test]
 fn one_write_for_each_read(rt: HostRuntime) -> Result<(), Fail> {
-    let taken = Cell::new(0);
-    let writes = Cell::new(0);
-    let done = decode(
-        &mut Told::new(TWO_TEXTS),
-        &mut Told::new(Counting {
-            taken: &taken,
-            writes: &writes,
-            fails_at: 0,
-        }),
-        0xC201,
-        dwell()?,
-    );
-    assert_eq!(rt; done, Ok(()));
-    assert_eq!(rt; (taken.get(), writes.get()), (TWO_LINES.len(), 1));
+    let seen = decoded_watched(rt.alloc(), TWO_TEXTS.len(), 0, 0)?;
+    assert_eq!(rt; seen.done, Ok(()));
+    assert_eq!(rt; (seen.taken, seen.writes), (TWO_LINES.len(), 1));
     Ok(())
 }
 
@@ -421,29 +430,9 @@ fn one_write_for_each_read(rt: HostRuntime) -> Result<(), Fail> {
 #[test]
 fn no_read_after_a_failed_write(rt: HostRuntime) -> Result<(), Fail> {
     for fails_at in [1, 2] {
-        let reads = Cell::new(0);
-        let taken = Cell::new(0);
-        let writes = Cell::new(0);
-        let mut seen = Vec::new(rt.alloc());
-        let done = decode(
-            &mut Told::new(Watched {
-                left: TWO_TEXTS,
-                most: 20,
-                fails_at: 0,
-                reads: &reads,
-                taken: &taken,
-                seen: &mut seen,
-            }),
-            &mut Told::new(Counting {
-                taken: &taken,
-                writes: &writes,
-                fails_at,
-            }),
-            0xC201,
-            dwell()?,
-        );
-        assert_eq!(rt; done, Err(LogFault::Write));
-        assert_eq!(rt; (reads.get(), writes.get()), (fails_at, fails_at));
+        let seen = decoded_watched(rt.alloc(), 20, 0, fails_at)?;
+        assert_eq!(rt; seen.done, Err(LogFault::Write));
+        assert_eq!(rt; (seen.reads, seen.writes), (fails_at, fails_at));
     }
     Ok(())
 }
@@ -452,27 +441,10 @@ fn no_read_after_a_failed_write(rt: HostRuntime) -> Result<(), Fail> {
 #[test]
 fn reader_fails(rt: HostRuntime) -> Result<(), Fail> {
     for fails_at in [1, 2, 3] {
-        let reads = Cell::new(0);
-        let taken = Cell::new(0);
-        let writes = Cell::new(0);
-        let mut seen = Vec::new(rt.alloc());
-        let mut reader = Told::new(Watched {
-            left: TWO_TEXTS,
-            most: 20,
-            fails_at,
-            reads: &reads,
-            taken: &taken,
-            seen: &mut seen,
-        });
-        let mut writer = Told::new(Counting {
-            taken: &taken,
-            writes: &writes,
-            fails_at: 0,
-        });
-        let done = decode(&mut reader, &mut writer, 0xC201, dwell()?);
-        assert_eq!(rt; done, Err(LogFault::Read));
-        assert_eq!(rt; (reader.failures(), writer.failures()), (1, 0));
-        assert_eq!(rt; (reads.get(), writes.get()), (fails_at, fails_at - 1));
+        let seen = decoded_watched(rt.alloc(), 20, fails_at, 0)?;
+        assert_eq!(rt; seen.done, Err(LogFault::Read));
+        assert_eq!(rt; seen.failures, (1, 0));
+        assert_eq!(rt; (seen.reads, seen.writes), (fails_at, fails_at - 1));
     }
     Ok(())
 }

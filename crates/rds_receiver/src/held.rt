@@ -69,17 +69,16 @@ impl<S: Service> Held<S> {
         ensures flag { self.new.flag ≡ flag }
         ensures age { self.new.age ≡ 0 }
         ensures kept { IsFalse result → self.new.cells ≡ self.old.cells }
+        ensures one_flag { IsFalse result → flag ≡ self.old.flag }
     {
-        if flag != self.flag {
+        let is_other = flag != self.flag;
+        if is_other {
             self.segments.clear();
-            self.segments.put(address, bytes);
-            self.flag = flag;
-            self.age = 0;
-            return true;
         }
         let is_new = self.segments.put(address, bytes);
+        self.flag = flag;
         self.age = 0;
-        is_new
+        is_new || is_other
     }
 
     /// Whether segments are held.

@@ -149,10 +149,7 @@ impl Receiver {
         let dwell = self.dwell.get();
         let text = self.text.grow_older(dwell);
         let name = self.name.grow_older(dwell);
-        if self.text.is_held(dwell) {
-            return text || name;
-        }
-        if self.pair.is_none() {
+        if self.text.is_held(dwell) || self.pair.is_none() {
             return text || name;
         }
         self.pair = None;
@@ -191,8 +188,6 @@ impl Receiver {
     {
         if !self.text.has_flag(flag) {
             self.pair = None;
-            self.text.take(flag, address, bytes);
-            return true;
         }
         self.text.take(flag, address, bytes)
     }

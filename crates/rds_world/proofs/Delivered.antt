@@ -34,6 +34,7 @@ use Rattle.rds_world.proofs.LawfulStation as lawful
 use Rattle.rds_world.specs.Laws.{PlanLaws}
 use Rattle.rds_world.proofs.OneBroadcast.{PicksWhatIsMarked}
 use Rattle.rds_world.proofs.SafeWorld.{shows_view}
+use Rattle.rds_world.proofs.Safety.{name_pieces_marked, text_pieces_marked}
 use Rattle.rds_world.proofs.SentWhole.{IsMoves, free_told, heard_among, moves_of_names, moves_of_texts, throughout, told_parts, told_since, told_until}
 
 -- what is proved of every encoder
@@ -44,20 +45,6 @@ pub record DeliveryLaws : Type 0 where
   pub text : ATextIsSentWhole
   pub name : ANameIsSentWhole
   pub lawful : TheEncoderIsLawful
-
-text_picks : PicksWhatIsMarked text_piece text_mark
-text_picks (Text f a b) p e = (let same : record { flag = f; address = a; bytes = b } ≡ p = cc in ap Sends same)
-text_picks (Name f a b) p e = absurd (cc)
-text_picks (Announce code bits aid) p e = absurd (cc)
-text_picks (Tags pair) p e = absurd (cc)
-text_picks Other p e = absurd (cc)
-
-name_picks : PicksWhatIsMarked name_piece name_mark
-name_picks (Text f a b) p e = absurd (cc)
-name_picks (Name f a b) p e = (let same : record { flag = f; address = a; bytes = b } ≡ p = cc in ap Sends same)
-name_picks (Announce code bits aid) p e = absurd (cc)
-name_picks (Tags pair) p e = absurd (cc)
-name_picks Other p e = absurd (cc)
 
 -- a text has from one to sixteen segments, and a name two
 some_segments : (x : List ℕ) → IsText x → (0 < segment_count (text_body x)) × (segment_count (text_body x) ≤ 16)
@@ -152,7 +139,7 @@ module _ (laws : DeliveryLaws) (station : Head) (m : ℕ) (w : WorldState) (newe
       let throughout = on_throughout laws m listened.stands.lasts newer oldest before IsText text_moves lawful.text_service (lawful.reaches IsText text_mark text_moves lawful.text_service) moves_of_texts k b planned from to in
       let free = free_told newer oldest in
       shown_whole laws.plan m (length all_slots - 1) (length before) texts text_piece text_mark (plans_of m all_slots).text (log m all_slots) its_input k b
-      text_picks (subst (λ n. IsLawful n texts (plans_of m all_slots).text (marks text_mark (log m all_slots))) own law.text) (in_time m i all_slots) (input_reaches m i all_slots ∙ last)
+      text_pieces_marked (subst (λ n. IsLawful n texts (plans_of m all_slots).text (marks text_mark (log m all_slots))) own law.text) (in_time m i all_slots) (input_reaches m i all_slots ∙ last)
       planned from (omega (arith, to, some_recent)) (omega (arith, some_recent, listened.long, listened.within))
       IsWholeText text_service (λ cells held. all_text cells b.bytes value held) ((some_segments b.bytes value).0)
       (λ a within.
@@ -168,7 +155,7 @@ module _ (laws : DeliveryLaws) (station : Head) (m : ℕ) (w : WorldState) (newe
       let free = free_told newer oldest in
       let two = two_segments b.bytes value in
       shown_whole laws.plan m (length all_slots - 1) (length before) names name_piece name_mark (plans_of m all_slots).name (log m all_slots) its_input k b
-      name_picks (subst (λ n. IsLawful n names (plans_of m all_slots).name (marks name_mark (log m all_slots))) own law.name) (in_time m i all_slots) (input_reaches m i all_slots ∙ last)
+      name_pieces_marked (subst (λ n. IsLawful n names (plans_of m all_slots).name (marks name_mark (log m all_slots))) own law.name) (in_time m i all_slots) (input_reaches m i all_slots ∙ last)
       planned from (omega (arith, to, some_recent)) (omega (arith, some_recent, listened.long, listened.within))
       IsWholeName name_service (λ cells held. all_name cells b.bytes value held) (omega (arith, two))
       (λ a within.

@@ -16,14 +16,14 @@ use Rattle.rds_world.proofs.OneBroadcast.{PicksWhatIsMarked, RunLiesInOne, heard
 use Rattle.rds_world.proofs.Pairs.{shows_tags}
 use Rattle.rds_world.proofs.Sources.{near_sources, shown_on_air}
 
-text_pieces_marked : PicksWhatIsMarked text_piece text_mark
+pub text_pieces_marked : PicksWhatIsMarked text_piece text_mark
 text_pieces_marked (Text f a b) p e = (let same : record { flag = f; address = a; bytes = b } ≡ p = cc in ap Sends same)
 text_pieces_marked (Name f a b) p e = absurd (cc)
 text_pieces_marked (Announce code bits aid) p e = absurd (cc)
 text_pieces_marked (Tags pair) p e = absurd (cc)
 text_pieces_marked Other p e = absurd (cc)
 
-name_pieces_marked : PicksWhatIsMarked name_piece name_mark
+pub name_pieces_marked : PicksWhatIsMarked name_piece name_mark
 name_pieces_marked (Text f a b) p e = absurd (cc)
 name_pieces_marked (Name f a b) p e = (let same : record { flag = f; address = a; bytes = b } ≡ p = cc in ap Sends same)
 name_pieces_marked (Announce code bits aid) p e = absurd (cc)

@@ -1,6 +1,7 @@
 //! A plain check beside the theorem: many worlds from fixed seeds, in which what receivers show is looked up in
 //! a diary of all that was on air.
 
+use crate::station::obey;
 use crate::tests::{config, slot_event};
 use crate::{Command, Reception, Reply, World};
 use rds_assembly::{Name, Text};
@@ -268,20 +269,13 @@ fn mixes(alloc: Global, seed: u32) -> Result<bool, Fail> {
     let mut right = true;
     for _slot in 0..SLOTS {
         let told = dice.told();
-        let done = match told {
-            Told::Text(bytes) => encoder.set_text(Text::new(bytes)?).is_ok(),
-            Told::Restart => {
-                encoder = Encoder::new(config.head, config.dwell);
-                true
-            }
-            _ => false,
-        };
+        let reply = obey(&mut encoder, &config, told.command()?);
         let group = encoder.tick(dice.roll() > 7);
         match dice.reception() {
             Reception::Got => receiver.slot(group),
             _ => receiver.slot(None),
         };
-        diaries.note(told, done)?;
+        diaries.note(told, reply == Reply::Done)?;
         right = right && diaries.texts.are_right(alloc, 8, &[receiver.text()])?;
     }
     Ok(!right)
