@@ -212,3 +212,22 @@ fn failed_reads_are_counted(rt: HostRuntime) {
     assert_eq!(rt; told.read_one(&mut buf), Some(0));
     assert_eq!(rt; told.failures(), 1);
 }
+
+fn one_of<R: TellingRead + Drop>(mut reader: R, buf: &mut [u8]) -> Option<usize> {
+    reader.read_one(buf)
+}
+
+/// A reader that is lent counts its failures where it stands.
+#[test]
+fn lent_reader_counts_too(rt: HostRuntime) {
+    let mut told = Told::new(Failing {
+        left: b"abc",
+        reads: 0,
+    });
+    let mut buf = [0u8; 2];
+    assert_eq!(rt; one_of(&mut told, &mut buf), Some(2));
+    assert_eq!(rt; one_of(&mut told, &mut buf), None);
+    assert_eq!(rt; told.failures(), 1);
+    assert_eq!(rt; one_of(&mut told, &mut buf), Some(1));
+    assert_eq!(rt; one_of(&mut told, &mut buf), Some(0));
+}

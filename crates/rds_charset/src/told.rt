@@ -115,3 +115,12 @@ impl<T: Write> TellingWrite for Told<T> {
         }
     }
 }
+
+/// A reader that is lent tells its failures too.
+impl<R: TellingRead> TellingRead for &mut R {
+    ghost failures = { λ reader. R.failures reader.now };
+
+    fn read_one(&mut self, buf: &mut [u8]) -> Option<usize> {
+        (**self).read_one(buf)
+    }
+}
