@@ -78,8 +78,8 @@ fn shown_character(byte: u8) -> Option<char>
     }
 }
 
-/// The hexadecimal digit of a number below 16.
-fn upper_digit(number: u8) -> u8
+/// The hexadecimal digit of a number below 16, with A to F for 10 to 15.
+pub fn upper_digit(number: u8) -> u8
     requires { number < 16 }
     ensures { result ≡ upper_digit number }
 {

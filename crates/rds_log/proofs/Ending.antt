@@ -15,7 +15,7 @@ use Rattle.rds_log.specs.Engine.{Decodes, EndsWith, Feeds, Finishes, GoesThrough
 use Rattle.rds_log.specs.declared.decoder.Decoder.{Decoder}
 use Rattle.rds_log.specs.declared.fault.BadLine as fault
 use Rattle.rds_log.specs.declared.fault.LogFault.{LogFault}
-use Rattle.rds_log.specs.declared.fault.LogFault.TheVariants.{BadLine, Read, Write, TooLong}
+use Rattle.rds_log.specs.declared.fault.LogFault.TheVariants.{BadLine, BadRow, Read, Write, TooLong, Memory}
 
 -- from a to b, with failures from f to g
 abbrev from : Option (List ℕ) → Option (List ℕ) → ℕ → ℕ → Traffic
@@ -241,6 +241,8 @@ stops_in_piece t reads had mid left start now after r r' v w w' d e Write least 
     (text_of s.closed s.begun ++ bytes, Consumes-trans had mid left (text_of s.closed s.begun) bytes s.read gave, later_cut t _ s.written left start now after v w w' s.put kept (stops left), calm)
 stops_in_piece t reads had mid left start now after r r' v w w' d e Read least bytes s gave calm kept stops = absurd stops
 stops_in_piece t reads had mid left start now after r r' v w w' d e TooLong least bytes s gave calm kept stops = absurd stops
+stops_in_piece t reads had mid left start now after r r' v w w' d e (BadRow n) least bytes s gave calm kept stops = absurd stops
+stops_in_piece t reads had mid left start now after r r' v w w' d e Memory least bytes s gave calm kept stops = absurd stops
 
 -- the end of the log
 pub ends_log : (t : Tuning) (reads : ℕ) (had mid left start now after : Option (List ℕ)) (r r' v w w' : ℕ) (d : Decoder) (result : Result (Unit {0}) LogFault) (least : ℕ)
@@ -262,3 +264,5 @@ ends_log t reads had mid left start now after r r' v w w' d (Err Write) least s 
     (text_of s.closed s.begun, consumes_none had mid left _ s.read none, later_cut t _ s.written left start now after v w w' s.put kept (ends left end), calm)
 ends_log t reads had mid left start now after r r' v w w' d (Err Read) least s none end calm kept ends = absurd ends
 ends_log t reads had mid left start now after r r' v w w' d (Err TooLong) least s none end calm kept ends = absurd ends
+ends_log t reads had mid left start now after r r' v w w' d (Err (BadRow n)) least s none end calm kept ends = absurd ends
+ends_log t reads had mid left start now after r r' v w w' d (Err Memory) least s none end calm kept ends = absurd ends

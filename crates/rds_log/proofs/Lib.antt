@@ -5,3 +5,10 @@ pub mod Views
 pub mod Going
 pub mod Ending
 pub mod OneOutput
+pub mod Numbers
+pub mod Commands
+pub mod Records
+pub mod Appending
+pub mod Changes
+pub mod Playing
+pub mod Plays

@@ -8,7 +8,7 @@ use Rattle.rds_block.specs.declared.group.Group.{Group}
 use Rattle.rds_receiver.specs.Receipts.{Tuning}
 use Rattle.rds_receiver.specs.Shown.{IsView, ShownView}
 use Rattle.rds_receiver.specs.Standing.{StandsAt}
-use Rattle.rds_log.specs.Output.{change, is_same_item, is_same_tag, is_same_text, newest, nothing_shown}
+use Rattle.rds_log.specs.Output.{change, is_same_item, is_same_tag, is_same_text, newest, nothing_shown, slot_stamp}
 use Rattle.rds_log.specs.Decoding.{AreViews}
 use Rattle.rds_log.specs.Kept.{view_kept}
 use Rattle.rds_log.specs.Viewing.{ViewsStandAt}
@@ -17,11 +17,11 @@ use Rattle.rds_log.specs.declared.view_lines.ViewLines.{ViewLines}
 -- a slot that was handled: its view, and the changes that it appends
 pub slot_given : (t : Tuning) (v after : ViewLines) (slots : List (Option Group)) (written before now : List ℕ) (group : Option Group) (view : ShownView) (s : ViewsStandAt t v slots written)
     → StandsAt t after.receiver (group ∷ slots) → IsView t (group ∷ slots) view → after.slot ≡ v.slot + 1 → view_kept after.shown ≡ view
-    → now ≡ before ++ change v.slot (view_kept v.shown) view
+    → now ≡ before ++ change (slot_stamp v.slot) (view_kept v.shown) view
     → (added : List ℕ) × (now ≡ before ++ added) × ViewsStandAt t after (group ∷ slots) (written ++ added)
 slot_given t v after slots written before now group view s receiver is slot shown gave =
-    let here : change v.slot (view_kept v.shown) view ≡ change (length s.views) (newest s.views) view = ap (λ (n : ℕ). change n (view_kept v.shown) view) s.slot ∙ ap (λ (x : ShownView). change (length s.views) x view) s.shown in (
-      change v.slot (view_kept v.shown) view,
+    let here : change (slot_stamp v.slot) (view_kept v.shown) view ≡ change (slot_stamp (length s.views)) (newest s.views) view = ap (λ (n : ℕ). change (slot_stamp n) (view_kept v.shown) view) s.slot ∙ ap (λ (x : ShownView). change (slot_stamp (length s.views)) x view) s.shown in (
+      change (slot_stamp v.slot) (view_kept v.shown) view,
       gave,
       record {
         receiver = receiver;
@@ -29,7 +29,7 @@ slot_given t v after slots written before now group view s receiver is slot show
         are = (is, s.are);
         slot = slot ∙ ap (λ (n : ℕ). n + 1) s.slot ∙ one_more s.views view;
         shown = shown;
-        changes = ap (λ (bytes : List ℕ). written ++ bytes) here ∙ ap (λ (bytes : List ℕ). bytes ++ change (length s.views) (newest s.views) view) s.changes;
+        changes = ap (λ (bytes : List ℕ). written ++ bytes) here ∙ ap (λ (bytes : List ℕ). bytes ++ change (slot_stamp (length s.views)) (newest s.views) view) s.changes;
       },
     )
   where
@@ -52,8 +52,8 @@ same_tag : (o : Option (ℕ × List ℕ)) → is_same_tag o o ≡ true
 same_tag None = refl
 same_tag (Some (n, x)) = rw (eq-eqb n n refl, (bytes_eq-Decides x x).1 refl) refl
 
-no_change : (slot : ℕ) (v : ShownView) → change slot v v ≡ []
-no_change slot v = rw (same_text v.text, same_text v.name, same_item v.item, same_tag v.one, same_tag v.two) refl
+no_change : (stamp : List ℕ) (v : ShownView) → change stamp v v ≡ []
+no_change stamp v = rw (same_text v.text, same_text v.name, same_item v.item, same_tag v.one, same_tag v.two) refl
 
 -- before the first slot nothing is shown
 view_of_none : (t : Tuning) → IsView t [] nothing_shown
@@ -71,6 +71,6 @@ pub slot_same : (t : Tuning) (v after : ViewLines) (slots : List (Option Group))
     → after.slot ≡ v.slot + 1 → view_kept after.shown ≡ view_kept v.shown
     → (added : List ℕ) × (before ≡ before ++ added) × ViewsStandAt t after (group ∷ slots) (written ++ added)
 slot_same t v after slots written before group s receiver stays slot kept =
-    let none : change v.slot (view_kept v.shown) (newest s.views) ≡ [] = ap (λ (view : ShownView). change v.slot view (newest s.views)) s.shown ∙ no_change v.slot (newest s.views) in
+    let none : change (slot_stamp v.slot) (view_kept v.shown) (newest s.views) ≡ [] = ap (λ (view : ShownView). change (slot_stamp v.slot) view (newest s.views)) s.shown ∙ no_change (slot_stamp v.slot) (newest s.views) in
     slot_given t v after slots written before before group (newest s.views) s receiver (stays (newest s.views) (newest_view t slots s.views s.are)) slot (kept ∙ s.shown)
     (sym (append-nil before) ∙ ap (λ (bytes : List ℕ). before ++ bytes) (sym none))

@@ -1,7 +1,8 @@
 -- Hexadecimal digits of either case, and the word that four of them spell.
-use Rattle.std.specs.Prelude.{◌≡◌, ◌<◌, ◌+◌, ◌*◌, ℕ, List, map, slice_index}
+use Rattle.std.specs.Prelude.{◌≡◌, ◌<◌, ◌+◌, ◌*◌, ◌/◌, ◌%◌, ℕ, List, [], ◌∷◌, map, slice_index}
 use Rattle.std.specs.Char.{digit_value}
 use Rattle.std.specs.List.{range_with_len}
+use Rattle.rds_charset.specs.Printed.{upper_digit}
 
 -- the values of all bytes as digits
 abbrev pub digit_values : List ℕ
@@ -22,3 +23,7 @@ pub record HasWord (text : List ℕ) (at w : ℕ) : Type 0 where
   pub fourth : digit_value (slice_index text (at + 3)) < 16
   pub word : w ≡ 4096 * digit_value (slice_index text at) + 256 * digit_value (slice_index text (at + 1))
       + 16 * digit_value (slice_index text (at + 2)) + digit_value (slice_index text (at + 3))
+
+-- the four digits of a word, with A to F for 10 to 15
+abbrev pub word_digits : ℕ → List ℕ
+word_digits w = upper_digit (w / 4096) ∷ upper_digit (w / 256 % 16) ∷ upper_digit (w / 16 % 16) ∷ upper_digit (w % 16) ∷ []

@@ -9,7 +9,7 @@ use Rattle.rds_log.specs.Decoding.{LinesWrite, LogWrites}
 use Rattle.rds_log.specs.Standing.{DecoderStandsAt, IsBadAt}
 use Rattle.rds_log.specs.declared.decoder.Decoder.{Decoder}
 use Rattle.rds_log.specs.declared.fault.LogFault.{LogFault}
-use Rattle.rds_log.specs.declared.fault.LogFault.TheVariants.{BadLine, Read, Write, TooLong}
+use Rattle.rds_log.specs.declared.fault.LogFault.TheVariants.{BadLine, BadRow, Read, Write, TooLong, Memory}
 
 -- the bytes go on with a line feed, or the reader is at its end
 abbrev pub EndsLine : List ℕ → Option (List ℕ) → Type 0
@@ -73,6 +73,8 @@ Decodes t reads r w (Err (BadLine n)) = (text : List ℕ) × Consumes r.before r
 Decodes t reads r w (Err Write) = (text : List ℕ) × Consumes r.before r.after text × StopsAtWrite t text r.after w [] × IsCalm r
 Decodes t reads r w (Err Read) = StopsBetween t r w 0 × HasFailed r × IsCalm w
 Decodes t reads r w (Err TooLong) = StopsBetween t r w reads × IsCalm r × IsCalm w
+Decodes t reads r w (Err (BadRow n)) = ⊥
+Decodes t reads r w (Err Memory) = ⊥
 
 -- the decoder took all of the text, and the output of the lines that it closes was written
 pub record GoesThrough (t : Tuning) (d : Decoder) (text : List ℕ) (w : Traffic) (written : List ℕ) : Type 0 where
@@ -91,6 +93,8 @@ Feeds t d text w written (Err (BadLine n)) = (left : Option (List ℕ)) → Stop
 Feeds t d text w written (Err Write) = (left : Option (List ℕ)) → StopsAtWrite t text left w written
 Feeds t d text w written (Err Read) = ⊥
 Feeds t d text w written (Err TooLong) = ⊥
+Feeds t d text w written (Err (BadRow n)) = ⊥
+Feeds t d text w written (Err Memory) = ⊥
 
 -- the output of the line that ends with the text was written too
 pub record Finishes (t : Tuning) (text : List ℕ) (w : Traffic) (written : List ℕ) : Type 0 where
@@ -106,3 +110,5 @@ EndsWith t text w written (Err (BadLine n)) = (left : Option (List ℕ)) → IsA
 EndsWith t text w written (Err Write) = (left : Option (List ℕ)) → IsAtEnd left → StopsAtWrite t text left w written
 EndsWith t text w written (Err Read) = ⊥
 EndsWith t text w written (Err TooLong) = ⊥
+EndsWith t text w written (Err (BadRow n)) = ⊥
+EndsWith t text w written (Err Memory) = ⊥

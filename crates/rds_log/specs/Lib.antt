@@ -8,3 +8,8 @@ pub mod Kept
 pub mod Viewing
 pub mod Standing
 pub mod Engine
+pub mod Verbs
+pub mod Rows
+pub mod Outcomes
+pub mod Scripts
+pub mod Playing

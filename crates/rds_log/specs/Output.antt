@@ -43,9 +43,16 @@ abbrev pub tag_content : Option (ℕ × List ℕ) → List ℕ
 tag_content None = codes " none"
 tag_content (Some tag) = codes " " ++ name_or_number (class_name tag.0) tag.0 ++ quoted tag.1
 
+-- what a line begins with: its slot, and where there are several receivers, one of them by its number from 0
+abbrev pub slot_stamp : ℕ → List ℕ
+slot_stamp slot = decimal slot ++ codes " "
+
+abbrev pub receiver_stamp : ℕ → ℕ → List ℕ
+receiver_stamp slot i = decimal slot ++ codes " r" ++ decimal i ++ codes " "
+
 -- the line of a part
-abbrev pub line_of : ℕ → List ℕ → List ℕ → List ℕ
-line_of slot part content = decimal slot ++ codes " " ++ part ++ content ++ codes "\n"
+abbrev pub line_of : List ℕ → List ℕ → List ℕ → List ℕ
+line_of stamp part content = stamp ++ part ++ content ++ codes "\n"
 
 -- whether two slots show the same
 abbrev pub is_same_text : Option (List ℕ) → Option (List ℕ) → Bool
@@ -62,19 +69,19 @@ abbrev pub unless_same : Bool → List ℕ → List ℕ
 unless_same true line = []
 unless_same false line = line
 
-abbrev pub text_change : ℕ → List ℕ → Option (List ℕ) → Option (List ℕ) → List ℕ
-text_change slot part before now = unless_same (is_same_text before now) (line_of slot part (text_content now))
+abbrev pub text_change : List ℕ → List ℕ → Option (List ℕ) → Option (List ℕ) → List ℕ
+text_change stamp part before now = unless_same (is_same_text before now) (line_of stamp part (text_content now))
 
-abbrev pub item_change : ℕ → List ℕ → Option (Bool × Bool) → Option (Bool × Bool) → List ℕ
-item_change slot part before now = unless_same (is_same_item before now) (line_of slot part (item_content now))
+abbrev pub item_change : List ℕ → List ℕ → Option (Bool × Bool) → Option (Bool × Bool) → List ℕ
+item_change stamp part before now = unless_same (is_same_item before now) (line_of stamp part (item_content now))
 
-abbrev pub tag_change : ℕ → List ℕ → Option (ℕ × List ℕ) → Option (ℕ × List ℕ) → List ℕ
-tag_change slot part before now = unless_same (is_same_tag before now) (line_of slot part (tag_content now))
+abbrev pub tag_change : List ℕ → List ℕ → Option (ℕ × List ℕ) → Option (ℕ × List ℕ) → List ℕ
+tag_change stamp part before now = unless_same (is_same_tag before now) (line_of stamp part (tag_content now))
 
 -- the lines of a slot
-abbrev pub change : ℕ → ShownView → ShownView → List ℕ
-change slot before now = text_change slot (codes "text") before.text now.text ++ text_change slot (codes "name") before.name now.name
-    ++ item_change slot (codes "item") before.item now.item ++ tag_change slot (codes "tag1") before.one now.one ++ tag_change slot (codes "tag2") before.two now.two
+abbrev pub change : List ℕ → ShownView → ShownView → List ℕ
+change stamp before now = text_change stamp (codes "text") before.text now.text ++ text_change stamp (codes "name") before.name now.name
+    ++ item_change stamp (codes "item") before.item now.item ++ tag_change stamp (codes "tag1") before.one now.one ++ tag_change stamp (codes "tag2") before.two now.two
 
 abbrev pub nothing_shown : ShownView
 nothing_shown = record { text = None; name = None; item = None; one = None; two = None }
@@ -87,4 +94,4 @@ newest (view ∷ older) = view
 -- the lines of all changes, the oldest first
 abbrev pub changes_of : List ShownView → List ℕ
 changes_of [] = []
-changes_of (view ∷ older) = changes_of older ++ change (length older) (newest older) view
+changes_of (view ∷ older) = changes_of older ++ change (slot_stamp (length older)) (newest older) view

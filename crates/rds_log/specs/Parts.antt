@@ -1,10 +1,13 @@
--- A part of a view as the program holds it, what stands behind its name in an output line, and that line.
+-- What an output line begins with and a part of a view as the program holds them, what stands behind the part's
+-- name, and the line.
 use Rattle.std.specs.Prelude.{◌≤◌, ℕ, Bool, false, List, length}
 use Rattle.std.specs.Option.{ForSome, option_copied}
 use Rattle.rds_receiver.specs.Lent.{tag_lent}
-use Rattle.rds_log.specs.Output.{is_same_item, is_same_tag, is_same_text, item_content, line_of, tag_content, text_content, unless_same}
+use Rattle.rds_log.specs.Output.{is_same_item, is_same_tag, is_same_text, item_content, line_of, receiver_stamp, slot_stamp, tag_content, text_content, unless_same}
 use Rattle.rds_log.specs.declared.change.Part.{Part}
 use Rattle.rds_log.specs.declared.change.Part.TheVariants.{Text, Item, Tag}
+use Rattle.rds_log.specs.declared.change.Stamp.{Stamp}
+use Rattle.rds_log.specs.declared.change.Stamp.TheVariants.{Slot, Receiver}
 
 -- whether both show the same
 abbrev pub is_same_part : Part → Part → Bool
@@ -31,5 +34,10 @@ IsShortPart (Item item) = Unit {0}
 IsShortPart (Tag tag) = ForSome tag (λ tag. length tag.1.now ≤ 64)
 
 -- the line of a part, where it differs from the slot before
-abbrev pub part_change : ℕ → List ℕ → Part → Part → List ℕ
-part_change slot name before now = unless_same (is_same_part before now) (line_of slot name (part_content now))
+abbrev pub part_change : List ℕ → List ℕ → Part → Part → List ℕ
+part_change stamp name before now = unless_same (is_same_part before now) (line_of stamp name (part_content now))
+
+-- what a line begins with
+abbrev pub stamp_of : Stamp → List ℕ
+stamp_of (Slot slot) = slot_stamp slot
+stamp_of (Receiver slot i) = receiver_stamp slot i

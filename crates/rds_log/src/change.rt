@@ -12,10 +12,40 @@ use rds_receiver::View;
 pub const CONTENT: usize = 290;
 
 /// Room for the line of a part.
-pub const LINE: usize = 320;
+pub const LINE: usize = 344;
 
 /// Room for the lines of a slot, one for each of the five parts.
 pub const SLOT: usize = 5 * LINE;
+
+/// What an output line begins with.
+#[derive(Clone, Copy)]
+pub enum Stamp {
+    /// The slot, where there is one receiver.
+    Slot(u64),
+    /// The slot, and one of several receivers by its number from 0.
+    Receiver(u64, usize),
+}
+
+impl Stamp {
+    ghost use Rattle.rds_log.specs.Parts.{stamp_of};
+
+    /// Appends it, and a space.
+    pub fn push<const N: usize>(self, lines: &mut Lines<N>)
+        requires { length lines.old + 43 ≤ N }
+        ensures stamp { lines.new ≡ lines.old ++ stamp_of self }
+        ensures room { length lines.new ≤ length lines.old + 43 }
+    {
+        match self {
+            Stamp::Slot(slot) => lines.push_number(slot),
+            Stamp::Receiver(slot, receiver) => {
+                lines.push_number(slot);
+                lines.push(b" r");
+                lines.push_number(receiver as u64);
+            }
+        }
+        lines.push(b" ");
+    }
+}
 
 /// A part of a view.
 #[derive(Clone, Copy)]
@@ -119,11 +149,11 @@ fn push_quoted<const N: usize>(text: &[u8], lines: &mut Lines<N>)
     lines.push(b"\"");
 }
 
-ghost use Rattle.rds_log.specs.Parts.{IsShortPart, part_change};
+ghost use Rattle.rds_log.specs.Parts.{IsShortPart, part_change, stamp_of};
 
 /// Appends the line of a part, where it differs from the slot before.
 fn push_change<const N: usize>(
-    slot: u64,
+    stamp: Stamp,
     name: &[u8],
     before: Part<'_>,
     now: Part<'_>,
@@ -131,15 +161,14 @@ fn push_change<const N: usize>(
 )
     requires name { length name.now ≡ 4 }
     requires short { IsShortPart now }
-    requires room { length lines.old + 320 ≤ N }
-    ensures change { lines.new ≡ lines.old ++ part_change slot name.now before.entry now.entry }
-    ensures room { length lines.new ≤ length lines.old + 320 }
+    requires room { length lines.old + 344 ≤ N }
+    ensures change { lines.new ≡ lines.old ++ part_change (stamp_of stamp) name.now before.entry now.entry }
+    ensures room { length lines.new ≤ length lines.old + 344 }
 {
     if before.is_same(now) {
         return;
     }
-    lines.push_number(slot);
-    lines.push(b" ");
+    stamp.push(lines);
     lines.push(name);
     now.push(lines);
     lines.push(b"\n");
@@ -149,46 +178,46 @@ ghost use Rattle.rds_receiver.specs.Lent.{view_lent};
 
 /// Appends the line of each part of a view that differs from the slot before.
 pub fn push_changes<const N: usize>(
-    slot: u64,
+    stamp: Stamp,
     before: View<'_>,
     now: View<'_>,
     lines: &mut Lines<N>,
 )
-    requires { length lines.old + 1600 ≤ N }
-    ensures changes { lines.new ≡ lines.old ++ change slot (view_lent before.entry)
+    requires { length lines.old + 1720 ≤ N }
+    ensures changes { lines.new ≡ lines.old ++ change (stamp_of stamp) (view_lent before.entry)
         (view_lent now.entry) }
-    ensures room { length lines.new ≤ length lines.old + 1600 }
+    ensures room { length lines.new ≤ length lines.old + 1720 }
 {
     push_change(
-        slot,
+        stamp,
         b"text",
         Part::Text(before.text),
         Part::Text(now.text),
         lines,
     );
     push_change(
-        slot,
+        stamp,
         b"name",
         Part::Text(before.name),
         Part::Text(now.name),
         lines,
     );
     push_change(
-        slot,
+        stamp,
         b"item",
         Part::Item(before.item),
         Part::Item(now.item),
         lines,
     );
     push_change(
-        slot,
+        stamp,
         b"tag1",
         Part::Tag(before.one),
         Part::Tag(now.one),
         lines,
     );
     push_change(
-        slot,
+        stamp,
         b"tag2",
         Part::Tag(before.two),
         Part::Tag(now.two),

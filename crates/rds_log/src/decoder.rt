@@ -75,7 +75,7 @@ impl Decoder {
     pub fn finish(&mut self, output: &mut Output) -> Result<(), BadLine>
         requires lines { self.old.lines < 2 ^ 64 - 1 }
         requires slots { self.old.views.slot < 2 ^ 64 - 1 }
-        requires room { length output.old + 1600 ≤ 8192 }
+        requires room { length output.old + 1720 ≤ 8192 }
         ensures { WhereItStands self.old (λ t closed begun written. MatchResult result
             (λ _. Ends t self.new closed begun written output.old output.new)
             (λ bad. (output.new ≡ output.old) × IsBadAt t bad.number closed begun written)) }
@@ -90,7 +90,7 @@ impl Decoder {
     fn close(&mut self, last: &[u8], output: &mut Output) -> Result<(), BadLine>
         requires lines { self.old.lines < 2 ^ 64 - 1 }
         requires slots { self.old.views.slot < 2 ^ 64 - 1 }
-        requires room { length output.old + 1600 ≤ 8192 }
+        requires room { length output.old + 1720 ≤ 8192 }
         requires line { IsLine last.now }
         ensures lines { self.new.lines ≤ self.old.lines + 1 }
         ensures slots { self.new.views.slot ≤ self.old.views.slot + 1 }

@@ -38,8 +38,8 @@ pub fn decode<R: TellingRead, W: TellingWrite>(
     decode_within(reader, writer, pi, dwell, MOST_READS)
 }
 
-/// `decode`, with the greatest number of reads.
-pub(crate) fn decode_within<R: TellingRead, W: TellingWrite>(
+/// [`decode`] with at most so many reads: a log that is not at its end by then is too long.
+pub fn decode_within<R: TellingRead, W: TellingWrite>(
     reader: &mut R,
     writer: &mut W,
     pi: u16,

@@ -1,8 +1,9 @@
-//! Why a log was not decoded to its end.
+//! Why a log or a script was not taken to its end.
 ghost use Rattle.std.specs.Prelude.{◌≡◌};
 ghost use Rattle.rds_log.specs.declared.fault.LogFault.TheVariants as faults;
 
 use rds_charset::WriteFault;
+use thiserror::Error;
 
 /// This line of a log, counted from 1 over all of them, is no log line.
 #[derive(Clone, Copy, Debug, PartialEq, Eq)]
@@ -10,17 +11,27 @@ pub struct BadLine {
     pub number: u64,
 }
 
-/// Why a log was not decoded to its end.
-#[derive(Clone, Copy, Debug, PartialEq, Eq)]
+/// Why a log or a script was not taken to its end.
+#[derive(Clone, Copy, Debug, PartialEq, Eq, Error)]
 pub enum LogFault {
-    /// This line, counted from 1, is no log line.
+    /// This line of a log, counted from 1, is no log line.
+    #[error("line {0} is no log line")]
     BadLine(u64),
+    /// This record of a script, counted from 1, is no row.
+    #[error("record {0} is no row")]
+    BadRow(u64),
     /// The reader failed.
+    #[error("the reader failed")]
     Read,
     /// The writer failed.
+    #[error("the writer failed")]
     Write,
-    /// The reader has no end within the reads that are made.
+    /// The reader has no end within the reads that are made, or the script within the records that are taken.
+    #[error("the input has no end within the bound")]
     TooLong,
+    /// There was no memory for a record of a script.
+    #[error("out of memory")]
+    Memory,
 }
 
 impl From<BadLine> for LogFault {

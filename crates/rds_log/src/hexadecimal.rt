@@ -1,7 +1,9 @@
 //! Words of four hexadecimal digits.
 ghost use Rattle.std.specs.Prelude.{◌≡◌, ◌<◌, ◌≤◌, ◌+◌, ◌*◌, ◌↔◌, ℕ, length, slice_index, IsTrue, IfSome, IfNone};
 ghost use Rattle.std.specs.Char.{digit_value};
-ghost use Rattle.rds_log.specs.Digits.{AreDigits, HasWord, digit_values};
+ghost use Rattle.rds_log.specs.Digits.{AreDigits, HasWord, digit_values, word_digits};
+
+use rds_charset::upper_digit;
 
 /// The value of each byte as a digit, those of the letters going on from 10. What is no digit has a
 /// value that no digit has.
@@ -56,4 +58,16 @@ fn values() -> &'static [u16]
     ensures each_byte { length result.now ≡ 256 }
 {
     &DIGIT_VALUES
+}
+
+/// The four digits of a word, with A to F for 10 to 15.
+pub fn digits_of(word: u16) -> [u8; 4]
+    ensures { result ≡ word_digits word }
+{
+    [
+        upper_digit((word / 4096) as u8),
+        upper_digit((word / 256 % 16) as u8),
+        upper_digit((word / 16 % 16) as u8),
+        upper_digit((word % 16) as u8),
+    ]
 }

@@ -14,7 +14,7 @@ const LONGEST: usize = 64;
 pub type Bytes = ArrayVec<u8, LONGEST>;
 
 /// A copy of a view.
-#[derive(Drop)]
+#[derive(Default, Drop)]
 pub struct KeptView {
     pub text: Option<Bytes>,
     pub name: Option<Bytes>,

@@ -11,22 +11,29 @@
 //! ```
 #![tactic(auto)]
 
+mod answer_lines;
 mod change;
 mod decoder;
 mod engine;
 mod fault;
+mod form;
 mod hexadecimal;
 mod kept;
 mod laws;
 mod lines;
 mod log_line;
+mod player;
+mod row;
+mod script;
+mod scripts;
 mod view_lines;
 
-pub use engine::decode;
+pub use engine::{decode, decode_within};
 pub use fault::LogFault;
 pub use hexadecimal::word_at;
 pub use laws::bytes_write_one_output;
 pub use lines::Lines;
+pub use scripts::{encode, encode_within, simulate, simulate_within};
 
 #[cfg(test)]
 mod tests;

@@ -2,7 +2,7 @@
 ghost use Rattle.std.specs.Prelude.{◌≡◌, ◌≤◌, ◌<◌, ◌+◌, ◌-◌, ◌^◌, ◌++◌, ℕ, List, [], ◌∷◌, Option, length};
 ghost use Rattle.rds_block.specs.declared.group.Group.{Group};
 
-use crate::change::push_changes;
+use crate::change::{Stamp, push_changes};
 use crate::kept::KeptView;
 use crate::lines::Lines;
 use rds_block::Group;
@@ -36,16 +36,21 @@ impl ViewLines {
     /// Handles what one slot brought, and appends the line of each changed part.
     pub fn slot<const N: usize>(&mut self, group: Option<Group>, lines: &mut Lines<N>)
         requires slots { self.old.slot < 2 ^ 64 - 1 }
-        requires room { length lines.old + 1600 ≤ N }
+        requires room { length lines.old + 1720 ≤ N }
         ensures count { self.new.slot ≡ self.old.slot + 1 }
-        ensures room { length lines.new ≤ length lines.old + 1600 }
+        ensures room { length lines.new ≤ length lines.old + 1720 }
         ensures change { GivesChange self.old self.new group lines.old lines.new }
     {
         if !self.receiver.slot(group) {
             self.slot += 1;
             return;
         }
-        show(self.slot, &mut self.shown, self.receiver.view(), lines);
+        show(
+            Stamp::Slot(self.slot),
+            &mut self.shown,
+            self.receiver.view(),
+            lines,
+        );
         self.slot += 1;
     }
 }
@@ -53,17 +58,18 @@ impl ViewLines {
 ghost use Rattle.rds_receiver.specs.Lent.{view_lent};
 ghost use Rattle.rds_log.specs.Kept.{view_kept};
 ghost use Rattle.rds_log.specs.Output.{change};
+ghost use Rattle.rds_log.specs.Parts.{stamp_of};
 
 /// Appends the line of each part that differs from what was shown, and keeps what is shown now.
 ///
 /// Few slots come here. It stands apart so that the others pay nothing for its copies.
 #[inline(never)]
-fn show<const N: usize>(slot: u64, shown: &mut KeptView, now: View<'_>, lines: &mut Lines<N>)
-    requires { length lines.old + 1600 ≤ N }
-    ensures changes { lines.new ≡ lines.old ++ change slot (view_kept shown.old) (view_lent now.entry) }
+pub fn show<const N: usize>(stamp: Stamp, shown: &mut KeptView, now: View<'_>, lines: &mut Lines<N>)
+    requires { length lines.old + 1720 ≤ N }
+    ensures changes { lines.new ≡ lines.old ++ change (stamp_of stamp) (view_kept shown.old) (view_lent now.entry) }
     ensures kept { view_kept shown.new ≡ view_lent now.entry }
-    ensures room { length lines.new ≤ length lines.old + 1600 }
+    ensures room { length lines.new ≤ length lines.old + 1720 }
 {
-    push_changes(slot, shown.lent(), now, lines);
+    push_changes(stamp, shown.lent(), now, lines);
     *shown = KeptView::of(now);
 }

@@ -1,0 +1,47 @@
+use Rattle.std.proofs.Common.{◌≡◌, ◌∙◌, ◌∷◌, ◌+◌, ℕ, List, add-one, ap, arith, drop, length, map, rules, sym}
+use Rattle.std.proofs.lemmas.List.{length-map, take_at}
+use Rattle.rds_world.specs.Event.{Event}
+use Rattle.rds_log.specs.Kept.{view_kept}
+use Rattle.rds_log.specs.Outcomes.{view_at}
+use Rattle.rds_log.specs.declared.kept.KeptView.{KeptView}
+use Rattle.rds_log.proofs.Playing.{slot_written}
+use Rattle.rds_log.proofs.player.Player.event.Goals as goal
+
+pub returns-clause-stands : goal.returns-clause-stands
+returns-clause-stands c form station m receivers records written s row says =
+    let views = map view_kept c.push_views.new.shown in
+    let command : c.event.inside.command ≡ c.args.event.now.command = ap (λ (e : Event). e.command) c.event.view_is in
+    let joined : length c.args.event.now.receptions ≡ length c.args.self.now.world.receivers = search rules in
+    let world_count : length c.step.new.self.receivers ≡ length c.args.self.now.world.receivers = c.in-Ok.ensures.count in
+    let as_many : length c.args.self.now.shown.items ≡ length c.step.new.self.receivers = s.kept ∙ sym s.count ∙ sym world_count in
+    let world = c.in-Ok.ensures.stands station m s.events s.world in
+    let lent = c.as_mut_slice.ensures.value in
+    let kept : length c.push_views.new.shown ≡ length c.args.self.now.shown.items = c.push_views.ensures.count ∙ ap length lent in
+    let shown : length views ≡ length c.args.self.now.shown.items = length-map c.push_views.new.shown view_kept ∙ kept in
+    let back = take_at c.push_views.new.shown (drop (length c.push_views.new.shown) c.args.self.now.shown.items) (length c.args.self.now.shown.items) kept in
+    record {
+      form_is = s.form_is;
+      head = s.head;
+      dwell = s.dwell;
+      allowed = s.allowed;
+      events = c.args.event.now ∷ s.events;
+      rows = (says, joined ∙ s.count, s.rows);
+      world = world;
+      count = world_count ∙ s.count;
+      outcomes = record { command = c.event.inside.command; reply = c.in-Ok.answer.reply; sent = c.in-Ok.answer.sent; views = views } ∷ s.outcomes;
+      are = (
+        record {
+          command = command;
+          reply = c.in-Ok.ensures.reply station m s.events s.world;
+          sent = c.in-Ok.ensures.sent station m s.events s.world;
+          receivers = shown ∙ s.kept ∙ sym s.count ∙ sym joined;
+          views = λ i within. c.push_views.ensures.views (ap length lent ∙ as_many) station m (c.args.event.now ∷ s.events) world i (omega (arith, within, shown, ap length lent));
+        },
+        s.are,
+      );
+      slot = ap (λ (n : ℕ). n + 1) s.slot ∙ add-one (length s.outcomes);
+      shown = λ i. ap (λ (l : List KeptView). view_at (map view_kept l) i) back;
+      kept = ap length back ∙ kept ∙ s.kept;
+      lines = slot_written form c.args.self.now.slot (length c.args.self.now.shown.items) c.event.inside.command c.in-Ok.answer.reply c.in-Ok.answer.sent (map view_kept c.args.self.now.shown.items) views s.outcomes written
+          c.push_answer.new.lines c.push_views.new.lines s.lines s.slot s.shown (sym shown) (search rules) (rw lent at (c.push_views.ensures.lines (ap length lent ∙ as_many)));
+    }

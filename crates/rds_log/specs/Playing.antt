@@ -1,0 +1,75 @@
+-- What the parts of a script's engine hold: its reader after these records, and its station after their slots.
+-- Lists have the newest first.
+use Rattle.std.specs.Prelude.{◌≡◌, ◌⊎◌, ◌<◌, ℕ, List, Option, Some, length, map, true}
+use Rattle.std.specs.Io.KnownBytes.{Appends}
+use Rattle.csv.specs.Reading.{Ready, default_config, is_flexible, reader_config, reader_state, reader_trim, source_of}
+use Rattle.csv.specs.declared.reader.Trim.TheVariants.{None as untrimmed}
+use Rattle.rds_charset.specs.Told.{IsCalm, Traffic}
+use Rattle.rds_fields.specs.declared.head.Head.{Head}
+use Rattle.rds_world.specs.Event.{Event}
+use Rattle.rds_world.specs.Standing as world
+use Rattle.rds_receiver.specs.Shown.{ShownView}
+use Rattle.rds_log.specs.Kept.{view_kept}
+use Rattle.rds_log.specs.Rows.{AreRows, IsAllowed, Record}
+use Rattle.rds_log.specs.Outcomes.{AreOutcomes, Outcome, lines_of, newest_views, view_at}
+use Rattle.rds_log.specs.Scripts.{RecordsUpTo}
+use Rattle.rds_log.specs.declared.fault.LogFault.{LogFault}
+use Rattle.rds_log.specs.declared.fault.LogFault.TheVariants.{Memory, Read}
+use Rattle.rds_log.specs.declared.form.Form.{Form}
+use Rattle.rds_log.specs.declared.player.Player.{Player}
+use Rattle.rds_log.specs.declared.script.Script.{Script}
+
+-- the reader of a script gave these records
+pub record ScriptStandsAt {R : Type 0} (remaining : R → Option (List ℕ)) (known : Option (List ℕ)) (s : Script R) (records : List Record) : Type 0 where
+  pub plain : reader_trim s.reader ≡ untrimmed
+  pub flexible : is_flexible s.reader ≡ true
+  pub ready : Ready s.reader
+  pub config : reader_config s.reader ≡ default_config
+  pub gave : (script : List ℕ) → known ≡ Some script → (rest : List ℕ) × (source_of remaining s.reader ≡ Some rest) × RecordsUpTo script records (reader_state s.reader) rest
+
+-- a read of a record fails for want of memory, or at the reader
+abbrev pub IsReadFault : LogFault → Type 0
+IsReadFault fault = (fault ≡ Memory) ⊎ (fault ≡ Read)
+
+-- the views that are kept are those of the receivers
+abbrev pub AreKept : List ShownView → List ShownView → Type 0
+AreKept kept views = (i : ℕ) → view_at kept i ≡ view_at views i
+
+-- the station played these rows, each with so many receivers, and gave the lines of their slots
+pub record PlayerStandsAt (form : Form) (station : Head) (m receivers : ℕ) (p : Player) (records : List Record) (written : List ℕ) : Type 0 where
+  pub form_is : p.form ≡ form
+  pub head : p.config.head ≡ station
+  pub dwell : p.config.dwell ≡ m
+  pub allowed : IsAllowed form receivers
+  pub events : List Event
+  pub rows : AreRows receivers records events
+  pub world : world.StandsAt station m p.world events
+  pub count : length p.world.receivers ≡ receivers
+  pub outcomes : List Outcome
+  pub are : AreOutcomes station m events outcomes
+  pub slot : p.slot ≡ length outcomes
+  pub shown : AreKept (map view_kept p.shown.items) (newest_views outcomes)
+  pub kept : length p.shown.items ≡ receivers
+  pub lines : written ≡ lines_of form outcomes
+
+-- wherever the player stands, this holds of what it played
+abbrev pub WherePlayerStands : Player → (Form → Head → ℕ → ℕ → List Record → List ℕ → Type 0) → Type 0
+WherePlayerStands p Holds = (form : Form) (station : Head) (m receivers : ℕ) (records : List Record) (written : List ℕ)
+    → PlayerStandsAt form station m receivers p records written → Holds form station m receivers records written
+
+-- the player goes on by a row
+abbrev pub PlaysRow : Form → Head → ℕ → Player → List Record → List ℕ → Type 0
+PlaysRow form station m p records written = (receivers : ℕ) × PlayerStandsAt form station m receivers p records written
+
+-- the player is to play a row with so many receivers, and has so many, but where it has played rows with others
+abbrev pub BeginsRow : Form → Head → ℕ → ℕ → Player → List Record → List ℕ → Type 0
+BeginsRow form station m asked p records written =
+    (receivers : ℕ) × PlayerStandsAt form station m receivers p records written × ((0 < length records) ⊎ (receivers ≡ asked))
+
+-- the station played these records, and their output was written
+pub record PlayedSoFar (form : Form) (station : Head) (m : ℕ) (p : Player) (records : List Record) (w : Traffic) : Type 0 where
+  pub receivers : ℕ
+  pub written : List ℕ
+  pub player : PlayerStandsAt form station m receivers p records written
+  pub wrote : Appends w.before w.after written
+  pub calm : IsCalm w

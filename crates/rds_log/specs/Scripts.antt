@@ -1,0 +1,72 @@
+-- What `simulate` and `encode` leave at each end. What the records of a script are, is the definition of `csv`: fields
+-- between commas, in quotes or not, one record a line. Lists of records and of events have the newest first; w is
+-- what a call did to the writer.
+use Rattle.std.specs.Prelude.{◌≡◌, ◌+◌, ◌∷◌, ℕ, List, [], Option, None, Some, Ok, Err, Result, length, reverse}
+use Rattle.std.specs.Io.KnownBytes.{Appends}
+use Rattle.csv.specs.Machine.{next_record}
+use Rattle.csv.specs.Reading.{Reached, default_config, strip_bom}
+use Rattle.csv.specs.declared.parser.State.{State}
+use Rattle.csv.specs.declared.parser.State.TheVariants.{StartRecord}
+use Rattle.rds_charset.specs.Told.{AppendsPrefix, HasFailed, IsCalm, Traffic}
+use Rattle.rds_fields.specs.declared.head.Head.{Head}
+use Rattle.rds_world.specs.Event.{Event}
+use Rattle.rds_log.specs.Rows.{AreNoRows, Record, RowsSay}
+use Rattle.rds_log.specs.Outcomes.{EventsWrite}
+use Rattle.rds_log.specs.declared.fault.LogFault.{LogFault}
+use Rattle.rds_log.specs.declared.fault.LogFault.TheVariants.{BadLine, BadRow, Read, Write, TooLong, Memory}
+use Rattle.rds_log.specs.declared.form.Form.{Form}
+
+-- the script begins with these records, and goes on like this
+pub record RecordsUpTo (script : List ℕ) (records : List Record) (state : State) (rest : List ℕ) : Type 0 where
+  pub reached : Reached default_config StartRecord (strip_bom script) (reverse records) state rest
+
+-- the script begins with these records
+abbrev pub HasRecords : Option (List ℕ) → List Record → Type 0
+HasRecords known records = (script : List ℕ) → known ≡ Some script → (state : State) × (rest : List ℕ) × RecordsUpTo script records state rest
+
+-- and it has no others
+abbrev pub HasAllRecords : Option (List ℕ) → List Record → Type 0
+HasAllRecords known records = (script : List ℕ) → known ≡ Some script
+    → (state : State) × (rest : List ℕ) × RecordsUpTo script records state rest × (next_record default_config state [] [] rest ≡ None)
+
+-- the records are rows, and write this
+pub record RowsWrite (form : Form) (station : Head) (m : ℕ) (records : List Record) (written : List ℕ) : Type 0 where
+  pub events : List Event
+  pub say : RowsSay form records events
+  pub write : EventsWrite form station m events written
+
+-- the output of the first records of the script was written
+pub record WroteRows (form : Form) (station : Head) (m : ℕ) (known : Option (List ℕ)) (w : Traffic) (records : List Record) : Type 0 where
+  pub begins : HasRecords known records
+  pub written : List ℕ
+  pub write : RowsWrite form station m records written
+  pub wrote : Appends w.before w.after written
+  pub calm : IsCalm w
+
+-- the record after these is no row, and their output was written
+pub record StopsAtBadRow (form : Form) (station : Head) (m : ℕ) (known : Option (List ℕ)) (w : Traffic) (n : ℕ) : Type 0 where
+  pub records : List Record
+  pub bad : List (List ℕ)
+  pub wrote : WroteRows form station m known w records
+  pub begins : HasRecords known (bad ∷ records)
+  pub none : AreNoRows form (bad ∷ records)
+  pub number : n ≡ length records + 1
+
+-- the writer failed: a first part of the output of these records was written
+pub record StopsAtWrite (form : Form) (station : Head) (m : ℕ) (known : Option (List ℕ)) (w : Traffic) : Type 0 where
+  pub records : List Record
+  pub begins : HasRecords known records
+  pub written : List ℕ
+  pub write : RowsWrite form station m records written
+  pub wrote : AppendsPrefix w.before w.after written
+  pub failed : HasFailed w
+
+-- what playing a script did, with at most so many records: each fault comes only for its cause
+abbrev pub Plays : Form → Head → ℕ → ℕ → Option (List ℕ) → Traffic → Result (Unit {0}) LogFault → Type 0
+Plays form station m most known w (Ok done) = (records : List Record) × HasAllRecords known records × WroteRows form station m known w records
+Plays form station m most known w (Err (BadLine n)) = ⊥
+Plays form station m most known w (Err (BadRow n)) = StopsAtBadRow form station m known w n
+Plays form station m most known w (Err Read) = (records : List Record) × WroteRows form station m known w records
+Plays form station m most known w (Err Memory) = (records : List Record) × WroteRows form station m known w records
+Plays form station m most known w (Err TooLong) = (records : List Record) × WroteRows form station m known w records × (length records ≡ most)
+Plays form station m most known w (Err Write) = StopsAtWrite form station m known w

@@ -1,0 +1,182 @@
+//! The lines of a command's reply and of the group that was sent.
+ghost use Rattle.std.specs.Prelude.{◌≡◌, ◌≢◌, ◌≤◌, ◌+◌, ◌++◌, Option, length};
+ghost use Rattle.rds_block.specs.declared.group.Group.{Group};
+ghost use Rattle.rds_world.specs.declared.reply.Reply.TheVariants as replies;
+ghost use Rattle.rds_log.specs.Outcomes.{answer_lines, block_digits, log_line, number_of_tag, refusal_content, reply_content, reply_line, reply_thing, sent_line, spaced_digits, thing_set};
+
+use crate::change::Stamp;
+use crate::form::Form;
+use crate::hexadecimal::digits_of;
+use crate::lines::Lines;
+use rds_block::Group;
+use rds_encoder::Refusal;
+use rds_fields::Which;
+use rds_world::{Answer, Command, Reply};
+
+/// Appends the line of the reply, where there was a command, and then that of the group.
+pub fn push_answer<const N: usize>(
+    form: Form,
+    slot: u64,
+    command: Command,
+    answer: Answer,
+    lines: &mut Lines<N>,
+)
+    requires { length lines.old + 192 ≤ N }
+    ensures lines { lines.new
+        ≡ lines.old ++ answer_lines form slot command answer.reply answer.sent }
+    ensures room { length lines.new ≤ length lines.old + 192 }
+{
+    match form {
+        Form::Simulation => {
+            push_reply(b"", slot, command, answer.reply, lines);
+            push_sent(slot, answer.sent, lines);
+        }
+        Form::Log => {
+            push_reply(b"# ", slot, command, answer.reply, lines);
+            push_log_line(answer.sent, lines);
+        }
+    }
+}
+
+/// Appends the line of a reply behind the mark, where there was a command.
+fn push_reply<const N: usize>(
+    mark: &[u8],
+    slot: u64,
+    command: Command,
+    reply: Reply,
+    lines: &mut Lines<N>,
+)
+    requires mark { length mark.now ≤ 2 }
+    requires room { length lines.old + 96 ≤ N }
+    ensures line { lines.new ≡ lines.old ++ reply_line mark.now slot command reply }
+    ensures room { length lines.new ≤ length lines.old + 96 }
+{
+    if reply == Reply::Quiet {
+        return;
+    }
+    lines.push(mark);
+    Stamp::Slot(slot).push(lines);
+    lines.push(reply_thing(command, reply));
+    push_content(reply, lines);
+    lines.push(b"\n");
+}
+
+/// What the reply is about.
+fn reply_thing(command: Command, reply: Reply) -> &'static [u8]
+    ensures thing { result.now ≡ reply_thing command reply }
+    ensures short { length result.now ≤ 7 }
+{
+    match reply {
+        Reply::Quiet => b"",
+        Reply::Restarted => b"restart",
+        Reply::Done | Reply::Refused(_) => thing_set(command),
+    }
+}
+
+/// What the command sets.
+fn thing_set(command: Command) -> &'static [u8]
+    ensures thing { result.now ≡ thing_set command }
+    ensures short { length result.now ≤ 4 }
+{
+    match command {
+        Command::Quiet | Command::Restart => b"",
+        Command::SetText(_) => b"text",
+        Command::SetName(_) => b"name",
+        Command::SetTags(_) => b"tags",
+    }
+}
+
+/// Appends what the reply says.
+fn push_content<const N: usize>(reply: Reply, lines: &mut Lines<N>)
+    requires { length lines.old + 28 ≤ N }
+    ensures content { lines.new ≡ lines.old ++ reply_content reply }
+    ensures room { length lines.new ≤ length lines.old + 28 }
+{
+    match reply {
+        Reply::Quiet | Reply::Restarted => {}
+        Reply::Done => lines.push(b" ok"),
+        Reply::Refused(refusal) => push_refusal(refusal, lines),
+    }
+}
+
+fn push_refusal<const N: usize>(refusal: Refusal, lines: &mut Lines<N>)
+    requires { length lines.old + 28 ≤ N }
+    ensures content { lines.new ≡ lines.old ++ refusal_content refusal }
+    ensures room { length lines.new ≤ length lines.old + 28 }
+{
+    match refusal {
+        Refusal::Silent(slots) => {
+            lines.push(b" silent ");
+            lines.push_number(u64::from(slots));
+        }
+        Refusal::Held(slots) => {
+            lines.push(b" held ");
+            lines.push_number(u64::from(slots));
+        }
+        Refusal::NoText => lines.push(b" notext"),
+        Refusal::OutOfText(which) => {
+            lines.push(b" outoftext ");
+            lines.push(number_of_tag(which));
+        }
+    }
+}
+
+fn number_of_tag(which: Which) -> &'static [u8]
+    ensures number { result.now ≡ number_of_tag which }
+    ensures one { length result.now ≡ 1 }
+{
+    match which {
+        Which::One => b"1",
+        Which::Two => b"2",
+    }
+}
+
+/// Appends the line of the group, where one was sent.
+fn push_sent<const N: usize>(slot: u64, sent: Option<Group>, lines: &mut Lines<N>)
+    requires { length lines.old + 96 ≤ N }
+    ensures line { lines.new ≡ lines.old ++ sent_line slot sent }
+    ensures room { length lines.new ≤ length lines.old + 96 }
+{
+    if let Some(group) = sent {
+        Stamp::Slot(slot).push(lines);
+        lines.push(b"sent ");
+        push_blocks(&group, lines);
+        lines.push(b"\n");
+    }
+}
+
+/// Appends the slot as a line of a log.
+fn push_log_line<const N: usize>(sent: Option<Group>, lines: &mut Lines<N>)
+    requires { length lines.old + 96 ≤ N }
+    ensures line { lines.new ≡ lines.old ++ log_line sent }
+    ensures room { length lines.new ≤ length lines.old + 96 }
+{
+    match sent {
+        Some(group) => push_blocks(&group, lines),
+        None => lines.push(b"---- ---- ---- ----"),
+    }
+    lines.push(b"\n");
+}
+
+/// Appends the four blocks of a group.
+fn push_blocks<const N: usize>(group: &Group, lines: &mut Lines<N>)
+    requires { length lines.old + 19 ≤ N }
+    ensures blocks { lines.new ≡ lines.old ++ block_digits group.now }
+    ensures room { length lines.new ≡ length lines.old + 19 }
+{
+    let [pi, second, c, d] = group.to_blocks();
+    lines.push(&digits_of(pi));
+    push_spaced(second, lines);
+    push_spaced(c, lines);
+    push_spaced(d, lines);
+}
+
+/// Appends a space and a block.
+fn push_spaced<const N: usize>(word: u16, lines: &mut Lines<N>)
+    requires { length lines.old + 5 ≤ N }
+    ensures block { lines.new ≡ lines.old ++ spaced_digits word }
+    ensures room { length lines.new ≡ length lines.old + 5 }
+{
+    lines.push(b" ");
+    lines.push(&digits_of(word));
+}

@@ -1,0 +1,116 @@
+//! Scripts that are played: each row is a slot of a station, and its output goes out before the next row is read.
+ghost use Rattle.std.specs.Prelude.{◌≤◌, ◌^◌};
+ghost use Rattle.rds_charset.specs.Told.{traffic};
+ghost use Rattle.rds_log.specs.Scripts.{Plays};
+ghost use Rattle.rds_log.specs.declared.form.Form.TheVariants as forms;
+
+use crate::LogFault;
+use crate::form::Form;
+use crate::player::{Player, RowLines};
+use crate::script::Script;
+use csv::ByteRecord;
+use rds_charset::{TellingRead, TellingWrite, put};
+use rds_world::Config;
+use std::alloc::Global;
+
+/// How many records are taken before a script is too long.
+const MOST_RECORDS: u64 = 1 << 32;
+
+/// Plays a script with a station and up to eight receivers, and writes for each slot the reply to its command, the
+/// group that is sent, and what changes at each receiver.
+///
+/// The lines of a slot go out in one write where the writer takes it whole, and before the next record is read.
+///
+/// # Errors
+///
+/// The first fault: a record that is no row, a read or a write that failed, no memory for a record, or 2^32 records
+/// without an end.
+pub fn simulate<R: TellingRead + Drop, W: TellingWrite>(
+    alloc: Global,
+    reader: R,
+    writer: &mut W,
+    config: Config,
+) -> Result<(), LogFault>
+    ensures { Plays forms.Simulation config.head config.dwell (2 ^ 32) (R.remaining reader)
+        (traffic W.contents W.failures writer.old writer.new) result }
+{
+    simulate_within(alloc, reader, writer, config, MOST_RECORDS)
+}
+
+/// [`simulate`] of at most so many records: a script that has as many is too long, whether or not it ends there.
+pub fn simulate_within<R: TellingRead + Drop, W: TellingWrite>(
+    alloc: Global,
+    reader: R,
+    writer: &mut W,
+    config: Config,
+    records: u64,
+) -> Result<(), LogFault>
+    requires { records ≤ 2 ^ 32 }
+    ensures { Plays forms.Simulation config.head config.dwell records (R.remaining reader)
+        (traffic W.contents W.failures writer.old writer.new) result }
+{
+    play(Form::Simulation, alloc, reader, writer, config, records)
+}
+
+/// Plays a script with a station alone, and writes the log of what it sends: for each slot the reply to its command as
+/// a comment, and the group, or four missing blocks where none is sent.
+///
+/// # Errors
+///
+/// As for [`simulate`].
+pub fn encode<R: TellingRead + Drop, W: TellingWrite>(
+    alloc: Global,
+    reader: R,
+    writer: &mut W,
+    config: Config,
+) -> Result<(), LogFault>
+    ensures { Plays forms.Log config.head config.dwell (2 ^ 32) (R.remaining reader)
+        (traffic W.contents W.failures writer.old writer.new) result }
+{
+    encode_within(alloc, reader, writer, config, MOST_RECORDS)
+}
+
+/// [`encode`] of at most so many records: a script that has as many is too long, whether or not it ends there.
+pub fn encode_within<R: TellingRead + Drop, W: TellingWrite>(
+    alloc: Global,
+    reader: R,
+    writer: &mut W,
+    config: Config,
+    records: u64,
+) -> Result<(), LogFault>
+    requires { records ≤ 2 ^ 32 }
+    ensures { Plays forms.Log config.head config.dwell records (R.remaining reader)
+        (traffic W.contents W.failures writer.old writer.new) result }
+{
+    play(Form::Log, alloc, reader, writer, config, records)
+}
+
+/// Plays a script row by row.
+fn play<R: TellingRead + Drop, W: TellingWrite>(
+    form: Form,
+    alloc: Global,
+    reader: R,
+    writer: &mut W,
+    config: Config,
+    records: u64,
+) -> Result<(), LogFault>
+    requires { records ≤ 2 ^ 32 }
+    ensures { Plays form config.head config.dwell records (R.remaining reader)
+        (traffic W.contents W.failures writer.old writer.new) result }
+{
+    let mut script = Script::new(alloc, reader);
+    let mut row = ByteRecord::new(alloc);
+    let mut player = Player::new(form, config);
+    let mut lines = RowLines::new();
+    for turn in 0..records {
+        if !script.next(&mut row)? {
+            return Ok(());
+        }
+        if player.row(&row, &mut lines).is_err() {
+            return Err(LogFault::BadRow(turn + 1));
+        }
+        put(lines.bytes(), writer)?;
+        lines.clear();
+    }
+    Err(LogFault::TooLong)
+}
