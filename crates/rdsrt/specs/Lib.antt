@@ -1,1 +1,4 @@
+pub mod Asks
+pub mod CommandLine
+pub mod Examples
 pub mod Run

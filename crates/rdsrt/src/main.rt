@@ -8,6 +8,9 @@
 //! ```
 #![tactic(auto)]
 
+mod command_line;
+mod laws;
+mod request;
 mod run;
 #[cfg(test)]
 mod tests;

@@ -1,0 +1,19 @@
+use Rattle.std.proofs.Common.{refl}
+use Rattle.clap.proofs.OnLiterals.{clap_on_literals}
+use Rattle.rdsrt.proofs.laws.words_of_the_examples.Goals as goal
+
+pub returns : goal.returns
+unfolding clap_on_literals
+returns c = record {
+  decode = record { taken = refl; ask = refl };
+  decode_dwell = record { taken = refl; ask = refl };
+  decode_spelling = record { taken = refl; ask = refl };
+  encode = record { taken = refl; ask = refl };
+  encode_dwell = record { taken = refl; ask = refl };
+  sim = record { taken = refl; ask = refl };
+  sim_tp = record { taken = refl; ask = refl };
+  no_dwell = refl;
+  no_programme = refl;
+  no_subcommand = refl;
+  large_type = refl;
+}

@@ -1,0 +1,110 @@
+-- The words of the program, as a simple command of `clap`, and what they ask for.
+-- This is the project's own command line.
+use Rattle.std.specs.Prelude.{◌≡◌, ◌&&◌, ◌∷◌, ℕ, Bool, List, [], Option, Some, None, false, true, codes, if◌then◌else◌, nat_le, option_and_then, option_map, pos}
+use Rattle.std.specs.Option.{option_map_or}
+use Rattle.std.specs.Str.{bytes_eq}
+use Rattle.std.specs.Str.Parse.{digits_value, without_leading_plus}
+use Rattle.clap.specs.Simple.{on_top}
+use Rattle.clap.specs.ValueTests.{is_numeral}
+use Rattle.clap.specs.Words.{App, Row, Rule, Text, first_of, new_app, new_rule, one_of, subcommand_of, takes, with_rule, with_subcommand}
+use Rattle.clap.specs.declared.builder.action.ArgAction.TheVariants.{SetTrue}
+use Rattle.clap.specs.declared.builder.value_parser.ValueParser.TheVariants.{Signed}
+use Rattle.rdsrt.specs.declared.request.Programme.{Programme}
+use Rattle.rdsrt.specs.declared.request.Task.{Task}
+use Rattle.rdsrt.specs.declared.request.Task.TheVariants.{Decode, Encode, Simulate}
+
+-- ---- the command line
+
+-- `--pi HHHH`, which must be given
+abbrev pub pi_rule : Rule
+pi_rule = record (new_rule (codes "pi")) {
+  long = Some (codes "pi");
+  value_names = 1;
+  required = true;
+}
+
+-- `--m N`, from 1 to 65535
+abbrev pub dwell_rule : Rule
+dwell_rule = record (new_rule (codes "m")) {
+  long = Some (codes "m");
+  value_names = 1;
+  defaults = codes "128" ∷ [];
+  parser = Some (Signed (pos 1) (pos 65535));
+}
+
+-- `--pty N`, from 0 to 31
+abbrev pub pty_rule : Rule
+pty_rule = record (new_rule (codes "pty")) {
+  long = Some (codes "pty");
+  value_names = 1;
+  defaults = codes "0" ∷ [];
+  parser = Some (Signed (pos 0) (pos 31));
+}
+
+-- `--tp`, a flag
+abbrev pub tp_rule : Rule
+tp_rule = record (new_rule (codes "tp")) { long = Some (codes "tp"); action = Some SetTrue }
+
+abbrev pub decode_app : App
+decode_app = with_rule (with_rule (new_app (codes "decode")) pi_rule) dwell_rule
+
+-- a subcommand with a station of its own
+abbrev pub station_app : Text → App
+station_app name = with_rule (with_rule (with_rule (with_rule (new_app name) pi_rule) dwell_rule) pty_rule) tp_rule
+
+-- `rdsrt`, which has a version and wants a subcommand
+abbrev pub top_app : App
+top_app = on_top (λ s. record s { has_version = true; subcommand_required = true }) (new_app (codes "rdsrt"))
+
+abbrev pub whole_app : App
+whole_app = with_subcommand (with_subcommand (with_subcommand top_app decode_app.top) (station_app (codes "encode")).top) (station_app (codes "sim")).top
+
+-- `clap`'s definition takes the words, the program's own name first
+abbrev pub TakesWords : List Text → Type 0
+TakesWords words = takes whole_app words ≡ true
+
+-- ---- what the words ask for
+
+-- what is to be done, the text that is given as programme identification, and the dwell in slots
+pub record Asked : Type 0 where
+  pub task : Task
+  pub pi : Text
+  pub dwell : ℕ
+
+-- the number that decimal digits write, where a plus may stand first, if it lies between the two
+abbrev pub number_from_to : ℕ → ℕ → Text → Option ℕ
+number_from_to least most text =
+    let digits = without_leading_plus text in
+    let number = digits_value 10 digits in
+    if is_numeral digits && (nat_le least number && nat_le number most) then Some number else None
+
+abbrev pub dwell_in : List Row → Option ℕ
+dwell_in rows = option_and_then (number_from_to 1 65535) (one_of (codes "m") rows)
+
+abbrev pub pty_in : List Row → Option ℕ
+pty_in rows = option_and_then (number_from_to 0 31) (one_of (codes "pty") rows)
+
+abbrev pub tp_in : List Row → Bool
+tp_in rows = option_map_or (λ text. bytes_eq text (codes "true")) (first_of (codes "tp") rows) false
+
+abbrev pub programme_in : List Row → Option Programme
+programme_in rows = option_map (λ pty. record { pty = pty; tp = tp_in rows }) (pty_in rows)
+
+abbrev pub task_in : Text → List Row → Option Task
+task_in name rows =
+    if bytes_eq name (codes "decode") then Some Decode
+    else if bytes_eq name (codes "encode") then option_map Encode (programme_in rows)
+    else if bytes_eq name (codes "sim") then option_map Simulate (programme_in rows)
+    else None
+
+abbrev pub asked : Option Task → Option Text → Option ℕ → Option Asked
+asked (Some task) (Some pi) (Some dwell) = Some (record { task = task; pi = pi; dwell = dwell })
+asked _ _ _ = None
+
+-- of the name of a subcommand and what was found for its options
+abbrev pub asked_of : Text × List Row → Option Asked
+asked_of p = asked (task_in p.0 p.1) (first_of (codes "pi") p.1) (dwell_in p.1)
+
+-- what the words ask for, as `clap`'s definition reads them
+abbrev pub asked_in : List Text → Option Asked
+asked_in words = option_and_then asked_of (subcommand_of whole_app words)

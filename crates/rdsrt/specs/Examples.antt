@@ -1,0 +1,31 @@
+-- Words that are written out, and what they ask for.
+use Rattle.std.specs.Prelude.{◌≡◌, ◌==◌, ◌∷◌, ℕ, Bool, List, [], Some, codes, false, if◌then◌else◌}
+use Rattle.clap.specs.Words.{Text, takes}
+use Rattle.rdsrt.specs.CommandLine.{Asked, TakesWords, asked_in, whole_app}
+use Rattle.rdsrt.specs.declared.request.Task.TheVariants.{Decode, Encode, Simulate}
+
+abbrev pub in_front : ℕ → List Text → List Text
+in_front c [] = (c ∷ []) ∷ []
+in_front c (word ∷ rest) = (c ∷ word) ∷ rest
+
+-- a line, cut at its spaces
+abbrev pub words_of : List ℕ → List Text
+words_of [] = [] ∷ []
+words_of (c ∷ rest) = if c == 32 then [] ∷ words_of rest else in_front c (words_of rest)
+
+-- the words are taken, and ask for this
+pub record AskFor (words : List Text) (asked : Asked) : Type 0 where
+  pub taken : TakesWords words
+  pub ask : asked_in words ≡ Some asked
+
+abbrev pub AreRefused : List Text → Type 0
+AreRefused words = takes whole_app words ≡ false
+
+abbrev pub decoding : ℕ → Asked
+decoding dwell = record { task = Decode; pi = codes "C201"; dwell = dwell }
+
+abbrev pub encoding : ℕ → ℕ → Asked
+encoding dwell pty = record { task = Encode (record { pty = pty; tp = false }); pi = codes "C201"; dwell = dwell }
+
+abbrev pub simulating : ℕ → ℕ → Bool → Asked
+simulating dwell pty tp = record { task = Simulate (record { pty = pty; tp = tp }); pi = codes "C201"; dwell = dwell }

@@ -1,0 +1,136 @@
+//! The words that the program takes, as a command of `clap`: what each means, and what it may be.
+ghost use Rattle.std.specs.Prelude.{◌≡◌, IfOk, codes, false};
+ghost use Rattle.clap.specs.Words.{app_of, rule_of};
+ghost use Rattle.clap.specs.declared.builder.command.Command.TheViews.{out-Command};
+ghost use Rattle.rdsrt.specs.CommandLine.{decode_app, dwell_rule, pi_rule, pty_rule, station_app, top_app, tp_rule, whole_app};
+
+use clap::{Arg, ArgAction, Command, value_parser};
+use std::alloc::{AllocError, Global};
+
+/// The option `--pi`. That its text is four digits is not for `clap` to say.
+fn pi<'a>(alloc: Global) -> Arg<'a>
+    ensures rule { rule_of result ≡ pi_rule }
+    ensures local { result.global ≡ false }
+{
+    Arg::new(alloc, "pi")
+        .long("pi")
+        .value_name("HHHH")
+        .required(true)
+        .help("The programme identification of the station: four hexadecimal digits")
+}
+
+/// The option `--m`.
+fn dwell<'a>(alloc: Global) -> Arg<'a>
+    ensures rule { rule_of result ≡ dwell_rule }
+    ensures local { result.global ≡ false }
+{
+    Arg::new(alloc, "m")
+        .long("m")
+        .value_name("N")
+        .value_parser(value_parser!(u16).range(1..))
+        .default_value("128")
+        .help("The dwell in slots, 1 to 65535")
+        .long_help(
+            "The dwell in slots, 1 to 65535. A slot is the time of one group, some 88 ms. A station \
+             keeps each text on air for twice the dwell, and sends none in its first dwell; a \
+             receiver forgets a text of which it heard nothing for one dwell. So the two agree on it",
+        )
+}
+
+/// The option `--pty`.
+fn pty<'a>(alloc: Global) -> Arg<'a>
+    ensures rule { rule_of result ≡ pty_rule }
+    ensures local { result.global ≡ false }
+{
+    Arg::new(alloc, "pty")
+        .long("pty")
+        .value_name("N")
+        .value_parser(value_parser!(u8).range(0..32))
+        .default_value("0")
+        .help("The programme type that each group says, 0 to 31: 10 is pop music, 0 none")
+}
+
+/// The flag `--tp`.
+fn tp<'a>(alloc: Global) -> Arg<'a>
+    ensures rule { rule_of result ≡ tp_rule }
+    ensures local { result.global ≡ false }
+{
+    Arg::new(alloc, "tp")
+        .long("tp")
+        .action(ArgAction::SetTrue)
+        .help("Each group says that the programme carries traffic announcements")
+}
+
+/// The subcommand `decode`.
+fn decode<'a>(alloc: Global) -> Result<Command<'a>, AllocError>
+    ensures app { IfOk result (λ c. app_of c ≡ decode_app) }
+    ensures local { IfOk result (λ c. (out-Command c).has_globals ≡ false) }
+{
+    Command::new(alloc, "decode")
+        .about("Reads a log of received groups, one slot a line, and prints what a receiver shows")
+        .after_long_help("Example:\n  rdsrt decode --pi C201 --m 64 < heard.log")
+        .arg(pi(alloc))?
+        .arg(dwell(alloc))
+}
+
+/// A subcommand with a station of its own.
+fn station<'a>(alloc: Global, name: &'a str) -> Result<Command<'a>, AllocError>
+    ensures app { IfOk result (λ c. app_of c ≡ station_app name.entry.now) }
+    ensures local { IfOk result (λ c. (out-Command c).has_globals ≡ false) }
+{
+    Command::new(alloc, name)
+        .arg(pi(alloc))?
+        .arg(dwell(alloc))?
+        .arg(pty(alloc))?
+        .arg(tp(alloc))
+}
+
+/// The subcommand `encode`.
+fn encode<'a>(alloc: Global) -> Result<Command<'a>, AllocError>
+    ensures app { IfOk result (λ c. app_of c ≡ station_app (codes "encode")) }
+    ensures local { IfOk result (λ c. (out-Command c).has_globals ≡ false) }
+{
+    Ok(
+        station(alloc, "encode")?
+            .about(
+                "Reads a script, one slot a row, and prints the log of the groups that the station sends",
+            )
+            .after_long_help(
+                "Example:\n  rdsrt encode --pi C201 --pty 10 < script.csv | rdsrt decode --pi C201",
+            ),
+    )
+}
+
+/// The subcommand `sim`.
+fn simulate<'a>(alloc: Global) -> Result<Command<'a>, AllocError>
+    ensures app { IfOk result (λ c. app_of c ≡ station_app (codes "sim")) }
+    ensures local { IfOk result (λ c. (out-Command c).has_globals ≡ false) }
+{
+    Ok(
+        station(alloc, "sim")?
+            .about(
+                "Reads a script, one slot a row, and prints what a station sends and its receivers show",
+            )
+            .after_long_help("Example:\n  rdsrt sim --pi C201 --pty 10 --m 4 < script.csv"),
+    )
+}
+
+/// The program's own name, version and text.
+fn top<'a>(alloc: Global) -> Command<'a>
+    ensures { app_of result ≡ top_app }
+{
+    Command::new(alloc, "rdsrt")
+        .version("0.1.0")
+        .about("RDS texts, sent and received. Input is standard input, output standard output")
+        .subcommand_required(true)
+}
+
+/// The whole command line.
+pub fn whole<'a>(alloc: Global) -> Result<Command<'a>, AllocError>
+    ensures app { IfOk result (λ c. app_of c ≡ whole_app) }
+{
+    top(alloc)
+        .subcommand(decode(alloc)?)?
+        .subcommand(encode(alloc)?)?
+        .subcommand(simulate(alloc)?)
+}
