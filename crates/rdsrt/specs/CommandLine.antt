@@ -1,14 +1,17 @@
 -- The words of the program, as a simple command of `clap`, and what they ask for.
 -- This is the project's own command line.
-use Rattle.std.specs.Prelude.{◌≡◌, ◌&&◌, ◌∷◌, ℕ, Bool, List, [], Option, Some, None, false, true, codes, if◌then◌else◌, nat_le, option_and_then, option_map, pos}
+use Rattle.std.specs.Prelude.{◌≡◌, ◌&&◌, ◌∷◌, ℕ, Bool, List, [], Option, Some, None, false, true, codes, if◌then◌else◌, length, nat_le, nat_lt, not, option_and_then, option_map, pos}
+use Rattle.std.specs.List.{list_all}
 use Rattle.std.specs.Option.{option_map_or}
 use Rattle.std.specs.Str.{bytes_eq}
 use Rattle.std.specs.Str.Parse.{digits_value, without_leading_plus}
 use Rattle.clap.specs.Simple.{on_top}
 use Rattle.clap.specs.ValueTests.{is_numeral}
-use Rattle.clap.specs.Words.{App, Row, Rule, Text, first_of, new_app, new_rule, one_of, subcommand_of, takes, with_rule, with_subcommand}
+use Rattle.clap.specs.Words.{App, Row, Rule, Text, fault_of, first_of, new_app, new_rule, one_of, subcommand_of, takes, with_rule, with_subcommand}
 use Rattle.clap.specs.declared.builder.action.ArgAction.TheVariants.{SetTrue}
 use Rattle.clap.specs.declared.builder.value_parser.ValueParser.TheVariants.{Signed}
+use Rattle.clap.specs.declared.error.kind.ErrorKind.{ErrorKind}
+use Rattle.clap.specs.declared.error.kind.ErrorKind.TheVariants.{DisplayHelp, DisplayVersion}
 use Rattle.rdsrt.specs.declared.request.Programme.{Programme}
 use Rattle.rdsrt.specs.declared.request.Task.{Task}
 use Rattle.rdsrt.specs.declared.request.Task.TheVariants.{Decode, Encode, Simulate}
@@ -108,3 +111,29 @@ asked_of p = asked (task_in p.0 p.1) (first_of (codes "pi") p.1) (dwell_in p.1)
 -- what the words ask for, as `clap`'s definition reads them
 abbrev pub asked_in : List Text → Option Asked
 asked_in words = option_and_then asked_of (subcommand_of whole_app words)
+
+-- the words are taken, and ask for this
+pub record AskFor (words : List Text) (asked : Asked) : Type 0 where
+  pub taken : TakesWords words
+  pub ask : asked_in words ≡ Some asked
+
+-- ---- other words
+
+abbrev pub is_shown : ErrorKind → Bool
+is_shown DisplayHelp = true
+is_shown DisplayVersion = true
+is_shown _ = false
+
+-- `clap`'s definition answers the words, always by a kind that passes the test
+abbrev pub AreAnswered : (ErrorKind → Bool) → List Text → Type 0
+AreAnswered test words =
+    let kinds = fault_of whole_app words in
+    (nat_lt 0 (length kinds) && list_all test kinds) ≡ true
+
+-- by its help or the version
+abbrev pub AskForHelp : List Text → Type 0
+AskForHelp words = AreAnswered is_shown words
+
+-- by a refusal
+abbrev pub AreRefused : List Text → Type 0
+AreRefused words = AreAnswered (λ kind. not (is_shown kind)) words

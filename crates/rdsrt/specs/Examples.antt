@@ -1,7 +1,7 @@
 -- Words that are written out, and what they ask for.
-use Rattle.std.specs.Prelude.{◌≡◌, ◌==◌, ◌∷◌, ℕ, Bool, List, [], Some, codes, false, if◌then◌else◌}
-use Rattle.clap.specs.Words.{Text, takes}
-use Rattle.rdsrt.specs.CommandLine.{Asked, TakesWords, asked_in, whole_app}
+use Rattle.std.specs.Prelude.{◌==◌, ◌∷◌, ℕ, Bool, List, [], codes, false, if◌then◌else◌}
+use Rattle.clap.specs.Words.{Text}
+use Rattle.rdsrt.specs.CommandLine.{Asked}
 use Rattle.rdsrt.specs.declared.request.Task.TheVariants.{Decode, Encode, Simulate}
 
 abbrev pub in_front : ℕ → List Text → List Text
@@ -12,14 +12,6 @@ in_front c (word ∷ rest) = (c ∷ word) ∷ rest
 abbrev pub words_of : List ℕ → List Text
 words_of [] = [] ∷ []
 words_of (c ∷ rest) = if c == 32 then [] ∷ words_of rest else in_front c (words_of rest)
-
--- the words are taken, and ask for this
-pub record AskFor (words : List Text) (asked : Asked) : Type 0 where
-  pub taken : TakesWords words
-  pub ask : asked_in words ≡ Some asked
-
-abbrev pub AreRefused : List Text → Type 0
-AreRefused words = takes whole_app words ≡ false
 
 abbrev pub decoding : ℕ → Asked
 decoding dwell = record { task = Decode; pi = codes "C201"; dwell = dwell }

@@ -1,55 +1,91 @@
--- What the whole program does with its words: `decode --pi HHHH` decodes a log, and nothing else is taken.
--- This is the project's own command line. r is what a call did to the reader, w what it did to the writer.
-use Rattle.std.specs.Prelude.{◌≡◌, ◌⊎◌, ◌^◌, ◌++◌, ◌∷◌, ℕ, List, [], codes, decimal, length, Option, Ok, Err, Result}
+-- What the whole program does with its words. This is the project's own command line.
+-- r is what a call did to the reader, w what it did to the writer.
+use Rattle.std.specs.Prelude.{◌≡◌, ◌^◌, ◌++◌, ℕ, List, [], codes, decimal, length, Option, Ok, Err, Result}
 use Rattle.rds_charset.specs.Puts.{Puts}
 use Rattle.rds_charset.specs.Told.{PutsNothing, Traffic}
 use Rattle.rds_charset.specs.declared.output.WriteFault.{WriteFault}
-use Rattle.rds_receiver.specs.Receipts.{Tuning}
+use Rattle.rds_log.specs.Decoding.{tuned}
 use Rattle.rds_log.specs.Digits.{HasWord}
 use Rattle.rds_log.specs.Engine.{Decodes}
 use Rattle.rds_log.specs.declared.fault.LogFault.{LogFault}
 use Rattle.rds_log.specs.declared.fault.LogFault.TheVariants.{BadLine, Read, Write, TooLong}
-
--- the program's own name, `decode`, `--pi` and the programme identification that is given
-abbrev pub IsDecode : List (List ℕ) → List ℕ → Type 0
-IsDecode words given = (name : List ℕ) × (words ≡ name ∷ codes "decode" ∷ codes "--pi" ∷ given ∷ [])
+use Rattle.rdsrt.specs.declared.request.Programme.{Programme}
+use Rattle.rdsrt.specs.declared.request.Task.{Task}
+use Rattle.rdsrt.specs.declared.request.Task.TheVariants.{Decode, Encode, Simulate}
 
 -- four hexadecimal digits of either case, and the programme identification that they spell
 pub record IsPi (given : List ℕ) (pi : ℕ) : Type 0 where
   pub four : length given ≡ 4
   pub word : HasWord given 0 pi
 
+-- ---- faults
+
 -- the line, or a first part of it where the writer failed
 abbrev pub PutsLine : List ℕ → Traffic → Type 0
 PutsLine line w = (r : Result (Unit {0}) WriteFault) × Puts w line r
 
-abbrev pub fault_line : LogFault → List ℕ
-fault_line (BadLine n) = codes "fault line " ++ decimal n ++ codes "\n"
-fault_line Read = codes "fault read\n"
-fault_line Write = []
-fault_line TooLong = codes "fault too long\n"
+-- what stands before a fault: the log that `encode` writes has it as a note
+abbrev pub mark_of : Task → List ℕ
+mark_of Decode = []
+mark_of (Encode programme) = codes "# "
+mark_of (Simulate programme) = []
+
+abbrev pub TellsFault : Task → List ℕ → Traffic → Type 0
+TellsFault task text w = PutsLine (mark_of task ++ text ++ codes "\n") w
 
 -- after a fault its line, and after a failed write nothing more
-abbrev pub PutsAfter : LogFault → Traffic → Type 0
-PutsAfter (BadLine n) w = PutsLine (fault_line (BadLine n)) w
-PutsAfter Read w = PutsLine (fault_line Read) w
-PutsAfter Write w = PutsNothing w
-PutsAfter TooLong w = PutsLine (fault_line TooLong) w
+abbrev pub PutsAfter : Task → LogFault → Traffic → Type 0
+PutsAfter task (BadLine n) w = TellsFault task (codes "fault line " ++ decimal n) w
+PutsAfter task Read w = TellsFault task (codes "fault read") w
+PutsAfter task Write w = PutsNothing w
+PutsAfter task TooLong w = TellsFault task (codes "fault too long") w
+
+-- ---- engines
+
+-- status 0 at the end, and 1 after a fault, which is told
+abbrev pub EndsWith : Task → Result (Unit {0}) LogFault → Traffic → ℕ → Type 0
+EndsWith task (Ok _) w status = (status ≡ 0) × PutsNothing w
+EndsWith task (Err fault) w status = (status ≡ 1) × PutsAfter task fault w
+
+-- an engine ran, and then its outcome gave the status; `mid` and `failures` are the writer's in between
+pub record Runs (Engine : Traffic → Result (Unit {0}) LogFault → Type 0) (task : Task) (w : Traffic) (status : ℕ) : Type 0 where
+  pub outcome : Result (Unit {0}) LogFault
+  pub mid : Option (List ℕ)
+  pub failures : ℕ
+  pub ran : Engine (record w { after = mid; failures_after = failures }) outcome
+  pub ended : EndsWith task outcome (record w { before = mid; failures_before = failures }) status
+
+-- a log is decoded to the end of the reader, for a programme and with a dwell
+abbrev pub DecodeRuns : ℕ → ℕ → Traffic → Traffic → ℕ → Type 0
+DecodeRuns pi dwell r w status = Runs (Decodes (tuned pi dwell) (2 ^ 32) r) Decode w status
+
+-- `encode` is not there yet
+abbrev pub EncodeRuns : Programme → ℕ → ℕ → Traffic → Traffic → ℕ → Type 0
+EncodeRuns programme pi dwell r w status = (status ≡ 2) × PutsNothing w
+
+-- `sim` is not there yet
+abbrev pub SimulateRuns : Programme → ℕ → ℕ → Traffic → Traffic → ℕ → Type 0
+SimulateRuns programme pi dwell r w status = (status ≡ 2) × PutsNothing w
+
+-- ---- the whole program
+
+-- the engine of the task ran
+abbrev pub TaskRuns : Task → ℕ → ℕ → Traffic → Traffic → ℕ → Type 0
+TaskRuns Decode pi dwell r w status = DecodeRuns pi dwell r w status
+TaskRuns (Encode programme) pi dwell r w status = EncodeRuns programme pi dwell r w status
+TaskRuns (Simulate programme) pi dwell r w status = SimulateRuns programme pi dwell r w status
+
+-- the programme identification is refused
+pub record RefusesPi (task : Task) (w : Traffic) (status : ℕ) : Type 0 where
+  pub status_is : status ≡ 2
+  pub told : TellsFault task (codes "fault pi") w
+
+-- there was no memory for the words
+pub record NoMemory (w : Traffic) (status : ℕ) : Type 0 where
+  pub status_is : status ≡ 1
+  pub told : PutsLine (codes "fault memory\n") w
 
 -- what a call did begins with these bytes and these failures
 pub record Begins (t : Traffic) (bytes : Option (List ℕ)) (failures : ℕ) : Type 0 where
   pub bytes_are : t.before ≡ bytes
   pub failures_are : t.failures_before ≡ failures
-
--- up to the fault, and its line
-pub record RunsToFault (t : Tuning) (r w : Traffic) (fault : LogFault) : Type 0 where
-  pub mid : Option (List ℕ)
-  pub failures : ℕ
-  pub decodes : Decodes t (2 ^ 32) r record { before = w.before; after = mid; failures_before = w.failures_before; failures_after = failures } (Err fault)
-  pub told : PutsAfter fault record { before = mid; after = w.after; failures_before = failures; failures_after = w.failures_after }
-
--- the log was decoded to its end, with status 0, or to a fault, with status 1 and the fault's line
-abbrev pub Runs : Tuning → Traffic → Traffic → ℕ → Type 0
-Runs t r w status =
-    ((status ≡ 0) × Decodes t (2 ^ 32) r w (Ok tt))
-    ⊎ ((status ≡ 1) × ((fault : LogFault) × RunsToFault t r w fault))

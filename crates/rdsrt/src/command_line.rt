@@ -16,7 +16,7 @@ fn pi<'a>(alloc: Global) -> Arg<'a>
         .long("pi")
         .value_name("HHHH")
         .required(true)
-        .help("The programme identification of the station: four hexadecimal digits")
+        .help("The programme identification of the station, four hexadecimal digits")
 }
 
 /// The option `--m`.
@@ -31,9 +31,10 @@ fn dwell<'a>(alloc: Global) -> Arg<'a>
         .default_value("128")
         .help("The dwell in slots, 1 to 65535")
         .long_help(
-            "The dwell in slots, 1 to 65535. A slot is the time of one group, some 88 ms. A station \
-             keeps each text on air for twice the dwell, and sends none in its first dwell; a \
-             receiver forgets a text of which it heard nothing for one dwell. So the two agree on it",
+            "The dwell in slots, 1 to 65535; a slot is the time of one group, some 88 ms.\n\
+             A receiver forgets a text of which it heard no segment for one dwell. A station\n\
+             keeps each text on air for twice the dwell, and sends nothing for one dwell when\n\
+             it starts. So a receiver with the dwell of its station never joins parts of two texts.",
         )
 }
 
@@ -47,7 +48,7 @@ fn pty<'a>(alloc: Global) -> Arg<'a>
         .value_name("N")
         .value_parser(value_parser!(u8).range(0..32))
         .default_value("0")
-        .help("The programme type that each group says, 0 to 31: 10 is pop music, 0 none")
+        .help("The programme type in each group, 0 to 31 (0: none, 10: pop music)")
 }
 
 /// The flag `--tp`.
@@ -58,7 +59,7 @@ fn tp<'a>(alloc: Global) -> Arg<'a>
     Arg::new(alloc, "tp")
         .long("tp")
         .action(ArgAction::SetTrue)
-        .help("Each group says that the programme carries traffic announcements")
+        .help("Sets the flag of each group that says: the programme has traffic announcements")
 }
 
 /// The subcommand `decode`.
@@ -67,8 +68,8 @@ fn decode<'a>(alloc: Global) -> Result<Command<'a>, AllocError>
     ensures local { IfOk result (λ c. (out-Command c).has_globals ≡ false) }
 {
     Command::new(alloc, "decode")
-        .about("Reads a log of received groups, one slot a line, and prints what a receiver shows")
-        .after_long_help("Example:\n  rdsrt decode --pi C201 --m 64 < heard.log")
+        .about("Reads a log of received groups, a slot a line, and prints what a receiver shows")
+        .after_long_help("Example:\n  rdsrt decode --pi C201 --m 64 < received.log")
         .arg(pi(alloc))?
         .arg(dwell(alloc))
 }
@@ -92,9 +93,7 @@ fn encode<'a>(alloc: Global) -> Result<Command<'a>, AllocError>
 {
     Ok(
         station(alloc, "encode")?
-            .about(
-                "Reads a script, one slot a row, and prints the log of the groups that the station sends",
-            )
+            .about("Reads a script, a slot a row, and prints the log of what a station sends")
             .after_long_help(
                 "Example:\n  rdsrt encode --pi C201 --pty 10 < script.csv | rdsrt decode --pi C201",
             ),
@@ -109,7 +108,7 @@ fn simulate<'a>(alloc: Global) -> Result<Command<'a>, AllocError>
     Ok(
         station(alloc, "sim")?
             .about(
-                "Reads a script, one slot a row, and prints what a station sends and its receivers show",
+                "Reads a script, a slot a row, and prints what a station sends and its receivers show",
             )
             .after_long_help("Example:\n  rdsrt sim --pi C201 --pty 10 --m 4 < script.csv"),
     )
@@ -121,7 +120,7 @@ fn top<'a>(alloc: Global) -> Command<'a>
 {
     Command::new(alloc, "rdsrt")
         .version("0.1.0")
-        .about("RDS texts, sent and received. Input is standard input, output standard output")
+        .about("Sends and receives RDS texts: reads standard input, writes standard output")
         .subcommand_required(true)
 }
 

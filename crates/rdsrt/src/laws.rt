@@ -1,9 +1,11 @@
 //! What the definition of the command line says of words that are written out.
 ghost use Rattle.std.specs.Prelude.{codes, false, true};
-ghost use Rattle.rdsrt.specs.Examples.{AreRefused, AskFor, decoding, encoding, simulating, words_of};
+ghost use Rattle.rdsrt.specs.CommandLine.{AreRefused, AskFor, AskForHelp};
+ghost use Rattle.rdsrt.specs.Examples.{decoding, encoding, simulating, words_of};
 
 /// The examples' words are taken and ask for what they say: the definition is no empty one. A dwell of 0
-/// slots, a programme type of 32, a subcommand with no programme and no subcommand are refused.
+/// slots, a programme type of 32, a subcommand with no programme and no subcommand are refused. Help and the
+/// version are answered.
 pub fn words_of_the_examples()
     ensures decode { AskFor (words_of (codes "rdsrt decode --pi C201")) (decoding 128) }
     ensures decode_dwell { AskFor (words_of (codes "rdsrt decode --pi C201 --m 4")) (decoding 4) }
@@ -12,6 +14,9 @@ pub fn words_of_the_examples()
     ensures encode_dwell { AskFor (words_of (codes "rdsrt encode --pi C201 --m 1 --pty 10")) (encoding 1 10) }
     ensures sim { AskFor (words_of (codes "rdsrt sim --pi C201 --pty 10 --m 4")) (simulating 4 10 false) }
     ensures sim_tp { AskFor (words_of (codes "rdsrt sim --pi C201 --pty 10 --tp")) (simulating 128 10 true) }
+    ensures help { AskForHelp (words_of (codes "rdsrt --help")) }
+    ensures help_of_one { AskForHelp (words_of (codes "rdsrt decode --help")) }
+    ensures version { AskForHelp (words_of (codes "rdsrt --version")) }
     ensures no_dwell { AreRefused (words_of (codes "rdsrt decode --pi C201 --m 0")) }
     ensures no_programme { AreRefused (words_of (codes "rdsrt decode")) }
     ensures no_subcommand { AreRefused (words_of (codes "rdsrt")) }

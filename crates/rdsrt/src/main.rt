@@ -1,4 +1,4 @@
-//! `rdsrt`: reads what an RDS receiver heard, and prints what it shows.
+//! `rdsrt`: texts of RDS, sent and received. `decode` reads what a receiver heard, and prints what it shows.
 //!
 //! The program is `run` over its words, a reader and a writer: its contract says which output each input
 //! has. `main` gives it the words of the command line, standard input and standard output.

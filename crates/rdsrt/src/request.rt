@@ -1,8 +1,8 @@
 //! What the words of the command line ask for.
 ghost use Rattle.std.specs.Prelude.{◌≡◌, IfErr, IfOk, map, option_map};
-ghost use Rattle.clap.specs.Words.{found_of, kind_of, rows_of};
+ghost use Rattle.clap.specs.Words.{FailsBy, fault_of, found_of, kind_of, rows_of};
 ghost use Rattle.rdsrt.specs.Asks.{asked_by};
-ghost use Rattle.rdsrt.specs.CommandLine.{TakesWords, asked_in, asked_of, dwell_in, programme_in, task_in, tp_in};
+ghost use Rattle.rdsrt.specs.CommandLine.{TakesWords, asked_in, asked_of, dwell_in, programme_in, task_in, tp_in, whole_app};
 
 use crate::command_line::whole;
 use clap::error::ErrorKind;
@@ -50,6 +50,7 @@ pub fn read_words<'a>(alloc: Global, words: &'a [&'a str]) -> Result<Option<Requ
     ensures ok { IfOk result (λ o. option_map asked_by o ≡ asked_in (map (λ w. w.now) words.entry.now)) }
     ensures err { IfErr result (λ e. TakesWords (map (λ w. w.now) words.entry.now)
         → kind_of e ≡ ErrorKind.OutOfMemory) }
+    ensures kinds { FailsBy (fault_of whole_app (map (λ w. w.now) words.entry.now)) result }
 {
     let matches = match whole(alloc)?.try_get_matches_from(words) {
         Ok(matches) => matches,

@@ -1,21 +1,23 @@
 //! The whole program over its words.
-ghost use Rattle.std.specs.Prelude.{◌≡◌, ℕ, List, IfSome, IfNone, codes, map};
+ghost use Rattle.std.specs.Prelude.{◌≡◌, ◌⊎◌, ◌≤◌, ◌+◌, ◌++◌, ℕ, IfSome, IfNone, None, codes, decimal, false, true, length, map};
 ghost use Rattle.rds_charset.specs.Told.{PutsNothing, Traffic, traffic};
-ghost use Rattle.rds_log.specs.Decoding.{tuned};
-ghost use Rattle.rdsrt.specs.Run.{Begins, IsDecode, IsPi, PutsAfter, PutsLine, Runs};
+ghost use Rattle.clap.specs.Words.{kind_of};
+ghost use Rattle.rdsrt.specs.CommandLine.{AreRefused, AskFor, AskForHelp, Asked, TakesWords, asked_in, is_shown};
+ghost use Rattle.rdsrt.specs.Run.{Begins, DecodeRuns, EncodeRuns, EndsWith, IsPi, NoMemory, PutsAfter, PutsLine};
+ghost use Rattle.rdsrt.specs.Run.{RefusesPi, SimulateRuns, TaskRuns, TellsFault, mark_of};
 
+use crate::request::{Programme, Request, Task, read_words};
+use clap::Error;
+use clap::error::ErrorKind;
 use rds_charset::{TellingRead, TellingWrite, put};
 use rds_fields::Dwell;
 use rds_log::{Lines, LogFault, decode, word_at};
 use std::alloc::Global;
 
-/// The dwell of `decode`, in slots.
-const DWELL: u16 = 128;
-
-/// The status where all was done.
+/// The status where all was done, or help was asked for.
 const DONE: u8 = 0;
 
-/// The status after a fault of the log, the reader or the writer.
+/// The status after a fault of the log, the reader or the writer, and where there is no memory.
 const FAULT: u8 = 1;
 
 /// The status where the words are refused.
@@ -26,22 +28,33 @@ const LINE: usize = 64;
 
 /// The whole program: its words, the program's own name first, and the status that it ends with.
 ///
-/// `decode --pi HHHH` reads a log and writes what a receiver of the programme shows. A fault is told by
-/// its line, the last that is written. The program takes no memory yet; `alloc` is for what will.
+/// `decode` reads a log and writes what a receiver of the programme shows. A fault is told by its line,
+/// the last that is written. Where the words are refused or ask for help, the text of `clap` is written
+/// and nothing is read. `clap`'s contract doesn't say that numbers which it took lie in their range:
+/// where one didn't, `nothing_asked` holds.
 pub fn run<R: TellingRead + Drop, W: TellingWrite>(
     alloc: Global,
     words: &[&str],
     mut reader: R,
     writer: &mut W,
 ) -> u8
-    ensures decodes { (given : List ℕ) (pi : ℕ) → IsDecode (map (λ w. w.now) words.entry.now) given
-        → IsPi given pi → (r : Traffic) × Begins r (R.remaining reader) (R.failures reader)
-        × Runs (tuned pi 128) r (traffic W.contents W.failures writer.old writer.new) result }
-    ensures fault_pi { (given : List ℕ) → IsDecode (map (λ w. w.now) words.entry.now) given
-        → ((pi : ℕ) → IsPi given pi → ⊥) → (result ≡ 2) × PutsLine (codes "fault pi\n")
-        (traffic W.contents W.failures writer.old writer.new) }
-    ensures other_words { ((given : List ℕ) → IsDecode (map (λ w. w.now) words.entry.now) given → ⊥)
-        → (result ≡ 2) × PutsNothing (traffic W.contents W.failures writer.old writer.new) }
+    ensures runs { (asked : Asked) (pi : ℕ) → AskFor (map (λ w. w.now) words.entry.now) asked
+        → IsPi asked.pi pi → (r : Traffic) × Begins r (R.remaining reader) (R.failures reader)
+        × (NoMemory (traffic W.contents W.failures writer.old writer.new) result
+        ⊎ TaskRuns asked.task pi asked.dwell r
+        (traffic W.contents W.failures writer.old writer.new) result) }
+    ensures fault_pi { (asked : Asked) → AskFor (map (λ w. w.now) words.entry.now) asked
+        → ((pi : ℕ) → IsPi asked.pi pi → ⊥)
+        → NoMemory (traffic W.contents W.failures writer.old writer.new) result
+        ⊎ RefusesPi asked.task (traffic W.contents W.failures writer.old writer.new) result }
+    ensures nothing_asked { TakesWords (map (λ w. w.now) words.entry.now)
+        → asked_in (map (λ w. w.now) words.entry.now) ≡ None
+        → NoMemory (traffic W.contents W.failures writer.old writer.new) result
+        ⊎ ((result ≡ 2) × PutsNothing (traffic W.contents W.failures writer.old writer.new)) }
+    ensures help { AskForHelp (map (λ w. w.now) words.entry.now)
+        → NoMemory (traffic W.contents W.failures writer.old writer.new) result ⊎ (result ≡ 0) }
+    ensures refused { AreRefused (map (λ w. w.now) words.entry.now)
+        → NoMemory (traffic W.contents W.failures writer.old writer.new) result ⊎ (result ≡ 2) }
 {
     run_lent(alloc, words, &mut reader, writer)
 }
@@ -54,37 +67,72 @@ pub fn run_lent<R: TellingRead, W: TellingWrite>(
     reader: &mut R,
     writer: &mut W,
 ) -> u8
-    ensures decodes { (given : List ℕ) (pi : ℕ) → IsDecode (map (λ w. w.now) words.entry.now) given
-        → IsPi given pi
-        → Runs (tuned pi 128) (traffic R.remaining R.failures reader.old reader.new)
+    ensures runs { (asked : Asked) (pi : ℕ) → AskFor (map (λ w. w.now) words.entry.now) asked
+        → IsPi asked.pi pi
+        → NoMemory (traffic W.contents W.failures writer.old writer.new) result
+        ⊎ TaskRuns asked.task pi asked.dwell
+        (traffic R.remaining R.failures reader.old reader.new)
         (traffic W.contents W.failures writer.old writer.new) result }
-    ensures fault_pi { (given : List ℕ) → IsDecode (map (λ w. w.now) words.entry.now) given
-        → ((pi : ℕ) → IsPi given pi → ⊥) → (result ≡ 2) × PutsLine (codes "fault pi\n")
-        (traffic W.contents W.failures writer.old writer.new) }
-    ensures other_words { ((given : List ℕ) → IsDecode (map (λ w. w.now) words.entry.now) given → ⊥)
-        → (result ≡ 2) × PutsNothing (traffic W.contents W.failures writer.old writer.new) }
+    ensures fault_pi { (asked : Asked) → AskFor (map (λ w. w.now) words.entry.now) asked
+        → ((pi : ℕ) → IsPi asked.pi pi → ⊥)
+        → NoMemory (traffic W.contents W.failures writer.old writer.new) result
+        ⊎ RefusesPi asked.task (traffic W.contents W.failures writer.old writer.new) result }
+    ensures nothing_asked { TakesWords (map (λ w. w.now) words.entry.now)
+        → asked_in (map (λ w. w.now) words.entry.now) ≡ None
+        → NoMemory (traffic W.contents W.failures writer.old writer.new) result
+        ⊎ ((result ≡ 2) × PutsNothing (traffic W.contents W.failures writer.old writer.new)) }
+    ensures help { AskForHelp (map (λ w. w.now) words.entry.now)
+        → NoMemory (traffic W.contents W.failures writer.old writer.new) result ⊎ (result ≡ 0) }
+    ensures refused { AreRefused (map (λ w. w.now) words.entry.now)
+        → NoMemory (traffic W.contents W.failures writer.old writer.new) result ⊎ (result ≡ 2) }
 {
-    let _ = alloc;
-    let Some(given) = given_pi(words) else {
-        return REFUSED;
-    };
-    let Some(pi) = pi_of(given) else {
-        tell(b"fault pi\n", writer);
-        return REFUSED;
-    };
-    decode_and_tell(pi, reader, writer)
+    match read_words(alloc, words) {
+        Ok(Some(request)) => answer(alloc, request, reader, writer),
+        Ok(None) => REFUSED,
+        Err(error) => tell_error(&error, writer),
+    }
 }
 
-/// What is given as programme identification, where the words are those of `decode`.
-fn given_pi<'a>(words: &[&'a str]) -> Option<&'a str>
-    ensures some { IfSome result (λ given. IsDecode (map (λ w. w.now) words.entry.now) given.now) }
-    ensures none { IfNone result ((given : List ℕ)
-        → IsDecode (map (λ w. w.now) words.entry.now) given → ⊥) }
+/// Writes the text of `clap`, help or why the words are refused, as far as the writer takes it; where
+/// there was no memory, its fault line.
+fn tell_error<W: TellingWrite>(error: &Error, writer: &mut W) -> u8
+    ensures memory { kind_of error.now ≡ ErrorKind.OutOfMemory
+        → NoMemory (traffic W.contents W.failures writer.old writer.new) result }
+    ensures help { is_shown (kind_of error.now) ≡ true → result ≡ 0 }
+    ensures refused { is_shown (kind_of error.now) ≡ false
+        → NoMemory (traffic W.contents W.failures writer.old writer.new) result ⊎ (result ≡ 2) }
 {
-    if words.len() == 4 && words[1] == "decode" && words[2] == "--pi" {
-        Some(words[3])
-    } else {
-        None
+    if error.kind() == ErrorKind::OutOfMemory {
+        tell(b"fault memory\n", writer);
+        return FAULT;
+    }
+    let _ = write!(writer, "{error}");
+    if error.use_stderr() { REFUSED } else { DONE }
+}
+
+/// Does what the words ask for.
+fn answer<R: TellingRead, W: TellingWrite>(
+    alloc: Global,
+    request: Request<'_>,
+    reader: &mut R,
+    writer: &mut W,
+) -> u8
+    ensures runs { (pi : ℕ) → IsPi request.entry.pi.now pi
+        → TaskRuns request.entry.task pi request.entry.dwell
+        (traffic R.remaining R.failures reader.old reader.new)
+        (traffic W.contents W.failures writer.old writer.new) result }
+    ensures fault_pi { ((pi : ℕ) → IsPi request.entry.pi.now pi → ⊥)
+        → RefusesPi request.entry.task (traffic W.contents W.failures writer.old writer.new) result }
+{
+    let Request { task, pi, dwell } = request;
+    let Some(pi) = pi_of(pi) else {
+        tell_fault_text(task, b"fault pi", writer);
+        return REFUSED;
+    };
+    match task {
+        Task::Decode => run_decode(pi, dwell, reader, writer),
+        Task::Encode(programme) => run_encode(alloc, programme, pi, dwell, reader, writer),
+        Task::Simulate(programme) => run_simulate(alloc, programme, pi, dwell, reader, writer),
     }
 }
 
@@ -101,34 +149,108 @@ fn pi_of(given: &str) -> Option<u16>
 }
 
 /// Decodes the log, and tells its fault.
-fn decode_and_tell<R: TellingRead, W: TellingWrite>(pi: u16, reader: &mut R, writer: &mut W) -> u8
-    ensures { Runs (tuned pi 128) (traffic R.remaining R.failures reader.old reader.new)
+fn run_decode<R: TellingRead, W: TellingWrite>(
+    pi: u16,
+    dwell: Dwell,
+    reader: &mut R,
+    writer: &mut W,
+) -> u8
+    ensures { DecodeRuns pi dwell (traffic R.remaining R.failures reader.old reader.new)
         (traffic W.contents W.failures writer.old writer.new) result }
 {
-    match decode(reader, writer, pi, Dwell::new(DWELL).unwrap()) {
+    let outcome = decode(reader, writer, pi, dwell);
+    end_with(Task::Decode, outcome, writer)
+}
+
+/// The place of `encode`, which is not there yet.
+fn run_encode<R: TellingRead, W: TellingWrite>(
+    alloc: Global,
+    programme: Programme,
+    pi: u16,
+    dwell: Dwell,
+    reader: &mut R,
+    writer: &mut W,
+) -> u8
+    ensures { EncodeRuns programme pi dwell (traffic R.remaining R.failures reader.old reader.new)
+        (traffic W.contents W.failures writer.old writer.new) result }
+{
+    REFUSED
+}
+
+/// The place of `sim`, which is not there yet.
+fn run_simulate<R: TellingRead, W: TellingWrite>(
+    alloc: Global,
+    programme: Programme,
+    pi: u16,
+    dwell: Dwell,
+    reader: &mut R,
+    writer: &mut W,
+) -> u8
+    ensures { SimulateRuns programme pi dwell (traffic R.remaining R.failures reader.old reader.new)
+        (traffic W.contents W.failures writer.old writer.new) result }
+{
+    REFUSED
+}
+
+/// The status that an engine's outcome has; its fault is told.
+fn end_with<W: TellingWrite>(task: Task, outcome: Result<(), LogFault>, writer: &mut W) -> u8
+    ensures { EndsWith task outcome (traffic W.contents W.failures writer.old writer.new) result }
+{
+    match outcome {
         Ok(()) => DONE,
         Err(fault) => {
-            tell_fault(fault, writer);
+            tell_fault(task, fault, writer);
             FAULT
         }
     }
 }
 
 /// Writes the line of the fault as far as the writer takes it; after a failed write nothing.
-fn tell_fault<W: TellingWrite>(fault: LogFault, writer: &mut W)
-    ensures { PutsAfter fault (traffic W.contents W.failures writer.old writer.new) }
+fn tell_fault<W: TellingWrite>(task: Task, fault: LogFault, writer: &mut W)
+    ensures { PutsAfter task fault (traffic W.contents W.failures writer.old writer.new) }
 {
     match fault {
-        LogFault::BadLine(number) => {
-            let mut line = Lines::<LINE>::new();
-            line.push(b"fault line ");
-            line.push_number(number);
-            line.push(b"\n");
-            tell(line.bytes(), writer);
-        }
-        LogFault::Read => tell(b"fault read\n", writer),
+        LogFault::BadLine(number) => tell_numbered(task, b"fault line ", number, writer),
+        LogFault::Read => tell_fault_text(task, b"fault read", writer),
         LogFault::Write => {}
-        LogFault::TooLong => tell(b"fault too long\n", writer),
+        LogFault::TooLong => tell_fault_text(task, b"fault too long", writer),
+    }
+}
+
+/// Writes the line of a fault at a numbered line.
+fn tell_numbered<W: TellingWrite>(task: Task, text: &[u8], number: u64, writer: &mut W)
+    requires { length text.now ≤ 32 }
+    ensures { TellsFault task (text.now ++ decimal number)
+        (traffic W.contents W.failures writer.old writer.new) }
+{
+    let mut line = Lines::<LINE>::new();
+    line.push(mark(task));
+    line.push(text);
+    line.push_number(number);
+    line.push(b"\n");
+    tell(line.bytes(), writer);
+}
+
+/// Writes the line of a fault.
+fn tell_fault_text<W: TellingWrite>(task: Task, text: &[u8], writer: &mut W)
+    requires { length text.now ≤ 32 }
+    ensures { TellsFault task text.now (traffic W.contents W.failures writer.old writer.new) }
+{
+    let mut line = Lines::<LINE>::new();
+    line.push(mark(task));
+    line.push(text);
+    line.push(b"\n");
+    tell(line.bytes(), writer);
+}
+
+/// What stands before a fault's line: the log that `encode` writes has it as a note.
+fn mark(task: Task) -> &'static [u8]
+    ensures mark { result.now ≡ mark_of task }
+    ensures short { length result.now ≤ 2 }
+{
+    match task {
+        Task::Encode(_) => b"# ",
+        Task::Decode | Task::Simulate(_) => b"",
     }
 }
 

@@ -23,6 +23,15 @@ C201 0148 0000 0000
 C201 21405 4849 0D20
 ";
 
+/// A text, and five slots of none.
+const ONE_TEXT: &[u8] = b"C201 2140 4849 0D20
+---- ---- ---- ----
+---- ---- ---- ----
+---- ---- ---- ----
+---- ---- ---- ----
+---- ---- ---- ----
+";
+
 /// Words, input, and the output and the status that they have.
 struct Case {
     name: &'static str,
@@ -32,7 +41,7 @@ struct Case {
     status: u8,
 }
 
-const CASES: [Case; 9] = [
+const CASES: [Case; 15] = [
     Case {
         name: "first_text",
         words: &DECODE,
@@ -46,6 +55,48 @@ const CASES: [Case; 9] = [
         input: MIXED_LOG,
         output: b"2 text \"HI\"\nfault line 10\n",
         status: 1,
+    },
+    Case {
+        name: "mixed_log_with_a_dwell",
+        words: &["rdsrt", "decode", "--pi", "c201", "--m", "4"],
+        input: MIXED_LOG,
+        output: b"2 text \"HI\"\nfault line 10\n",
+        status: 1,
+    },
+    Case {
+        name: "dwell_of_four",
+        words: &["rdsrt", "decode", "--pi", "C201", "--m", "4"],
+        input: ONE_TEXT,
+        output: b"0 text \"HI\"\n4 text none\n",
+        status: 0,
+    },
+    Case {
+        name: "dwell_spelled_otherwise",
+        words: &["rdsrt", "decode", "--m=+004", "--pi=C201"],
+        input: ONE_TEXT,
+        output: b"0 text \"HI\"\n4 text none\n",
+        status: 0,
+    },
+    Case {
+        name: "dwell_of_one",
+        words: &["rdsrt", "decode", "--pi", "C201", "--m", "1"],
+        input: ONE_TEXT,
+        output: b"0 text \"HI\"\n1 text none\n",
+        status: 0,
+    },
+    Case {
+        name: "greatest_dwell",
+        words: &["rdsrt", "decode", "--pi", "C201", "--m", "65535"],
+        input: ONE_TEXT,
+        output: b"0 text \"HI\"\n",
+        status: 0,
+    },
+    Case {
+        name: "version",
+        words: &["rdsrt", "--version"],
+        input: ONE_TEXT,
+        output: b"rdsrt 0.1.0\n",
+        status: 0,
     },
     Case {
         name: "end_of_input",
@@ -131,24 +182,103 @@ fn shown_for_the_dwell(rt: HostRuntime) -> Result<(), Fail> {
 }
 
 #[test]
-fn refused_words(rt: HostRuntime) -> Result<(), Fail> {
+fn fault_pi(rt: HostRuntime) -> Result<(), Fail> {
     let input = b"C201 2140 4849 0D20\n";
-    for given in ["C20", "C2011", "C20G", "", "+201"] {
-        let (status, output) = ran(rt.alloc(), &["rdsrt", "decode", "--pi", given], input)?;
-        assert_eq!(rt; output.as_slice(), b"fault pi\n".as_slice(), "at {given}");
+    let told: [(&str, &[u8]); 3] = [
+        ("decode", b"fault pi\n"),
+        ("encode", b"# fault pi\n"),
+        ("sim", b"fault pi\n"),
+    ];
+    for (task, wanted) in told {
+        for given in ["C20", "C2011", "C20G", "", "+201"] {
+            let (status, output) = ran(rt.alloc(), &["rdsrt", task, "--pi", given], input)?;
+            assert_eq!(rt; output.as_slice(), wanted, "at {task} {given}");
+            assert_eq!(rt; status, 2);
+        }
+    }
+    Ok(())
+}
+
+/// What `clap` answers to words that it refuses.
+const REFUSED: [(&[&str], &[u8]); 7] = [
+    (
+        &["rdsrt"],
+        b"error: 'rdsrt' requires a subcommand but one was not provided
+  [subcommands: decode, encode, sim, help]
+
+Usage: rdsrt <COMMAND>
+
+For more information, try '--help'.
+",
+    ),
+    (
+        &["rdsrt", "play", "--pi", "C201"],
+        b"error: unrecognized subcommand 'play'
+
+Usage: rdsrt <COMMAND>
+
+For more information, try '--help'.
+",
+    ),
+    (
+        &["rdsrt", "decode"],
+        b"error: the following required arguments were not provided:
+  --pi <HHHH>
+
+Usage: rdsrt decode --pi <HHHH>
+
+For more information, try '--help'.
+",
+    ),
+    (
+        &["rdsrt", "decode", "--pi"],
+        b"error: a value is required for '--pi <HHHH>' but none was supplied
+
+For more information, try '--help'.
+",
+    ),
+    (
+        &["rdsrt", "decode", "--pi", "C201", "C201"],
+        b"error: unexpected argument 'C201' found
+
+Usage: rdsrt decode [OPTIONS] --pi <HHHH>
+
+For more information, try '--help'.
+",
+    ),
+    (
+        &["rdsrt", "decode", "--pi", "C201", "--m", "0"],
+        b"error: invalid value '0' for '--m <N>': 0 is not in 1..=65535
+
+For more information, try '--help'.
+",
+    ),
+    (
+        &["rdsrt", "encode", "--pi", "C201", "--pty", "32"],
+        b"error: invalid value '32' for '--pty <N>': 32 is not in 0..=31
+
+For more information, try '--help'.
+",
+    ),
+];
+
+#[test]
+fn refused_words(rt: HostRuntime) -> Result<(), Fail> {
+    for (words, wanted) in REFUSED {
+        let (status, output) = ran(rt.alloc(), words, b"C201 2140 4849 0D20\n")?;
+        assert_eq!(rt; output.as_slice(), wanted);
         assert_eq!(rt; status, 2);
     }
-    let refused: [&[&str]; 6] = [
+    let others: [&[&str]; 5] = [
         &[],
-        &["rdsrt"],
-        &["rdsrt", "decode"],
-        &["rdsrt", "decode", "--pi"],
-        &["rdsrt", "encode", "--pi", "C201"],
-        &["rdsrt", "decode", "--pi", "C201", "C201"],
+        &["rdsrt", "decode", "--pi", "C201", "--m", "65536"],
+        &["rdsrt", "decode", "--pi", "C201", "--m", "-1"],
+        &["rdsrt", "decode", "--pi", "C201", "--pi", "C201"],
+        &["rdsrt", "decode", "--pi", "C201", "--tp"],
     ];
-    for words in refused {
-        let (status, output) = ran(rt.alloc(), words, input)?;
-        assert_eq!(rt; output.as_slice(), b"".as_slice());
+    for words in others {
+        let (status, output) = ran(rt.alloc(), words, b"C201 2140 4849 0D20\n")?;
+        assert!(rt; output.starts_with(b"error: "));
         assert_eq!(rt; status, 2);
     }
     Ok(())
@@ -299,6 +429,118 @@ fn writer_fails(rt: HostRuntime) -> Result<(), Fail> {
             assert_eq!(rt; writes.get(), fails_at);
             assert!(rt; wanted.starts_with(output.as_slice()));
             assert_eq!(rt; output.len() as u64, fails_at - 1);
+        }
+    }
+    Ok(())
+}
+
+const HELP: &[u8] = b"Sends and receives RDS texts: reads standard input, writes standard output
+
+Usage: rdsrt <COMMAND>
+
+Commands:
+  decode  Reads a log of received groups, a slot a line, and prints what a receiver shows
+  encode  Reads a script, a slot a row, and prints the log of what a station sends
+  sim     Reads a script, a slot a row, and prints what a station sends and its receivers show
+  help    Print this message or the help of the given subcommand(s)
+
+Options:
+  -h, --help     Print help
+  -V, --version  Print version
+";
+
+const HELP_OF_SIM: &[u8] =
+    b"Reads a script, a slot a row, and prints what a station sends and its receivers show
+
+Usage: rdsrt sim [OPTIONS] --pi <HHHH>
+
+Options:
+      --pi <HHHH>
+          The programme identification of the station, four hexadecimal digits
+
+      --m <N>
+          The dwell in slots, 1 to 65535; a slot is the time of one group, some 88 ms.
+          A receiver forgets a text of which it heard no segment for one dwell. A station
+          keeps each text on air for twice the dwell, and sends nothing for one dwell when
+          it starts. So a receiver with the dwell of its station never joins parts of two texts.
+          \n          [default: 128]
+
+      --pty <N>
+          The programme type in each group, 0 to 31 (0: none, 10: pop music)
+          \n          [default: 0]
+
+      --tp
+          Sets the flag of each group that says: the programme has traffic announcements
+
+  -h, --help
+          Print help (see a summary with '-h')
+
+Example:
+  rdsrt sim --pi C201 --pty 10 --m 4 < script.csv
+";
+
+const EXAMPLES: [(&str, &[u8]); 2] = [
+    (
+        "decode",
+        b"Example:\n  rdsrt decode --pi C201 --m 64 < received.log\n",
+    ),
+    (
+        "encode",
+        b"Example:\n  rdsrt encode --pi C201 --pty 10 < script.csv | rdsrt decode --pi C201\n",
+    ),
+];
+
+#[test]
+fn help(rt: HostRuntime) -> Result<(), Fail> {
+    let whole: [&[&str]; 3] = [&["rdsrt", "--help"], &["rdsrt", "-h"], &["rdsrt", "help"]];
+    for words in whole {
+        let (status, output) = ran(rt.alloc(), words, b"x\n")?;
+        assert_eq!(rt; output.as_slice(), HELP);
+        assert_eq!(rt; status, 0);
+    }
+    let sim: [&[&str]; 2] = [&["rdsrt", "sim", "--help"], &["rdsrt", "help", "sim"]];
+    for words in sim {
+        let (status, output) = ran(rt.alloc(), words, b"x\n")?;
+        assert_eq!(rt; output.as_slice(), HELP_OF_SIM);
+        assert_eq!(rt; status, 0);
+    }
+    for (task, wanted) in EXAMPLES {
+        let (status, output) = ran(rt.alloc(), &["rdsrt", task, "--help"], b"x\n")?;
+        assert!(rt; output.ends_with(wanted), "in {task}");
+        assert_eq!(rt; status, 0);
+    }
+    Ok(())
+}
+
+/// Where the words alone decide, nothing is read, and a writer that fails changes no status.
+#[test]
+fn nothing_is_read_for_the_words(rt: HostRuntime) -> Result<(), Fail> {
+    let wanted: [(&[&str], u8); 4] = [
+        (&["rdsrt"], 2),
+        (&["rdsrt", "decode", "--pi", "C201", "--m", "0"], 2),
+        (&["rdsrt", "encode", "--pi", "C20"], 2),
+        (&["rdsrt", "--help"], 0),
+    ];
+    for (words, wanted) in wanted {
+        for fails_at in [0, 1, 2] {
+            let reads = Cell::new(0);
+            let writes = Cell::new(0);
+            let mut output = Vec::new(rt.alloc());
+            let reader = Told::new(Slow {
+                left: b"C201 2140 4849 0D20\n",
+                most: 1,
+                fails_at: 0,
+                reads: &reads,
+            });
+            let mut writer = Told::new(Stubborn {
+                taken: &mut output,
+                most: 7,
+                fails_at,
+                with_error: true,
+                writes: &writes,
+            });
+            let status = run(rt.alloc(), words, reader, &mut writer);
+            assert_eq!(rt; (status, reads.get()), (wanted, 0));
         }
     }
     Ok(())

@@ -12,6 +12,9 @@ returns c = record {
   encode_dwell = record { taken = refl; ask = refl };
   sim = record { taken = refl; ask = refl };
   sim_tp = record { taken = refl; ask = refl };
+  help = refl;
+  help_of_one = refl;
+  version = refl;
   no_dwell = refl;
   no_programme = refl;
   no_subcommand = refl;

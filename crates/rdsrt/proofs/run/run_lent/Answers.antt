@@ -1,31 +1,32 @@
-use Rattle.std.proofs.Common.{ℕ, List, sym, subst}
-use Rattle.rdsrt.specs.Run.{IsPi}
-use Rattle.rdsrt.proofs.Words.{one_given, one_pi}
+use Rattle.std.proofs.Common.{◌≡◌, ◌∙◌, ℕ, Some, ap, inl, inr, map, subst, sym}
+use Rattle.rds_charset.specs.Told.{traffic}
+use Rattle.std.specs.Prelude.{not, option_map}
+use Rattle.std.proofs.lemmas.Bool.{not-true}
+use Rattle.clap.specs.Words.{kind_of}
+use Rattle.rdsrt.specs.Asks.{asked_by}
+use Rattle.rdsrt.specs.CommandLine.{Asked, is_shown}
+use Rattle.rdsrt.specs.Run.{IsPi, RefusesPi}
+use Rattle.rdsrt.proofs.ErrorKinds.{answered_by}
 use Rattle.rdsrt.proofs.run.run_lent.Goals as goal
 
-pub returns-in_default-clause-decodes : goal.returns-in_default-clause-decodes
-returns-in_default-clause-decodes g c given pi is word = let no = c.in_default.ensures.none in absurd (no given is)
+one_asked : {x y : Asked} → Some x ≡ Some y → x ≡ y
+one_asked e = cc
 
-pub returns-in_default-clause-fault_pi : goal.returns-in_default-clause-fault_pi
-returns-in_default-clause-fault_pi g c given is word = let no = c.in_default.ensures.none in absurd (no given is)
+pub returns-in-Ok-Some-clause-fault_pi : goal.returns-in-Ok-Some-clause-fault_pi
+returns-in-Ok-Some-clause-fault_pi g c asked given none =
+    let both : Some (asked_by c.in-Ok-Some.request) ≡ Some asked = ap (option_map asked_by) (sym c.in-Ok-Some.field-0-is) ∙ c.in-Ok-Some.ensures.ok ∙ given.ask in
+    inr (subst (λ (a : Asked). ((pi : ℕ) → IsPi a.pi pi → ⊥) → RefusesPi a.task (traffic g.W.Write.contents g.W.TellingWrite.failures c.args.writer.now c.answer.new.writer) c.answer.result)
+    (one_asked both) c.answer.ensures.fault_pi none)
 
-pub returns-in_default-pi_of-clause-decodes : goal.returns-in_default-pi_of-clause-decodes
-returns-in_default-pi_of-clause-decodes g c given pi is word =
-    let same = one_given _ given c.in-Some.given.now is c.in-Some.ensures.some in
-    absurd (c.in_default-pi_of.ensures.none pi (subst (λ (x : List ℕ). IsPi x pi) same word))
+pub returns-in-Err-clause-help : goal.returns-in-Err-clause-help
+returns-in-Err-clause-help g c asks = elim c.in-Err.ensures.kinds [
+  | inl memory ↦ inl (c.tell_error.ensures.memory memory)
+  | inr kind ↦ inr (c.tell_error.ensures.help (answered_by is_shown (map (λ w. w.now) c.args.words.now) (kind_of c.in-Err.error) asks kind))
+]
 
-pub returns-in_default-pi_of-clause-other_words : goal.returns-in_default-pi_of-clause-other_words
-returns-in_default-pi_of-clause-other_words g c none = absurd (none c.in-Some.given.now c.in-Some.ensures.some)
-
-pub returns-clause-decodes : goal.returns-clause-decodes
-returns-clause-decodes g c given pi is word =
-    let same = one_given _ given c.in-Some.given.now is c.in-Some.ensures.some in
-    rw (one_pi c.in-Some.given.now pi c.in-Some-pi_of.pi (subst (λ (x : List ℕ). IsPi x pi) same word) c.in-Some-pi_of.ensures.some) c.decode_and_tell.ensures
-
-pub returns-clause-fault_pi : goal.returns-clause-fault_pi
-returns-clause-fault_pi g c given is none =
-    let same = one_given _ given c.in-Some.given.now is c.in-Some.ensures.some in
-    absurd (none c.in-Some-pi_of.pi (subst (λ (x : List ℕ). IsPi x c.in-Some-pi_of.pi) (sym same) c.in-Some-pi_of.ensures.some))
-
-pub returns-clause-other_words : goal.returns-clause-other_words
-returns-clause-other_words g c none = absurd (none c.in-Some.given.now c.in-Some.ensures.some)
+pub returns-in-Err-clause-refused : goal.returns-in-Err-clause-refused
+returns-in-Err-clause-refused g c refused = elim c.in-Err.ensures.kinds [
+  | inl memory ↦ inl (c.tell_error.ensures.memory memory)
+  | inr kind ↦ c.tell_error.ensures.refused (not-true (is_shown (kind_of c.in-Err.error))
+      (answered_by (λ k. not (is_shown k)) (map (λ w. w.now) c.args.words.now) (kind_of c.in-Err.error) refused kind))
+]
