@@ -1,7 +1,7 @@
 -- Words that are written out, and what they ask for.
-use Rattle.std.specs.Prelude.{◌==◌, ◌∷◌, ℕ, Bool, List, [], codes, false, if◌then◌else◌}
-use Rattle.clap.specs.Words.{Text}
-use Rattle.rdsrt.specs.CommandLine.{Asked}
+use Rattle.std.specs.Prelude.{◌≡◌, ◌==◌, ◌∷◌, ℕ, Bool, List, [], codes, false, if◌then◌else◌}
+use Rattle.clap.specs.Words.{Text, takes}
+use Rattle.rdsrt.specs.CommandLine.{AreRefused, Asked, whole_app}
 use Rattle.rdsrt.specs.declared.request.Task.TheVariants.{Decode, Encode, Simulate}
 
 abbrev pub in_front : ℕ → List Text → List Text
@@ -12,6 +12,11 @@ in_front c (word ∷ rest) = (c ∷ word) ∷ rest
 abbrev pub words_of : List ℕ → List Text
 words_of [] = [] ∷ []
 words_of (c ∷ rest) = if c == 32 then [] ∷ words_of rest else in_front c (words_of rest)
+
+-- the words are not taken, and refused
+pub record AreNotTaken (words : List Text) : Type 0 where
+  pub taken : takes whole_app words ≡ false
+  pub refused : AreRefused words
 
 abbrev pub decoding : ℕ → Asked
 decoding dwell = record { task = Decode; pi = codes "C201"; dwell = dwell }

@@ -13,6 +13,11 @@ use Rattle.rdsrt.specs.declared.request.Programme.{Programme}
 use Rattle.rdsrt.specs.declared.request.Task.{Task}
 use Rattle.rdsrt.specs.declared.request.Task.TheVariants.{Decode, Encode, Simulate}
 
+-- what a call did begins with these bytes and these failures
+pub record Begins (t : Traffic) (bytes : Option (List ℕ)) (failures : ℕ) : Type 0 where
+  pub bytes_are : t.before ≡ bytes
+  pub failures_are : t.failures_before ≡ failures
+
 -- four hexadecimal digits of either case, and the programme identification that they spell
 pub record IsPi (given : List ℕ) (pi : ℕ) : Type 0 where
   pub four : length given ≡ 4
@@ -59,11 +64,11 @@ pub record Runs (Engine : Traffic → Result (Unit {0}) LogFault → Type 0) (ta
 abbrev pub DecodeRuns : ℕ → ℕ → Traffic → Traffic → ℕ → Type 0
 DecodeRuns pi dwell r w status = Runs (Decodes (tuned pi dwell) (2 ^ 32) r) Decode w status
 
--- `encode` is not there yet
+-- the place of `encode`, which is not there yet
 abbrev pub EncodeRuns : Programme → ℕ → ℕ → Traffic → Traffic → ℕ → Type 0
 EncodeRuns programme pi dwell r w status = (status ≡ 2) × PutsNothing w
 
--- `sim` is not there yet
+-- the place of `sim`, which is not there yet
 abbrev pub SimulateRuns : Programme → ℕ → ℕ → Traffic → Traffic → ℕ → Type 0
 SimulateRuns programme pi dwell r w status = (status ≡ 2) × PutsNothing w
 
@@ -84,8 +89,3 @@ pub record RefusesPi (task : Task) (w : Traffic) (status : ℕ) : Type 0 where
 pub record NoMemory (w : Traffic) (status : ℕ) : Type 0 where
   pub status_is : status ≡ 1
   pub told : PutsLine (codes "fault memory\n") w
-
--- what a call did begins with these bytes and these failures
-pub record Begins (t : Traffic) (bytes : Option (List ℕ)) (failures : ℕ) : Type 0 where
-  pub bytes_are : t.before ≡ bytes
-  pub failures_are : t.failures_before ≡ failures

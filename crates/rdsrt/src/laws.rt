@@ -1,7 +1,7 @@
 //! What the definition of the command line says of words that are written out.
 ghost use Rattle.std.specs.Prelude.{codes, false, true};
-ghost use Rattle.rdsrt.specs.CommandLine.{AreRefused, AskFor, AskForHelp};
-ghost use Rattle.rdsrt.specs.Examples.{decoding, encoding, simulating, words_of};
+ghost use Rattle.rdsrt.specs.CommandLine.{AskFor, AskForHelp};
+ghost use Rattle.rdsrt.specs.Examples.{AreNotTaken, decoding, encoding, simulating, words_of};
 
 /// The examples' words are taken and ask for what they say: the definition is no empty one. A dwell of 0
 /// slots, a programme type of 32, a subcommand with no programme and no subcommand are refused. Help and the
@@ -17,8 +17,8 @@ pub fn words_of_the_examples()
     ensures help { AskForHelp (words_of (codes "rdsrt --help")) }
     ensures help_of_one { AskForHelp (words_of (codes "rdsrt decode --help")) }
     ensures version { AskForHelp (words_of (codes "rdsrt --version")) }
-    ensures no_dwell { AreRefused (words_of (codes "rdsrt decode --pi C201 --m 0")) }
-    ensures no_programme { AreRefused (words_of (codes "rdsrt decode")) }
-    ensures no_subcommand { AreRefused (words_of (codes "rdsrt")) }
-    ensures large_type { AreRefused (words_of (codes "rdsrt encode --pi C201 --pty 32")) }
+    ensures no_dwell { AreNotTaken (words_of (codes "rdsrt decode --pi C201 --m 0")) }
+    ensures no_programme { AreNotTaken (words_of (codes "rdsrt decode")) }
+    ensures no_subcommand { AreNotTaken (words_of (codes "rdsrt")) }
+    ensures large_type { AreNotTaken (words_of (codes "rdsrt encode --pi C201 --pty 32")) }
 {}

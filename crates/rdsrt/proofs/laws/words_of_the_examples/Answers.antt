@@ -15,8 +15,8 @@ returns c = record {
   help = refl;
   help_of_one = refl;
   version = refl;
-  no_dwell = refl;
-  no_programme = refl;
-  no_subcommand = refl;
-  large_type = refl;
+  no_dwell = record { taken = refl; refused = refl };
+  no_programme = record { taken = refl; refused = refl };
+  no_subcommand = record { taken = refl; refused = refl };
+  large_type = record { taken = refl; refused = refl };
 }

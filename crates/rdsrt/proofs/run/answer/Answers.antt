@@ -2,3 +2,9 @@ use Rattle.rdsrt.proofs.run.answer.Goals as goal
 
 pub returns-in-Decode-clause-fault_pi : goal.returns-in-Decode-clause-fault_pi
 returns-in-Decode-clause-fault_pi g c none = absurd (none c.in-Some.pi c.in-Some.ensures.some)
+
+pub returns-in-Encode-clause-fault_pi : goal.returns-in-Encode-clause-fault_pi
+returns-in-Encode-clause-fault_pi g c none = absurd (none c.in-Some.pi c.in-Some.ensures.some)
+
+pub returns-in-Simulate-clause-fault_pi : goal.returns-in-Simulate-clause-fault_pi
+returns-in-Simulate-clause-fault_pi g c none = absurd (none c.in-Some.pi c.in-Some.ensures.some)
