@@ -2,7 +2,8 @@
 ghost use Rattle.std.specs.Prelude.{◌≡◌, IfOk, codes, false};
 ghost use Rattle.clap.specs.Words.{app_of, rule_of};
 ghost use Rattle.clap.specs.declared.builder.command.Command.TheViews.{out-Command};
-ghost use Rattle.rdsrt.specs.CommandLine.{decode_app, dwell_rule, pi_rule, pty_rule, station_app, top_app, tp_rule, whole_app};
+ghost use Rattle.rdsrt.specs.CommandLine.{decode_app, dwell_rule, pi_rule, pty_rule};
+ghost use Rattle.rdsrt.specs.CommandLine.{station_app, top_app, tp_rule, whole_app};
 
 use clap::{Arg, ArgAction, Command, value_parser};
 use std::alloc::{AllocError, Global};

@@ -2,7 +2,8 @@
 ghost use Rattle.std.specs.Prelude.{◌≡◌, IfErr, IfOk, map, option_map};
 ghost use Rattle.clap.specs.Words.{FailsBy, fault_of, found_of, kind_of, rows_of};
 ghost use Rattle.rdsrt.specs.Asks.{asked_by};
-ghost use Rattle.rdsrt.specs.CommandLine.{TakesWords, asked_in, asked_of, dwell_in, programme_in, task_in, tp_in, whole_app};
+ghost use Rattle.rdsrt.specs.CommandLine.{TakesWords, asked_in, asked_of, dwell_in};
+ghost use Rattle.rdsrt.specs.CommandLine.{programme_in, task_in, tp_in, whole_app};
 
 use crate::command_line::whole;
 use clap::error::ErrorKind;

@@ -1,9 +1,12 @@
 //! The whole program over its words.
-ghost use Rattle.std.specs.Prelude.{◌≡◌, ◌⊎◌, ◌≤◌, ◌+◌, ◌++◌, ℕ, IfSome, IfNone, None, codes, decimal, false, true, length, map};
+ghost use Rattle.std.specs.Prelude.{◌≡◌, ◌⊎◌, ◌≤◌, ◌+◌, ◌++◌, ℕ, IfSome, IfNone};
+ghost use Rattle.std.specs.Prelude.{None, codes, decimal, false, true, length, map};
 ghost use Rattle.rds_charset.specs.Told.{PutsNothing, Traffic, traffic};
 ghost use Rattle.clap.specs.Words.{kind_of};
-ghost use Rattle.rdsrt.specs.CommandLine.{AreRefused, AskFor, AskForHelp, Asked, TakesWords, asked_in, is_shown};
-ghost use Rattle.rdsrt.specs.Run.{Begins, DecodeRuns, EncodeRuns, EndsWith, IsPi, NoMemory, PutsAfter, PutsLine};
+ghost use Rattle.rdsrt.specs.CommandLine.{AreRefused, AskFor, AskForHelp, Asked};
+ghost use Rattle.rdsrt.specs.CommandLine.{TakesWords, asked_in, is_shown};
+ghost use Rattle.rdsrt.specs.Run.{Begins, DecodeRuns, EncodeRuns, EndsWith};
+ghost use Rattle.rdsrt.specs.Run.{IsPi, NoMemory, PutsAfter, PutsLine};
 ghost use Rattle.rdsrt.specs.Run.{RefusesPi, SimulateRuns, TaskRuns, TellsFault, mark_of};
 
 use crate::request::{Programme, Request, Task, read_words};
