@@ -36,4 +36,6 @@ pub use lines::Lines;
 pub use scripts::{encode, encode_within, simulate, simulate_within};
 
 #[cfg(test)]
+mod script_tests;
+#[cfg(test)]
 mod tests;

@@ -4,11 +4,14 @@ use Rattle.std.specs.Prelude.{◌≡◌, ◌^◌, ◌++◌, ℕ, List, [], codes
 use Rattle.rds_charset.specs.Puts.{Puts}
 use Rattle.rds_charset.specs.Told.{PutsNothing, Traffic}
 use Rattle.rds_charset.specs.declared.output.WriteFault.{WriteFault}
+use Rattle.rds_fields.specs.declared.head.Head.{Head}
 use Rattle.rds_log.specs.Decoding.{tuned}
 use Rattle.rds_log.specs.Digits.{HasWord}
 use Rattle.rds_log.specs.Engine.{Decodes}
+use Rattle.rds_log.specs.Scripts.{Plays}
 use Rattle.rds_log.specs.declared.fault.LogFault.{LogFault}
-use Rattle.rds_log.specs.declared.fault.LogFault.TheVariants.{BadLine, Read, Write, TooLong}
+use Rattle.rds_log.specs.declared.fault.LogFault.TheVariants.{BadLine, BadRow, Read, Write, TooLong, Memory}
+use Rattle.rds_log.specs.declared.form.Form.TheVariants.{Log, Simulation}
 use Rattle.rdsrt.specs.declared.request.Programme.{Programme}
 use Rattle.rdsrt.specs.declared.request.Task.{Task}
 use Rattle.rdsrt.specs.declared.request.Task.TheVariants.{Decode, Encode, Simulate}
@@ -41,9 +44,11 @@ TellsFault task text w = PutsLine (mark_of task ++ text ++ codes "\n") w
 -- after a fault its line, and after a failed write nothing more
 abbrev pub PutsAfter : Task → LogFault → Traffic → Type 0
 PutsAfter task (BadLine n) w = TellsFault task (codes "fault line " ++ decimal n) w
+PutsAfter task (BadRow n) w = TellsFault task (codes "fault row " ++ decimal n) w
 PutsAfter task Read w = TellsFault task (codes "fault read") w
 PutsAfter task Write w = PutsNothing w
 PutsAfter task TooLong w = TellsFault task (codes "fault too long") w
+PutsAfter task Memory w = TellsFault task (codes "fault memory") w
 
 -- ---- engines
 
@@ -64,13 +69,17 @@ pub record Runs (Engine : Traffic → Result (Unit {0}) LogFault → Type 0) (ta
 abbrev pub DecodeRuns : ℕ → ℕ → Traffic → Traffic → ℕ → Type 0
 DecodeRuns pi dwell r w status = Runs (Decodes (tuned pi dwell) (2 ^ 32) r) Decode w status
 
--- the place of `encode`, which is not there yet
-abbrev pub EncodeRuns : Programme → ℕ → ℕ → Traffic → Traffic → ℕ → Type 0
-EncodeRuns programme pi dwell r w status = (status ≡ 2) × PutsNothing w
+-- the head of every group of a station
+abbrev pub head_of : ℕ → Programme → Head
+head_of pi programme = record { pi = pi; tp = programme.tp; pty = programme.pty }
 
--- the place of `sim`, which is not there yet
+-- a script is played for its log
+abbrev pub EncodeRuns : Programme → ℕ → ℕ → Traffic → Traffic → ℕ → Type 0
+EncodeRuns programme pi dwell r w status = Runs (Plays Log (head_of pi programme) dwell (2 ^ 32) r.before) (Encode programme) w status
+
+-- a script is played with its receivers
 abbrev pub SimulateRuns : Programme → ℕ → ℕ → Traffic → Traffic → ℕ → Type 0
-SimulateRuns programme pi dwell r w status = (status ≡ 2) × PutsNothing w
+SimulateRuns programme pi dwell r w status = Runs (Plays Simulation (head_of pi programme) dwell (2 ^ 32) r.before) (Simulate programme) w status
 
 -- ---- the whole program
 

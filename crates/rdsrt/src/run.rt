@@ -7,20 +7,21 @@ ghost use Rattle.rdsrt.specs.CommandLine.{AreRefused, AskFor, AskForHelp, Asked}
 ghost use Rattle.rdsrt.specs.CommandLine.{TakesWords, asked_in, is_shown};
 ghost use Rattle.rdsrt.specs.Run.{Begins, DecodeRuns, EncodeRuns, EndsWith};
 ghost use Rattle.rdsrt.specs.Run.{IsPi, NoMemory, PutsAfter, PutsLine};
-ghost use Rattle.rdsrt.specs.Run.{RefusesPi, SimulateRuns, TaskRuns, TellsFault, mark_of};
+ghost use Rattle.rdsrt.specs.Run.{RefusesPi, SimulateRuns, TaskRuns, TellsFault, head_of, mark_of};
 
 use crate::request::{Programme, Request, Task, read_words};
 use clap::Error;
 use clap::error::ErrorKind;
 use rds_charset::{TellingRead, TellingWrite, put};
-use rds_fields::Dwell;
-use rds_log::{Lines, LogFault, decode, word_at};
+use rds_fields::{Dwell, Head};
+use rds_log::{Lines, LogFault, decode, encode, simulate, word_at};
+use rds_world::Config;
 use std::alloc::Global;
 
 /// The status where all was done, or help was asked for.
 const DONE: u8 = 0;
 
-/// The status after a fault of the log, the reader or the writer, and where there is no memory.
+/// The status after a fault of the log or script, the reader or the writer, and where there is no memory.
 const FAULT: u8 = 1;
 
 /// The status where the words are refused.
@@ -31,8 +32,9 @@ const LINE: usize = 64;
 
 /// The whole program: its words, the program's own name first, and the status that it ends with.
 ///
-/// `decode` reads a log and writes what a receiver of the programme shows. A fault is told by its line,
-/// the last that is written. Where the words are refused or ask for help, the text of `clap` is written
+/// `decode` reads a log and writes what a receiver of the programme shows; `encode` and `sim` read a script
+/// and write the log of a station, or what it sends and its receivers show. A fault is told by its line, the
+/// last that is written. Where the words are refused or ask for help, the text of `clap` is written
 /// and nothing is read. `clap`'s contract doesn't say that numbers which it took lie in their range:
 /// where one didn't, `nothing_asked` holds.
 pub fn run<R: TellingRead + Drop, W: TellingWrite>(
@@ -165,7 +167,7 @@ fn run_decode<R: TellingRead, W: TellingWrite>(
     end_with(Task::Decode, outcome, writer)
 }
 
-/// The place of `encode`, which is not there yet.
+/// Plays the script for its log, and tells its fault.
 fn run_encode<R: TellingRead, W: TellingWrite>(
     alloc: Global,
     programme: Programme,
@@ -177,10 +179,12 @@ fn run_encode<R: TellingRead, W: TellingWrite>(
     ensures { EncodeRuns programme pi dwell (traffic R.remaining R.failures reader.old reader.new)
         (traffic W.contents W.failures writer.old writer.new) result }
 {
-    REFUSED
+    let config = config_of(&programme, pi, dwell);
+    let outcome = encode(alloc, &mut *reader, writer, config);
+    end_with(Task::Encode(programme), outcome, writer)
 }
 
-/// The place of `sim`, which is not there yet.
+/// Plays the script with its receivers, and tells its fault.
 fn run_simulate<R: TellingRead, W: TellingWrite>(
     alloc: Global,
     programme: Programme,
@@ -192,7 +196,24 @@ fn run_simulate<R: TellingRead, W: TellingWrite>(
     ensures { SimulateRuns programme pi dwell (traffic R.remaining R.failures reader.old reader.new)
         (traffic W.contents W.failures writer.old writer.new) result }
 {
-    REFUSED
+    let config = config_of(&programme, pi, dwell);
+    let outcome = simulate(alloc, &mut *reader, writer, config);
+    end_with(Task::Simulate(programme), outcome, writer)
+}
+
+/// The station that the words ask for.
+fn config_of(programme: &Programme, pi: u16, dwell: Dwell) -> Config
+    ensures head { result.head ≡ head_of pi programme.now }
+    ensures dwell { result.dwell ≡ dwell }
+{
+    Config {
+        head: Head {
+            pi,
+            tp: programme.tp,
+            pty: programme.pty,
+        },
+        dwell,
+    }
 }
 
 /// The status that an engine's outcome has; its fault is told.
@@ -214,13 +235,15 @@ fn tell_fault<W: TellingWrite>(task: Task, fault: LogFault, writer: &mut W)
 {
     match fault {
         LogFault::BadLine(number) => tell_numbered(task, b"fault line ", number, writer),
+        LogFault::BadRow(number) => tell_numbered(task, b"fault row ", number, writer),
         LogFault::Read => tell_fault_text(task, b"fault read", writer),
         LogFault::Write => {}
         LogFault::TooLong => tell_fault_text(task, b"fault too long", writer),
+        LogFault::Memory => tell_fault_text(task, b"fault memory", writer),
     }
 }
 
-/// Writes the line of a fault at a numbered line.
+/// Writes the line of a fault at a numbered line or row.
 fn tell_numbered<W: TellingWrite>(task: Task, text: &[u8], number: u64, writer: &mut W)
     requires { length text.now ≤ 32 }
     ensures { TellsFault task (text.now ++ decimal number)
