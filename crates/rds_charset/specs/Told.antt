@@ -1,17 +1,28 @@
 -- A counted read or write either passes bytes and leaves the number of failures alone, or passes none and
--- raises it by one.
+-- raises it by one; each counted read raises the number of reads.
 -- This is the project's own rule. At its greatest number the count can't rise: from there on each call fails.
-use Rattle.std.specs.Prelude.{◌≡◌, ◌⊎◌, ◌<◌, ◌≤◌, ◌+◌, ◌^◌, ◌-◌, ℕ, List, take, length, Option, MatchOption}
+use Rattle.std.proofs.Common.{◌∙◌, Bool, add-one, ap, arith, refl, suc, sym, true, zero}
+use Rattle.std.proofs.lemmas.Bool.Decides.{nat_tests}
+use Rattle.std.specs.Prelude.{◌≡◌, ◌⊎◌, ◌<◌, ◌≤◌, ◌+◌, ◌^◌, ◌-◌, ℕ, List, take, length, Option, MatchOption, nat_lt, if◌then◌else◌}
 use Rattle.std.specs.Io.KnownBytes.{Appends, Consumes, IsAtEnd, Keeps}
 use Rattle.rds_charset.specs.declared.told.Told.{Told}
 
--- the greatest number of failures that is counted
-abbrev pub most_failures : ℕ
-most_failures = 2 ^ 64 - 1
+-- the greatest number of reads and of failures that is counted
+abbrev pub most_counted : ℕ
+most_counted = 2 ^ 64 - 1
+
+-- a count after one more: at its greatest it stays
+abbrev pub next_count : ℕ → ℕ
+next_count n = if nat_lt n most_counted then n + 1 else n
+
+-- and after n more
+unfoldable pub count_after : ℕ → ℕ → ℕ
+count_after before zero = before
+count_after before (suc n) = next_count (count_after before n)
 
 -- a call failed: the number rose by one in it, or stood at its greatest
 abbrev pub Failed : ℕ → ℕ → Type 0
-Failed before after = (after ≡ before + 1) ⊎ ((before ≡ most_failures) × (after ≡ before))
+Failed before after = (after ≡ before + 1) ⊎ ((before ≡ most_counted) × (after ≡ before))
 
 -- what a call did to a reader or a writer: the bytes that the reader had left, or that the writer had taken, and
 -- the number of failures, each before the call and after it
@@ -37,13 +48,13 @@ IsCalm t = t.failures_after ≡ t.failures_before
 -- there is no room
 abbrev pub ReadsOne : Traffic → Option ℕ → List ℕ → Type 0
 ReadsOne t r buf = MatchOption r (HasFailed t × Keeps t.before t.after)
-    (λ n. (t.failures_before < most_failures) × IsCalm t × (n ≤ length buf) × Consumes t.before t.after (take n buf)
+    (λ n. (t.failures_before < most_counted) × IsCalm t × (n ≤ length buf) × Consumes t.before t.after (take n buf)
     × (n ≡ 0 → 0 < length buf → IsAtEnd t.after))
 
 -- one write: it took the first bytes of the piece, at least one if the piece has any
 abbrev pub WritesOne : Traffic → Option ℕ → List ℕ → Type 0
 WritesOne t r buf = MatchOption r (HasFailed t × Keeps t.before t.after)
-    (λ n. (t.failures_before < most_failures) × IsCalm t × (n ≤ length buf) × (0 < length buf → 0 < n)
+    (λ n. (t.failures_before < most_counted) × IsCalm t × (n ≤ length buf) × (0 < length buf → 0 < n)
     × Appends t.before t.after (take n buf))
 
 -- some first part of the bytes went out
@@ -62,3 +73,25 @@ inner_of told = told.inner
 -- how many of its counted reads and writes failed so far
 abbrev pub failures_of : {T : Type 0} → Told T → ℕ
 failures_of told = told.failures
+
+-- how many counted reads there were
+abbrev pub reads_of : {T : Type 0} → Told T → ℕ
+reads_of told = told.reads
+
+-- none, and n and then one more
+pub count_none : (before : ℕ) → before ≡ count_after before 0
+unfolding count_after
+count_none before = refl
+
+pub count_next : (before n now after : ℕ) → now ≡ count_after before n → after ≡ next_count now → after ≡ count_after before (n + 1)
+unfolding count_after
+count_next before n now after had more = more ∙ ap next_count had ∙ sym (ap (count_after before) (add-one n))
+
+-- a count that doesn't reach its greatest tells the number
+pub count_is : (before n : ℕ) → before + n ≤ most_counted → count_after before n ≡ before + n
+unfolding count_after
+count_is before zero room = omega arith
+count_is before (suc n) room =
+    let had : count_after before n ≡ before + n = count_is before n (omega (arith, room)) in
+    let less : nat_lt (before + n) most_counted ≡ true = grind (arith, nat_tests) in
+    ap next_count had ∙ ap (λ (b : Bool). if b then before + n + 1 else before + n) less ∙ omega arith

@@ -1,16 +1,19 @@
 //! Readers and writers that count their failures, so that a program can tell them from an end.
 
 ghost use Rattle.std.specs.Prelude.{◌≡◌, ℕ};
-ghost use Rattle.rds_charset.specs.Told.{failures_of, inner_of, traffic, ReadsOne, WritesOne};
+ghost use Rattle.rds_charset.specs.Told.{failures_of, inner_of, next_count, reads_of, traffic, ReadsOne, WritesOne};
 
 use std::io::{self, Read, Write};
 
-/// A reader that counts the reads of it that failed.
+/// A reader that counts the reads of it, and those that failed.
 ///
-/// A caller that is told `None` knows that the count rose, or that it stood at 2^64 - 1, and a
-/// caller of that caller can find the failure by the count alone.
+/// A caller that is told `None` knows that the count of failures rose, or that it stood at 2^64 - 1,
+/// and a caller of that caller can find the failure by the count alone. By the count of reads it can
+/// find how often it was asked.
 pub trait TellingRead: Read {
     ghost failures: { Self → ℕ };
+
+    ghost reads: { Self → ℕ };
 
     /// Asks the reader once for bytes, and gives how many it put at the front of `buf`.
     ///
@@ -18,7 +21,8 @@ pub trait TellingRead: Read {
     /// from the reader, and what `buf` has is of no use. An interrupted read is a failure too. A
     /// count that stands at 2^64 - 1 can't rise, so then nothing is asked of the reader.
     fn read_one(&mut self, buf: &mut [u8]) -> Option<usize>
-        ensures { ReadsOne (traffic Self.remaining failures self.old self.new) result buf.new };
+        ensures one { ReadsOne (traffic Self.remaining failures self.old self.new) result buf.new }
+        ensures counts { reads self.new ≡ next_count (reads self.old) };
 }
 
 /// A writer that counts the writes to it that failed.
@@ -34,7 +38,7 @@ pub trait TellingWrite: Write {
         ensures { WritesOne (traffic Self.contents failures self.old self.new) result buf.now };
 }
 
-/// A reader or a writer with the number of its failures so far.
+/// A reader or a writer with the number of its failures so far, and of a reader's counted reads.
 ///
 /// Its bytes are those of the reader or writer that it wraps. The plain `read`, `write` and
 /// `flush` pass through it and count nothing.
@@ -42,6 +46,7 @@ pub trait TellingWrite: Write {
 pub struct Told<T> {
     inner: T,
     failures: u64,
+    reads: u64,
 }
 
 impl<T> Told<T> {
@@ -49,8 +54,13 @@ impl<T> Told<T> {
     pub fn new(inner: T) -> Told<T>
         ensures wraps { inner_of result ≡ inner }
         ensures unfailed { failures_of result ≡ 0 }
+        ensures unread { reads_of result ≡ 0 }
     {
-        Told { inner, failures: 0 }
+        Told {
+            inner,
+            failures: 0,
+            reads: 0,
+        }
     }
 
     /// How many calls of `read_one` and `write_one` failed.
@@ -59,6 +69,14 @@ impl<T> Told<T> {
     {
         let Told { failures, .. } = self;
         *failures
+    }
+
+    /// How many calls of `read_one` there were. The count stays at 2^64 - 1 once it is there.
+    pub fn reads(&self) -> u64
+        ensures { result ≡ reads_of self.now }
+    {
+        let Told { reads, .. } = self;
+        *reads
     }
 }
 
@@ -85,7 +103,10 @@ impl<T: Write> Write for Told<T> {
 impl<T: Read> TellingRead for Told<T> {
     ghost failures = { failures_of };
 
+    ghost reads = { reads_of };
+
     fn read_one(&mut self, buf: &mut [u8]) -> Option<usize> {
+        self.reads = self.reads.saturating_add(1);
         if self.failures == u64::MAX {
             return None;
         }
@@ -119,6 +140,8 @@ impl<T: Write> TellingWrite for Told<T> {
 /// A reader that is lent tells its failures too.
 impl<R: TellingRead> TellingRead for &mut R {
     ghost failures = { λ reader. R.failures reader.now };
+
+    ghost reads = { λ reader. R.reads reader.now };
 
     fn read_one(&mut self, buf: &mut [u8]) -> Option<usize> {
         (**self).read_one(buf)

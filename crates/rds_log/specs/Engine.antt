@@ -2,7 +2,7 @@
 -- newest first; r is what a call did to the reader, w what it did to the writer.
 use Rattle.std.specs.Prelude.{◌≡◌, ◌⊎◌, ◌≤◌, ◌++◌, ◌∷◌, ℕ, List, [], All, Ok, Err, Result, length, Option}
 use Rattle.std.specs.Io.KnownBytes.{Appends, Consumes, IsAtEnd}
-use Rattle.rds_charset.specs.Told.{AppendsPrefix, HasFailed, IsCalm, Traffic}
+use Rattle.rds_charset.specs.Told.{AppendsPrefix, HasFailed, IsCalm, Traffic, count_after}
 use Rattle.rds_receiver.specs.Receipts.{Tuning}
 use Rattle.rds_log.specs.LogLines.{AreLines, IsLine, Line, line_feed, text_of}
 use Rattle.rds_log.specs.Decoding.{LinesWrite, LogWrites}
@@ -75,6 +75,13 @@ Decodes t reads r w (Err Read) = StopsBetween t r w 0 × HasFailed r × IsCalm w
 Decodes t reads r w (Err TooLong) = StopsBetween t r w reads × IsCalm r × IsCalm w
 Decodes t reads r w (Err (BadRow n)) = ⊥
 Decodes t reads r w (Err Memory) = ⊥
+
+-- `decode` made so many reads at most, and as many where it gave up
+pub record MadeReads (most before after : ℕ) (result : Result (Unit {0}) LogFault) : Type 0 where
+  pub made : ℕ
+  pub at_most : made ≤ most
+  pub counted : after ≡ count_after before made
+  pub gave_up : result ≡ Err TooLong → made ≡ most
 
 -- the decoder took all of the text, and the output of the lines that it closes was written
 pub record GoesThrough (t : Tuning) (d : Decoder) (text : List ℕ) (w : Traffic) (written : List ℕ) : Type 0 where

@@ -1,10 +1,11 @@
 //! The decoder over a reader and a writer.
-ghost use Rattle.std.specs.Prelude.{◌≡◌, ◌≤◌, ◌<◌, ◌+◌, ◌-◌, ◌^◌, ◌++◌, [], OnOk, length};
+ghost use Rattle.std.specs.Prelude.{◌≡◌, ◌≢◌, ◌≤◌, ◌<◌, ◌+◌, ◌-◌, ◌^◌, ◌++◌, [], Err, OnOk, length};
 ghost use Rattle.rds_charset.specs.Told.{traffic};
 ghost use Rattle.rds_log.specs.Decoding.{tuned};
-ghost use Rattle.rds_log.specs.Engine.{Decodes, EndsWith, Feeds};
+ghost use Rattle.rds_log.specs.Engine.{Decodes, EndsWith, Feeds, MadeReads};
 ghost use Rattle.rds_log.specs.LogLines.{text_of};
 ghost use Rattle.rds_log.specs.Standing.{WhereItStands};
+ghost use Rattle.rds_log.specs.declared.fault.LogFault.TheVariants as faults;
 
 use crate::LogFault;
 use crate::decoder::{Decoder, Output};
@@ -31,9 +32,10 @@ pub fn decode<R: TellingRead, W: TellingWrite>(
     pi: u16,
     dwell: Dwell,
 ) -> Result<(), LogFault>
-    ensures { Decodes (tuned pi dwell) (2 ^ 32)
+    ensures decodes { Decodes (tuned pi dwell) (2 ^ 32)
         (traffic R.remaining R.failures reader.old reader.new)
         (traffic W.contents W.failures writer.old writer.new) result }
+    ensures reads { MadeReads (2 ^ 32) (R.reads reader.old) (R.reads reader.new) result }
 {
     decode_within(reader, writer, pi, dwell, MOST_READS)
 }
@@ -47,9 +49,10 @@ pub fn decode_within<R: TellingRead, W: TellingWrite>(
     reads: u64,
 ) -> Result<(), LogFault>
     requires { reads ≤ 2 ^ 32 }
-    ensures { Decodes (tuned pi dwell) reads
+    ensures decodes { Decodes (tuned pi dwell) reads
         (traffic R.remaining R.failures reader.old reader.new)
         (traffic W.contents W.failures writer.old writer.new) result }
+    ensures reads { MadeReads reads (R.reads reader.old) (R.reads reader.new) result }
 {
     let mut decoder = Decoder::new(pi, dwell);
     let mut output = Output::new();
@@ -80,6 +83,7 @@ fn feed<W: TellingWrite>(
     ensures step { WhereItStands decoder.old (λ t closed begun written. Feeds t decoder.new
         (text_of closed begun ++ piece.now) (traffic W.contents W.failures writer.old writer.new)
         written result) }
+    ensures other_fault { result ≢ Err faults.TooLong }
 {
     let mut at = 0;
     while at < piece.len() {
@@ -100,8 +104,9 @@ fn finish<W: TellingWrite>(
     requires lines { decoder.old.lines < 2 ^ 64 - 1 }
     requires slots { decoder.old.views.slot < 2 ^ 64 - 1 }
     requires empty { output.old ≡ [] }
-    ensures { WhereItStands decoder.old (λ t closed begun written. EndsWith t
+    ensures ends { WhereItStands decoder.old (λ t closed begun written. EndsWith t
         (text_of closed begun) (traffic W.contents W.failures writer.old writer.new) written result) }
+    ensures other_fault { result ≢ Err faults.TooLong }
 {
     let finished = decoder.finish(output);
     put(output.bytes(), writer)?;
