@@ -10,3 +10,4 @@ pub mod Standing
 pub mod Spaced
 pub mod Laws
 pub mod Delivery
+pub mod Known

@@ -12,3 +12,5 @@ pub mod Appending
 pub mod Changes
 pub mod Playing
 pub mod Plays
+pub mod OneEvent
+pub mod OneOutcome

@@ -31,7 +31,7 @@ mod view_lines;
 pub use engine::{decode, decode_within};
 pub use fault::LogFault;
 pub use hexadecimal::word_at;
-pub use laws::bytes_write_one_output;
+pub use laws::{bytes_write_one_output, rows_write_one_output};
 pub use lines::Lines;
 pub use scripts::{encode, encode_within, simulate, simulate_within};
 

@@ -1,7 +1,7 @@
 //! Logs and their output, and readers and writers that are slow, or fail.
 
 use crate::engine::decode_within;
-use crate::{LogFault, bytes_write_one_output, decode};
+use crate::{LogFault, bytes_write_one_output, decode, rows_write_one_output};
 use rds_charset::{TellingRead, Told};
 use rds_fields::Dwell;
 use std::alloc::Global;
@@ -449,8 +449,9 @@ fn reader_fails(rt: HostRuntime) -> Result<(), Fail> {
     Ok(())
 }
 
-/// The law has no body; it is called as any other public function is.
+/// The laws have no body of their own; they are called as any other public function is.
 #[test]
 fn one_output() {
     bytes_write_one_output();
+    rows_write_one_output();
 }
