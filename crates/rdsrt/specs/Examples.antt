@@ -18,8 +18,8 @@ pub record AreNotTaken (words : List Text) : Type 0 where
   pub taken : takes whole_app words ≡ false
   pub refused : AreRefused words
 
-abbrev pub decoding : ℕ → Asked
-decoding dwell = record { task = Decode; pi = codes "C201"; dwell = dwell }
+abbrev pub decoding : Text → ℕ → Asked
+decoding pi dwell = record { task = Decode; pi = pi; dwell = dwell }
 
 abbrev pub encoding : ℕ → ℕ → Asked
 encoding dwell pty = record { task = Encode (record { pty = pty; tp = false }); pi = codes "C201"; dwell = dwell }

@@ -3,16 +3,17 @@ ghost use Rattle.std.specs.Prelude.{codes, false, true};
 ghost use Rattle.rdsrt.specs.CommandLine.{AskFor, AskForHelp};
 ghost use Rattle.rdsrt.specs.Examples.{AreNotTaken, decoding, encoding, simulating, words_of};
 
-/// The examples' words are taken and ask for what they say: the definition is no empty one. A dwell of 0
+/// The words of README's examples are taken and ask for what they say: the definition is no empty one. A dwell of 0
 /// slots, a programme type of 32, a subcommand with no programme and no subcommand are refused. Help and the
 /// version are answered.
 pub fn words_of_the_examples()
-    ensures decode { AskFor (words_of (codes "rdsrt decode --pi C201")) (decoding 128) }
-    ensures decode_dwell { AskFor (words_of (codes "rdsrt decode --pi C201 --m 4")) (decoding 4) }
-    ensures decode_spelling { AskFor (words_of (codes "rdsrt decode --m=+004 --pi=C201")) (decoding 4) }
-    ensures encode { AskFor (words_of (codes "rdsrt encode --pi C201 --pty 10")) (encoding 128 10) }
-    ensures encode_dwell { AskFor (words_of (codes "rdsrt encode --pi C201 --m 1 --pty 10")) (encoding 1 10) }
-    ensures sim { AskFor (words_of (codes "rdsrt sim --pi C201 --pty 10 --m 4")) (simulating 4 10 false) }
+    ensures decode { AskFor (words_of (codes "rdsrt decode --pi C201")) (decoding (codes "C201") 128) }
+    ensures decode_other { AskFor (words_of (codes "rdsrt decode --pi F201")) (decoding (codes "F201") 128) }
+    ensures decode_dwell { AskFor (words_of (codes "rdsrt decode --pi C201 --m 8")) (decoding (codes "C201") 8) }
+    ensures decode_spelling { AskFor (words_of (codes "rdsrt decode --m=+004 --pi=C201"))
+        (decoding (codes "C201") 4) }
+    ensures encode { AskFor (words_of (codes "rdsrt encode --pi C201 --pty 10 --m 8")) (encoding 8 10) }
+    ensures sim { AskFor (words_of (codes "rdsrt sim --pi C201 --pty 24 --m 8")) (simulating 8 24 false) }
     ensures sim_tp { AskFor (words_of (codes "rdsrt sim --pi C201 --pty 10 --tp")) (simulating 128 10 true) }
     ensures help { AskForHelp (words_of (codes "rdsrt --help")) }
     ensures help_of_one { AskForHelp (words_of (codes "rdsrt decode --help")) }

@@ -6,10 +6,10 @@ pub returns : goal.returns
 unfolding clap_on_literals
 returns c = record {
   decode = record { taken = refl; ask = refl };
+  decode_other = record { taken = refl; ask = refl };
   decode_dwell = record { taken = refl; ask = refl };
   decode_spelling = record { taken = refl; ask = refl };
   encode = record { taken = refl; ask = refl };
-  encode_dwell = record { taken = refl; ask = refl };
   sim = record { taken = refl; ask = refl };
   sim_tp = record { taken = refl; ask = refl };
   help = refl;
