@@ -17,3 +17,9 @@ pub mod WorkedRows
 pub mod SentWhole
 pub mod HeldWhole
 pub mod Delivered
+pub mod Sending
+pub mod Keeping
+pub mod Matching
+pub mod Planning
+pub mod Among
+pub mod Audited

@@ -4,7 +4,7 @@ use Rattle.std.specs.List.{All, AllZip}
 use Rattle.rds_block.specs.declared.group.Group.{Group}
 use Rattle.rds_fields.specs.declared.head.Head.{Head}
 use Rattle.rds_fields.specs.declared.message.Message.{Message}
-use Rattle.rds_encoder.specs.Laws.{ANumberNamesOne, SpacedAreFarApart, SpacedAreInOrder, SpacedOfOneFlagAreFarApart}
+use Rattle.rds_encoder.specs.Laws.{ANumberIsBelowTheLength, ANumberNamesOne, SpacedAreFarApart, SpacedAreInOrder, SpacedOfOneFlagAreFarApart}
 use Rattle.rds_encoder.specs.Plan.{Broadcast}
 use Rattle.rds_encoder.specs.Sent.{IsSent}
 use Rattle.rds_encoder.specs.Spaced.{IsSpaced}
@@ -15,9 +15,11 @@ use Rattle.rds_world.specs.Plans.{AreLawful, Plans}
 use Rattle.rds_world.specs.Safe.{AreSafe, Listener, ListensTo}
 use Rattle.rds_world.specs.Source.{IsSource}
 
--- what holds of the broadcasts of all plans: a number names one, and spaced ones stand in order and far apart
+-- what holds of the broadcasts of all plans: a number names one and is below their number, and spaced ones stand
+-- in order and far apart
 pub record PlanLaws : Type 0 where
   pub one : ANumberNamesOne
+  pub below : ANumberIsBelowTheLength
   pub order : SpacedAreInOrder
   pub far : SpacedAreFarApart
   pub one_flag : SpacedOfOneFlagAreFarApart

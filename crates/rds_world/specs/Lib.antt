@@ -13,3 +13,12 @@ pub mod Standing
 pub mod Station
 pub mod SafeSlots
 pub mod Delivery
+pub mod Dense
+pub mod Members
+pub mod Reigns
+pub mod Rules
+pub mod Lengths
+pub mod Ages
+pub mod AuditState
+pub mod AuditStanding
+pub mod AuditLaws

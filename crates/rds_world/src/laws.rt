@@ -20,7 +20,7 @@ pub fn one_source()
 }
 
 // What rds_encoder's laws say of all plans, as one record.
-fn plan_laws()
+pub(crate) fn plan_laws()
     ensures { PlanLaws }
 {
     broadcasts_are_spaced();

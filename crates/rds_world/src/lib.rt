@@ -5,8 +5,12 @@
 //! within the last dwell.
 #![tactic(auto)]
 
+mod ages;
+mod audit_fault;
+mod audit_laws;
 mod event;
 mod laws;
+mod lengths;
 mod receivers;
 mod reply;
 mod slots;
@@ -14,10 +18,14 @@ mod station;
 mod station_laws;
 mod world;
 
+pub use ages::Ages;
+pub use audit_fault::AuditFault;
+pub use audit_laws::{broadcasts_are_the_reigns, passes_by_plans, what_passes_is_safe};
 pub use event::{Command, Reception, SlotEvent};
 pub use laws::{
     groups_listen, late_as_messages, on_time, one_source, safe_by_plans, the_dwell_is_the_least,
 };
+pub use lengths::Lengths;
 pub use reply::{Answer, Reply, StepRefused, WorldRefused};
 pub use slots::{PlayRefused, play};
 pub use station_laws::{on_air_is_delivered, only_what_was_on_air_is_shown, the_encoder_is_lawful};

@@ -6,6 +6,7 @@ laws_of : goal.After-on_air_is_sent_whole → DeliveryLaws
 laws_of c =
     let plan : PlanLaws = record {
       one = c.numbers_name_broadcasts.ensures.one;
+      below = c.numbers_name_broadcasts.ensures.below;
       order = c.broadcasts_are_spaced.ensures.order;
       far = c.broadcasts_are_spaced.ensures.far;
       one_flag = c.broadcasts_are_spaced.ensures.one_flag;
