@@ -11,7 +11,7 @@ use Rattle.rds_world.specs.AuditLaws.{SomeReign}
 use Rattle.rds_world.specs.Dense.{HasPieceBefore, HasPlan, IsBridged, IsMarked}
 use Rattle.rds_world.specs.Lawful.{HasOne, HasPiece, HasTags, IsPieceOf, Kind}
 use Rattle.rds_world.specs.Marks.{IsSent, Mark, Nothing, Sends, Tagged}
-use Rattle.rds_world.specs.Members.{IsIn, all_in}
+use Rattle.rds_world.proofs.Members.{IsIn, all_in}
 use Rattle.rds_world.specs.Reigns.{Reign, SentTags, after_piece, after_tags, joins, past_newest, reigns, start_after, with_piece}
 use Rattle.rds_world.specs.Rules.{CanBeBroadcast, Passes}
 use Rattle.rds_world.proofs.Keeping.{AreKept, IsBehind, Keeps, keeps}

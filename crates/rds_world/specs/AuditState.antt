@@ -2,7 +2,6 @@
 use Rattle.std.specs.Prelude.{◌≡◌, ◌≤◌, ◌<◌, ◌⊎◌, ◌==◌, ℕ, Bool, true, List, Option, Some, None, is_some, max, refl, replicate, slice_index_or, slice_set, if◌then◌else◌}
 use Rattle.std.specs.Coded.{Coded, code_by, coded×, coded_ℕ, coded_bool, coded_list, coded_option}
 use Rattle.rds_fields.specs.Tag.{PairFields}
-use Rattle.rds_receiver.specs.Receipts.{Piece}
 use Rattle.rds_world.specs.declared.ages.Ages.{Ages}
 use Rattle.rds_world.specs.declared.audit_fault.AuditFault.{AuditFault}
 use Rattle.rds_world.specs.declared.audit_fault.AuditFault.TheVariants.{Changed, NotOneText, EarlyFlag, EarlyTag, TagOutside}
@@ -37,40 +36,44 @@ no_content longest = record { cells = replicate 16 None; lengths = record { leas
 abbrev pub cell_at : ℕ → ContentState → Option (List ℕ)
 cell_at a c = slice_index_or c.cells a None
 
--- the piece can stand beside what is held
-pub record CanTake (allowed : Option Lengths) (p : Piece) (c : ContentState) : Type 0 where
-  pub unchanged : (cell_at p.address c ≡ None) ⊎ (cell_at p.address c ≡ Some p.bytes)
+-- the address holds nothing, or these bytes
+abbrev pub HoldsNoOther : ℕ → List ℕ → ContentState → Type 0
+HoldsNoOther address bytes c = (cell_at address c ≡ None) ⊎ (cell_at address c ≡ Some bytes)
+
+-- some length is in both ranges
+pub record HasRoom (allowed : Option Lengths) (l : Lengths) : Type 0 where
   pub some : is_some allowed ≡ true
-  pub room : (narrowed allowed c.lengths).least ≤ (narrowed allowed c.lengths).most
+  pub room : (narrowed allowed l).least ≤ (narrowed allowed l).most
+
+-- these bytes, which allow such lengths, can be sent at the address beside what is held
+pub record CanTake (allowed : Option Lengths) (address : ℕ) (bytes : List ℕ) (c : ContentState) : Type 0 where
+  pub unchanged : HoldsNoOther address bytes c
+  pub lengths : HasRoom allowed c.lengths
   pub ends : c.tags_end ≤ (narrowed allowed c.lengths).most
 
--- why it can't: its address holds other bytes; no length is left; or one is, and a tag ends past each
-abbrev pub CannotTake : Option Lengths → Piece → ContentState → AuditFault → Type 0
-CannotTake allowed p c Changed = ((cell_at p.address c ≡ None) ⊎ (cell_at p.address c ≡ Some p.bytes)) → ⊥
-CannotTake allowed p c NotOneText =
-    ((cell_at p.address c ≡ None) ⊎ (cell_at p.address c ≡ Some p.bytes))
-    × ((is_some allowed ≡ true) × ((narrowed allowed c.lengths).least ≤ (narrowed allowed c.lengths).most) → ⊥)
-CannotTake allowed p c TagOutside =
-    ((cell_at p.address c ≡ None) ⊎ (cell_at p.address c ≡ Some p.bytes)) × (is_some allowed ≡ true)
-    × ((narrowed allowed c.lengths).least ≤ (narrowed allowed c.lengths).most) × ((narrowed allowed c.lengths).most < c.tags_end)
-CannotTake allowed p c EarlyFlag = ⊥
-CannotTake allowed p c EarlyTag = ⊥
+-- why they can't: the address holds others; no length is left; or one is, and a tag ends past all that are
+abbrev pub CannotTake : Option Lengths → ℕ → List ℕ → ContentState → AuditFault → Type 0
+CannotTake allowed address bytes c Changed = HoldsNoOther address bytes c → ⊥
+CannotTake allowed address bytes c NotOneText = HoldsNoOther address bytes c × (HasRoom allowed c.lengths → ⊥)
+CannotTake allowed address bytes c TagOutside = HoldsNoOther address bytes c × HasRoom allowed c.lengths × ((narrowed allowed c.lengths).most < c.tags_end)
+CannotTake allowed address bytes c EarlyFlag = ⊥
+CannotTake allowed address bytes c EarlyTag = ⊥
 
--- the content with one more piece
-abbrev pub taken : Option Lengths → Piece → ContentState → ContentState
-taken allowed p c = record { cells = slice_set c.cells p.address (Some p.bytes); lengths = narrowed allowed c.lengths; tags_end = c.tags_end }
+-- the content with four more bytes at an address
+abbrev pub taken : Option Lengths → ℕ → List ℕ → ContentState → ContentState
+taken allowed address bytes c = record { cells = slice_set c.cells address (Some bytes); lengths = narrowed allowed c.lengths; tags_end = c.tags_end }
 
 -- the content with one more pair of tags
 abbrev pub tagged : PairFields → ContentState → ContentState
 tagged pair c = record { cells = c.cells; lengths = c.lengths; tags_end = max c.tags_end (pair_end pair) }
 
 -- the state once a piece joined the current reign
-abbrev pub joined_state : Option Lengths → Piece → ReignsState → ReignsState
-joined_state allowed p st = record { ages = record st.ages { since_last = 0 }; content = taken allowed p st.content }
+abbrev pub joined_state : Option Lengths → ℕ → List ℕ → ReignsState → ReignsState
+joined_state allowed address bytes st = record { ages = record st.ages { since_last = 0 }; content = taken allowed address bytes st.content }
 
--- the state once a piece opened a reign
-abbrev pub opened_state : ℕ → ℕ → Option Lengths → Piece → ReignsState → ReignsState
-opened_state d longest allowed p st = record { ages = record (opened_ages d p.flag st.ages) { since_last = 0 }; content = taken allowed p (no_content longest) }
+-- the state in which a piece opens a reign
+abbrev pub opened_state : ℕ → ℕ → Bool → ReignsState → ReignsState
+opened_state d longest flag st = record { ages = opened_ages d flag st.ages; content = no_content longest }
 
 -- the state once tags were sent
 abbrev pub tagged_state : PairFields → ReignsState → ReignsState

@@ -26,17 +26,17 @@ lengths_from i (b ∷ bs) =
     then (if are_spaces bs then Some record { least = i; most = i } else None)
     else if is_text_byte b then lengths_from (i + 1) bs else None
 
--- the lengths of a text that has the piece; none where no text has it
-abbrev pub text_lengths : Piece → Option Lengths
-text_lengths p = lengths_from (4 * p.address) p.bytes
+-- the lengths of a text that has these bytes at the address; none where no text has them
+abbrev pub text_lengths : ℕ → List ℕ → Option Lengths
+text_lengths address bytes = lengths_from (4 * address) bytes
 
 abbrev pub are_name_bytes : List ℕ → Bool
 are_name_bytes [] = true
 are_name_bytes (b ∷ bs) = is_name_byte b && are_name_bytes bs
 
--- the lengths of a name that has the piece: a name has eight bytes
-abbrev pub name_lengths : Piece → Option Lengths
-name_lengths p = if are_name_bytes p.bytes then Some record { least = 8; most = 8 } else None
+-- the lengths of a name that has these bytes: a name has eight bytes
+abbrev pub name_lengths : ℕ → List ℕ → Option Lengths
+name_lengths address bytes = if are_name_bytes bytes then Some record { least = 8; most = 8 } else None
 
 -- the lengths in both ranges
 abbrev pub narrowed : Option Lengths → Lengths → Lengths
@@ -44,9 +44,9 @@ narrowed None l = l
 narrowed (Some k) l = record { least = max l.least k.least; most = min l.most k.most }
 
 -- the lengths that all pieces allow
-abbrev pub lengths_of : (Piece → Option Lengths) → ℕ → List Piece → Lengths
+abbrev pub lengths_of : (ℕ → List ℕ → Option Lengths) → ℕ → List Piece → Lengths
 lengths_of allowed longest [] = record { least = 0; most = longest }
-lengths_of allowed longest (p ∷ older) = narrowed (allowed p) (lengths_of allowed longest older)
+lengths_of allowed longest (p ∷ older) = narrowed (allowed p.address p.bytes) (lengths_of allowed longest older)
 
 -- where a tag ends: the dummy, of class 0, ends in every text
 abbrev pub tag_end : TagFields → ℕ
@@ -66,9 +66,9 @@ sent_at a [] = None
 sent_at a (p ∷ older) = if a == p.address then Some p.bytes else sent_at a older
 
 -- some length is allowed by each piece, and reaches the ends of the tags
-pub record AreMeasured (allowed : Piece → Option Lengths) (longest : ℕ) (pieces : List Piece) (tags : List SentTags) : Type 0 where
+pub record AreMeasured (allowed : ℕ → List ℕ → Option Lengths) (longest : ℕ) (pieces : List Piece) (tags : List SentTags) : Type 0 where
   pub unchanged : AreUnchanged pieces
-  pub each : AllByRecursion (λ (p : Piece). is_some (allowed p) ≡ true) pieces
+  pub each : AllByRecursion (λ (p : Piece). is_some (allowed p.address p.bytes) ≡ true) pieces
   pub room : (lengths_of allowed longest pieces).least ≤ (lengths_of allowed longest pieces).most
   pub ends : tags_end tags ≤ (lengths_of allowed longest pieces).most
 
@@ -79,12 +79,12 @@ pub record IsFormed (segments : ℕ) (p : Piece) : Type 0 where
   pub fits : (k : ℕ) → slice_index p.bytes k < 256
 
 -- how a service is audited: what its values are, how many addresses there are, how long a value can be, and
--- which lengths a piece allows
+-- which lengths four bytes at an address allow
 pub record Gauge : Type 1 where
   pub kind : Kind
   pub segments : ℕ
   pub longest : ℕ
-  pub allowed : Piece → Option Lengths
+  pub allowed : ℕ → List ℕ → Option Lengths
 
 -- the gauge is exact: pieces and tags have one value exactly where they measure so, and then the pieces are
 -- formed

@@ -14,7 +14,6 @@ pub mod Station
 pub mod SafeSlots
 pub mod Delivery
 pub mod Dense
-pub mod Members
 pub mod Reigns
 pub mod Rules
 pub mod Lengths

@@ -58,13 +58,20 @@ IsBrokenByPiece kind (r ∷ older) NotOneText = (r.start ≤ r.opened) × AreUnc
 IsBrokenByPiece kind (r ∷ older) TagOutside = (r.start ≤ r.opened) × HaveOneValue kind r.pieces [] × (HaveOneValue kind r.pieces r.tags → ⊥)
 IsBrokenByPiece kind (r ∷ older) EarlyTag = ⊥
 
--- the rule that tags break first, by the reigns that they leave: there is no reign, or its text has not lasted
--- for d slots; else one of them ends past each text of the reign
+-- tags come too early: there is no reign, or its text has not lasted for d slots
+abbrev pub ComeEarly : ℕ → ℕ → List Reign → Type 0
+ComeEarly d slot [] = Unit {0}
+ComeEarly d slot (r ∷ older) = slot < r.start + d
+
+-- one of the reign's tags ends past each value that has its pieces
+abbrev pub EndOutside : Kind → List Reign → Type 0
+EndOutside kind [] = ⊥
+EndOutside kind (r ∷ older) = HaveOneValue kind r.pieces r.tags → ⊥
+
+-- the rule that tags break first, by the reigns that they leave
 abbrev pub IsBrokenByTags : ℕ → Kind → ℕ → List Reign → AuditFault → Type 0
-IsBrokenByTags d kind slot [] EarlyTag = Unit {0}
-IsBrokenByTags d kind slot (r ∷ older) EarlyTag = slot < r.start + d
-IsBrokenByTags d kind slot [] TagOutside = ⊥
-IsBrokenByTags d kind slot (r ∷ older) TagOutside = (r.start + d ≤ slot) × (HaveOneValue kind r.pieces r.tags → ⊥)
+IsBrokenByTags d kind slot rs EarlyTag = ComeEarly d slot rs
+IsBrokenByTags d kind slot rs TagOutside = (ComeEarly d slot rs → ⊥) × EndOutside kind rs
 IsBrokenByTags d kind slot rs Changed = ⊥
 IsBrokenByTags d kind slot rs NotOneText = ⊥
 IsBrokenByTags d kind slot rs EarlyFlag = ⊥

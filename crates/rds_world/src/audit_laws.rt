@@ -1,5 +1,5 @@
 //! What holds of all logs that are audited.
-ghost use Rattle.rds_world.specs.AuditLaws.{BroadcastsAreTheReigns, PassesExactlyByPlans, WhatPassesIsSafe, WhatPassesIsSafeOnTime};
+ghost use Rattle.rds_world.specs.AuditLaws.{ALogHasOneFault, BroadcastsAreTheReigns, PassesExactlyByPlans, WhatHasAFaultDoesNotPass, WhatPassesIsSafe, WhatPassesIsSafeOnTime};
 ghost use Rattle.rds_world.specs.Lawful.{names, texts};
 
 use crate::laws::plan_laws;
@@ -27,4 +27,12 @@ pub fn what_passes_is_safe()
 {
     passes_by_plans();
     safe_by_plans();
+}
+
+/// A log that has a fault does not pass, and it has one.
+pub fn one_fault()
+    ensures fails { WhatHasAFaultDoesNotPass }
+    ensures one { ALogHasOneFault }
+{
+    passes_by_plans();
 }

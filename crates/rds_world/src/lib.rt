@@ -8,6 +8,8 @@
 mod ages;
 mod audit_fault;
 mod audit_laws;
+mod audited;
+mod content;
 mod event;
 mod laws;
 mod lengths;
@@ -20,7 +22,8 @@ mod world;
 
 pub use ages::Ages;
 pub use audit_fault::AuditFault;
-pub use audit_laws::{broadcasts_are_the_reigns, passes_by_plans, what_passes_is_safe};
+pub use audit_laws::{broadcasts_are_the_reigns, one_fault, passes_by_plans, what_passes_is_safe};
+pub use audited::{Audited, Names, Texts};
 pub use event::{Command, Reception, SlotEvent};
 pub use laws::{
     groups_listen, late_as_messages, on_time, one_source, safe_by_plans, the_dwell_is_the_least,

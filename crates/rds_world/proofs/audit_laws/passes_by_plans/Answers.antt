@@ -1,4 +1,4 @@
-use Rattle.rds_world.proofs.Audited.{passes_by_plans}
+use Rattle.rds_world.proofs.PassedLogs.{passes_by_plans}
 use Rattle.rds_world.proofs.audit_laws.passes_by_plans.Goals as goal
 
 pub returns : goal.returns

@@ -1,4 +1,4 @@
-use Rattle.rds_world.proofs.Audited.{safe_log, safe_on_time}
+use Rattle.rds_world.proofs.PassedLogs.{safe_log, safe_on_time}
 use Rattle.rds_world.proofs.audit_laws.what_passes_is_safe.Goals as goal
 
 pub returns-clause-late : goal.returns-clause-late
