@@ -34,3 +34,4 @@ pub mod AgeSteps
 pub mod ContentSteps
 pub mod ReignSteps
 pub mod Faults
+pub mod AuditSteps

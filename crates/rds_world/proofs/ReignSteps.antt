@@ -1,5 +1,6 @@
 -- What is held of a service as it goes on from slot to slot.
-use Rattle.std.proofs.Common.{◌≡◌, ◌+◌, ◌<◌, ◌≤◌, ℕ, true, false, nat_lt, List, [], ◌∷◌, length, refl, sym, subst, inl, inr, arith}
+use Rattle.std.proofs.Common.{◌≡◌, ◌+◌, ◌<◌, ◌≤◌, ℕ, true, false, nat_lt, List, [], ◌∷◌, length, refl, sym, ap, ◌∙◌, subst, inl, inr, arith}
+use Rattle.std.specs.Prelude.{IfOk, Result, Ok, Err}
 use Rattle.std.specs.List.{AllByRecursion}
 use Rattle.std.proofs.lemmas.Bool.{and_parts, cond_both, lt-ltb, ltb-true}
 use Rattle.rds_fields.specs.Tag.{PairFields}
@@ -11,7 +12,7 @@ use Rattle.rds_world.specs.declared.audit_fault.AuditFault.{AuditFault}
 use Rattle.rds_world.specs.declared.audit_fault.AuditFault.TheVariants.{EarlyFlag, EarlyTag, TagOutside}
 use Rattle.rds_world.specs.Ages.{HasLasted, HoldsAges, IsEarly, Joins, aged}
 use Rattle.rds_world.specs.AuditStanding.{HoldsContent, HoldsMarks, HoldsNewest, pieces_of, tags_of}
-use Rattle.rds_world.specs.AuditState.{CanTake, CannotTake, ReignsState, joined_state, no_content, opened_state, tagged_state}
+use Rattle.rds_world.specs.AuditState.{CanTake, CannotTake, ContentState, ReignsState, joined_state, no_content, opened_state, tagged_state}
 use Rattle.rds_world.specs.Lawful.{Kind}
 use Rattle.rds_world.specs.Lengths.{Gauge, IsExact, IsFormed, pair_end}
 use Rattle.rds_world.specs.Marks.{Mark, Nothing, Sends, Tagged}
@@ -196,3 +197,15 @@ nothing_yet g d pos = record {
   content = empty_content g;
   passes = record { reigns = tt; tagged = λ t pair s. absurd s };
 }
+
+-- a state by its two parts
+pub state_is : (after : ReignsState) (ages : Ages) (content : ContentState) → after.ages ≡ ages → after.content ≡ content → after ≡ record { ages = ages; content = content }
+state_is after ages content e f = ap (λ (x : Ages). both x after.content) e ∙ ap (λ (x : ContentState). both ages x) f
+  where
+    both : Ages → ContentState → ReignsState
+    both x y = record { ages = x; content = y }
+
+-- what follows from two facts of an answer
+pub ok_by_both : {X Y : Type 0} (r : Result X Y) (P Q R : X → Type 0) → ((x : X) → P x → Q x → R x) → IfOk r P → IfOk r Q → IfOk r R
+ok_by_both (Ok x) P Q R f p q = f x p q
+ok_by_both (Err y) P Q R f p q = tt

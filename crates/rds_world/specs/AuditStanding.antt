@@ -60,3 +60,7 @@ pub record AuditStandsAt (pi d : ℕ) (a : AuditState) (log : List (Option Group
   pub heard : List (Option Message)
   pub are : AreHeard pi log heard
   pub holds : MatchOption a.fault (HoldsLog d heard a) (λ fault. IsFaultOf d heard fault)
+
+-- wherever the audit stands, this holds of its number of slots and of what was heard
+abbrev pub WhereTheAuditStands : AuditState → (ℕ → List (Option Message) → Type 0) → Type 0
+WhereTheAuditStands a Holds = (pi d : ℕ) (log : List (Option Group)) (s : AuditStandsAt pi d a log) → Holds d s.heard

@@ -6,6 +6,7 @@
 #![tactic(auto)]
 
 mod ages;
+mod audit;
 mod audit_fault;
 mod audit_laws;
 mod audited;
@@ -14,6 +15,7 @@ mod event;
 mod laws;
 mod lengths;
 mod receivers;
+mod reigns;
 mod reply;
 mod slots;
 mod station;
@@ -21,6 +23,7 @@ mod station_laws;
 mod world;
 
 pub use ages::Ages;
+pub use audit::Audit;
 pub use audit_fault::AuditFault;
 pub use audit_laws::{broadcasts_are_the_reigns, one_fault, passes_by_plans, what_passes_is_safe};
 pub use audited::{Audited, Names, Texts};

@@ -1,0 +1,176 @@
+//! The audit of a log.
+ghost use Rattle.std.specs.Prelude.{◌≡◌, ◌+◌, ◌≤◌, ◌↔◌, ℕ, List, [], ◌∷◌, Option, Some, None, Ok, Err, IsErr, IsTrue, IfOk, IfErr, MatchResult};
+ghost use Rattle.rds_block.specs.declared.group.Group.{Group};
+ghost use Rattle.rds_fields.specs.declared.message.Message.{Message};
+ghost use Rattle.rds_receiver.specs.Receipts.{Hears};
+ghost use Rattle.rds_world.specs.declared.audit_fault.AuditFault.{AuditFault};
+ghost use Rattle.rds_world.specs.AuditLaws.{IsSafeOnTime};
+ghost use Rattle.rds_world.specs.AuditStanding.{AuditStandsAt, HoldsLog, HoldsSlot, WhereTheAuditStands};
+ghost use Rattle.rds_world.specs.Dense.{HasPlans};
+ghost use Rattle.rds_world.specs.Rules.{BreaksFirst, IsFaultOf, LogPasses};
+
+use crate::audited::{Names, Texts};
+use crate::reigns::Reigns;
+use crate::{AuditFault, one_fault, passes_by_plans, what_passes_is_safe};
+use rds_block::Group;
+use rds_fields::{Dwell, Message};
+use std::marker::Model;
+
+/// The audit of a log: what a station sent, slot by slot. It passes the log where some texts and names of a
+/// station that keeps them apart by the dwell could have been sent so.
+///
+/// It holds ages that stop at a limit and no slot numbers, so it takes any number of slots. `AuditStandsAt` is
+/// the relation between an audit and its log: a new one stands at the empty log, and each `slot` goes on to the
+/// log with that slot.
+#[derive(Drop)]
+pub struct Audit {
+    pi: u16,
+    dwell: u32,
+    text: Reigns<Texts>,
+    name: Reigns<Names>,
+    fault: Option<AuditFault>,
+}
+
+impl Model for Audit {
+    ghost use Rattle.std.specs.Prelude.{◌<◌, ◌≤◌};
+    ghost use Rattle.rds_world.specs.AuditState.{AuditState, audit_code};
+
+    ghost Value = { AuditState };
+
+    ghost coded = { audit_code };
+
+    ghost view = { λ a. record {
+      programme = a.pi;
+      dwell = a.dwell;
+      text = a.text;
+      name = a.name;
+      fault = a.fault;
+    } };
+
+    ghost invariant = { λ a. (0 < a.dwell) × (a.dwell ≤ 131072) };
+}
+
+impl Audit {
+    /// The audit of this programme before the first slot.
+    pub fn new(pi: u16, dwell: Dwell) -> Audit
+        ensures stands { AuditStandsAt pi dwell result [] }
+        ensures passed { result.fault ≡ None }
+    {
+        let dwell = u32::from(dwell.get());
+        Audit {
+            pi,
+            dwell,
+            text: Reigns::new(dwell),
+            name: Reigns::new(dwell),
+            fault: None,
+        }
+    }
+
+    /// Takes the next slot: the group that was sent in it, or nothing. A group of another programme counts as
+    /// nothing. After a fault every call answers that fault again and changes nothing.
+    pub fn slot(&mut self, group: Option<Group>) -> Result<(), AuditFault>
+        ensures stands { (pi d : ℕ) (log : List (Option Group))
+            → AuditStandsAt pi d self.old log → AuditStandsAt pi d self.new (group ∷ log) }
+        ensures fault { MatchResult result
+            (λ _. self.new.fault ≡ None) (λ fault. self.new.fault ≡ Some fault) }
+        ensures which { WhereTheAuditStands self.new (λ d heard.
+            MatchResult result (λ _. LogPasses d heard) (λ fault. IsFaultOf d heard fault)) }
+        ensures again { (fault : AuditFault) → self.old.fault ≡ Some fault
+            → (result ≡ Err fault) × (self.new ≡ self.old) }
+    {
+        // the law by which a fault stays one
+        passes_by_plans();
+        let message = self.heard(group);
+        if let Some(fault) = self.fault {
+            return Err(fault);
+        }
+        if let Err(fault) = self.judge(message) {
+            self.fault = Some(fault);
+            return Err(fault);
+        }
+        self.end_slot();
+        Ok(())
+    }
+
+    /// Whether the log passes so far.
+    pub fn passed(&self) -> bool
+        ensures fault { IsTrue result ↔ (self.now.fault ≡ None) }
+        ensures passes { WhereTheAuditStands self.now (λ d heard. IsTrue result ↔ LogPasses d heard) }
+        ensures plans { WhereTheAuditStands self.now (λ d heard. IsTrue result ↔ HasPlans d heard) }
+        ensures safe { WhereTheAuditStands self.now (λ d heard. IsTrue result → IsSafeOnTime d heard) }
+    {
+        // the laws by which `plans` and `safe` hold
+        one_fault();
+        passes_by_plans();
+        what_passes_is_safe();
+        self.fault.is_none()
+    }
+
+    /// The message of this programme in a slot.
+    fn heard(&self, group: Option<Group>) -> Option<Message>
+        ensures { Hears self.now.programme group result }
+    {
+        let group = group?;
+        if group.pi != self.pi {
+            return None;
+        }
+        Some(Message::of(&group))
+    }
+
+    /// Takes what was sent in this slot.
+    fn judge(&mut self, message: Option<Message>) -> Result<(), AuditFault>
+        ensures programme { self.new.programme ≡ self.old.programme }
+        ensures dwell { self.new.dwell ≡ self.old.dwell }
+        ensures fault { self.new.fault ≡ self.old.fault }
+        ensures holds { (heard : List (Option Message)) → HoldsLog self.old.dwell heard self.old
+            → IfOk result (λ _. HoldsSlot self.old.dwell message heard self.new) }
+        ensures breaks { (heard : List (Option Message)) → HoldsLog self.old.dwell heard self.old
+            → IfErr result (λ fault. BreaksFirst self.old.dwell message heard fault) }
+    {
+        match message {
+            Some(message) => self.hear(message),
+            None => Ok(()),
+        }
+    }
+
+    /// Takes a message that was sent in this slot.
+    fn hear(&mut self, message: Message) -> Result<(), AuditFault>
+        ensures programme { self.new.programme ≡ self.old.programme }
+        ensures dwell { self.new.dwell ≡ self.old.dwell }
+        ensures fault { self.new.fault ≡ self.old.fault }
+        ensures holds { (heard : List (Option Message)) → HoldsLog self.old.dwell heard self.old
+            → IfOk result (λ _. HoldsSlot self.old.dwell (Some message) heard self.new) }
+        ensures breaks { (heard : List (Option Message)) → HoldsLog self.old.dwell heard self.old
+            → IfErr result (λ fault. BreaksFirst self.old.dwell (Some message) heard fault) }
+    {
+        let dwell = self.dwell;
+        match message {
+            Message::Text {
+                flag,
+                address,
+                bytes,
+            } => self.text.take(dwell, flag, address.get(), bytes),
+            Message::Name {
+                flag,
+                address,
+                bytes,
+            } => self.name.take(dwell, flag, address.get(), bytes),
+            Message::Tags(pair) => self.text.take_tags(dwell, pair),
+            Message::Announce { .. } | Message::Other => Ok(()),
+        }
+    }
+
+    /// The slot ends.
+    fn end_slot(&mut self)
+        ensures programme { self.new.programme ≡ self.old.programme }
+        ensures dwell { self.new.dwell ≡ self.old.dwell }
+        ensures fault { self.new.fault ≡ self.old.fault }
+        ensures holds { (heard : List (Option Message)) (message : Option Message)
+            → HoldsSlot self.old.dwell message heard self.old
+            → HoldsLog self.old.dwell (message ∷ heard) self.new }
+    {
+        let dwell = self.dwell;
+        self.text.grow_older(dwell);
+        self.name.grow_older(dwell);
+    }
+}

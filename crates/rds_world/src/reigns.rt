@@ -1,0 +1,125 @@
+//! The reigns of a service.
+ghost use Rattle.std.specs.Prelude.{◌≡◌, ◌+◌, ◌<◌, ◌≤◌, List, [], IfOk, IfErr};
+ghost use Rattle.rds_world.specs.Ages.{IsEarly, aged};
+ghost use Rattle.rds_world.specs.AuditStanding.{HoldsMarks, HoldsNewest};
+ghost use Rattle.rds_world.specs.AuditState.{CanTake, CannotTake, joined_state, no_content, opened_state};
+ghost use Rattle.rds_world.specs.Marks.{Mark, Sends, Tagged};
+ghost use Rattle.rds_world.specs.Rules.{IsBrokenBy};
+
+use crate::AuditFault;
+use crate::ages::Ages;
+use crate::audited::Audited;
+use crate::content::Content;
+use rds_fields::TagPair;
+use std::marker::Model;
+
+/// The current reign of a service, and how long ago the one before it ended.
+#[derive(Drop)]
+pub(crate) struct Reigns<S: Audited> {
+    ages: Ages,
+    content: Content<S>,
+}
+
+impl<S: Audited> Model for Reigns<S> {
+    ghost use Rattle.rds_world.specs.AuditState.{ReignsState, reigns_code};
+
+    ghost Value = { ReignsState };
+
+    ghost coded = { reigns_code };
+
+    ghost view = { λ r. record { ages = r.ages; content = r.content } };
+}
+
+impl<S: Audited> Reigns<S> {
+    /// No reign yet; the dwell is in slots.
+    pub(crate) fn new(dwell: u32) -> Self
+        requires { 0 < dwell }
+        ensures { HoldsMarks S.gauge dwell [] result }
+    {
+        Reigns {
+            ages: Ages::new(dwell),
+            content: Content::new(),
+        }
+    }
+
+    /// Takes a segment that is sent in this slot: it joins the current reign, or opens one.
+    pub(crate) fn take(
+        &mut self,
+        dwell: u32,
+        flag: bool,
+        address: u8,
+        bytes: [u8; 4],
+    ) -> Result<(), AuditFault>
+        requires address { address < S.gauge.segments }
+        requires some { 0 < dwell }
+        requires few { dwell ≤ 131072 }
+        ensures holds { (sent : List Mark) → HoldsMarks S.gauge dwell sent self.old
+            → IfOk result (λ _. HoldsNewest S.gauge dwell
+            (Sends record { flag = flag; address = address; bytes = bytes }) sent self.new) }
+        ensures fault { (sent : List Mark) → HoldsMarks S.gauge dwell sent self.old
+            → IfErr result (λ fault. IsBrokenBy dwell S.gauge.kind
+            (Sends record { flag = flag; address = address; bytes = bytes }) sent fault) }
+    {
+        // the law by which the lengths tell whether the segments are of one value
+        S::exact();
+        if self.ages.joins(dwell, flag) {
+            return self.join(address, bytes);
+        }
+        self.open(dwell, flag)?;
+        self.join(address, bytes)
+    }
+
+    /// Takes tags that are sent in this slot.
+    pub(crate) fn take_tags(&mut self, dwell: u32, pair: TagPair) -> Result<(), AuditFault>
+        requires { 0 < dwell }
+        ensures holds { (sent : List Mark) → HoldsMarks S.gauge dwell sent self.old
+            → IfOk result (λ _. HoldsNewest S.gauge dwell (Tagged pair) sent self.new) }
+        ensures fault { (sent : List Mark) → HoldsMarks S.gauge dwell sent self.old
+            → IfErr result (λ fault. IsBrokenBy dwell S.gauge.kind (Tagged pair) sent fault) }
+    {
+        // the law by which the lengths tell whether the tags end in one value
+        S::exact();
+        if !self.ages.has_lasted(dwell) {
+            return Err(AuditFault::EarlyTag);
+        }
+        self.content.take_tags(pair)?;
+        self.ages.renew();
+        Ok(())
+    }
+
+    /// One slot older.
+    pub(crate) fn grow_older(&mut self, dwell: u32)
+        requires { dwell ≤ 131072 }
+        ensures { self.new ≡ record self.old { ages = aged dwell self.old.ages } }
+    {
+        self.ages.grow_older(dwell);
+    }
+
+    /// Takes a segment of the current reign.
+    fn join(&mut self, address: u8, bytes: [u8; 4]) -> Result<(), AuditFault>
+        requires { address < S.gauge.segments }
+        ensures can { IfOk result
+            (λ _. CanTake (S.gauge.allowed address bytes) address bytes self.old.content) }
+        ensures cannot { IfErr result
+            (λ fault. CannotTake (S.gauge.allowed address bytes) address bytes self.old.content fault) }
+        ensures joined { IfOk result
+            (λ _. self.new ≡ joined_state (S.gauge.allowed address bytes) address bytes self.old) }
+    {
+        self.content.take(address, bytes)?;
+        self.ages.renew();
+        Ok(())
+    }
+
+    /// Opens a reign, with nothing sent yet.
+    fn open(&mut self, dwell: u32, flag: bool) -> Result<(), AuditFault>
+        requires { dwell ≤ 131072 }
+        ensures late { IfOk result (λ _. IsEarly dwell flag self.old.ages → ⊥) }
+        ensures early { IfErr result
+            (λ fault. IsEarly dwell flag self.old.ages × (fault ≡ AuditFault.EarlyFlag)) }
+        ensures opened { IfOk result (λ _. self.new ≡ opened_state dwell S.LONGEST flag self.old) }
+    {
+        self.ages.open(dwell, flag)?;
+        self.content = Content::new();
+        Ok(())
+    }
+}
