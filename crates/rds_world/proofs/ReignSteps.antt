@@ -15,7 +15,7 @@ use Rattle.rds_world.specs.AuditStanding.{HoldsContent, HoldsMarks, HoldsNewest,
 use Rattle.rds_world.specs.AuditState.{CanTake, CannotTake, ContentState, ReignsState, joined_state, no_content, opened_state, tagged_state}
 use Rattle.rds_world.specs.Lawful.{Kind}
 use Rattle.rds_world.specs.Lengths.{Gauge, IsExact, IsFormed, pair_end}
-use Rattle.rds_world.specs.Marks.{Mark, Nothing, Sends, Tagged}
+use Rattle.rds_world.specs.Marks.{Mark, Sends, Tagged}
 use Rattle.rds_world.specs.Reigns.{Reign, after_piece, after_tags, joins, opened_by, reigns, with_piece}
 use Rattle.rds_world.specs.Rules.{CanBeBroadcast, IsAfterPiece, IsBrokenBy, IsBrokenByPiece, IsBrokenByTags}
 use Rattle.rds_world.proofs.AgeSteps.{AreOver, ages_later, ages_once_joined, ages_once_opened, ages_once_tagged, early_late, joins_near, lasted_long, near_joins, none_joins, not_early, short_early}
@@ -133,9 +133,6 @@ module _ (g : Gauge) (exact : IsExact g) (few : g.segments ≤ 16) (d : ℕ) (po
   no_tags x none h t pair (inl s) = absurd (none pair s.1)
   no_tags x none h t pair (inr s) = after_later x sent t (h t pair s)
 
-  pub sent_nothing : (st : ReignsState) → HoldsMarks g d sent st → HoldsNewest g d Nothing sent st
-  sent_nothing st h = record { ages = h.ages; content = h.content; passes = record { reigns = h.passes.reigns; tagged = no_tags Nothing (λ pair e. (cc)) h.passes.tagged } }
-
   piece_sent : (p : Piece) (st after : ReignsState) → HoldsMarks g d sent st → Holds g d now (after_piece d now p (reigns d sent)) after → HoldsNewest g d (Sends p) sent after
   piece_sent p st after h next = record { ages = next.ages; content = next.content; passes = record { reigns = next.all; tagged = no_tags (Sends p) (λ pair e. (cc)) h.passes.tagged } }
 
@@ -155,9 +152,6 @@ module _ (g : Gauge) (exact : IsExact g) (few : g.segments ≤ 16) (d : ℕ) (po
       → CannotTake (g.allowed p.address p.bytes) p.address p.bytes (no_content g.longest) fault → IsBrokenBy d g.kind (Sends p) sent fault
   sent_opening_broken p st fault formed h apart late cannot = opened_broken p (reigns d sent) st fault formed kept (held st h) apart late cannot
 
-  pub sent_early : (p : Piece) (st : ReignsState) → HoldsMarks g d sent st → (Joins d p.flag st.ages → ⊥) → IsEarly d p.flag st.ages → IsBrokenBy d g.kind (Sends p) sent EarlyFlag
-  sent_early p st h apart is_early = opened_early p (reigns d sent) st (held st h) apart is_early
-
   -- where there is a reign, a piece was sent
   after_open : (rs : List Reign) (st : ReignsState) → AreKept d sent rs → Holds g d now rs st → st.ages.is_open ≡ true → IsAfterPiece sent now
   after_open [] st k h e = (let shut : st.ages.is_open ≡ false = h.ages.current in absurd (cc))
@@ -172,12 +166,6 @@ module _ (g : Gauge) (exact : IsExact g) (few : g.segments ≤ 16) (d : ℕ) (po
       let next = tags_join pair (reigns d sent) st (held st h) lasted ends in
       record { ages = next.ages; content = next.content; passes = record { reigns = next.all; tagged = one_more pair (after_open (reigns d sent) st kept.0 (held st h) lasted.0) h.passes.tagged } }
 
-  pub sent_tags_early : (pair : PairFields) (st : ReignsState) → HoldsMarks g d sent st → (HasLasted d st.ages → ⊥) → IsBrokenBy d g.kind (Tagged pair) sent EarlyTag
-  sent_tags_early pair st h short = tags_early pair (reigns d sent) st (held st h) short
-
-  pub sent_tags_outside : (pair : PairFields) (st : ReignsState) → HoldsMarks g d sent st → HasLasted d st.ages → st.content.lengths.most < pair_end pair → IsBrokenBy d g.kind (Tagged pair) sent TagOutside
-  sent_tags_outside pair st h lasted past = tags_outside pair (reigns d sent) st (held st h) lasted past
-
 -- the end of a slot
 pub slot_ended : (g : Gauge) (d : ℕ) (x : Mark) (sent : List Mark) (st : ReignsState) → HoldsNewest g d x sent st → HoldsMarks g d (x ∷ sent) record st { ages = aged d st.ages }
 slot_ended g d x sent st h =
@@ -188,15 +176,6 @@ slot_ended g d x sent st h =
       content = h.content;
       passes = h.passes;
     }
-
--- before the first slot
-pub nothing_yet : (g : Gauge) (d : ℕ) → 0 < d
-    → HoldsMarks g d [] record { ages = record { is_open = false; flag = false; since_last = d; since_before = d; since_start = 0 }; content = no_content g.longest }
-nothing_yet g d pos = record {
-  ages = record { newest = omega arith; second = omega arith; current = refl };
-  content = empty_content g;
-  passes = record { reigns = tt; tagged = λ t pair s. absurd s };
-}
 
 -- a state by its two parts
 pub state_is : (after : ReignsState) (ages : Ages) (content : ContentState) → after.ages ≡ ages → after.content ≡ content → after ≡ record { ages = ages; content = content }
