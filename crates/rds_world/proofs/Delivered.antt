@@ -5,7 +5,7 @@ use Rattle.std.proofs.lemmas.List.{length-replicate}
 use Rattle.std.specs.Prelude.{slice_get}
 use Rattle.rds_fields.specs.declared.head.Head.{Head}
 use Rattle.rds_fields.specs.declared.message.Message.{Message}
-use Rattle.rds_fields.specs.declared.message.Message.TheVariants.{Text, Name, Announce, Tags, Other}
+use Rattle.rds_fields.specs.declared.message.Message.TheVariants.{Text, Name}
 use Rattle.rds_assembly.specs.Body.{name_body, segment_count, segment_of, text_body}
 use Rattle.rds_assembly.specs.OwnSegments.{all_name, all_text}
 use Rattle.rds_assembly.specs.Value.{IsName, IsText}
@@ -21,7 +21,7 @@ use Rattle.rds_world.specs.Delivery.{ANameIsDelivered, ATextIsDelivered, AnyText
 use Rattle.rds_world.specs.Event.{Event}
 use Rattle.rds_world.specs.Late.{Input}
 use Rattle.rds_world.specs.Lawful.{IsLawful, names, texts}
-use Rattle.rds_world.specs.Marks.{Sends, marks, name_mark, text_mark}
+use Rattle.rds_world.specs.Marks.{marks, name_mark, text_mark}
 use Rattle.rds_world.specs.Plans.{AreLawful}
 use Rattle.rds_world.specs.Slots.{commanded, entries, input_of, log, plans_of}
 use Rattle.rds_world.specs.Standing.{Shows, StandsAt}
@@ -32,7 +32,6 @@ use Rattle.rds_world.proofs.HeldWhole.{CameSince, came_in, in_segments, shown_wh
 use Rattle.rds_world.proofs.InTime.{in_time, input_reaches}
 use Rattle.rds_world.proofs.LawfulStation as lawful
 use Rattle.rds_world.specs.Laws.{PlanLaws}
-use Rattle.rds_world.proofs.OneBroadcast.{PicksWhatIsMarked}
 use Rattle.rds_world.proofs.SafeWorld.{shows_view}
 use Rattle.rds_world.proofs.Safety.{name_pieces_marked, text_pieces_marked}
 use Rattle.rds_world.proofs.SentWhole.{IsMoves, free_told, heard_among, moves_of_names, moves_of_texts, throughout, told_parts, told_since, told_until}

@@ -38,6 +38,8 @@ pub use station_laws::{on_air_is_delivered, only_what_was_on_air_is_shown, the_e
 pub use world::{Config, World};
 
 #[cfg(test)]
+mod audit_tests;
+#[cfg(test)]
 mod plain_tests;
 #[cfg(test)]
 mod tests;

@@ -27,13 +27,13 @@ const NAMES: [&[u8]; 2] = [b"JAZZ FM ", b"NEWS NOW"];
 
 /// A generator of small numbers.
 #[derive(Drop)]
-struct Dice {
-    state: u32,
+pub(crate) struct Dice {
+    pub(crate) state: u32,
 }
 
 impl Dice {
     /// A number from 0 to 63.
-    fn roll(&mut self) -> usize {
+    pub(crate) fn roll(&mut self) -> usize {
         self.state = self
             .state
             .wrapping_mul(1_664_525)
