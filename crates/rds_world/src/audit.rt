@@ -81,8 +81,8 @@ impl Audit {
         // the law by which a fault stays one
         passes_by_plans();
         let message = self.heard(group);
-        if let Some(fault) = self.fault {
-            return Err(fault);
+        if let Some(known) = self.fault {
+            return Err(known);
         }
         if let Err(fault) = self.judge(message) {
             self.fault = Some(fault);

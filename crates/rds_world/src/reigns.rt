@@ -79,11 +79,12 @@ impl<S: Audited> Reigns<S> {
     {
         // the law by which the lengths tell whether the tags end in one value
         S::exact();
-        if !self.ages.has_lasted(dwell) {
+        let ages = &mut self.ages;
+        if !ages.has_lasted(dwell) {
             return Err(AuditFault::EarlyTag);
         }
         self.content.take_tags(pair)?;
-        self.ages.renew();
+        ages.renew();
         Ok(())
     }
 

@@ -6,7 +6,7 @@ use Rattle.rds_world.proofs.audit.Audit.slot.Goals as goal
 
 pub returns-in-Some-clause-stands : goal.returns-in-Some-clause-stands
 returns-in-Some-clause-stands c pi d log s =
-    fault_stays pi d c.args.self.now log s c.args.group c.heard-message.result c.in-Some.fault (ap (λ (a : AuditState). a.fault) (sym c.self.view_is) ∙ c.in-Some.is) c.heard-message.ensures
+    fault_stays pi d c.args.self.now log s c.args.group c.heard-message.result c.in-Some.known (ap (λ (a : AuditState). a.fault) (sym c.self.view_is) ∙ c.in-Some.is) c.heard-message.ensures
 
 pub returns-in-Err-clause-stands : goal.returns-in-Err-clause-stands
 returns-in-Err-clause-stands c pi d log s =
