@@ -5,10 +5,10 @@ use Rattle.std.proofs.lemmas.Bool.{cases_lt, cond_both}
 use Rattle.rds_fields.specs.Tag.{PairFields}
 use Rattle.rds_receiver.specs.Receipts.{Piece}
 use Rattle.rds_receiver.specs.Run.{is_same}
-use Rattle.rds_receiver.proofs.Runs.{equal_or_not, other_is, same_is}
 use Rattle.rds_world.specs.declared.ages.Ages.{Ages}
 use Rattle.rds_world.specs.Ages.{HasLasted, HoldsAges, IsEarly, Joins, age_of_newest, aged, opened_ages}
 use Rattle.rds_world.specs.Reigns.{Reign, opened_by, past_newest, start_after, with_piece, with_tags}
+use Rattle.rds_world.proofs.Flags.{is_other_flag, is_same_flag, same_or_other}
 
 -- each reign ended before this slot
 abbrev pub AreOver : ℕ → List Reign → Type 0
@@ -36,20 +36,20 @@ pub early_late : (d now : ℕ) (flag : Bool) (rs : List Reign) (a : Ages) → Ho
 early_late d now flag [] a h g = absurd (omega (arith, h.second, g.1))
 early_late d now flag (r ∷ []) a h g = absurd (omega (arith, h.second, g.1))
 early_late d now flag (r ∷ q ∷ older) a h g =
-    let other : is_same r.flag flag ≡ false = other_is r.flag flag (λ e. g.0 (sym e ∙ sym h.current.1)) in
+    let other : is_same r.flag flag ≡ false = is_other_flag r.flag flag (λ e. g.0 (sym e ∙ sym h.current.1)) in
     rw other (omega (arith, h.second, g.1))
 
 -- and one that is not starts in time
 pub not_early : (d now : ℕ) (flag : Bool) (rs : List Reign) (a : Ages) → 0 < d → AreOver now rs → HoldsAges d now rs a → (Joins d flag a → ⊥) → (IsEarly d flag a → ⊥) → start_after d flag rs ≤ now
 not_early d now flag [] a pos over h apart early = omega arith
-not_early d now flag (r ∷ older) a pos over h apart early = by_flag (equal_or_not r.flag flag)
+not_early d now flag (r ∷ older) a pos over h apart early = by_flag (same_or_other r.flag flag)
   where
     by_flag : (r.flag ≡ flag) ⊎ (r.flag ≢ flag) → start_after d flag (r ∷ older) ≤ now
     by_flag (inl e) =
-        let same : is_same r.flag flag ≡ true = rw e (same_is flag) in
+        let same : is_same r.flag flag ≡ true = is_same_flag r.flag flag e in
         rw same (elim (cases_lt now (r.last + d)) [ inl near ↦ absurd (apart (near_joins d now flag r older a pos h e near)) | inr far ↦ far ])
     by_flag (inr ne) =
-        let other : is_same r.flag flag ≡ false = other_is r.flag flag ne in
+        let other : is_same r.flag flag ≡ false = is_other_flag r.flag flag ne in
         let late : d ≤ a.since_before = elim (cases_lt a.since_before d) [ inl less ↦ absurd (early ((λ e. ne (sym h.current.1 ∙ sym e)), less)) | inr far ↦ far ] in
         rw other (omega (arith, over.0.1, past older late h.second))
       where
@@ -69,16 +69,16 @@ short_early d now r older a h short =
 opened_start : (d now : ℕ) (flag : Bool) (rs : List Reign) (a : Ages) → 0 < d → AreOver now rs → HoldsAges d now rs a → (opened_ages d flag a).since_start ≡ min (now - start_after d flag rs) d
 opened_start d now flag [] a pos over h =
     cond_both (is_same flag a.flag) (a.since_last - d) (min (a.since_before - d) (a.since_last - 1)) (λ n. n ≡ min (now - 0) d) (λ _. omega (arith, h.newest)) (λ _. omega (arith, h.newest, h.second))
-opened_start d now flag (r ∷ older) a pos over h = by_flag (equal_or_not r.flag flag)
+opened_start d now flag (r ∷ older) a pos over h = by_flag (same_or_other r.flag flag)
   where
     by_flag : (r.flag ≡ flag) ⊎ (r.flag ≢ flag) → (opened_ages d flag a).since_start ≡ min (now - start_after d flag (r ∷ older)) d
     by_flag (inl e) =
-        let same : is_same r.flag flag ≡ true = rw e (same_is flag) in
-        let mine : is_same flag a.flag ≡ true = rw (h.current.1, e) (same_is flag) in
+        let same : is_same r.flag flag ≡ true = is_same_flag r.flag flag e in
+        let mine : is_same flag a.flag ≡ true = is_same_flag flag a.flag (sym (h.current.1 ∙ e)) in
         rw (same, mine) (omega (arith, h.newest))
     by_flag (inr ne) =
-        let other : is_same r.flag flag ≡ false = other_is r.flag flag ne in
-        let mine : is_same flag a.flag ≡ false = other_is flag a.flag (λ e. ne (sym h.current.1 ∙ sym e)) in
+        let other : is_same r.flag flag ≡ false = is_other_flag r.flag flag ne in
+        let mine : is_same flag a.flag ≡ false = is_other_flag flag a.flag (λ e. ne (sym h.current.1 ∙ sym e)) in
         rw (other, mine) (past older over h.second)
       where
         past : (rest : List Reign) → AreOver now (r ∷ rest) → a.since_before ≡ age_of_newest d now rest → min (a.since_before - d) (a.since_last - 1) ≡ min (now - max (r.last + 1) (past_newest d rest)) d

@@ -14,6 +14,7 @@ use Rattle.rds_receiver.specs.Shown.{IsShown}
 use Rattle.rds_world.specs.Late.{HasEntry, Input, IsHeardLate}
 use Rattle.rds_world.specs.Lawful.{IsLawful, Kind}
 use Rattle.rds_world.specs.Marks.{Mark, marks}
+use Rattle.rds_world.proofs.Flags.{is_same_flag}
 use Rattle.rds_world.proofs.Bytes.{IsService, bytes_of_run, get-put}
 use Rattle.rds_world.proofs.Entries.{arrival, before_end, mark_sent}
 use Rattle.rds_world.proofs.Hearing.{AreFalling, IsPicked, all_picked, segments_fall}
@@ -60,12 +61,6 @@ newest_since s h older g falls since (inr is_in) = omega (arith, since, in_below
 abbrev HaveFlag : Bool → ℕ → List Segment → Type 0
 HaveFlag f s gs = AllByRecursion (λ (g : Segment). s ≤ g.slot → g.piece.flag ≡ f) gs
 
-same_flags : (f g : Bool) → g ≡ f → is_same f g ≡ true
-same_flags true true e = refl
-same_flags false false e = refl
-same_flags true false e = absurd (cc)
-same_flags false true e = absurd (cc)
-
 both_true : (a b : Bool) → a ≡ true → b ≡ true → (a && b) ≡ true
 both_true true true p q = refl
 both_true true false p q = absurd (cc)
@@ -79,7 +74,7 @@ module _ (m t s : ℕ) (f : Bool) (soon : t < s + m) where
       let new : s ≤ h.slot = newest_since s h older g falls.1 since is_in in
       let below = falls.0 in
       let joins : (is_same f h.piece.flag && nat_lt n (h.slot + m)) ≡ true =
-      both_true (is_same f h.piece.flag) (nat_lt n (h.slot + m)) (same_flags f h.piece.flag (flags.0 new)) (lt-ltb n (h.slot + m) (omega (arith, soon, new, past))) in
+      both_true (is_same f h.piece.flag) (nat_lt n (h.slot + m)) (is_same_flag f h.piece.flag (sym (flags.0 new))) (lt-ltb n (h.slot + m) (omega (arith, soon, new, past))) in
       subst (λ (b : Bool). IsIn (cond b (h ∷ run_before m f h.slot older) []) g) (sym joins)
       (by is_in (kept_before h.slot older g (omega (arith, below, past)) falls.1 flags.1 since))
     where

@@ -1,3 +1,4 @@
+pub mod Flags
 pub mod Entries
 pub mod Hearing
 pub mod OneBroadcast

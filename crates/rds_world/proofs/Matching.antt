@@ -1,11 +1,10 @@
 -- The reigns of a log are of broadcasts of any lawful and dense plan, in order.
-use Rattle.std.proofs.Common.{◌≡◌, ◌+◌, ◌<◌, ◌≤◌, max, ℕ, Bool, true, false, nat_lt, List, [], ◌∷◌, length, refl, sym, ◌∙◌, subst, inl, inr, arith}
+use Rattle.std.proofs.Common.{◌≡◌, ◌+◌, ◌<◌, ◌≤◌, max, ℕ, Bool, true, nat_lt, List, [], ◌∷◌, length, refl, sym, ◌∙◌, subst, inl, inr, arith}
 use Rattle.std.specs.List.{AllByRecursion}
 use Rattle.std.proofs.lemmas.Bool.{and_parts, cases_order, cond_both, lt-ltb, ltb-true}
 use Rattle.rds_fields.specs.Tag.{BothEndIn, PairFields}
 use Rattle.rds_receiver.specs.Receipts.{Piece}
 use Rattle.rds_receiver.specs.Run.{is_same}
-use Rattle.rds_receiver.proofs.Runs.{same_is}
 use Rattle.rds_encoder.specs.Plan.{Broadcast, Covers, HasNumber}
 use Rattle.rds_encoder.specs.Spaced.{IsSpaced}
 use Rattle.rds_world.specs.AuditLaws.{AreReignsOf, AreTagsOf, IsReignOf}
@@ -15,14 +14,9 @@ use Rattle.rds_world.specs.Laws.{PlanLaws}
 use Rattle.rds_world.specs.Marks.{Mark, Nothing, Sends, Tagged}
 use Rattle.rds_world.specs.Reigns.{Reign, SentTags, after_piece, after_tags, joins, opened_by, past_newest, reigns, start_after, with_piece, with_tags}
 use Rattle.rds_world.specs.Rules.{CanBeBroadcast, Passes}
+use Rattle.rds_world.proofs.Flags.{is_same_flag, same_flag}
 use Rattle.rds_world.proofs.Keeping.{Keeps, keeps}
 use Rattle.rds_world.proofs.Sending.{dense_before, early, lawful_before, marked_before, piece_is_marked, sent_before}
-
-pub same_flag : (f g : Bool) → is_same f g ≡ true → f ≡ g
-same_flag true true h = refl
-same_flag false false h = refl
-same_flag true false h = absurd (cc)
-same_flag false true h = absurd (cc)
 
 opened_of : (d now : ℕ) (kind : Kind) (b : Broadcast) (p : Piece) (rs : List Reign) → start_after d p.flag rs ≤ b.start → HasPiece kind now p b → IsReignOf d kind b (opened_by d now p rs)
 opened_of d now kind b p rs le has = record { start = le; from = has.covers.from; to = has.covers.to; flag = has.flag; pieces = (has.piece, tt); tags = tt }
@@ -47,7 +41,7 @@ module _ (laws : PlanLaws) (d : ℕ) (kind : Kind) (plan : List Broadcast) (spac
   piece_joins : (now n k : ℕ) (b : Broadcast) (p : Piece) (r : Reign) (older : List Reign)
       → HasNumber plan k b → k < n → HasPiece kind now p b → IsReignOf d kind b r → now < r.last + d → AreReignsOf d kind plan k older → AreReignsOf d kind plan n (after_piece d now p (r ∷ older))
   piece_joins now n k b p r older q lt has of near a =
-      let same : is_same r.flag p.flag ≡ true = rw (of.flag ∙ sym has.flag) (same_is p.flag) in
+      let same : is_same r.flag p.flag ≡ true = is_same_flag r.flag p.flag (of.flag ∙ sym has.flag) in
       let both : after_piece d now p (r ∷ older) ≡ with_piece now p r ∷ older = rw (same, lt-ltb now (r.last + d) near) refl in
       subst (λ (rs : List Reign). AreReignsOf d kind plan n rs) (sym both) (k, b, lt, q, joined_of d now kind b p r has of, a)
 

@@ -1,6 +1,6 @@
 -- A run, which knows one bit of its broadcast, lies in one broadcast: two neighbours of it have one flag, and
 -- were sent less than d slots apart.
-use Rattle.std.proofs.Common.{◌≡◌, ◌+◌, ◌<◌, ◌≤◌, ℕ, Bool, true, false, List, [], ◌∷◌, length, Option, Some, ◌&&◌, refl, sym, ap, ◌∙◌, subst, inl, inr, arith}
+use Rattle.std.proofs.Common.{◌≡◌, ◌+◌, ◌<◌, ◌≤◌, ℕ, Bool, List, [], ◌∷◌, length, Option, Some, ◌&&◌, refl, sym, ap, ◌∙◌, subst, inl, inr, arith}
 use Rattle.std.specs.Prelude.{nat_lt}
 use Rattle.std.specs.List.{AllByRecursion}
 use Rattle.std.proofs.lemmas.Bool.{and_parts, cases_order, cond_both, ltb-true}
@@ -14,6 +14,7 @@ use Rattle.rds_world.specs.Lawful.{HasOne, HasPiece, IsLawful, Kind}
 use Rattle.rds_world.specs.Laws.{PlanLaws}
 use Rattle.rds_world.specs.Marks.{Mark, Sends, marks}
 use Rattle.rds_world.proofs.Entries.{arrival, mark_sent}
+use Rattle.rds_world.proofs.Flags.{same_flag}
 use Rattle.rds_world.proofs.Hearing.{AreFalling, IsPicked, all_picked, segments_fall}
 
 -- broadcasts of one flag that cover slots less than d apart are one
@@ -64,12 +65,6 @@ all_of_any d k kind pick of plan log input (g ∷ gs) alike law late all =
       },
       all_of_any d k kind pick of plan log input gs alike law late all.1,
     )
-
-same_flag : (f g : Bool) → is_same f g ≡ true → f ≡ g
-same_flag true true e = refl
-same_flag false false e = refl
-same_flag true false e = absurd (cc)
-same_flag false true e = absurd (cc)
 
 -- the run lies in one broadcast, and its last segment came in the m slots up to slot t
 pub record LiesInOne (m k t : ℕ) (kind : Kind) (plan : List Broadcast) (input : Input) (g : Segment) (older : List Segment) : Type 0 where

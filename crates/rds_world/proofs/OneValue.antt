@@ -1,5 +1,5 @@
--- The pieces and tags of one value: some value has them exactly where no address changed, each piece allows a length,
--- and one length is allowed by all and reaches the ends of the tags.
+-- Some value has pieces and tags exactly where no address changed, each piece allows a length, and one length is
+-- allowed by all and reaches the ends of the tags.
 use Rattle.std.proofs.Common.{◌≡◌, ◌⊎◌, ◌+◌, ◌-◌, ◌*◌, ◌/◌, ◌%◌, ◌<◌, ◌≤◌, ◌++◌, max, ℕ, zero, suc, Bool, true, false, nat_eq, nat_le, List, [], ◌∷◌, length, slice_index, Option, Some, None, cond, refl, sym, ap, ◌∙◌, subst, inl, inr, arith}
 use Rattle.std.specs.Prelude.{◌||◌, is_some, replicate}
 use Rattle.std.specs.List.{AllByRecursion}

@@ -1,5 +1,5 @@
 -- The reigns of a log that passes are a lawful and dense plan.
-use Rattle.std.proofs.Common.{◌≡◌, ◌≢◌, ◌⊎◌, ◌+◌, ◌<◌, ◌≤◌, max, ℕ, Bool, true, false, nat_lt, List, [], ◌∷◌, length, refl, sym, ap, ◌∙◌, subst, inl, inr, arith}
+use Rattle.std.proofs.Common.{◌≡◌, ◌≢◌, ◌⊎◌, ◌+◌, ◌<◌, ◌≤◌, max, ℕ, Bool, nat_lt, List, [], ◌∷◌, length, refl, sym, ap, ◌∙◌, subst, inl, inr, arith}
 use Rattle.std.specs.List.{AllByRecursion}
 use Rattle.std.proofs.lemmas.Bool.{and_parts, cases_lt, cases_order, cond_both}
 use Rattle.rds_fields.specs.Tag.{BothEndIn, PairFields}
@@ -14,8 +14,8 @@ use Rattle.rds_world.specs.Marks.{IsSent, Mark, Nothing, Sends, Tagged}
 use Rattle.rds_world.proofs.Members.{IsIn, all_in}
 use Rattle.rds_world.specs.Reigns.{Reign, SentTags, after_piece, after_tags, joins, past_newest, reigns, start_after, with_piece}
 use Rattle.rds_world.specs.Rules.{CanBeBroadcast, Passes}
+use Rattle.rds_world.proofs.Flags.{other_flag, same_flag}
 use Rattle.rds_world.proofs.Keeping.{AreKept, IsBehind, Keeps, keeps}
-use Rattle.rds_world.proofs.Matching.{same_flag}
 use Rattle.rds_world.proofs.Sending.{TagsAreAfter, early, one_mark, piece_is_marked, sent_before, tags_are_marked}
 
 -- each reign starts where one can after those before it
@@ -140,18 +140,12 @@ lasting d kind sent (r ∷ older) a keep k b (inr n) = lasting d kind sent older
 lasting d kind sent (r ∷ older) a keep k b (inl n) =
     subst (λ (x : Broadcast). x.start ≤ x.end) (sym n.1) (omega (arith, a.0.begun, keep.0.until))
 
-unlike : (f g : Bool) → is_same f g ≡ false → f ≢ g
-unlike true true e h = cc
-unlike true false e h = cc
-unlike false true e h = cc
-unlike false false e h = cc
-
 starts_after : (d : ℕ) (flag : Bool) (r : Reign) (older : List Reign) → 0 < d → r.last < start_after d flag (r ∷ older)
 starts_after d flag r older pos = cond_both (is_same r.flag flag) (r.last + d) (max (r.last + 1) (past_newest d older)) (λ n. r.last < n) (λ _. omega arith) (λ _. omega arith)
 
 starts_apart : (d : ℕ) (flag : Bool) (r : Reign) (older : List Reign) → (r.flag ≢ flag) ⊎ (r.last + d ≤ start_after d flag (r ∷ older))
 starts_apart d flag r older =
-    cond_both (is_same r.flag flag) (r.last + d) (max (r.last + 1) (past_newest d older)) (λ n. (r.flag ≢ flag) ⊎ (r.last + d ≤ n)) (λ _. inr (omega arith)) (λ t. inl (unlike r.flag flag t))
+    cond_both (is_same r.flag flag) (r.last + d) (max (r.last + 1) (past_newest d older)) (λ n. (r.flag ≢ flag) ⊎ (r.last + d ≤ n)) (λ _. inr (omega arith)) (λ t. inl (other_flag r.flag flag t))
 
 starts_far : (d : ℕ) (flag : Bool) (r q : Reign) (older : List Reign) → q.last ≤ r.last → q.last + d ≤ start_after d flag (r ∷ q ∷ older)
 starts_far d flag r q older le = cond_both (is_same r.flag flag) (r.last + d) (max (r.last + 1) (q.last + d)) (λ n. q.last + d ≤ n) (λ _. omega arith) (λ _. omega arith)

@@ -6,7 +6,6 @@ use Rattle.std.proofs.lemmas.Bool.{and_parts, cond_both, lt-ltb, ltb-true}
 use Rattle.rds_fields.specs.Tag.{PairFields}
 use Rattle.rds_receiver.specs.Receipts.{Piece}
 use Rattle.rds_receiver.specs.Run.{is_same}
-use Rattle.rds_receiver.proofs.Runs.{same_is}
 use Rattle.rds_world.specs.declared.ages.Ages.{Ages}
 use Rattle.rds_world.specs.declared.audit_fault.AuditFault.{AuditFault}
 use Rattle.rds_world.specs.declared.audit_fault.AuditFault.TheVariants.{EarlyFlag, EarlyTag, TagOutside}
@@ -20,8 +19,8 @@ use Rattle.rds_world.specs.Reigns.{Reign, after_piece, after_tags, joins, opened
 use Rattle.rds_world.specs.Rules.{CanBeBroadcast, IsAfterPiece, IsBrokenBy, IsBrokenByPiece, IsBrokenByTags}
 use Rattle.rds_world.proofs.AgeSteps.{AreOver, ages_later, ages_once_joined, ages_once_opened, ages_once_tagged, early_late, joins_near, lasted_long, near_joins, none_joins, not_early, short_early}
 use Rattle.rds_world.proofs.ContentSteps.{broken, empty_content, empty_one, tagged_content, tagged_none, tagged_one, taken_content, taken_one}
+use Rattle.rds_world.proofs.Flags.{is_same_flag, same_flag}
 use Rattle.rds_world.proofs.Keeping.{AreKept, Keeps, keeps}
-use Rattle.rds_world.proofs.Matching.{same_flag}
 use Rattle.rds_world.proofs.Sending.{TagsAreAfter, after_later, early, marked_early}
 
 -- what is held of some reigns, each of which can be a broadcast
@@ -38,7 +37,7 @@ are_over d kind sent (r ∷ older) k a = ((omega (arith, a.0.begun, k.0.until), 
 joined : (Q : List Reign → Type 0) (d now : ℕ) (p : Piece) (r : Reign) (older : List Reign) (a : Ages) → HoldsAges d now (r ∷ older) a → Joins d p.flag a → Q (with_piece now p r ∷ older) → Q (after_piece d now p (r ∷ older))
 joined Q d now p r older a h on q =
     let near = joins_near d now p.flag r older a h on in
-    let same : is_same r.flag p.flag ≡ true = rw near.0 (same_is p.flag) in
+    let same : is_same r.flag p.flag ≡ true = is_same_flag r.flag p.flag near.0 in
     cond_both (joins d now p.flag r) _ _ Q (λ _. q) (λ f. let both : joins d now p.flag r ≡ true = rw (same, lt-ltb now (r.last + d) near.1) refl in absurd (cc))
 
 -- and one that does not opens one

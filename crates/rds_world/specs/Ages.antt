@@ -37,8 +37,8 @@ aged d a = record {
   since_start = min (a.since_start + 1) d;
 }
 
--- how many slots before this one the newest reign had its last, up to 2 * d; where there is none, the log counts
--- as d slots older than it is
+-- how many slots before this one the newest reign had its last, up to 2 * d; where there is none, the log
+-- counts as d slots older than it is
 abbrev pub age_of_newest : ℕ → ℕ → List Reign → ℕ
 age_of_newest d slot [] = min (slot + d) (2 * d)
 age_of_newest d slot (r ∷ older) = min (slot - r.last) (2 * d)

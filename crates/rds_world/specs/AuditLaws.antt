@@ -52,16 +52,16 @@ pub record AreTheReigns (d : ℕ) (kind : Kind) (plan : List Broadcast) (sent : 
 abbrev pub BroadcastsAreTheReigns : Kind → Type 0
 BroadcastsAreTheReigns kind = (d : ℕ) (plan : List Broadcast) (sent : List Mark) → IsLawful d kind plan sent → IsDense d plan sent → AreTheReigns d kind plan sent
 
--- a log has a fault, or it passes
+-- a log that has a fault does not pass
 abbrev pub WhatHasAFaultDoesNotPass : Type 0
 WhatHasAFaultDoesNotPass = (d : ℕ) (log : List (Option Message)) (fault : AuditFault) → 0 < d → IsFaultOf d log fault → LogPasses d log → ⊥
 
--- it has one fault
+-- and it has one fault
 abbrev pub ALogHasOneFault : Type 0
 ALogHasOneFault = (d : ℕ) (log : List (Option Message)) (f g : AuditFault) → 0 < d → IsFaultOf d log f → IsFaultOf d log g → f ≡ g
 
--- some plans of the log are lawful, and make every slot safe for any number of receivers, of dwell m and at most
--- k slots late
+-- some plans of the log are lawful and dense, and make every slot safe for any number of receivers, of dwell m
+-- and at most k slots late
 pub record IsSafeLog (m k : ℕ) (log : List (Option Message)) : Type 0 where
   pub plans : Plans
   pub lawful : AreLawful (m + k) plans log
@@ -72,8 +72,8 @@ pub record IsSafeLog (m k : ℕ) (log : List (Option Message)) : Type 0 where
 abbrev pub WhatPassesIsSafe : Type 0
 WhatPassesIsSafe = (m k : ℕ) (log : List (Option Message)) → 0 < m → LogPasses (m + k) log → IsSafeLog m k log
 
--- some plans of the log are lawful, and make every slot safe for any number of receivers of dwell m, whatever
--- they lose and whenever they restart
+-- some plans of the log are lawful and dense, and make every slot safe for any number of receivers of dwell m,
+-- whatever they lose and whenever they restart
 pub record IsSafeOnTime (m : ℕ) (log : List (Option Message)) : Type 0 where
   pub plans : Plans
   pub lawful : AreLawful m plans log

@@ -51,8 +51,8 @@ pub record HoldsSlot (d : ℕ) (newest : Option Message) (before : List (Option 
   pub text : HoldsNewest text_gauge d (text_mark newest) (marks text_mark before) a.text
   pub name : HoldsNewest name_gauge d (name_mark newest) (marks name_mark before) a.name
 
--- the audit of programme pi and of d slots stands at the log: without a fault it holds what passes, and with one
--- that is the fault of the log
+-- the audit of programme pi and of d slots stands at the log: without a fault it holds what passes, and one that
+-- it has is the fault of the log
 pub record AuditStandsAt (pi d : ℕ) (a : AuditState) (log : List (Option Group)) : Type 0 where
   pub programme : a.programme ≡ pi
   pub dwell : a.dwell ≡ d

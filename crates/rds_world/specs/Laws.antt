@@ -15,7 +15,7 @@ use Rattle.rds_world.specs.Plans.{AreLawful, Plans}
 use Rattle.rds_world.specs.Safe.{AreSafe, Listener, ListensTo}
 use Rattle.rds_world.specs.Source.{IsSource}
 
--- what holds of the broadcasts of all plans: a number names one and is below their number, and spaced ones stand
+-- what holds of the broadcasts of all plans: a number names one and is below their count, and spaced ones stand
 -- in order and far apart
 pub record PlanLaws : Type 0 where
   pub one : ANumberNamesOne

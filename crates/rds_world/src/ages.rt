@@ -7,13 +7,13 @@ use crate::AuditFault;
 /// The ages, in slots, of the current reign and of the one before it. They stop at a limit: those of last slots
 /// at twice the dwell, that of the start at the dwell. Before the first reign the log counts as a dwell older
 /// than it is.
-#[derive(Clone, Copy, Debug)]
-pub struct Ages {
-    pub is_open: bool,
-    pub flag: bool,
-    pub since_last: u32,
-    pub since_before: u32,
-    pub since_start: u32,
+#[derive(Clone, Copy)]
+pub(crate) struct Ages {
+    pub(crate) is_open: bool,
+    pub(crate) flag: bool,
+    pub(crate) since_last: u32,
+    pub(crate) since_before: u32,
+    pub(crate) since_start: u32,
 }
 
 impl Ages {

@@ -258,7 +258,7 @@ struct Broadcast {
     has_piece: bool,
 }
 
-/// The broadcast that goes on, if one does, and the two before it; and the slot in which something was sent last.
+/// The broadcast that goes on, if one does, and the two before it; and the last slot in which something was sent.
 #[derive(Clone, Copy)]
 struct Tried {
     now: Option<Broadcast>,
@@ -279,7 +279,7 @@ impl Tried {
         }
     }
 
-    /// What a plan does in the slot: 0 ends a broadcast, 1 goes on with it, 2 and 3 begin one with flag 0 and 1.
+    /// What a plan does in the slot: 0 ends a broadcast, 1 goes on with it, 2 and 3 begin one of flag 0 and 1.
     fn goes_on(self, dwell: usize, slot: usize, choice: usize) -> Option<Tried> {
         match choice {
             0 => Some(self.ended()),

@@ -3,10 +3,10 @@ ghost use Rattle.std.specs.Prelude.{◌≡◌, ℕ, ◌<◌, ◌≤◌, ◌↔�
 ghost use Rattle.rds_assembly.specs.Value.{is_text_byte};
 ghost use Rattle.rds_world.specs.Lengths.{Gauge, IsExact};
 
-use crate::Lengths;
+use crate::lengths::Lengths;
 
 /// A service that is audited, of texts or of names.
-pub trait Audited {
+pub(crate) trait Audited {
     ghost gauge: { Gauge };
 
     ghost LONGEST: { ℕ };
@@ -34,8 +34,7 @@ pub trait Audited {
 const CARRIAGE_RETURN: u8 = 0x0D;
 
 /// The texts of group 2A.
-#[derive(Clone, Copy, Debug)]
-pub struct Texts;
+pub(crate) struct Texts;
 
 impl Audited for Texts {
     ghost use Rattle.std.specs.Prelude.{refl};
@@ -76,8 +75,7 @@ impl Audited for Texts {
 }
 
 /// The programme type names of group 10A.
-#[derive(Clone, Copy, Debug)]
-pub struct Names;
+pub(crate) struct Names;
 
 impl Audited for Names {
     ghost use Rattle.std.specs.Prelude.{refl};

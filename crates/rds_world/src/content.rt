@@ -3,8 +3,9 @@ ghost use Rattle.std.specs.Prelude.{◌≡◌, ◌+◌, ◌<◌, ◌≤◌, ◌�
 ghost use Rattle.rds_world.specs.AuditState.{CanTake, CannotTake, HasRoom, HoldsNoOther, no_content, tagged, taken};
 ghost use Rattle.rds_world.specs.Lengths.{narrowed, pair_end, tag_end};
 
+use crate::AuditFault;
 use crate::audited::Audited;
-use crate::{AuditFault, Lengths};
+use crate::lengths::Lengths;
 use rds_fields::{Tag, TagPair};
 use std::marker::{Model, PhantomData};
 

@@ -3,6 +3,9 @@
 //!
 //! Lists of slots have the newest first. Whatever the slots are, each text that a receiver shows was on air
 //! within the last dwell.
+//!
+//! An `Audit` is told what some other encoder sent, slot by slot. It passes a log exactly where plans of
+//! broadcasts exist that are lawful and dense, and then no receiver of that log ever shows a mix.
 #![tactic(auto)]
 
 mod ages;
@@ -22,16 +25,13 @@ mod station;
 mod station_laws;
 mod world;
 
-pub use ages::Ages;
 pub use audit::Audit;
 pub use audit_fault::AuditFault;
 pub use audit_laws::{broadcasts_are_the_reigns, one_fault, passes_by_plans, what_passes_is_safe};
-pub use audited::{Audited, Names, Texts};
 pub use event::{Command, Reception, SlotEvent};
 pub use laws::{
     groups_listen, late_as_messages, on_time, one_source, safe_by_plans, the_dwell_is_the_least,
 };
-pub use lengths::Lengths;
 pub use reply::{Answer, Reply, StepRefused, WorldRefused};
 pub use slots::{PlayRefused, play};
 pub use station_laws::{on_air_is_delivered, only_what_was_on_air_is_shown, the_encoder_is_lawful};
