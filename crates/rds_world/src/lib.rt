@@ -40,6 +40,10 @@ pub use world::{Config, World};
 #[cfg(test)]
 mod audit_tests;
 #[cfg(test)]
+mod plain_plans;
+#[cfg(test)]
+mod plain_rules;
+#[cfg(test)]
 mod plain_tests;
 #[cfg(test)]
 mod tests;

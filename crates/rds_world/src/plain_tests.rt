@@ -42,7 +42,7 @@ impl Dice {
     }
 
     /// What the station is told.
-    fn told(&mut self) -> Told {
+    pub(crate) fn told(&mut self) -> Told {
         match self.roll() {
             0..3 => Told::Restart,
             3..24 => Told::Text(TEXTS[self.roll() % 4]),
@@ -63,7 +63,7 @@ impl Dice {
 
 /// What the station is told in a slot.
 #[derive(Clone, Copy)]
-enum Told {
+pub(crate) enum Told {
     Nothing,
     Restart,
     Text(&'static [u8]),
@@ -72,7 +72,7 @@ enum Told {
 }
 
 impl Told {
-    fn command(self) -> Result<Command, Fail> {
+    pub(crate) fn command(self) -> Result<Command, Fail> {
         Ok(match self {
             Told::Nothing => Command::Quiet,
             Told::Restart => Command::Restart,
