@@ -36,3 +36,4 @@ pub mod ContentSteps
 pub mod ReignSteps
 pub mod Faults
 pub mod AuditSteps
+pub mod AuditRows
