@@ -25,6 +25,7 @@ use std::marker::Model;
 #[derive(Drop)]
 pub struct Audit {
     pi: u16,
+    /// In slots; far below the limit, so that twice as many can be counted.
     dwell: u32,
     text: Reigns<Texts>,
     name: Reigns<Names>,
@@ -78,8 +79,6 @@ impl Audit {
         ensures again { (fault : AuditFault) → self.old.fault ≡ Some fault
             → (result ≡ Err fault) × (self.new ≡ self.old) }
     {
-        // the law by which a fault stays one
-        passes_by_plans();
         let message = self.heard(group);
         if let Some(known) = self.fault {
             return Err(known);
