@@ -5,6 +5,7 @@ use rds_charset::Told;
 use std::alloc::Global;
 use std::cell::Cell;
 use std::io::{self, ErrorKind, Read, Write};
+use std::process::Abort;
 use std::test::Fail;
 
 const DECODE: [&str; 4] = ["rdsrt", "decode", "--pi", "C201"];
@@ -41,12 +42,123 @@ struct Case {
     status: u8,
 }
 
-const CASES: [Case; 15] = [
+const DECODED: [Case; 27] = [
     Case {
         name: "first_text",
         words: &DECODE,
         input: b"C201 2140 4849 0D20\n",
         output: b"0 text \"HI\"\n",
+        status: 0,
+    },
+    Case {
+        name: "empty_text",
+        words: &DECODE,
+        input: b"C201 2140 0D20 2020\n",
+        output: b"0 text \"\"\n",
+        status: 0,
+    },
+    Case {
+        name: "two_segments",
+        words: &DECODE,
+        input: b"C201 2140 4142 4241\nC201 2141 0D20 2020\n",
+        output: b"1 text \"ABBA\"\n",
+        status: 0,
+    },
+    Case {
+        name: "second_segment_alone",
+        words: &DECODE,
+        input: b"C201 2141 0D20 2020\n",
+        output: b"",
+        status: 0,
+    },
+    Case {
+        name: "jazz_name",
+        words: &DECODE,
+        input: b"C201 A140 4A41 5A5A\nC201 A141 2046 4D20\n",
+        output: b"1 name \"JAZZ FM \"\n",
+        status: 0,
+    },
+    Case {
+        name: "jazz_name_with_loose_bits",
+        words: &DECODE,
+        input: b"C201 A14E 4A41 5A5A\nC201 A141 2046 4D20\n",
+        output: b"1 name \"JAZZ FM \"\n",
+        status: 0,
+    },
+    Case {
+        name: "first_half_of_a_name",
+        words: &DECODE,
+        input: b"C201 A140 4A41 5A5A\n",
+        output: b"",
+        status: 0,
+    },
+    Case {
+        name: "second_half_of_a_name",
+        words: &DECODE,
+        input: b"C201 A141 2046 4D20\n",
+        output: b"",
+        status: 0,
+    },
+    Case {
+        name: "accents_and_euro",
+        words: &DECODE,
+        input: b"C201 2140 4361 6682\nC201 2141 20A9 0D20\n",
+        output: b"1 text \"Caf\xC3\xA9 \xE2\x82\xAC\"\n",
+        status: 0,
+    },
+    Case {
+        name: "escaped_bytes",
+        words: &DECODE,
+        input: b"C201 2140 225C 240D\n",
+        output: b"0 text \"\\x22\\x5C\\x24\"\n",
+        status: 0,
+    },
+    Case {
+        name: "contrary_announcement",
+        words: &DECODE,
+        input: b"C201 3156 0000 4BD7
+C201 2140 4849 0D20
+C201 B148 2002 0000
+C201 3156 0000 CD46
+",
+        output: b"1 text \"HI\"
+2 item 0 1
+2 tag1 ITEM.TITLE \"HI\"
+3 item none
+3 tag1 none
+",
+        status: 0,
+    },
+    Case {
+        name: "foreign_encoder",
+        words: &["rdsrt", "decode", "--pi", "C201", "--m", "4"],
+        input: b"C201 2140 4142 4241
+C201 2141 0D20 2020
+C201 2140 4849 0D20
+C201 B148 2002 0000
+C201 3156 0000 4BD7
+C201 B148 2002 0000
+C201 2150 594F 0D20
+C201 2140 0D41 2020
+C201 B148 2002 0000
+C201 3154 0000 4BD7
+C201 A140 4A0D 5A5A
+C201 A151 2046 4D20
+C201 A150 4A0D 5A5A
+",
+        output: b"1 text \"ABBA\"
+2 text \"HI\"
+5 item 0 1
+5 tag1 ITEM.TITLE \"HI\"
+6 text \"YO\"
+6 item none
+6 tag1 none
+7 text \"\"
+8 item 0 1
+9 item none
+11 text none
+12 name \"J\\x0DZZ FM \"
+",
         status: 0,
     },
     Case {
@@ -106,6 +218,13 @@ const CASES: [Case; 15] = [
         status: 1,
     },
     Case {
+        name: "no_line_end",
+        words: &DECODE,
+        input: b"C201 2140 4849 0D20",
+        output: b"0 text \"HI\"\n",
+        status: 0,
+    },
+    Case {
         name: "carriage_return_at_the_end",
         words: &DECODE,
         input: b"C201 2140 4849 0D20\r",
@@ -149,18 +268,356 @@ const CASES: [Case; 15] = [
     },
 ];
 
+const TAGS_ON_AIR: &[u8] = b"-,,1,GGG
+-,,1,GGG
+-,,1,GGG
+-,,1,GGG
+text,ABBA - WATERLOO,1,GGL
+tags,1 1 4 0 3 1 7 7,1,GGL
+-,,1,GGL
+-,,1,GGL
+-,,1,GGL
+-,,1,GLG
+-,,1,GGL
+-,,1,GGG
+";
+
+const TAGS_OUTPUT: &[u8] = b"4 text ok
+4 sent C201 2140 4142 4241
+5 tags ok
+6 sent C201 2141 202D 2057
+8 sent C201 2142 4154 4552
+9 sent C201 3156 0000 4BD7
+10 sent C201 2143 4C4F 4F0D
+10 r0 text \"ABBA - WATERLOO\"
+10 r1 text \"ABBA - WATERLOO\"
+11 sent C201 B158 8006 08E7
+11 r0 item 1 1
+11 r0 tag1 ITEM.ARTIST \"ABBA\"
+11 r0 tag2 ITEM.TITLE \"WATERLOO\"
+";
+
+const SIM_OF_FOUR: [&str; 8] = ["rdsrt", "sim", "--m", "4", "--pi", "C201", "--pty", "10"];
+
+const ENCODE_OF_ONE: [&str; 8] = ["rdsrt", "encode", "--m", "1", "--pi", "C201", "--pty", "10"];
+
+const SIMULATED: [Case; 13] = [
+    Case {
+        name: "silence_dwell_and_age",
+        words: &SIM_OF_FOUR,
+        input: b"text,HI,1,G
+-,,1,G
+-,,1,G
+text,HI,1,G
+text,HI,1,G
+-,,0,G
+-,,0,G
+-,,0,G
+-,,0,G
+",
+        output: b"0 text silent 4
+3 text silent 1
+4 text ok
+4 sent C201 2140 4849 0D20
+4 r0 text \"HI\"
+8 r0 text none
+",
+        status: 0,
+    },
+    Case {
+        name: "held_for_twice_the_dwell",
+        words: &SIM_OF_FOUR,
+        input: b"-,,0,
+-,,0,
+-,,0,
+-,,0,
+text,HI,0,
+-,,0,
+-,,0,
+-,,0,
+-,,0,
+-,,0,
+-,,0,
+text,YO,0,
+text,YO,1,
+",
+        output: b"4 text ok
+11 text held 1
+12 text ok
+12 sent C201 2150 594F 0D20
+",
+        status: 0,
+    },
+    Case {
+        name: "tags_of_no_text",
+        words: &SIM_OF_FOUR,
+        input: b"-,,0,\n-,,0,\n-,,0,\n-,,0,\ntags,1 1 4 0 3 1 7 7,0,\n",
+        output: b"4 tags notext\n",
+        status: 0,
+    },
+    Case {
+        name: "restart_keeps_silence",
+        words: &SIM_OF_FOUR,
+        input: b"-,,1,G
+-,,1,G
+-,,1,G
+-,,1,G
+text,HI,1,G
+restart,,1,G
+-,,1,G
+-,,1,G
+text,YO,1,G
+text,YO,1,G
+",
+        output: b"4 text ok
+4 sent C201 2140 4849 0D20
+4 r0 text \"HI\"
+5 restart
+8 text silent 1
+8 r0 text none
+9 text ok
+9 sent C201 2140 594F 0D20
+9 r0 text \"YO\"
+",
+        status: 0,
+    },
+    Case {
+        name: "tags_on_air",
+        words: &SIM_OF_FOUR,
+        input: TAGS_ON_AIR,
+        output: TAGS_OUTPUT,
+        status: 0,
+    },
+    Case {
+        name: "neighbours_in_one_slot",
+        words: &SIM_OF_FOUR,
+        input: b"-,,1,GG
+-,,1,GG
+-,,1,GG
+-,,1,GG
+text,ONE,1,GG
+-,,1,GG
+-,,1,GG
+-,,1,GG
+-,,1,GG
+-,,1,GG
+-,,1,GG
+-,,1,GG
+text,TWO,1,GL
+-,,1,GG
+-,,1,GG
+",
+        output: b"4 text ok
+4 sent C201 2140 4F4E 450D
+4 r0 text \"ONE\"
+4 r1 text \"ONE\"
+6 sent C201 2140 4F4E 450D
+8 sent C201 2140 4F4E 450D
+9 sent C201 3156 0000 4BD7
+10 sent C201 2140 4F4E 450D
+12 text ok
+12 sent C201 2150 5457 4F0D
+12 r0 text \"TWO\"
+14 sent C201 2150 5457 4F0D
+14 r1 text \"TWO\"
+",
+        status: 0,
+    },
+    Case {
+        name: "quoted_comma",
+        words: &["rdsrt", "sim", "--m", "1", "--pi", "C201", "--pty", "10"],
+        input: b"-,,1,G\ntext,\"A, B\",1,G\n",
+        output: b"1 text ok\n1 sent C201 2140 412C 2042\n",
+        status: 0,
+    },
+    Case {
+        name: "name_in_both_segments",
+        words: &SIM_OF_FOUR,
+        input: b"-,,1,G
+-,,1,G
+-,,1,G
+-,,1,G
+name,JAZZ FM,1,G
+-,,1,G
+-,,1,G
+-,,1,G
+",
+        output: b"4 name ok
+5 sent C201 A140 4A41 5A5A
+7 sent C201 A141 2046 4D20
+7 r0 name \"JAZZ FM \"
+",
+        status: 0,
+    },
+    Case {
+        name: "traffic_programme",
+        words: &[
+            "rdsrt", "sim", "--m", "1", "--pi", "C201", "--pty", "10", "--tp",
+        ],
+        input: b"-,,1,G\ntext,HI,1,G\n",
+        output: b"1 text ok\n1 sent C201 2540 4849 0D20\n1 r0 text \"HI\"\n",
+        status: 0,
+    },
+    Case {
+        name: "no_programme_type",
+        words: &["rdsrt", "sim", "--m", "1", "--pi", "c201"],
+        input: b"-,,1,G\ntext,HI,1,G\n",
+        output: b"1 text ok\n1 sent C201 2000 4849 0D20\n1 r0 text \"HI\"\n",
+        status: 0,
+    },
+    Case {
+        name: "empty_script",
+        words: &["rdsrt", "sim", "--pi", "C201", "--pty", "10"],
+        input: b"",
+        output: b"",
+        status: 0,
+    },
+    Case {
+        name: "another_number_of_receivers",
+        words: &["rdsrt", "sim", "--pi", "C201", "--pty", "10"],
+        input: b"-,,1,G\n-,,1,GG\n",
+        output: b"fault row 2\n",
+        status: 1,
+    },
+    Case {
+        name: "row_after_output",
+        words: &SIM_OF_FOUR,
+        input: b"text,HI,1,G\n-,,1,G\n-,,1",
+        output: b"0 text silent 4\nfault row 3\n",
+        status: 1,
+    },
+];
+
+const ENCODED: [Case; 6] = [
+    Case {
+        name: "encoded_log",
+        words: &ENCODE_OF_ONE,
+        input: b"text,HI,1,\ntext,HI,1,\n",
+        output: b"# 0 text silent 1
+---- ---- ---- ----
+# 1 text ok
+C201 2140 4849 0D20
+",
+        status: 0,
+    },
+    Case {
+        name: "all_of_a_traffic_programme",
+        words: &[
+            "rdsrt", "encode", "--m", "1", "--tp", "--pi", "C201", "--pty", "10",
+        ],
+        input: b"-,,1,
+text,HI,1,
+name,JAZZ FM,1,
+tags,0 1 1 0 1 0 0 0,1,
+-,,1,
+-,,1,
+-,,1,
+-,,1,
+-,,1,
+",
+        output: b"---- ---- ---- ----
+# 1 text ok
+C201 2540 4849 0D20
+# 2 name ok
+C201 A540 4A41 5A5A
+# 3 tags ok
+C201 2540 4849 0D20
+C201 A541 2046 4D20
+C201 2540 4849 0D20
+C201 3556 0000 4BD7
+C201 2540 4849 0D20
+C201 B548 2002 0000
+",
+        status: 0,
+    },
+    Case {
+        name: "greatest_programme_type",
+        words: &["rdsrt", "encode", "--m", "1", "--pi", "FFFF", "--pty", "31"],
+        input: b"-,,1,\ntext,HI,1,\n",
+        output: b"---- ---- ---- ----\n# 1 text ok\nFFFF 23E0 4849 0D20\n",
+        status: 0,
+    },
+    Case {
+        name: "empty_script",
+        words: &["rdsrt", "encode", "--pi", "C201", "--pty", "10"],
+        input: b"",
+        output: b"",
+        status: 0,
+    },
+    Case {
+        name: "row_with_a_receiver",
+        words: &["rdsrt", "encode", "--pi", "C201", "--pty", "10"],
+        input: b"-,,1,G\n",
+        output: b"# fault row 1\n",
+        status: 1,
+    },
+    Case {
+        name: "row_after_the_log",
+        words: &ENCODE_OF_ONE,
+        input: b"text,HI,1,\ntext,HI,1,\nx\n",
+        output: b"# 0 text silent 1
+---- ---- ---- ----
+# 1 text ok
+C201 2140 4849 0D20
+# fault row 3
+",
+        status: 1,
+    },
+];
+
+/// Each alone as a script is no row of `sim`.
+const REFUSED_ROWS: [&[u8]; 8] = [
+    b"text,HI,1\n",
+    b"-,x,1,\n",
+    b"text,HI,2,\n",
+    b"tags,1 1 0 0 1 0 0 0,1,\n",
+    b"tags,1 1 256 0 0 0 0 0,1,\n",
+    b"text,a\\x4,1,\n",
+    b"-,,1,GGGGGGGGG\n",
+    b"text,\"HI",
+];
+
 fn ran(alloc: Global, words: &[&str], input: &[u8]) -> Result<(u8, Vec<u8>), Fail> {
     let mut output = Vec::new(alloc);
     let status = run(alloc, words, Told::new(input), &mut Told::new(&mut output));
     Ok((status, output))
 }
 
-#[test]
-fn cases(rt: HostRuntime) -> Result<(), Fail> {
-    for case in &CASES {
-        let (status, output) = ran(rt.alloc(), case.words, case.input)?;
+/// Runs each of the cases.
+fn check(rt: &impl Abort, alloc: Global, cases: &[Case]) -> Result<(), Fail> {
+    for case in cases {
+        let (status, output) = ran(alloc, case.words, case.input)?;
         assert_eq!(rt; output.as_slice(), case.output, "in {}", case.name);
         assert_eq!(rt; status, case.status, "in {}", case.name);
+    }
+    Ok(())
+}
+
+#[test]
+fn decoded(rt: HostRuntime) -> Result<(), Fail> {
+    check(&rt, rt.alloc(), &DECODED)
+}
+
+#[test]
+fn simulated(rt: HostRuntime) -> Result<(), Fail> {
+    check(&rt, rt.alloc(), &SIMULATED)
+}
+
+#[test]
+fn encoded(rt: HostRuntime) -> Result<(), Fail> {
+    check(&rt, rt.alloc(), &ENCODED)
+}
+
+#[test]
+fn refused_rows(rt: HostRuntime) -> Result<(), Fail> {
+    for script in REFUSED_ROWS {
+        let (status, output) = ran(
+            rt.alloc(),
+            &["rdsrt", "sim", "--pi", "C201", "--pty", "10"],
+            script,
+        )?;
+        assert_eq!(rt; output.as_slice(), b"fault row 1\n".as_slice());
+        assert_eq!(rt; status, 1);
     }
     Ok(())
 }
@@ -429,6 +886,79 @@ fn writer_fails(rt: HostRuntime) -> Result<(), Fail> {
             assert_eq!(rt; writes.get(), fails_at);
             assert!(rt; wanted.starts_with(output.as_slice()));
             assert_eq!(rt; output.len() as u64, fails_at - 1);
+        }
+    }
+    Ok(())
+}
+
+/// Each read of a script fails in turn: the output of the rows that were read, and the line of the fault.
+#[test]
+fn script_reader_fails(rt: HostRuntime) -> Result<(), Fail> {
+    let encoding = b"text,HI,1,\ntext,HI,1,\n";
+    let log = b"# 0 text silent 1\n---- ---- ---- ----\n# 1 text ok\nC201 2140 4849 0D20\n";
+    let engines: [(&[&str], &[u8], &[u8], &[u8]); 2] = [
+        (&SIM_OF_FOUR, TAGS_ON_AIR, TAGS_OUTPUT, b"fault read\n"),
+        (&ENCODE_OF_ONE, encoding, log, b"# fault read\n"),
+    ];
+    for (words, script, wanted, fault) in engines {
+        let mut last = 0;
+        for fails_at in 1..u64::MAX {
+            last = fails_at;
+            let reads = Cell::new(0);
+            let mut output = Vec::new(rt.alloc());
+            let reader = Told::new(Slow {
+                left: script,
+                most: 7,
+                fails_at,
+                reads: &reads,
+            });
+            let status = run(rt.alloc(), words, reader, &mut Told::new(&mut output));
+            if status == 0 {
+                assert_eq!(rt; output.as_slice(), wanted);
+                break;
+            }
+            assert_eq!(rt; (status, reads.get()), (1, fails_at));
+            assert!(rt; output.ends_with(fault));
+            assert!(rt; wanted.starts_with(&output[..output.len() - fault.len()]));
+        }
+        assert!(rt; last as usize > script.len() / 7);
+    }
+    Ok(())
+}
+
+/// Each write of a script's output fails in turn: a first part of it, and nothing is written after.
+#[test]
+fn script_writer_fails(rt: HostRuntime) -> Result<(), Fail> {
+    let script = b"-,,1,\ntext,HI,1,\nx\n";
+    let engines: [(&[&str], &[u8]); 2] = [
+        (
+            &["rdsrt", "sim", "--m", "1", "--pi", "C201"],
+            b"1 text ok\n1 sent C201 2000 4849 0D20\nfault row 3\n",
+        ),
+        (
+            &["rdsrt", "encode", "--m", "1", "--pi", "C201"],
+            b"---- ---- ---- ----\n# 1 text ok\nC201 2000 4849 0D20\n# fault row 3\n",
+        ),
+    ];
+    for (words, wanted) in engines {
+        for with_error in [true, false] {
+            for fails_at in 1..=wanted.len() as u64 {
+                let writes = Cell::new(0);
+                let mut output = Vec::new(rt.alloc());
+                let status = {
+                    let mut writer = Told::new(Stubborn {
+                        taken: &mut output,
+                        most: 1,
+                        fails_at,
+                        with_error,
+                        writes: &writes,
+                    });
+                    run(rt.alloc(), words, Told::new(script.as_slice()), &mut writer)
+                };
+                assert_eq!(rt; (status, writes.get()), (1, fails_at));
+                assert!(rt; wanted.starts_with(output.as_slice()));
+                assert_eq!(rt; output.len() as u64, fails_at - 1);
+            }
         }
     }
     Ok(())
