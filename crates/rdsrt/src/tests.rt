@@ -301,6 +301,14 @@ const SIM_OF_FOUR: [&str; 8] = ["rdsrt", "sim", "--m", "4", "--pi", "C201", "--p
 
 const ENCODE_OF_ONE: [&str; 8] = ["rdsrt", "encode", "--m", "1", "--pi", "C201", "--pty", "10"];
 
+const ENCODED_SCRIPT: &[u8] = b"text,HI,1,\ntext,HI,1,\n";
+
+const ENCODED_LOG: &[u8] = b"# 0 text silent 1
+---- ---- ---- ----
+# 1 text ok
+C201 2140 4849 0D20
+";
+
 const SIMULATED: [Case; 13] = [
     Case {
         name: "silence_dwell_and_age",
@@ -492,12 +500,8 @@ const ENCODED: [Case; 6] = [
     Case {
         name: "encoded_log",
         words: &ENCODE_OF_ONE,
-        input: b"text,HI,1,\ntext,HI,1,\n",
-        output: b"# 0 text silent 1
----- ---- ---- ----
-# 1 text ok
-C201 2140 4849 0D20
-",
+        input: ENCODED_SCRIPT,
+        output: ENCODED_LOG,
         status: 0,
     },
     Case {
@@ -891,14 +895,61 @@ fn writer_fails(rt: HostRuntime) -> Result<(), Fail> {
     Ok(())
 }
 
+/// Takes all, and notes at each write how many reads there were.
+#[derive(Drop)]
+struct Noting<'a> {
+    noted: &'a mut Vec<u64>,
+    reads: &'a Cell<u64>,
+}
+
+impl Write for Noting<'_> {
+    fn write(&mut self, buf: &[u8]) -> io::Result<usize> {
+        self.noted.push(self.reads.get())?;
+        Ok(buf.len())
+    }
+
+    fn flush(&mut self) -> io::Result<()> {
+        Ok(())
+    }
+}
+
+/// The lines of one slot go out in one write, when the row's last byte was read and before one more is.
+#[test]
+fn row_by_row(rt: HostRuntime) -> Result<(), Fail> {
+    let engines: [(&[&str], &[u8], &[u64]); 2] = [
+        (&SIM_OF_FOUR, TAGS_ON_AIR, &[63, 90, 99, 117, 126, 135, 144]),
+        (&ENCODE_OF_ONE, ENCODED_SCRIPT, &[11, 22]),
+    ];
+    for (words, script, wanted) in engines {
+        let reads = Cell::new(0);
+        let mut noted = Vec::new(rt.alloc());
+        let reader = Told::new(Slow {
+            left: script,
+            most: 1,
+            fails_at: 0,
+            reads: &reads,
+        });
+        let mut writer = Told::new(Noting {
+            noted: &mut noted,
+            reads: &reads,
+        });
+        assert_eq!(rt; run(rt.alloc(), words, reader, &mut writer), 0);
+        assert_eq!(rt; noted.as_slice(), wanted);
+    }
+    Ok(())
+}
+
 /// Each read of a script fails in turn: the output of the rows that were read, and the line of the fault.
 #[test]
 fn script_reader_fails(rt: HostRuntime) -> Result<(), Fail> {
-    let encoding = b"text,HI,1,\ntext,HI,1,\n";
-    let log = b"# 0 text silent 1\n---- ---- ---- ----\n# 1 text ok\nC201 2140 4849 0D20\n";
     let engines: [(&[&str], &[u8], &[u8], &[u8]); 2] = [
         (&SIM_OF_FOUR, TAGS_ON_AIR, TAGS_OUTPUT, b"fault read\n"),
-        (&ENCODE_OF_ONE, encoding, log, b"# fault read\n"),
+        (
+            &ENCODE_OF_ONE,
+            ENCODED_SCRIPT,
+            ENCODED_LOG,
+            b"# fault read\n",
+        ),
     ];
     for (words, script, wanted, fault) in engines {
         let mut last = 0;
