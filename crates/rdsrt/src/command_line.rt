@@ -17,7 +17,7 @@ fn pi<'a>(alloc: Global) -> Arg<'a>
         .long("pi")
         .value_name("HHHH")
         .required(true)
-        .help("The programme identification of the station, four hexadecimal digits")
+        .help("The programme identification of the station, four hexadecimal digits, as C201")
 }
 
 /// The option `--m`.
@@ -34,8 +34,9 @@ fn dwell<'a>(alloc: Global) -> Arg<'a>
         .long_help(
             "The dwell in slots, 1 to 65535; a slot is the time of one group, some 88 ms.\n\
              A receiver forgets a text of which it heard no segment for one dwell. A station\n\
-             keeps each text on air for twice the dwell, and sends nothing for one dwell when\n\
-             it starts. So a receiver with the dwell of its station never joins parts of two texts.",
+             keeps each text on air for at least twice the dwell, and sends nothing for one\n\
+             dwell when it starts. So a receiver with the dwell of its station never joins\n\
+             parts of two texts.",
         )
 }
 
@@ -96,7 +97,8 @@ fn encode<'a>(alloc: Global) -> Result<Command<'a>, AllocError>
         station(alloc, "encode")?
             .about("Reads a script, a slot a row, and prints the log of what a station sends")
             .after_long_help(
-                "Example:\n  rdsrt encode --pi C201 --pty 10 < script.csv | rdsrt decode --pi C201",
+                "A row is COMMAND,ARGUMENT,FREE,RECEPTIONS, with no receptions: text,HI,1,\n\n\
+                 Example:\n  rdsrt encode --pi C201 --m 64 < script.csv | rdsrt decode --pi C201 --m 64",
             ),
     )
 }
@@ -111,7 +113,10 @@ fn simulate<'a>(alloc: Global) -> Result<Command<'a>, AllocError>
             .about(
                 "Reads a script, a slot a row, and prints what a station sends and its receivers show",
             )
-            .after_long_help("Example:\n  rdsrt sim --pi C201 --pty 10 --m 4 < script.csv"),
+            .after_long_help(
+                "A row is COMMAND,ARGUMENT,FREE,RECEPTIONS, a letter a receiver: text,HI,1,GGL\n\n\
+                 Example:\n  rdsrt sim --pi C201 --pty 10 --m 4 < script.csv",
+            ),
     )
 }
 

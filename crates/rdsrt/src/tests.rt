@@ -1037,13 +1037,14 @@ Usage: rdsrt sim [OPTIONS] --pi <HHHH>
 
 Options:
       --pi <HHHH>
-          The programme identification of the station, four hexadecimal digits
+          The programme identification of the station, four hexadecimal digits, as C201
 
       --m <N>
           The dwell in slots, 1 to 65535; a slot is the time of one group, some 88 ms.
           A receiver forgets a text of which it heard no segment for one dwell. A station
-          keeps each text on air for twice the dwell, and sends nothing for one dwell when
-          it starts. So a receiver with the dwell of its station never joins parts of two texts.
+          keeps each text on air for at least twice the dwell, and sends nothing for one
+          dwell when it starts. So a receiver with the dwell of its station never joins
+          parts of two texts.
           \n          [default: 128]
 
       --pty <N>
@@ -1056,6 +1057,8 @@ Options:
   -h, --help
           Print help (see a summary with '-h')
 
+A row is COMMAND,ARGUMENT,FREE,RECEPTIONS, a letter a receiver: text,HI,1,GGL
+
 Example:
   rdsrt sim --pi C201 --pty 10 --m 4 < script.csv
 ";
@@ -1067,7 +1070,7 @@ const EXAMPLES: [(&str, &[u8]); 2] = [
     ),
     (
         "encode",
-        b"Example:\n  rdsrt encode --pi C201 --pty 10 < script.csv | rdsrt decode --pi C201\n",
+        b"Example:\n  rdsrt encode --pi C201 --m 64 < script.csv | rdsrt decode --pi C201 --m 64\n",
     ),
 ];
 
