@@ -1,4 +1,5 @@
-//! Scripts and their output, scripts that are refused, and readers and writers that fail.
+//! Scripts and their output, scripts that are refused, and readers and writers that fail. More worked scripts are
+//! tests of the program, in rdsrt.
 
 use crate::{LogFault, encode, encode_within, simulate, simulate_within};
 use rds_block::Place;
@@ -48,79 +49,7 @@ const TAGS_OUTPUT: &[u8] = b"4 text ok
 11 r0 tag2 ITEM.TITLE \"WATERLOO\"
 ";
 
-const SIMULATED: [Case; 9] = [
-    Case {
-        name: "silence_dwell_and_age",
-        dwell: 4,
-        script: b"text,HI,1,G
--,,1,G
--,,1,G
-text,HI,1,G
-text,HI,1,G
--,,0,G
--,,0,G
--,,0,G
--,,0,G
-",
-        output: b"0 text silent 4
-3 text silent 1
-4 text ok
-4 sent C201 2140 4849 0D20
-4 r0 text \"HI\"
-8 r0 text none
-",
-        done: Ok(()),
-    },
-    Case {
-        name: "held_for_twice_the_dwell",
-        dwell: 4,
-        script: b"-,,0,
--,,0,
--,,0,
--,,0,
-text,HI,0,
--,,0,
--,,0,
--,,0,
--,,0,
--,,0,
--,,0,
-text,YO,0,
-text,YO,1,
-",
-        output: b"4 text ok
-11 text held 1
-12 text ok
-12 sent C201 2150 594F 0D20
-",
-        done: Ok(()),
-    },
-    Case {
-        name: "restart_keeps_silence",
-        dwell: 4,
-        script: b"-,,1,G
--,,1,G
--,,1,G
--,,1,G
-text,HI,1,G
-restart,,1,G
--,,1,G
--,,1,G
-text,YO,1,G
-text,YO,1,G
-",
-        output: b"4 text ok
-4 sent C201 2140 4849 0D20
-4 r0 text \"HI\"
-5 restart
-8 text silent 1
-8 r0 text none
-9 text ok
-9 sent C201 2140 594F 0D20
-9 r0 text \"YO\"
-",
-        done: Ok(()),
-    },
+const SIMULATED: [Case; 4] = [
     Case {
         name: "tags_on_air",
         dwell: 4,
@@ -129,64 +58,10 @@ text,YO,1,G
         done: Ok(()),
     },
     Case {
-        name: "neighbours_in_one_slot",
-        dwell: 4,
-        script: b"-,,1,GG
--,,1,GG
--,,1,GG
--,,1,GG
-text,ONE,1,GG
--,,1,GG
--,,1,GG
--,,1,GG
--,,1,GG
--,,1,GG
--,,1,GG
--,,1,GG
-text,TWO,1,GL
--,,1,GG
--,,1,GG
-",
-        output: b"4 text ok
-4 sent C201 2140 4F4E 450D
-4 r0 text \"ONE\"
-4 r1 text \"ONE\"
-6 sent C201 2140 4F4E 450D
-8 sent C201 2140 4F4E 450D
-9 sent C201 3156 0000 4BD7
-10 sent C201 2140 4F4E 450D
-12 text ok
-12 sent C201 2150 5457 4F0D
-12 r0 text \"TWO\"
-14 sent C201 2150 5457 4F0D
-14 r1 text \"TWO\"
-",
-        done: Ok(()),
-    },
-    Case {
         name: "quoted_comma",
         dwell: 1,
         script: b"-,,1,G\ntext,\"A, B\",1,G\n",
         output: b"1 text ok\n1 sent C201 2140 412C 2042\n",
-        done: Ok(()),
-    },
-    Case {
-        name: "name_in_both_segments",
-        dwell: 4,
-        script: b"-,,1,G
--,,1,G
--,,1,G
--,,1,G
-name,JAZZ FM,1,G
--,,1,G
--,,1,G
--,,1,G
-",
-        output: b"4 name ok
-5 sent C201 A140 4A41 5A5A
-7 sent C201 A141 2046 4D20
-7 r0 name \"JAZZ FM \"
-",
         done: Ok(()),
     },
     Case {
