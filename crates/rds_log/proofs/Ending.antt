@@ -18,7 +18,7 @@ use Rattle.rds_log.specs.declared.fault.LogFault.{LogFault}
 use Rattle.rds_log.specs.declared.fault.LogFault.TheVariants.{BadLine, BadRow, Read, Write, TooLong, Memory}
 
 -- from a to b, with failures from f to g
-abbrev from : Option (List ℕ) → Option (List ℕ) → ℕ → ℕ → Traffic
+abbrev pub from : Option (List ℕ) → Option (List ℕ) → ℕ → ℕ → Traffic
 from a b f g = record { before = a; after = b; failures_before = f; failures_after = g }
 
 -- the output of the closed lines
@@ -84,7 +84,7 @@ feeds_cut t d after text bytes written out i (Ok n) a b c f g h gone step part f
     record {
       lines = step.lines;
       added = gone.added ++ step.added;
-      begins = inl (step.line, drop n (drop i bytes), rest_cut text bytes (text_of gone.lines gone.line) i gone.cut ∙ n_more, step.stands.lines, step.stands.line);
+      begins = inl (step.line, drop n (drop i bytes), rest_cut text bytes (text_of gone.lines gone.line) i gone.cut ∙ n_more, step.stands.cutter.lines, step.stands.cutter.line);
       write = rw append_assoc at (lines_write t after step.lines step.line ((written ++ gone.added) ++ step.added) step.stands);
       wrote = AppendsPrefix-append a b c gone.added step.added gone.wrote (rw step.output at part);
       failed = rw gone.calm at failed;
@@ -92,7 +92,7 @@ feeds_cut t d after text bytes written out i (Ok n) a b c f g h gone step part f
 feeds_cut t d after text bytes written out i (Err bad) a b c f g h gone fails part failed left = record {
   lines = fails.lines;
   added = gone.added ++ fails.added;
-  begins = inl (fails.line, line_feed ∷ fails.rest, rest_cut text bytes (text_of gone.lines gone.line) i gone.cut ∙ fails.text, fails.bad.lines, fails.bad.is_line);
+  begins = inl (fails.line, line_feed ∷ fails.rest, rest_cut text bytes (text_of gone.lines gone.line) i gone.cut ∙ fails.text, fails.bad.bad_line.lines, fails.bad.bad_line.is_line);
   write = rw append_assoc at fails.bad.write;
   wrote = AppendsPrefix-append a b c gone.added fails.added gone.wrote (rw fails.output at part);
   failed = rw gone.calm at failed;
@@ -103,13 +103,13 @@ pub finishes : (t : Tuning) (d after : Decoder) (closed : List Line) (begun : Li
     → Ends t after closed begun written [] out → Appends a b out → g ≡ f → Finishes t (text_of closed begun) (from a b f g) written
 finishes t d after closed begun written out a b f g s (inl (empty, none, u)) put calm = record {
   added = [];
-  write = record { cut = closed; are = (closed, begun, refl, s.lines, s.line, inl (empty, refl)); write = rw (append-nil written) (lines_write t after closed [] written u) };
+  write = record { cut = closed; are = (closed, begun, refl, s.cutter.lines, s.cutter.line, inl (empty, refl)); write = rw (append-nil written) (lines_write t after closed [] written u) };
   wrote = rw none at put;
   calm = calm;
 }
 finishes t d after closed begun written out a b f g s (inr (some, given)) put calm = record {
   added = given.added;
-  write = record { cut = begun ∷ closed; are = (closed, begun, refl, s.lines, s.line, inr (some, refl)); write = lines_write t after (begun ∷ closed) [] (written ++ given.added) given.stands };
+  write = record { cut = begun ∷ closed; are = (closed, begun, refl, s.cutter.lines, s.cutter.line, inr (some, refl)); write = lines_write t after (begun ∷ closed) [] (written ++ given.added) given.stands };
   wrote = rw given.output at put;
   calm = calm;
 }
@@ -138,7 +138,7 @@ pub finishes_cut : (t : Tuning) (d after : Decoder) (closed : List Line) (begun 
 finishes_cut t d after closed begun written out (Ok done) a b f g s (inl (empty, none, u)) part failed left end = record {
   lines = closed;
   added = [];
-  begins = inr (end, (closed, begun, refl, s.lines, s.line, inl (empty, refl)));
+  begins = inr (end, (closed, begun, refl, s.cutter.lines, s.cutter.line, inl (empty, refl)));
   write = rw (append-nil written) (lines_write t after closed [] written u);
   wrote = rw none at part;
   failed = failed;
@@ -146,7 +146,7 @@ finishes_cut t d after closed begun written out (Ok done) a b f g s (inl (empty,
 finishes_cut t d after closed begun written out (Ok done) a b f g s (inr (some, given)) part failed left end = record {
   lines = begun ∷ closed;
   added = given.added;
-  begins = inr (end, (closed, begun, refl, s.lines, s.line, inr (some, refl)));
+  begins = inr (end, (closed, begun, refl, s.cutter.lines, s.cutter.line, inr (some, refl)));
   write = lines_write t after (begun ∷ closed) [] (written ++ given.added) given.stands;
   wrote = rw given.output at part;
   failed = failed;
@@ -154,7 +154,7 @@ finishes_cut t d after closed begun written out (Ok done) a b f g s (inr (some, 
 finishes_cut t d after closed begun written out (Err bad) a b f g s (none, is) part failed left end = record {
   lines = closed;
   added = [];
-  begins = inl (begun, [], sym (append-nil (text_of closed begun)), s.lines, s.line);
+  begins = inl (begun, [], sym (append-nil (text_of closed begun)), s.cutter.lines, s.cutter.line);
   write = rw (append-nil written) is.write;
   wrote = rw none at part;
   failed = failed;
@@ -171,7 +171,7 @@ pub record HasRead (t : Tuning) (had now start wrote : Option (List ℕ)) (d : D
   pub put : Appends start wrote written
 
 -- a read that gave nothing leaves what was read
-consumes_none : (had mid left : Option (List ℕ)) (text : List ℕ) → Consumes had mid text → Consumes mid left [] → Consumes had left text
+pub consumes_none : (had mid left : Option (List ℕ)) (text : List ℕ) → Consumes had mid text → Consumes mid left [] → Consumes had left text
 consumes_none had mid left text p q = rw (append-nil text) at (Consumes-trans had mid left text [] p q)
 
 -- the bytes of one read
@@ -198,8 +198,8 @@ stops_between t had mid left start now r r' w w' d least s keeps = record {
   begun = s.begun;
   read = Consumes-kept had mid left (text_of s.closed s.begun) s.read keeps;
   enough = s.enough;
-  lines = s.stands.lines;
-  line = s.stands.line;
+  lines = s.stands.cutter.lines;
+  line = s.stands.cutter.line;
   written = s.written;
   write = lines_write t d s.closed s.begun s.written s.stands;
   wrote = s.put;

@@ -2,8 +2,12 @@ pub mod Digits
 pub mod FirstBytes
 pub mod SaidLemmas
 pub mod Views
+pub mod Cutting
 pub mod Going
+pub mod CountedReads
 pub mod Ending
+pub mod Judging
+pub mod JudgingReads
 pub mod OneOutput
 pub mod Numbers
 pub mod Commands

@@ -76,8 +76,8 @@ Decodes t reads r w (Err TooLong) = StopsBetween t r w reads × IsCalm r × IsCa
 Decodes t reads r w (Err (BadRow n)) = ⊥
 Decodes t reads r w (Err Memory) = ⊥
 
--- `decode` made so many reads at most, and as many where it gave up
-pub record MadeReads (most before after : ℕ) (result : Result (Unit {0}) LogFault) : Type 0 where
+-- an engine made so many reads at most, and as many where it gave up
+pub record MadeReads {X : Type 0} (most before after : ℕ) (result : Result X LogFault) : Type 0 where
   pub made : ℕ
   pub at_most : made ≤ most
   pub counted : after ≡ count_after before made

@@ -3,11 +3,14 @@ pub mod LogLines
 pub mod LineSays
 pub mod Output
 pub mod Parts
+pub mod Cutting
 pub mod Decoding
 pub mod Kept
 pub mod Viewing
 pub mod Standing
 pub mod Engine
+pub mod Auditing
+pub mod AuditorStanding
 pub mod Verbs
 pub mod Rows
 pub mod Outcomes

@@ -1,20 +1,17 @@
 -- What the decoder of a log holds after these lines and the first bytes of the next one, and how it goes on.
 -- Lists of lines have the newest first; `written` is the output of the closed lines.
-use Rattle.std.specs.Prelude.{◌≡◌, ◌≢◌, ◌⊎◌, ◌+◌, ◌++◌, ◌∷◌, [], ℕ, List, All, take, length, Option}
+use Rattle.std.specs.Prelude.{◌≡◌, ◌≢◌, ◌⊎◌, ◌++◌, ◌∷◌, [], ℕ, List, Option}
 use Rattle.rds_block.specs.declared.group.Group.{Group}
 use Rattle.rds_receiver.specs.Receipts.{Tuning}
-use Rattle.rds_log.specs.LogLines.{IsLine, Line, line_feed, text_of}
-use Rattle.rds_log.specs.LineSays.{IsBad, deciding}
+use Rattle.rds_log.specs.LogLines.{Line, line_feed, text_of}
+use Rattle.rds_log.specs.Cutting.{CutterStandsAt, IsBadLine}
 use Rattle.rds_log.specs.Decoding.{AreSlots, LinesWrite}
 use Rattle.rds_log.specs.Viewing.{ViewsStandAt}
 use Rattle.rds_log.specs.declared.decoder.Decoder.{Decoder}
 
 -- the decoder took the closed lines and the bytes of the begun one, and gave the output of the closed ones
 pub record DecoderStandsAt (t : Tuning) (d : Decoder) (closed : List Line) (begun : Line) (written : List ℕ) : Type 0 where
-  pub kept : d.kept.items ≡ take deciding begun
-  pub count : d.lines ≡ length closed
-  pub lines : All IsLine closed
-  pub line : IsLine begun
+  pub cutter : CutterStandsAt d.cutter closed begun
   pub slots : List (Option Group)
   pub say : AreSlots closed slots
   pub views : ViewsStandAt t d.views slots written
@@ -32,10 +29,7 @@ pub record GivesLine (t : Tuning) (d : Decoder) (closed : List Line) (line : Lin
 
 -- the line after the closed ones is bad, which the closed ones are not
 pub record IsBadAt (t : Tuning) (n : ℕ) (closed : List Line) (line : Line) (written : List ℕ) : Type 0 where
-  pub lines : All IsLine closed
-  pub is_line : IsLine line
-  pub number : n ≡ length closed + 1
-  pub bad : IsBad line
+  pub bad_line : IsBadLine n closed line
   pub write : LinesWrite t closed written
 
 -- the decoder went on by these bytes

@@ -13,10 +13,10 @@ use rds_charset::{TellingRead, TellingWrite, put};
 use rds_fields::Dwell;
 
 /// How many bytes one read asks for.
-const PIECE: usize = 65536;
+pub const PIECE: usize = 65536;
 
 /// How many reads are made before a log is too long.
-const MOST_READS: u64 = 1 << 32;
+pub const MOST_READS: u64 = 1 << 32;
 
 /// Writes what a receiver of this programme and this dwell shows while it hears the log.
 ///
@@ -74,10 +74,10 @@ fn feed<W: TellingWrite>(
     output: &mut Output,
     writer: &mut W,
 ) -> Result<(), LogFault>
-    requires lines { decoder.old.lines + length piece.now < 2 ^ 64 }
+    requires lines { decoder.old.cutter.lines + length piece.now < 2 ^ 64 }
     requires slots { decoder.old.views.slot + length piece.now < 2 ^ 64 }
     requires empty { output.old ≡ [] }
-    ensures lines { OnOk result (decoder.new.lines ≤ decoder.old.lines + length piece.now) }
+    ensures lines { OnOk result (decoder.new.cutter.lines ≤ decoder.old.cutter.lines + length piece.now) }
     ensures slots { OnOk result (decoder.new.views.slot ≤ decoder.old.views.slot + length piece.now) }
     ensures empty { OnOk result (output.new ≡ []) }
     ensures step { WhereItStands decoder.old (λ t closed begun written. Feeds t decoder.new
@@ -101,7 +101,7 @@ fn finish<W: TellingWrite>(
     output: &mut Output,
     writer: &mut W,
 ) -> Result<(), LogFault>
-    requires lines { decoder.old.lines < 2 ^ 64 - 1 }
+    requires lines { decoder.old.cutter.lines < 2 ^ 64 - 1 }
     requires slots { decoder.old.views.slot < 2 ^ 64 - 1 }
     requires empty { output.old ≡ [] }
     ensures ends { WhereItStands decoder.old (λ t closed begun written. EndsWith t

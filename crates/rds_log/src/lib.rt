@@ -12,7 +12,10 @@
 #![tactic(auto)]
 
 mod answer_lines;
+mod auditing;
+mod auditor;
 mod change;
+mod cutter;
 mod decoder;
 mod engine;
 mod fault;
@@ -26,8 +29,10 @@ mod player;
 mod row;
 mod script;
 mod scripts;
+mod verdict;
 mod view_lines;
 
+pub use auditing::{audit, audit_within};
 pub use engine::{decode, decode_within};
 pub use fault::LogFault;
 pub use hexadecimal::word_at;
@@ -35,6 +40,8 @@ pub use laws::{bytes_write_one_output, rows_write_one_output};
 pub use lines::Lines;
 pub use scripts::{encode, encode_within, simulate, simulate_within};
 
+#[cfg(test)]
+mod audit_tests;
 #[cfg(test)]
 mod script_tests;
 #[cfg(test)]

@@ -273,8 +273,8 @@ fn output_longer_than_its_room(rt: HostRuntime) -> Result<(), Fail> {
 
 /// Gives the same line for ever, and counts the reads.
 #[derive(Drop)]
-struct Endless<'a> {
-    reads: &'a Cell<u64>,
+pub struct Endless<'a> {
+    pub reads: &'a Cell<u64>,
 }
 
 impl Read for Endless<'_> {

@@ -14,7 +14,7 @@ use Rattle.clap.specs.declared.error.kind.ErrorKind.{ErrorKind}
 use Rattle.clap.specs.declared.error.kind.ErrorKind.TheVariants.{DisplayHelp, DisplayVersion}
 use Rattle.rdsrt.specs.declared.request.Programme.{Programme}
 use Rattle.rdsrt.specs.declared.request.Task.{Task}
-use Rattle.rdsrt.specs.declared.request.Task.TheVariants.{Decode, Encode, Simulate}
+use Rattle.rdsrt.specs.declared.request.Task.TheVariants.{Audit, Decode, Encode, Simulate}
 
 -- ---- the command line
 
@@ -48,19 +48,25 @@ pty_rule = record (new_rule (codes "pty")) {
 abbrev pub tp_rule : Rule
 tp_rule = record (new_rule (codes "tp")) { long = Some (codes "tp"); action = Some SetTrue }
 
-abbrev pub decode_app : App
-decode_app = with_rule (with_rule (new_app (codes "decode")) pi_rule) dwell_rule
+-- a subcommand that reads a log
+abbrev pub log_app : Text → App
+log_app name = with_rule (with_rule (new_app name) pi_rule) dwell_rule
 
 -- a subcommand with a station of its own
 abbrev pub station_app : Text → App
-station_app name = with_rule (with_rule (with_rule (with_rule (new_app name) pi_rule) dwell_rule) pty_rule) tp_rule
+station_app name = with_rule (with_rule (log_app name) pty_rule) tp_rule
 
 -- `rdsrt`, which has a version and wants a subcommand
 abbrev pub top_app : App
 top_app = on_top (λ s. record s { has_version = true; subcommand_required = true }) (new_app (codes "rdsrt"))
 
+-- with the subcommands that read a log
+abbrev pub log_readers_app : App
+log_readers_app = with_subcommand (with_subcommand top_app (log_app (codes "decode")).top) (log_app (codes "audit")).top
+
+-- and with those that have a station of their own
 abbrev pub whole_app : App
-whole_app = with_subcommand (with_subcommand (with_subcommand top_app decode_app.top) (station_app (codes "encode")).top) (station_app (codes "sim")).top
+whole_app = with_subcommand (with_subcommand log_readers_app (station_app (codes "encode")).top) (station_app (codes "sim")).top
 
 -- `clap`'s definition takes the words, the program's own name first
 abbrev pub TakesWords : List Text → Type 0
@@ -98,6 +104,7 @@ task_in name rows =
     if bytes_eq name (codes "decode") then Some Decode
     else if bytes_eq name (codes "encode") then option_map Encode (programme_in rows)
     else if bytes_eq name (codes "sim") then option_map Simulate (programme_in rows)
+    else if bytes_eq name (codes "audit") then Some Audit
     else None
 
 abbrev pub asked : Option Task → Option Text → Option ℕ → Option Asked

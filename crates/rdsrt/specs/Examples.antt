@@ -2,7 +2,7 @@
 use Rattle.std.specs.Prelude.{◌≡◌, ◌==◌, ◌∷◌, ℕ, Bool, List, [], codes, false, if◌then◌else◌}
 use Rattle.clap.specs.Words.{Text, takes}
 use Rattle.rdsrt.specs.CommandLine.{AreRefused, Asked, whole_app}
-use Rattle.rdsrt.specs.declared.request.Task.TheVariants.{Decode, Encode, Simulate}
+use Rattle.rdsrt.specs.declared.request.Task.TheVariants.{Audit, Decode, Encode, Simulate}
 
 abbrev pub in_front : ℕ → List Text → List Text
 in_front c [] = (c ∷ []) ∷ []
@@ -26,3 +26,6 @@ encoding dwell pty = record { task = Encode (record { pty = pty; tp = false }); 
 
 abbrev pub simulating : ℕ → ℕ → Bool → Asked
 simulating dwell pty tp = record { task = Simulate (record { pty = pty; tp = tp }); pi = codes "C201"; dwell = dwell }
+
+abbrev pub auditing : ℕ → Asked
+auditing dwell = record { task = Audit; pi = codes "C201"; dwell = dwell }

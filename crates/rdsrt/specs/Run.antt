@@ -1,10 +1,11 @@
 -- What the whole program does with its words. This is the project's own command line.
 -- r is what a call did to the reader, w what it did to the writer.
-use Rattle.std.specs.Prelude.{◌≡◌, ◌^◌, ◌++◌, ℕ, List, [], codes, decimal, length, Option, Ok, Err, Result}
+use Rattle.std.specs.Prelude.{◌≡◌, ◌^◌, ◌++◌, ℕ, Bool, List, [], codes, decimal, length, Option, Ok, Err, Result, if◌then◌else◌}
 use Rattle.rds_charset.specs.Puts.{Puts}
 use Rattle.rds_charset.specs.Told.{PutsNothing, Traffic}
 use Rattle.rds_charset.specs.declared.output.WriteFault.{WriteFault}
 use Rattle.rds_fields.specs.declared.head.Head.{Head}
+use Rattle.rds_log.specs.Auditing.{Audits}
 use Rattle.rds_log.specs.Decoding.{tuned}
 use Rattle.rds_log.specs.Digits.{HasWord}
 use Rattle.rds_log.specs.Engine.{Decodes}
@@ -14,7 +15,7 @@ use Rattle.rds_log.specs.declared.fault.LogFault.TheVariants.{BadLine, BadRow, R
 use Rattle.rds_log.specs.declared.form.Form.TheVariants.{Log, Simulation}
 use Rattle.rdsrt.specs.declared.request.Programme.{Programme}
 use Rattle.rdsrt.specs.declared.request.Task.{Task}
-use Rattle.rdsrt.specs.declared.request.Task.TheVariants.{Decode, Encode, Simulate}
+use Rattle.rdsrt.specs.declared.request.Task.TheVariants.{Audit, Decode, Encode, Simulate}
 
 -- what a call did begins with these bytes and these failures
 pub record Begins (t : Traffic) (bytes : Option (List ℕ)) (failures : ℕ) : Type 0 where
@@ -37,6 +38,7 @@ abbrev pub mark_of : Task → List ℕ
 mark_of Decode = []
 mark_of (Encode programme) = codes "# "
 mark_of (Simulate programme) = []
+mark_of Audit = []
 
 abbrev pub TellsFault : Task → List ℕ → Traffic → Type 0
 TellsFault task text w = PutsLine (mark_of task ++ text ++ codes "\n") w
@@ -52,22 +54,30 @@ PutsAfter task Memory w = TellsFault task (codes "fault memory") w
 
 -- ---- engines
 
--- status 0 at the end, and 1 after a fault, which is told
-abbrev pub EndsWith : Task → Result (Unit {0}) LogFault → Traffic → ℕ → Type 0
-EndsWith task (Ok _) w status = (status ≡ 0) × PutsNothing w
-EndsWith task (Err fault) w status = (status ≡ 1) × PutsAfter task fault w
+-- the status of what an engine answers at its end, and 1 after a fault, which is told
+abbrev pub EndsWith : {X : Type 0} → (X → ℕ) → Task → Result X LogFault → Traffic → ℕ → Type 0
+EndsWith status_of task (Ok answer) w status = (status ≡ status_of answer) × PutsNothing w
+EndsWith status_of task (Err fault) w status = (status ≡ 1) × PutsAfter task fault w
+
+-- of an engine that has done all
+abbrev pub done : Unit {0} → ℕ
+done _ = 0
+
+-- of a yes, and of a no
+abbrev pub answered : Bool → ℕ
+answered passed = if passed then 0 else 1
 
 -- an engine ran, and then its outcome gave the status; `mid` and `failures` are the writer's in between
-pub record Runs (Engine : Traffic → Result (Unit {0}) LogFault → Type 0) (task : Task) (w : Traffic) (status : ℕ) : Type 0 where
-  pub outcome : Result (Unit {0}) LogFault
+pub record Runs {X : Type 0} (Engine : Traffic → Result X LogFault → Type 0) (status_of : X → ℕ) (task : Task) (w : Traffic) (status : ℕ) : Type 0 where
+  pub outcome : Result X LogFault
   pub mid : Option (List ℕ)
   pub failures : ℕ
   pub ran : Engine (record w { after = mid; failures_after = failures }) outcome
-  pub ended : EndsWith task outcome (record w { before = mid; failures_before = failures }) status
+  pub ended : EndsWith status_of task outcome (record w { before = mid; failures_before = failures }) status
 
 -- a log is decoded to the end of the reader, for a programme and with a dwell
 abbrev pub DecodeRuns : ℕ → ℕ → Traffic → Traffic → ℕ → Type 0
-DecodeRuns pi dwell r w status = Runs (Decodes (tuned pi dwell) (2 ^ 32) r) Decode w status
+DecodeRuns pi dwell r w status = Runs (Decodes (tuned pi dwell) (2 ^ 32) r) done Decode w status
 
 -- the head of every group of a station
 abbrev pub head_of : ℕ → Programme → Head
@@ -75,11 +85,15 @@ head_of pi programme = record { pi = pi; tp = programme.tp; pty = programme.pty 
 
 -- a script is played for its log
 abbrev pub EncodeRuns : Programme → ℕ → ℕ → Traffic → Traffic → ℕ → Type 0
-EncodeRuns programme pi dwell r w status = Runs (Plays Log (head_of pi programme) dwell (2 ^ 32) r.before) (Encode programme) w status
+EncodeRuns programme pi dwell r w status = Runs (Plays Log (head_of pi programme) dwell (2 ^ 32) r.before) done (Encode programme) w status
 
 -- a script is played with its receivers
 abbrev pub SimulateRuns : Programme → ℕ → ℕ → Traffic → Traffic → ℕ → Type 0
-SimulateRuns programme pi dwell r w status = Runs (Plays Simulation (head_of pi programme) dwell (2 ^ 32) r.before) (Simulate programme) w status
+SimulateRuns programme pi dwell r w status = Runs (Plays Simulation (head_of pi programme) dwell (2 ^ 32) r.before) done (Simulate programme) w status
+
+-- a log is audited, for a programme and with a dwell
+abbrev pub AuditRuns : ℕ → ℕ → Traffic → Traffic → ℕ → Type 0
+AuditRuns pi dwell r w status = Runs (Audits pi dwell (2 ^ 32) r) answered Audit w status
 
 -- ---- the whole program
 
@@ -88,6 +102,7 @@ abbrev pub TaskRuns : Task → ℕ → ℕ → Traffic → Traffic → ℕ → T
 TaskRuns Decode pi dwell r w status = DecodeRuns pi dwell r w status
 TaskRuns (Encode programme) pi dwell r w status = EncodeRuns programme pi dwell r w status
 TaskRuns (Simulate programme) pi dwell r w status = SimulateRuns programme pi dwell r w status
+TaskRuns Audit pi dwell r w status = AuditRuns pi dwell r w status
 
 -- the programme identification is refused
 pub record RefusesPi (task : Task) (w : Traffic) (status : ℕ) : Type 0 where

@@ -2,7 +2,7 @@
 ghost use Rattle.std.specs.Prelude.{◌≡◌, IfOk, codes, false};
 ghost use Rattle.clap.specs.Words.{app_of, rule_of};
 ghost use Rattle.clap.specs.declared.builder.command.Command.TheViews.{out-Command};
-ghost use Rattle.rdsrt.specs.CommandLine.{decode_app, dwell_rule, pi_rule, pty_rule};
+ghost use Rattle.rdsrt.specs.CommandLine.{dwell_rule, log_app, log_readers_app, pi_rule, pty_rule};
 ghost use Rattle.rdsrt.specs.CommandLine.{station_app, top_app, tp_rule, whole_app};
 
 use clap::{Arg, ArgAction, Command, value_parser};
@@ -64,16 +64,53 @@ fn tp<'a>(alloc: Global) -> Arg<'a>
         .help("Sets the flag of each group that says: the programme has traffic announcements")
 }
 
-/// The subcommand `decode`.
-fn decode<'a>(alloc: Global) -> Result<Command<'a>, AllocError>
-    ensures app { IfOk result (λ c. app_of c ≡ decode_app) }
+/// A subcommand that reads a log.
+fn log_reader<'a>(alloc: Global, name: &'a str) -> Result<Command<'a>, AllocError>
+    ensures app { IfOk result (λ c. app_of c ≡ log_app name.entry.now) }
     ensures local { IfOk result (λ c. (out-Command c).has_globals ≡ false) }
 {
-    Command::new(alloc, "decode")
-        .about("Reads a log of received groups, a slot a line, and prints what a receiver shows")
-        .after_long_help("Example:\n  rdsrt decode --pi C201 --m 64 < received.log")
-        .arg(pi(alloc))?
-        .arg(dwell(alloc))
+    Command::new(alloc, name).arg(pi(alloc))?.arg(dwell(alloc))
+}
+
+/// The subcommand `decode`.
+fn decode<'a>(alloc: Global) -> Result<Command<'a>, AllocError>
+    ensures app { IfOk result (λ c. app_of c ≡ log_app (codes "decode")) }
+    ensures local { IfOk result (λ c. (out-Command c).has_globals ≡ false) }
+{
+    Ok(
+        log_reader(alloc, "decode")?
+            .about(
+                "Reads a log of received groups, a slot a line, and prints what a receiver shows",
+            )
+            .after_long_help("Example:\n  rdsrt decode --pi C201 --m 64 < received.log"),
+    )
+}
+
+/// The subcommand `audit`.
+fn audit<'a>(alloc: Global) -> Result<Command<'a>, AllocError>
+    ensures app { IfOk result (λ c. app_of c ≡ log_app (codes "audit")) }
+    ensures local { IfOk result (λ c. (out-Command c).has_globals ≡ false) }
+{
+    Ok(
+        log_reader(alloc, "audit")?
+            .about(
+                "Reads a log of all groups that were sent, a slot a line, and says whether it is safe",
+            )
+            .after_long_help(
+                "It prints `yes N` with the number of slots, status 0, or `no T NAME` with the first\n\
+                 slot that breaks a rule and the name of the fault, status 1.\n\n\
+                 Yes: no receiver of this dwell ever shows a mix of two texts from this log, whatever\n\
+                 it loses and whenever it restarts.\n\
+                 No: a rule was broken, so no plan of texts and names is lawful and without a gap. A\n\
+                 lawful log with few free slots can be refused too.\n\n\
+                 Changed     within one text or name an address was sent with other characters\n\
+                 NotOneText  no text, or no name, has the segments that were sent\n\
+                 EarlyFlag   the A/B flag changed twice within one dwell\n\
+                 EarlyTag    tags came with no text, or before it was on air for one dwell\n\
+                 TagOutside  a tag ends past the end of its text\n\n\
+                 Example:\n  rdsrt encode --pi C201 --m 64 < script.csv | rdsrt audit --pi C201 --m 64",
+            ),
+    )
 }
 
 /// A subcommand with a station of its own.
@@ -130,12 +167,20 @@ fn top<'a>(alloc: Global) -> Command<'a>
         .subcommand_required(true)
 }
 
+/// The program with the subcommands that read a log.
+fn log_readers<'a>(alloc: Global) -> Result<Command<'a>, AllocError>
+    ensures { IfOk result (λ c. app_of c ≡ log_readers_app) }
+{
+    top(alloc)
+        .subcommand(decode(alloc)?)?
+        .subcommand(audit(alloc)?)
+}
+
 /// The whole command line.
 pub fn whole<'a>(alloc: Global) -> Result<Command<'a>, AllocError>
     ensures app { IfOk result (λ c. app_of c ≡ whole_app) }
 {
-    top(alloc)
-        .subcommand(decode(alloc)?)?
+    log_readers(alloc)?
         .subcommand(encode(alloc)?)?
         .subcommand(simulate(alloc)?)
 }

@@ -1,7 +1,7 @@
 //! What the definition of the command line says of words that are written out.
 ghost use Rattle.std.specs.Prelude.{codes, false, true};
 ghost use Rattle.rdsrt.specs.CommandLine.{AskFor, AskForHelp};
-ghost use Rattle.rdsrt.specs.Examples.{AreNotTaken, decoding, encoding, simulating, words_of};
+ghost use Rattle.rdsrt.specs.Examples.{AreNotTaken, auditing, decoding, encoding, simulating, words_of};
 
 /// The words of README's examples are taken and ask for what they say: the definition is no empty one. A dwell of 0
 /// slots, a programme type of 32, a subcommand with no programme and no subcommand are refused. Help and the
@@ -15,6 +15,7 @@ pub fn words_of_the_examples()
     ensures encode { AskFor (words_of (codes "rdsrt encode --pi C201 --pty 10 --m 8")) (encoding 8 10) }
     ensures sim { AskFor (words_of (codes "rdsrt sim --pi C201 --pty 24 --m 8")) (simulating 8 24 false) }
     ensures sim_tp { AskFor (words_of (codes "rdsrt sim --pi C201 --pty 10 --tp")) (simulating 128 10 true) }
+    ensures audit { AskFor (words_of (codes "rdsrt audit --pi C201 --m 4")) (auditing 4) }
     ensures help { AskForHelp (words_of (codes "rdsrt --help")) }
     ensures help_of_one { AskForHelp (words_of (codes "rdsrt decode --help")) }
     ensures version { AskForHelp (words_of (codes "rdsrt --version")) }

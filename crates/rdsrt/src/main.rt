@@ -8,6 +8,8 @@
 //! ```
 #![tactic(auto)]
 
+#[cfg(test)]
+mod audit_tests;
 mod command_line;
 mod laws;
 mod request;

@@ -30,6 +30,8 @@ pub enum Task {
     Encode(Programme),
     /// Print what a station sends and what its receivers show.
     Simulate(Programme),
+    /// Print whether a log of all groups that were sent passes the audit.
+    Audit,
 }
 
 /// What the words ask for.
@@ -82,6 +84,7 @@ fn task_of(name: &str, inner: &ArgMatches<'_>) -> Option<Task>
         "decode" => Some(Task::Decode),
         "encode" => Some(Task::Encode(programme_of(inner)?)),
         "sim" => Some(Task::Simulate(programme_of(inner)?)),
+        "audit" => Some(Task::Audit),
         _ => None,
     }
 }

@@ -5,21 +5,24 @@ ghost use Rattle.rds_charset.specs.Told.{PutsNothing, Traffic, traffic};
 ghost use Rattle.clap.specs.Words.{kind_of};
 ghost use Rattle.rdsrt.specs.CommandLine.{AreRefused, AskFor, AskForHelp, Asked};
 ghost use Rattle.rdsrt.specs.CommandLine.{TakesWords, asked_in, is_shown};
-ghost use Rattle.rdsrt.specs.Run.{Begins, DecodeRuns, EncodeRuns, EndsWith};
+ghost use Rattle.rdsrt.specs.Run.{AuditRuns, Begins, DecodeRuns, EncodeRuns, EndsWith};
 ghost use Rattle.rdsrt.specs.Run.{IsPi, NoMemory, PutsAfter, PutsLine};
-ghost use Rattle.rdsrt.specs.Run.{RefusesPi, SimulateRuns, TaskRuns, TellsFault, head_of, mark_of};
+ghost use Rattle.rdsrt.specs.Run.{RefusesPi, SimulateRuns, TaskRuns, TellsFault, done, head_of, mark_of};
 
 use crate::request::{Programme, Request, Task, read_words};
 use clap::Error;
 use clap::error::ErrorKind;
 use rds_charset::{TellingRead, TellingWrite, put};
 use rds_fields::{Dwell, Head};
-use rds_log::{Lines, LogFault, decode, encode, simulate, word_at};
+use rds_log::{Lines, LogFault, audit, decode, encode, simulate, word_at};
 use rds_world::Config;
 use std::alloc::Global;
 
-/// The status where all was done, or help was asked for.
+/// The status where all was done, the audit says yes, or help was asked for.
 const DONE: u8 = 0;
+
+/// The status where the audit says no.
+const NO: u8 = 1;
 
 /// The status after a fault of the log or script, the reader or the writer, and where there is no memory.
 const FAULT: u8 = 1;
@@ -33,7 +36,8 @@ const LINE: usize = 64;
 /// The whole program: its words, the program's own name first, and the status that it ends with.
 ///
 /// `decode` reads a log and writes what a receiver of the programme shows; `encode` and `sim` read a script
-/// and write the log of a station, or what it sends and its receivers show. A fault is told by its line, the
+/// and write the log of a station, or what it sends and its receivers show; `audit` reads a log and writes
+/// whether it passes. A fault is told by its line, the
 /// last that is written. Where the words are refused or ask for help, the text of `clap` is written
 /// and nothing is read. `clap`'s contract doesn't say that numbers which it took lie in their range:
 /// where one didn't, `nothing_asked` holds.
@@ -138,6 +142,7 @@ fn answer<R: TellingRead, W: TellingWrite>(
         Task::Decode => run_decode(pi, dwell, reader, writer),
         Task::Encode(programme) => run_encode(alloc, programme, pi, dwell, reader, writer),
         Task::Simulate(programme) => run_simulate(alloc, programme, pi, dwell, reader, writer),
+        Task::Audit => run_audit(pi, dwell, reader, writer),
     }
 }
 
@@ -165,6 +170,23 @@ fn run_decode<R: TellingRead, W: TellingWrite>(
 {
     let outcome = decode(reader, writer, pi, dwell);
     end_with(Task::Decode, outcome, writer)
+}
+
+/// Audits the log, and tells its fault.
+fn run_audit<R: TellingRead, W: TellingWrite>(
+    pi: u16,
+    dwell: Dwell,
+    reader: &mut R,
+    writer: &mut W,
+) -> u8
+    ensures { AuditRuns pi dwell (traffic R.remaining R.failures reader.old reader.new)
+        (traffic W.contents W.failures writer.old writer.new) result }
+{
+    match audit(reader, writer, pi, dwell) {
+        Ok(true) => DONE,
+        Ok(false) => NO,
+        Err(fault) => fail_with(Task::Audit, fault, writer),
+    }
 }
 
 /// Plays the script for its log, and tells its fault.
@@ -216,17 +238,23 @@ fn config_of(programme: &Programme, pi: u16, dwell: Dwell) -> Config
     }
 }
 
-/// The status that an engine's outcome has; its fault is told.
+/// The status of an engine that does all, or of its fault, which is told.
 fn end_with<W: TellingWrite>(task: Task, outcome: Result<(), LogFault>, writer: &mut W) -> u8
-    ensures { EndsWith task outcome (traffic W.contents W.failures writer.old writer.new) result }
+    ensures { EndsWith done task outcome (traffic W.contents W.failures writer.old writer.new) result }
 {
     match outcome {
         Ok(()) => DONE,
-        Err(fault) => {
-            tell_fault(task, fault, writer);
-            FAULT
-        }
+        Err(fault) => fail_with(task, fault, writer),
     }
+}
+
+/// The status of a fault, which is told.
+fn fail_with<W: TellingWrite>(task: Task, fault: LogFault, writer: &mut W) -> u8
+    ensures status { result ≡ 1 }
+    ensures told { PutsAfter task fault (traffic W.contents W.failures writer.old writer.new) }
+{
+    tell_fault(task, fault, writer);
+    FAULT
 }
 
 /// Writes the line of the fault as far as the writer takes it; after a failed write nothing.
@@ -276,7 +304,7 @@ fn mark(task: Task) -> &'static [u8]
 {
     match task {
         Task::Encode(_) => b"# ",
-        Task::Decode | Task::Simulate(_) => b"",
+        Task::Decode | Task::Simulate(_) | Task::Audit => b"",
     }
 }
 

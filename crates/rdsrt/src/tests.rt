@@ -34,12 +34,12 @@ const ONE_TEXT: &[u8] = b"C201 2140 4849 0D20
 ";
 
 /// Words, input, and the output and the status that they have.
-struct Case {
-    name: &'static str,
-    words: &'static [&'static str],
-    input: &'static [u8],
-    output: &'static [u8],
-    status: u8,
+pub struct Case {
+    pub name: &'static str,
+    pub words: &'static [&'static str],
+    pub input: &'static [u8],
+    pub output: &'static [u8],
+    pub status: u8,
 }
 
 const DECODED: [Case; 27] = [
@@ -588,7 +588,7 @@ fn ran(alloc: Global, words: &[&str], input: &[u8]) -> Result<(u8, Vec<u8>), Fai
 }
 
 /// Runs each of the cases.
-fn check(rt: &impl Abort, alloc: Global, cases: &[Case]) -> Result<(), Fail> {
+pub fn check(rt: &impl Abort, alloc: Global, cases: &[Case]) -> Result<(), Fail> {
     for case in cases {
         let (status, output) = ran(alloc, case.words, case.input)?;
         assert_eq!(rt; output.as_slice(), case.output, "in {}", case.name);
@@ -645,10 +645,11 @@ fn shown_for_the_dwell(rt: HostRuntime) -> Result<(), Fail> {
 #[test]
 fn fault_pi(rt: HostRuntime) -> Result<(), Fail> {
     let input = b"C201 2140 4849 0D20\n";
-    let told: [(&str, &[u8]); 3] = [
+    let told: [(&str, &[u8]); 4] = [
         ("decode", b"fault pi\n"),
         ("encode", b"# fault pi\n"),
         ("sim", b"fault pi\n"),
+        ("audit", b"fault pi\n"),
     ];
     for (task, wanted) in told {
         for given in ["C20", "C2011", "C20G", "", "+201"] {
@@ -747,11 +748,11 @@ fn refused_words(rt: HostRuntime) -> Result<(), Fail> {
 
 /// Gives at most so many bytes a read, counts the reads, and fails at one of them.
 #[derive(Drop)]
-struct Slow<'a> {
-    left: &'a [u8],
-    most: usize,
-    fails_at: u64,
-    reads: &'a Cell<u64>,
+pub struct Slow<'a> {
+    pub left: &'a [u8],
+    pub most: usize,
+    pub fails_at: u64,
+    pub reads: &'a Cell<u64>,
 }
 
 impl Read for Slow<'_> {
@@ -769,12 +770,12 @@ impl Read for Slow<'_> {
 
 /// Takes at most so many bytes a write, and from one write on none, with an error or without.
 #[derive(Drop)]
-struct Stubborn<'a> {
-    taken: &'a mut Vec<u8>,
-    most: usize,
-    fails_at: u64,
-    with_error: bool,
-    writes: &'a Cell<u64>,
+pub struct Stubborn<'a> {
+    pub taken: &'a mut Vec<u8>,
+    pub most: usize,
+    pub fails_at: u64,
+    pub with_error: bool,
+    pub writes: &'a Cell<u64>,
 }
 
 impl Write for Stubborn<'_> {
@@ -1022,6 +1023,7 @@ Usage: rdsrt <COMMAND>
 
 Commands:
   decode  Reads a log of received groups, a slot a line, and prints what a receiver shows
+  audit   Reads a log of all groups that were sent, a slot a line, and says whether it is safe
   encode  Reads a script, a slot a row, and prints the log of what a station sends
   sim     Reads a script, a slot a row, and prints what a station sends and its receivers show
   help    Print this message or the help of the given subcommand(s)
@@ -1064,7 +1066,11 @@ Example:
   rdsrt sim --pi C201 --pty 10 --m 4 < script.csv
 ";
 
-const EXAMPLES: [(&str, &[u8]); 2] = [
+const EXAMPLES: [(&str, &[u8]); 3] = [
+    (
+        "audit",
+        b"Example:\n  rdsrt encode --pi C201 --m 64 < script.csv | rdsrt audit --pi C201 --m 64\n",
+    ),
     (
         "decode",
         b"Example:\n  rdsrt decode --pi C201 --m 64 < received.log\n",

@@ -1,10 +1,11 @@
-use Rattle.std.proofs.Common.{◌≡◌, ◌∙◌, ◌+◌, length, refl, rules, take, arith}
+use Rattle.std.proofs.Common.{◌≡◌, ◌∙◌, length, refl, rules, take, arith}
 use Rattle.std.proofs.lemmas.List.{length-take}
 use Rattle.std.proofs.lemmas.Result.{err_from_is_err_and}
 use Rattle.rds_charset.specs.Told.{count_next, count_none}
 use Rattle.rds_log.specs.Decoding.{tuned}
 use Rattle.rds_log.specs.declared.fault.LogFault.TheVariants.{Read, TooLong}
 use Rattle.std.specs.Prelude.{Err}
+use Rattle.rds_log.proofs.CountedReads.{stops_in_read}
 use Rattle.rds_log.proofs.Ending.{ends_log, reads_piece, stops_in_piece}
 use Rattle.rds_log.proofs.engine.decode_within.Goals as goal
 
@@ -47,31 +48,21 @@ loop-turn-preserved g c =
     }
 
 pub returns-in-None-clause-reads : goal.returns-in-None-clause-reads
-returns-in-None-clause-reads g c = record {
-  made = c.loop-turn._turn + 1;
-  at_most = omega (arith, c.loop-turn-test.true);
-  counted = count_next (g.R.TellingRead.reads c.args.reader.now) c.loop-turn._turn (g.R.TellingRead.reads c.loop-turn.reader) (g.R.TellingRead.reads c.read_one.new.self) c.loop-turn.invariant.reads c.in-None.ensures.counts;
-  gave_up = λ e. (let same : Err Read ≡ Err TooLong = e in cc);
-}
+returns-in-None-clause-reads g c =
+    stops_in_read c.args.reads c.loop-turn._turn (g.R.TellingRead.reads c.args.reader.now) (g.R.TellingRead.reads c.loop-turn.reader) (g.R.TellingRead.reads c.read_one.new.self) _
+    c.loop-turn-test.true c.loop-turn.invariant.reads c.in-None.ensures.counts (λ e. (let same : Err Read ≡ Err TooLong = e in cc))
 
 pub returns-in-Some-eq0-clause-reads : goal.returns-in-Some-eq0-clause-reads
-returns-in-Some-eq0-clause-reads g c = record {
-  made = c.loop-turn._turn + 1;
-  at_most = omega (arith, c.loop-turn-test.true);
-  counted = count_next (g.R.TellingRead.reads c.args.reader.now) c.loop-turn._turn (g.R.TellingRead.reads c.loop-turn.reader) (g.R.TellingRead.reads c.read_one.new.self) c.loop-turn.invariant.reads c.in-Some-eq0.ensures.counts;
-  gave_up = λ e. absurd (c.finish.ensures.other_fault e);
-}
+returns-in-Some-eq0-clause-reads g c =
+    stops_in_read c.args.reads c.loop-turn._turn (g.R.TellingRead.reads c.args.reader.now) (g.R.TellingRead.reads c.loop-turn.reader) (g.R.TellingRead.reads c.read_one.new.self) c.finish.result
+    c.loop-turn-test.true c.loop-turn.invariant.reads c.in-Some-eq0.ensures.counts c.finish.ensures.other_fault
 
 pub returns-in_err-feed-in-Some-clause-reads : goal.returns-in_err-feed-in-Some-clause-reads
 returns-in_err-feed-in-Some-clause-reads g c =
     let p = err_from_is_err_and c.from_residual.result c.from_residual.ensures.1 in
     let same : c.feed.result ≡ c.from_residual.result = search rules in
-    record {
-      made = c.loop-turn._turn + 1;
-      at_most = omega (arith, c.loop-turn-test.true);
-      counted = count_next (g.R.TellingRead.reads c.args.reader.now) c.loop-turn._turn (g.R.TellingRead.reads c.loop-turn.reader) (g.R.TellingRead.reads c.read_one.new.self) c.loop-turn.invariant.reads c.in-Some.ensures.counts;
-      gave_up = λ e. absurd (c.feed.ensures.other_fault (same ∙ e));
-    }
+    stops_in_read c.args.reads c.loop-turn._turn (g.R.TellingRead.reads c.args.reader.now) (g.R.TellingRead.reads c.loop-turn.reader) (g.R.TellingRead.reads c.read_one.new.self) c.from_residual.result
+    c.loop-turn-test.true c.loop-turn.invariant.reads c.in-Some.ensures.counts (λ e. c.feed.ensures.other_fault (same ∙ e))
 
 pub loop-turn-init : goal.loop-turn-init
 loop-turn-init g c = record {

@@ -6,7 +6,7 @@ use Rattle.rds_log.proofs.engine.decode_within.Given as goal
 
 abbrev pub invariant-loop-turn : goal.invariant-loop-turn
 invariant-loop-turn g l = record {
-  lines : l.decoder.lines ≤ l._turn * 65536;
+  lines : l.decoder.cutter.lines ≤ l._turn * 65536;
   slots : l.decoder.views.slot ≤ l._turn * 65536;
   empty : l.output ≡ [];
   read_calm : g.R.TellingRead.failures l.reader ≡ g.R.TellingRead.failures l.initial.reader;

@@ -3,7 +3,7 @@ use Rattle.std.proofs.lemmas.List.{length-take, take_all}
 use Rattle.std.proofs.lemmas.Result.{err_from_is_err_and}
 use Rattle.rds_log.specs.LogLines.{text_of}
 use Rattle.rds_log.proofs.Ending.{feeds_bad, feeds_cut, feeds_more, feeds_none}
-use Rattle.rds_log.proofs.Going.{rest_of}
+use Rattle.rds_log.proofs.Cutting.{rest_of}
 use Rattle.rds_log.proofs.engine.feed.Goals as goal
 
 pub loop-at-init : goal.loop-at-init

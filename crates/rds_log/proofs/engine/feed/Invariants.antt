@@ -9,7 +9,7 @@ abbrev pub invariant-loop-at : goal.invariant-loop-at
 invariant-loop-at g l = record {
   within : l.at ≤ length l.piece;
   empty : l.output ≡ [];
-  lines : l.decoder.lines ≤ l.initial.decoder.lines + l.at;
+  lines : l.decoder.cutter.lines ≤ l.initial.decoder.cutter.lines + l.at;
   slots : l.decoder.views.slot ≤ l.initial.decoder.views.slot + l.at;
   goes : WhereItStands l.initial.decoder (λ t closed begun written. GoesThrough t l.decoder (text_of closed begun ++ take l.at l.piece)
       (traffic g.W.Write.contents g.W.TellingWrite.failures l.initial.writer l.writer) written);

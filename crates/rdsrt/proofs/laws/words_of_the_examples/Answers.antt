@@ -12,6 +12,7 @@ returns c = record {
   encode = record { taken = refl; ask = refl };
   sim = record { taken = refl; ask = refl };
   sim_tp = record { taken = refl; ask = refl };
+  audit = record { taken = refl; ask = refl };
   help = refl;
   help_of_one = refl;
   version = refl;

@@ -8,3 +8,6 @@ returns-in-Encode-clause-fault_pi g c none = absurd (none c.in-Some.pi c.in-Some
 
 pub returns-in-Simulate-clause-fault_pi : goal.returns-in-Simulate-clause-fault_pi
 returns-in-Simulate-clause-fault_pi g c none = absurd (none c.in-Some.pi c.in-Some.ensures.some)
+
+pub returns-in-Audit-clause-fault_pi : goal.returns-in-Audit-clause-fault_pi
+returns-in-Audit-clause-fault_pi g c none = absurd (none c.in-Some.pi c.in-Some.ensures.some)

@@ -1,21 +1,21 @@
-use Rattle.std.proofs.Common.{◌+◌, ◌++◌, refl, ap}
-use Rattle.rds_log.specs.LineSays.{LineSays}
+use Rattle.std.proofs.Common.{◌++◌, refl}
+use Rattle.std.proofs.lemmas.Result.{err_from_is_err_and}
+use Rattle.rds_log.specs.Cutting.{Closes}
 use Rattle.rds_log.specs.declared.log_line.LogLine.TheVariants.{Skip, Slot}
 use Rattle.rds_log.proofs.Going.{closes_skip, closes_slot, fails_bad}
 use Rattle.rds_log.proofs.decoder.Decoder.close.Goals as goal
 
-pub returns-in_default-clause-step : goal.returns-in_default-clause-step
-returns-in_default-clause-step c t closed begun written s =
-    rw c.said.ensures.lines (refl, fails_bad t c.args.self.now closed begun c.args.last.now written s c.requires.line (c.in_default.ensures.none begun s.kept))
+pub returns-in_err-close-clause-step : goal.returns-in_err-close-clause-step
+returns-in_err-close-clause-step c t closed begun written s =
+    let p = err_from_is_err_and c.from_residual.result c.from_residual.ensures.1 in
+    rw (p.1, p.2) (refl, fails_bad t c.args.self.now closed begun (begun ++ c.args.last.now) written _ s (c.in_err-close.ensures.closes closed begun s.cutter))
 
 pub returns-in-Skip-clause-step : goal.returns-in-Skip-clause-step
 returns-in-Skip-clause-step c t closed begun written s =
-    let says : LineSays (begun ++ c.args.last.now) Skip = rw c.in-Skip.is at (c.in-Some.ensures.some begun s.kept) in
-    closes_skip t c.args.self.now _ closed begun c.args.last.now written c.args.output.now s c.requires.line says
-    (ap (λ n. n + 1) c.said.ensures.lines) c.clear.ensures c.said.ensures.views
+    let closes : Closes c.close.new.self closed (begun ++ c.args.last.now) Skip = rw c.in-Skip.is at (c.in_ok-close.ensures.closes closed begun s.cutter) in
+    closes_skip t c.args.self.now _ closed begun (begun ++ c.args.last.now) written c.args.output.now s closes refl
 
-pub returns-clause-step : goal.returns-clause-step
-returns-clause-step c t closed begun written s =
-    let says : LineSays (begun ++ c.args.last.now) (Slot c.in-Slot.group) = rw c.in-Slot.is at (c.in-Some.ensures.some begun s.kept) in
-    closes_slot t c.args.self.now _ closed begun c.args.last.now written c.args.output.now _ c.in-Slot.group s c.requires.line says
-    (ap (λ n. n + 1) c.said.ensures.lines) c.clear.ensures (c.slot.ensures.change t s.slots written (rw c.said.ensures.views s.views))
+pub returns-in-Slot-clause-step : goal.returns-in-Slot-clause-step
+returns-in-Slot-clause-step c t closed begun written s =
+    let closes : Closes c.close.new.self closed (begun ++ c.args.last.now) (Slot c.in-Slot.group) = rw c.in-Slot.is at (c.in_ok-close.ensures.closes closed begun s.cutter) in
+    closes_slot t c.args.self.now _ closed begun (begun ++ c.args.last.now) written c.args.output.now _ c.in-Slot.group s closes (c.slot.ensures.change t s.slots written s.views)

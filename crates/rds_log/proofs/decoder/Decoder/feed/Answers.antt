@@ -1,8 +1,9 @@
-use Rattle.std.proofs.Common.{◌≡◌, ◌∙◌, ◌+◌, ◌-◌, ◌++◌, ℕ, List, length-drop, take, drop, length, ap, refl, subst, arith}
+use Rattle.std.proofs.Common.{◌≡◌, ◌+◌, ◌-◌, ℕ, List, length-drop, take, drop, length, refl, subst, arith}
 use Rattle.std.proofs.lemmas.List.{take_all}
 use Rattle.std.proofs.lemmas.Result.{err_from_is_err_and}
-use Rattle.rds_log.specs.LogLines.{EndsAt, IsLine}
-use Rattle.rds_log.proofs.Going.{fails_line, goes_line, goes_none, goes_rest, rest_of}
+use Rattle.rds_log.specs.LogLines.{EndsAt}
+use Rattle.rds_log.proofs.Cutting.{rest_of}
+use Rattle.rds_log.proofs.Going.{fails_line, goes_line, goes_none, goes_rest}
 use Rattle.rds_log.proofs.decoder.Decoder.feed.Goals as goal
 
 pub loop-count-init : goal.loop-count-init
@@ -43,6 +44,6 @@ pub returns-clause-step : goal.returns-clause-step
 returns-clause-step c t closed begun written s =
     let rest = rest_of c.args.piece.now c.loop-count.at in
     let all : take (length c.args.piece.now) c.args.piece.now ≡ c.args.piece.now = take_all _ _ (omega arith) in
-    rw all (goes_rest t c.loop-count.self c.keep.new.self closed begun c.args.piece.now written c.args.output.now c.loop-count.output c.loop-count.at
-    (subst (λ (l : List ℕ). IsLine l) rest c.in_default.ensures.none) (c.keep.ensures.kept ∙ ap (λ (l : List ℕ). take 21 (c.loop-count.self.kept.items ++ l)) rest) c.keep.ensures.lines c.keep.ensures.views
+    rw all (goes_rest t c.loop-count.self _ closed begun c.args.piece.now written c.args.output.now c.loop-count.output c.loop-count.at
+    (λ lines line stands. rw rest at (c.keep.ensures.stands c.in_default.ensures.none lines line stands)) refl
     (c.loop-count.invariant.goes t closed begun written s))

@@ -5,7 +5,7 @@ use Rattle.rds_log.proofs.decoder.Decoder.feed.Given as goal
 abbrev pub invariant-loop-count : goal.invariant-loop-count
 invariant-loop-count l = record {
   within : l.at ≤ length l.piece;
-  lines : l.self.lines ≤ l.initial.self.lines + l.at;
+  lines : l.self.cutter.lines ≤ l.initial.self.cutter.lines + l.at;
   slots : l.self.views.slot ≤ l.initial.self.views.slot + l.at;
   first : l.at ≡ 0 → l.output ≡ l.initial.output;
   goes : WhereItStands l.initial.self (λ t closed begun written. GoesOn t l.self closed begun (take l.at l.piece) written l.initial.output l.output);

@@ -1,6 +1,5 @@
 use Rattle.std.proofs.Common.{[], refl}
-use Rattle.std.proofs.lemmas.List.Elements.{All-nil}
 use Rattle.rds_log.proofs.decoder.Decoder.new.Goals as goal
 
 pub returns-clause-stands : goal.returns-clause-stands
-returns-clause-stands c = record { kept = c.new.ensures; count = refl; lines = All-nil _; line = All-nil _; slots = []; say = refl; views = c.new-2.ensures.stands }
+returns-clause-stands c = record { cutter = c.new.ensures.stands; slots = []; say = refl; views = c.new-2.ensures.stands }

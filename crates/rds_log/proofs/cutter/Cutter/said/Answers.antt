@@ -1,9 +1,9 @@
 use Rattle.std.proofs.Common.{◌≡◌, ◌++◌, [], ap, ◌∙◌, length, take, arith}
 use Rattle.std.proofs.lemmas.Grind.{common_steps}
 use Rattle.rds_log.specs.LogLines.{Line}
-use Rattle.rds_log.proofs.Going.{begun_empty, kept_of_more}
+use Rattle.rds_log.proofs.Cutting.{begun_empty, kept_of_more}
 use Rattle.rds_log.proofs.FirstBytes.{none_by_first, some_by_first}
-use Rattle.rds_log.proofs.decoder.Decoder.said.Goals as goal
+use Rattle.rds_log.proofs.cutter.Cutter.said.Goals as goal
 
 pub returns-then-is_empty-clause-some : goal.returns-then-is_empty-clause-some
 returns-then-is_empty-clause-some c begun kept =

@@ -1,0 +1,125 @@
+-- How the cutter of a log goes on: what it keeps, and the lines that its bytes make.
+use Rattle.std.proofs.Common.{◌≡◌, ◌≢◌, ◌⊎◌, ◌+◌, ◌<◌, ◌≤◌, min, ℕ, List, [], ◌∷◌, ◌++◌, take, drop, length, length-drop, ◌-◌, append_assoc, ap, sym, ◌∙◌, refl, arith, inl, inr, add-one}
+use Rattle.std.proofs.lemmas.List.{length-take, take-append-le, take_all, take-append-drop, take_more}
+use Rattle.std.proofs.lemmas.List.Elements.{All-append, All-cons, All-nil}
+use Rattle.std.proofs.Math.Seq.{drop-cons, take-add, take-append-add, take-length}
+use Rattle.rds_log.specs.LogLines.{EndsAt, IsLine, Line, line_feed, text_of}
+use Rattle.rds_log.specs.LineSays.{IsBad, LineSays}
+use Rattle.rds_log.specs.Cutting.{Closes, CutterStandsAt, IsBadLine}
+use Rattle.rds_log.specs.declared.cutter.Cutter.{Cutter}
+use Rattle.rds_log.specs.declared.log_line.LogLine.{LogLine}
+
+-- more bytes of the line that is begun
+text_of-more : (closed : List Line) (begun bytes : Line) → text_of closed begun ++ bytes ≡ text_of closed (begun ++ bytes)
+text_of-more [] begun bytes = refl
+text_of-more (line ∷ before) begun bytes = append_assoc (text_of before line) (line_feed ∷ begun) bytes
+
+pub kept_of_more : (begun bytes : Line) → take 21 (take 21 begun ++ bytes) ≡ take 21 (begun ++ bytes)
+kept_of_more begun bytes = elim (few_or_many (length begun)) [
+  | inl few ↦ ap (λ (l : Line). take 21 (l ++ bytes)) (take_all 21 begun few)
+  | inr many ↦
+      let full : 21 ≤ length (take 21 begun) = omega (arith, length-take 21 begun, many) in
+      let long : 21 ≤ length begun = omega (arith, many) in
+      let most : length (take 21 begun) ≤ 21 = omega (arith, length-take 21 begun) in
+      take-append-le 21 (take 21 begun) bytes full ∙ take_all 21 (take 21 begun) most ∙ sym (take-append-le 21 begun bytes long)
+]
+  where
+    few_or_many : (n : ℕ) → (n ≤ 21) ⊎ (21 < n)
+    few_or_many n = grind arith
+
+-- as many bytes as there is room for
+pub kept_in_room : (kept bytes : Line) (room : ℕ) → room + length kept ≡ 21 → kept ++ take (min (length bytes) room) bytes ≡ take 21 (kept ++ bytes)
+kept_in_room kept bytes room fits =
+    let all : length kept + room ≡ 21 = omega (arith, fits) in
+    ap (λ (l : Line). kept ++ l) (elim (by_room (length bytes)) [
+      | inl few ↦
+          let least : min (length bytes) room ≡ length bytes = omega (arith, few) in
+          rw least (take_all (length bytes) bytes (omega arith) ∙ sym (take_all room bytes few))
+      | inr many ↦
+          let least : min (length bytes) room ≡ room = omega (arith, many) in
+          rw least refl
+    ]) ∙ sym (take-append-add kept bytes room) ∙ ap (λ (n : ℕ). take n (kept ++ bytes)) all
+  where
+    by_room : (n : ℕ) → (n ≤ room) ⊎ (room < n)
+    by_room n = grind arith
+
+-- the line that is begun is empty exactly where nothing of it is kept
+pub begun_empty : (begun : Line) → length (take 21 begun) ≡ 0 → begun ≡ []
+begun_empty [] h = refl
+begun_empty (b ∷ rest) h = absurd (omega (arith, length-take 21 (b ∷ rest)))
+
+pub begun_some : (begun : Line) → length (take 21 begun) ≢ 0 → begun ≢ []
+begun_some [] h e = h refl
+begun_some (b ∷ rest) h e = cc
+
+-- more bytes of the line that is begun were kept
+pub cuts_on : (c after : Cutter) (closed : List Line) (begun bytes : Line) → CutterStandsAt c closed begun → IsLine bytes
+    → after.kept.items ≡ take 21 (c.kept.items ++ bytes) → after.lines ≡ c.lines → CutterStandsAt after closed (begun ++ bytes)
+cuts_on c after closed begun bytes s line kept lines = record {
+  kept = kept ∙ ap (λ (l : Line). take 21 (l ++ bytes)) s.kept ∙ kept_of_more begun bytes;
+  count = lines ∙ s.count;
+  lines = s.lines;
+  line = All-append (λ x. x ≢ line_feed) begun bytes s.line line;
+}
+
+-- the end of a line
+pub closes_line : (c after : Cutter) (closed : List Line) (begun last : Line) (said : LogLine) → CutterStandsAt c closed begun → IsLine last
+    → LineSays (begun ++ last) said → after.lines ≡ c.lines + 1 → after.kept.items ≡ [] → Closes after closed (begun ++ last) said
+closes_line c after closed begun last said s line says lines kept =
+    let count = s.count in
+    record {
+      says = says;
+      stands = record {
+        kept = kept;
+        count = omega (arith, lines, count);
+        lines = All-cons IsLine (begun ++ last) closed (All-append (λ x. x ≢ line_feed) begun last s.line line) s.lines;
+        line = All-nil _;
+      };
+    }
+
+-- the end of a bad line
+pub closes_bad : (c : Cutter) (closed : List Line) (begun last : Line) → CutterStandsAt c closed begun → IsLine last
+    → IsBad (begun ++ last) → IsBadLine (c.lines + 1) closed (begun ++ last)
+closes_bad c closed begun last s line bad =
+    let count = s.count in
+    record {
+      lines = s.lines;
+      is_line = All-append (λ x. x ≢ line_feed) begun last s.line line;
+      number = omega (arith, count);
+      bad = bad;
+    }
+
+-- the rest of a slice, as the code's range has it
+pub rest_of : (bytes : List ℕ) (i : ℕ) → take (length bytes - i) (drop i bytes) ≡ drop i bytes
+rest_of bytes i = rw (← length-drop i bytes) (take-length (drop i bytes))
+
+-- the text up to the end of the next line
+pub text_of-line : (text : List ℕ) (lines : List Line) (line : Line) (bytes : List ℕ) (i n : ℕ) → EndsAt (drop i bytes) n
+    → text ++ take i bytes ≡ text_of lines line → text ++ take (i + (n + 1)) bytes ≡ text_of ((line ++ take n (drop i bytes)) ∷ lines) []
+text_of-line text lines line bytes i n ends cut =
+    let run = take n (drop i bytes) in
+    let one : take (n + 1) (drop i bytes) ≡ run ++ line_feed ∷ [] = take_more (drop i bytes) n 0 ends.within ∙ ap (λ (b : ℕ). run ++ b ∷ []) ends.feed in
+    ap (λ (l : List ℕ). text ++ l) (take-add i (n + 1) bytes ∙ ap (λ (l : List ℕ). take i bytes ++ l) one)
+    ∙ sym (append_assoc text (take i bytes) (run ++ line_feed ∷ []))
+    ∙ ap (λ (l : List ℕ). l ++ (run ++ line_feed ∷ [])) cut
+    ∙ sym (append_assoc (text_of lines line) run (line_feed ∷ []))
+    ∙ ap (λ (l : List ℕ). l ++ line_feed ∷ []) (text_of-more lines line run)
+
+-- the text after the last line feed
+pub text_of-rest : (text : List ℕ) (lines : List Line) (line : Line) (bytes : List ℕ) (i : ℕ)
+    → text ++ take i bytes ≡ text_of lines line → text ++ bytes ≡ text_of lines (line ++ drop i bytes)
+text_of-rest text lines line bytes i cut =
+    ap (λ (l : List ℕ). text ++ l) (sym (take-append-drop i bytes)) ∙ sym (append_assoc text (take i bytes) (drop i bytes))
+    ∙ ap (λ (l : List ℕ). l ++ drop i bytes) cut ∙ text_of-more lines line (drop i bytes)
+
+-- the whole text, where a line ends in it
+pub text_of-end : (text : List ℕ) (lines : List Line) (line : Line) (bytes : List ℕ) (i n : ℕ) → EndsAt (drop i bytes) n
+    → text ++ take i bytes ≡ text_of lines line → text ++ bytes ≡ text_of lines (line ++ take n (drop i bytes)) ++ line_feed ∷ drop (n + 1) (drop i bytes)
+text_of-end text lines line bytes i n ends cut =
+    let run = take n (drop i bytes) in
+    let rest = drop (n + 1) (drop i bytes) in
+    let feed = ends.feed in
+    let whole : run ++ (line_feed ∷ rest) ≡ drop i bytes = rw (← feed, add-one, ← drop-cons (drop i bytes) n 0 ends.within) (take-append-drop n (drop i bytes)) in
+    ap (λ (l : List ℕ). text ++ l) (sym (take-append-drop i bytes)) ∙ sym (append_assoc text (take i bytes) (drop i bytes))
+    ∙ ap (λ (l : List ℕ). l ++ drop i bytes) cut ∙ ap (λ (l : List ℕ). text_of lines line ++ l) (sym whole)
+    ∙ sym (append_assoc (text_of lines line) run (line_feed ∷ rest)) ∙ ap (λ (l : List ℕ). l ++ (line_feed ∷ rest)) (text_of-more lines line run)

@@ -1,8 +1,0 @@
-use Rattle.std.proofs.Common.{◌++◌, ℕ, ap, take, ◌∙◌}
-use Rattle.rds_log.proofs.Going.{kept_in_room}
-use Rattle.rds_log.proofs.decoder.Decoder.keep.Goals as goal
-
-pub returns-clause-kept : goal.returns-clause-kept
-returns-clause-kept c =
-    (rw c.unwrap.ensures at c.try_extend_from_slice.ensures.ok) ∙ ap (λ (n : ℕ). c.args.self.now.kept.items ++ take n c.args.bytes.now) c.min-count.ensures
-    ∙ kept_in_room c.args.self.now.kept.items c.args.bytes.now c.remaining_capacity-room.result c.remaining_capacity-room.ensures

@@ -1,0 +1,95 @@
+//! The bytes of a log, cut into lines at each line feed.
+ghost use Rattle.std.specs.Prelude.{◌≡◌, ◌≤◌, ◌<◌, ◌+◌, ◌-◌, ◌^◌, ◌++◌, ◌↔◌, [], IfNone, IfSome, IsTrue, MatchResult, take};
+ghost use Rattle.rds_log.specs.LineSays.{IsBad, LineSays, deciding};
+ghost use Rattle.rds_log.specs.LogLines.{EndsAt, IsLine, Line};
+
+use crate::fault::BadLine;
+use crate::log_line::{DECIDING, LogLine, said_by};
+use arrayvec::ArrayVec;
+use memchr::memchr;
+
+/// Takes the bytes of a log, however they are cut, and tells what each line says that is closed.
+///
+/// Of a line that is begun it keeps the first bytes, which decide what the line says.
+#[derive(Drop)]
+pub struct Cutter {
+    kept: ArrayVec<u8, DECIDING>,
+    /// How many lines were closed.
+    pub lines: u64,
+}
+
+impl Cutter {
+    ghost use Rattle.rds_log.specs.Cutting.{Closes, CutterStandsAt, IsBadLine, WhereItCuts};
+
+    /// At the start of a log.
+    pub fn new() -> Cutter
+        ensures lines { result.lines ≡ 0 }
+        ensures stands { CutterStandsAt result [] [] }
+    {
+        Cutter {
+            kept: ArrayVec::new(),
+            lines: 0,
+        }
+    }
+
+    /// Whether no line is begun.
+    pub fn is_between(&self) -> bool
+        ensures { WhereItCuts self.now (λ _ begun. IsTrue result ↔ (begun ≡ [])) }
+    {
+        self.kept.is_empty()
+    }
+
+    /// Takes the last bytes of the line that is begun, and its end; gives what the line says.
+    pub fn close(&mut self, last: &[u8]) -> Result<LogLine, BadLine>
+        requires lines { self.old.lines < 2 ^ 64 - 1 }
+        requires line { IsLine last.now }
+        ensures lines { self.new.lines ≤ self.old.lines + 1 }
+        ensures closes { WhereItCuts self.old (λ closed begun. MatchResult result
+            (Closes self.new closed (begun ++ last.now))
+            (λ bad. IsBadLine bad.number closed (begun ++ last.now))) }
+    {
+        let Some(said) = self.said(last) else {
+            return Err(BadLine {
+                number: self.lines + 1,
+            });
+        };
+        self.lines += 1;
+        self.kept.clear();
+        Ok(said)
+    }
+
+    /// Takes bytes of the line that is begun, and keeps those of them that decide what it says.
+    pub fn keep(&mut self, bytes: &[u8])
+        ensures kept { self.new.kept.items ≡ take deciding (self.old.kept.items ++ bytes.now) }
+        ensures lines { self.new.lines ≡ self.old.lines }
+        ensures stands { IsLine bytes.now → WhereItCuts self.old (λ closed begun.
+            CutterStandsAt self.new closed (begun ++ bytes.now)) }
+    {
+        let room = self.kept.remaining_capacity();
+        let count = bytes.len().min(room);
+        self.kept.try_extend_from_slice(&bytes[..count]).unwrap();
+    }
+
+    /// What the line that is begun says where these are its last bytes; `None` for a bad line.
+    fn said(&mut self, last: &[u8]) -> Option<LogLine>
+        ensures some { (begun : Line) → self.old.kept.items ≡ take deciding begun
+            → IfSome result (LineSays (begun ++ last.now)) }
+        ensures none { (begun : Line) → self.old.kept.items ≡ take deciding begun
+            → IfNone result (IsBad (begun ++ last.now)) }
+        ensures lines { self.new.lines ≡ self.old.lines }
+    {
+        if self.kept.is_empty() {
+            return said_by(last);
+        }
+        self.keep(last);
+        said_by(self.kept.as_slice())
+    }
+}
+
+/// Where the first line feed stands.
+pub fn line_end(bytes: &[u8]) -> Option<usize>
+    ensures some { IfSome result (EndsAt bytes.now) }
+    ensures none { IfNone result (IsLine bytes.now) }
+{
+    memchr(b'\n', bytes)
+}

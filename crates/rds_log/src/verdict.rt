@@ -1,0 +1,64 @@
+//! What the audit of a log comes to, and its line.
+ghost use Rattle.std.specs.Prelude.{◌≡◌, ◌≤◌, ◌+◌, ◌++◌, ◌↔◌, IsTrue, length};
+ghost use Rattle.rds_log.specs.Auditing.{IsYes, fault_name, verdict_line};
+
+use crate::lines::Lines;
+use rds_world::AuditFault;
+
+/// Room for the line of a verdict.
+pub const ANSWER: usize = 64;
+
+/// What the audit of a log comes to.
+#[derive(Clone, Copy, Debug, PartialEq, Eq)]
+pub enum Verdict {
+    /// All slots pass; this is their number.
+    Yes(u64),
+    /// The slots up to this one do not pass, and this is why.
+    No(u64, AuditFault),
+}
+
+impl Verdict {
+    /// Whether all slots pass.
+    pub fn is_yes(self) -> bool
+        ensures { IsTrue result ↔ IsYes self }
+    {
+        match self {
+            Verdict::Yes(_) => true,
+            Verdict::No(..) => false,
+        }
+    }
+
+    /// Appends its line.
+    pub fn push(self, lines: &mut Lines<ANSWER>)
+        requires { length lines.old + 36 ≤ 64 }
+        ensures { lines.new ≡ lines.old ++ verdict_line self }
+    {
+        match self {
+            Verdict::Yes(slots) => {
+                lines.push(b"yes ");
+                lines.push_number(slots);
+            }
+            Verdict::No(slot, fault) => {
+                lines.push(b"no ");
+                lines.push_number(slot);
+                lines.push(b" ");
+                lines.push(name_of(fault));
+            }
+        }
+        lines.push(b"\n");
+    }
+}
+
+/// The name of a fault.
+fn name_of(fault: AuditFault) -> &'static [u8]
+    ensures name { result.now ≡ fault_name fault }
+    ensures short { length result.now ≤ 10 }
+{
+    match fault {
+        AuditFault::Changed => b"Changed",
+        AuditFault::NotOneText => b"NotOneText",
+        AuditFault::EarlyFlag => b"EarlyFlag",
+        AuditFault::EarlyTag => b"EarlyTag",
+        AuditFault::TagOutside => b"TagOutside",
+    }
+}

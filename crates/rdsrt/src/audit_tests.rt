@@ -1,0 +1,235 @@
+//! `audit` through `run`: words, log, answer and status.
+
+use crate::run::run;
+use crate::tests::{Case, Slow, Stubborn, check};
+use rds_charset::Told;
+use std::cell::Cell;
+use std::test::Fail;
+
+const AUDIT: [&str; 6] = ["rdsrt", "audit", "--pi", "C201", "--m", "4"];
+
+/// A text, its tags in good time, with four slots before and where another group would be.
+const TAGS_ON_AIR: &[u8] = b"---- ---- ---- ----
+---- ---- ---- ----
+---- ---- ---- ----
+---- ---- ---- ----
+C201 2140 4142 4241
+---- ---- ---- ----
+C201 2141 202D 2057
+---- ---- ---- ----
+C201 2142 4154 4552
+C201 3156 0000 4BD7
+C201 2143 4C4F 4F0D
+C201 B158 8006 08E7
+";
+
+/// Two texts at one address with one flag.
+const CHANGED: &[u8] = b"C201 2140 4849 0D20\nC201 2140 594F 0D20\n";
+
+const AUDITED: [Case; 16] = [
+    Case {
+        name: "tags_on_air",
+        words: &AUDIT,
+        input: TAGS_ON_AIR,
+        output: b"yes 12\n",
+        status: 0,
+    },
+    Case {
+        name: "empty_log",
+        words: &AUDIT,
+        input: b"",
+        output: b"yes 0\n",
+        status: 0,
+    },
+    Case {
+        name: "no slots",
+        words: &AUDIT,
+        input: b"# note\n\n%",
+        output: b"yes 0\n",
+        status: 0,
+    },
+    Case {
+        name: "no line feed at the end",
+        words: &AUDIT,
+        input: b"C201 2140 4849 0D20",
+        output: b"yes 1\n",
+        status: 0,
+    },
+    Case {
+        name: "another programme",
+        words: &AUDIT,
+        input: b"C201 2140 4849 0D20\nF000 2140 594F 0D20\nC201 2140 4849 0D20\n",
+        output: b"yes 3\n",
+        status: 0,
+    },
+    Case {
+        name: "changed",
+        words: &AUDIT,
+        input: CHANGED,
+        output: b"no 1 Changed\n",
+        status: 1,
+    },
+    Case {
+        name: "not_one_text",
+        words: &AUDIT,
+        input: b"C201 2140 0D41 2020\n",
+        output: b"no 0 NotOneText\n",
+        status: 1,
+    },
+    Case {
+        name: "early_flag",
+        words: &AUDIT,
+        input: b"C201 2140 4849 0D20\nC201 2150 594F 0D20\nC201 2140 4849 0D20\n",
+        output: b"no 2 EarlyFlag\n",
+        status: 1,
+    },
+    Case {
+        name: "early_tag",
+        words: &AUDIT,
+        input: b"C201 2140 4849 0D20\nC201 B158 8006 08E7\n",
+        output: b"no 1 EarlyTag\n",
+        status: 1,
+    },
+    Case {
+        name: "tag_outside",
+        words: &AUDIT,
+        input: b"C201 2140 4849 0D20
+---- ---- ---- ----
+---- ---- ---- ----
+---- ---- ---- ----
+C201 B158 8006 08E7
+",
+        output: b"no 4 TagOutside\n",
+        status: 1,
+    },
+    Case {
+        name: "encoded_log",
+        words: &["rdsrt", "audit", "--pi", "C201", "--m", "1"],
+        input: b"# 0 text silent 1\n---- ---- ---- ----\n# 1 text ok\nC201 2140 4849 0D20\n",
+        output: b"yes 2\n",
+        status: 0,
+    },
+    Case {
+        name: "lawful_and_not_dense",
+        words: &AUDIT,
+        input: b"C201 2140 4849 0D20
+---- ---- ---- ----
+---- ---- ---- ----
+---- ---- ---- ----
+C201 2140 4849 0D20
+C201 B148 2002 0000
+",
+        output: b"no 5 EarlyTag\n",
+        status: 1,
+    },
+    Case {
+        name: "bad line",
+        words: &AUDIT,
+        input: b"C201 2140 4849\n",
+        output: b"fault line 1\n",
+        status: 1,
+    },
+    Case {
+        name: "bad line at the end",
+        words: &AUDIT,
+        input: b"C201 2140 4849 0D20\nx",
+        output: b"fault line 2\n",
+        status: 1,
+    },
+    Case {
+        name: "bad line after the no",
+        words: &AUDIT,
+        input: b"C201 2140 4849 0D20\nC201 2140 594F 0D20\nx\n",
+        output: b"no 1 Changed\n",
+        status: 1,
+    },
+    Case {
+        name: "bad line before the no",
+        words: &AUDIT,
+        input: b"C201 2140 4849 0D20\nx\nC201 2140 594F 0D20\n",
+        output: b"fault line 2\n",
+        status: 1,
+    },
+];
+
+#[test]
+fn audited_logs(rt: HostRuntime) -> Result<(), Fail> {
+    check(&rt, rt.alloc(), &AUDITED)
+}
+
+/// The answer doesn't depend on how the log is cut into reads. The no comes with the last byte of its line, and
+/// nothing is read after it.
+#[test]
+fn reads_up_to_the_no(rt: HostRuntime) -> Result<(), Fail> {
+    let mut log = Vec::from_slice(rt.alloc(), CHANGED)?;
+    log.extend_from_slice(TAGS_ON_AIR)?;
+    for (most, last) in [(1, 40), (2, 20), (3, 14), (7, 6), (20, 2), (40, 1)] {
+        let reads = Cell::new(0);
+        let mut output = Vec::new(rt.alloc());
+        let reader = Told::new(Slow {
+            left: log.as_slice(),
+            most,
+            fails_at: 0,
+            reads: &reads,
+        });
+        let status = run(rt.alloc(), &AUDIT, reader, &mut Told::new(&mut output));
+        assert_eq!(rt; output.as_slice(), b"no 1 Changed\n".as_slice());
+        assert_eq!(rt; (status, reads.get()), (1, last), "at {most}");
+    }
+    Ok(())
+}
+
+/// Each read fails in turn, the one that tells the end too: nothing is answered.
+#[test]
+fn audit_reader_fails(rt: HostRuntime) -> Result<(), Fail> {
+    for fails_at in 1..242 {
+        let reads = Cell::new(0);
+        let mut output = Vec::new(rt.alloc());
+        let reader = Told::new(Slow {
+            left: TAGS_ON_AIR,
+            most: 1,
+            fails_at,
+            reads: &reads,
+        });
+        let status = run(rt.alloc(), &AUDIT, reader, &mut Told::new(&mut output));
+        assert_eq!(rt;
+            output.as_slice(),
+            b"fault read\n".as_slice(),
+            "at {fails_at}"
+        );
+        assert_eq!(rt; (status, reads.get()), (1, fails_at));
+    }
+    Ok(())
+}
+
+/// Each write of the answer fails in turn, of a yes and of a no: the status is 1, and what was written is a first
+/// part of the answer.
+#[test]
+fn audit_writer_fails(rt: HostRuntime) -> Result<(), Fail> {
+    let answers: [(&[u8], &[u8], u64); 2] = [
+        (TAGS_ON_AIR, b"yes 12\n", 8),
+        (CHANGED, b"no 1 Changed\n", 14),
+    ];
+    for (log, answer, after) in answers {
+        for with_error in [true, false] {
+            for fails_at in 1..after {
+                let writes = Cell::new(0);
+                let mut output = Vec::new(rt.alloc());
+                let status = {
+                    let mut writer = Told::new(Stubborn {
+                        taken: &mut output,
+                        most: 1,
+                        fails_at,
+                        with_error,
+                        writes: &writes,
+                    });
+                    run(rt.alloc(), &AUDIT, Told::new(log), &mut writer)
+                };
+                assert_eq!(rt; (status, writes.get()), (1, fails_at));
+                assert!(rt; answer.starts_with(output.as_slice()));
+                assert_eq!(rt; output.len() as u64, fails_at - 1);
+            }
+        }
+    }
+    Ok(())
+}
