@@ -666,7 +666,7 @@ const REFUSED: [(&[&str], &[u8]); 7] = [
     (
         &["rdsrt"],
         b"error: 'rdsrt' requires a subcommand but one was not provided
-  [subcommands: decode, encode, sim, help]
+  [subcommands: decode, audit, encode, sim, help]
 
 Usage: rdsrt <COMMAND>
 
