@@ -1,6 +1,7 @@
 -- The reply to a set, by slot numbers alone: an encoder of dwell m is silent in the m slots from a restart on,
 -- and a text or name that was accepted holds the next one back for 2 m slots (both this project's own rule).
--- Lists have the newest first.
+-- Its dwell is that of its receivers, and the greatest lateness of their groups with it. Lists have the newest
+-- first.
 use Rattle.std.specs.Prelude.{ℕ, ◌+◌, ◌-◌, ◌*◌, List, [], ◌∷◌, Option, Some, None, Result, Ok, Err, is_ok, nat_lt, if◌then◌else◌}
 use Rattle.rds_encoder.specs.declared.refusal.Refusal.{Refusal}
 use Rattle.rds_encoder.specs.declared.refusal.Refusal.TheVariants.{Silent, Held, NoText, OutOfText}

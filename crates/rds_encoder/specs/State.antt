@@ -28,7 +28,8 @@ pub record IsTextState (t : TextState) : Type 0 where
 abbrev pub advanced : TextState → TextState
 advanced t = record { bytes = t.bytes; next = (t.next + 1) % segment_count (text_body t.bytes) }
 
--- the place in the round is that of the next turn
+-- the dwell is the one that the encoder keeps, its receivers' and their lateness together; the place in the
+-- round is that of the next turn
 pub record EncoderState : Type 0 where
   pub head : Head
   pub dwell : ℕ

@@ -12,12 +12,13 @@ ghost use Rattle.rds_encoder.specs.Standing.{StandsAt, Takes, WhereItStands};
 ghost use Rattle.rds_encoder.specs.State.{advanced};
 ghost use Rattle.rds_encoder.specs.Tags.{fitting_reply, pair_on_air, tags_reply};
 
+use crate::distance::Distance;
 use crate::round::Round;
 use crate::silence::Silence;
 use crate::text_on_air::TextOnAir;
 use crate::track::Track;
 use crate::turn::Turn;
-use crate::{Refusal, Wait};
+use crate::{Late, Refusal, Wait};
 use rds_assembly::{Name, Text};
 use rds_block::{Group, Place};
 use rds_fields::{Dwell, Head, Message, TagPair, Which, rtplus_announcement};
@@ -32,7 +33,7 @@ use std::marker::Model;
 #[derive(Drop)]
 pub struct Encoder {
     head: Head,
-    dwell: Dwell,
+    distance: Distance,
     silence: Silence,
     round: Round,
     text: Track<TextOnAir>,
@@ -50,7 +51,7 @@ impl Model for Encoder {
 
     ghost view = { λ e. record {
       head = e.head;
-      dwell = e.dwell;
+      dwell = e.distance;
       silence = e.silence;
       round = e.round;
       text = e.text;
@@ -60,16 +61,19 @@ impl Model for Encoder {
 }
 
 impl Encoder {
-    /// An encoder at a restart, silent for the dwell from this slot on. The head is that of every group it
-    /// sends; the dwell is in slots, and the receivers' as well (this project's own rule).
-    pub fn new(head: Head, dwell: Dwell) -> Encoder
-        ensures first { StandsAt head dwell result [] }
-        ensures again { (entries : List Entry) → StandsAt head dwell result (Restart ∷ entries) }
+    /// An encoder at a restart, silent for the dwell and the lateness from this slot on. The head is that of
+    /// every group it sends; the dwell is that of its receivers, and no group reaches one later than the
+    /// lateness, both in slots (this project's own rule).
+    pub fn new(head: Head, dwell: Dwell, late: Late) -> Encoder
+        ensures first { StandsAt head (dwell + late) result [] }
+        ensures again { (entries : List Entry)
+            → StandsAt head (dwell + late) result (Restart ∷ entries) }
     {
+        let distance = Distance::new(dwell, late);
         Encoder {
             head,
-            dwell,
-            silence: Silence::new(dwell),
+            distance,
+            silence: Silence::new(distance),
             round: Round::new(),
             text: Track::new(),
             name: Track::new(),
@@ -80,8 +84,8 @@ impl Encoder {
     /// Puts the text on air from this slot on, in place of the one before and of its tags. It has the other
     /// flag, also where its bytes are the same.
     ///
-    /// `Silent` for the dwell after a restart, then `Held` for twice the dwell after the text before (this
-    /// project's own rule), each with the slots that are left.
+    /// `Silent` for the dwell and the lateness after a restart, then `Held` for twice as many slots after the
+    /// text before (this project's own rule), each with the slots that are left.
     pub fn set_text(&mut self, text: Text) -> Result<(), Refusal>
         ensures reply { WhereItStands self.old
             (λ _ m entries. result ≡ reply_to m (text_moves entries)) }
@@ -89,7 +93,7 @@ impl Encoder {
         ensures kept { OnErr result (self.new ≡ self.old) }
     {
         self.silence.check()?;
-        self.text.set(TextOnAir::new(text), self.dwell)?;
+        self.text.set(TextOnAir::new(text), self.distance)?;
         self.pair = None;
         Ok(())
     }
@@ -97,8 +101,8 @@ impl Encoder {
     /// Puts the name on air from this slot on, in place of the one before. It has the other flag, also where
     /// its bytes are the same.
     ///
-    /// `Silent` for the dwell after a restart, then `Held` for twice the dwell after the name before (this
-    /// project's own rule), each with the slots that are left.
+    /// `Silent` for the dwell and the lateness after a restart, then `Held` for twice as many slots after the
+    /// name before (this project's own rule), each with the slots that are left.
     pub fn set_name(&mut self, name: Name) -> Result<(), Refusal>
         ensures reply { WhereItStands self.old
             (λ _ m entries. result ≡ reply_to m (name_moves entries)) }
@@ -106,13 +110,13 @@ impl Encoder {
         ensures kept { OnErr result (self.new ≡ self.old) }
     {
         self.silence.check()?;
-        self.name.set(name, self.dwell)
+        self.name.set(name, self.distance)
     }
 
     /// Gives the text on air these tags, in place of those before. They go off air with it, and are first sent
-    /// when it has been on air for the dwell (this project's own rule).
+    /// when it has been on air for the dwell and the lateness (this project's own rule).
     ///
-    /// `Silent` for the dwell after a restart, with the slots that are left; then `NoText` where none is on
+    /// `Silent` for as many slots after a restart, with the slots that are left; then `NoText` where none is on
     /// air; then `OutOfText` for the first tag that does not end in the text. The dummy, of class 0, ends in
     /// every text.
     pub fn set_tags(&mut self, pair: TagPair) -> Result<(), Refusal>
@@ -247,7 +251,7 @@ impl Encoder {
         })
     }
 
-    /// The tags, once their text has been on air for the dwell.
+    /// The tags, once their text has been on air for the dwell and the lateness.
     fn tags_due(&self) -> Option<Message>
         ensures sent { WhereItStands self.now
             (λ _ m entries. result ≡ tags_due m (slot_of (text_moves entries))
@@ -255,7 +259,7 @@ impl Encoder {
         ensures said { IfSome result (λ message. message ≢ Message.Other) }
     {
         let pair = self.tags()?;
-        if !self.text.hold.has_lasted(self.dwell) {
+        if !self.text.hold.has_lasted(self.distance) {
             return None;
         }
         Some(Message::Tags(pair))

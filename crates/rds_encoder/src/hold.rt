@@ -6,7 +6,7 @@ ghost use Rattle.rds_encoder.specs.Reply.{held_reply, last_accepted, reply_to};
 ghost use Rattle.rds_encoder.specs.Standing.{HoldsBack};
 
 use crate::Refusal;
-use rds_fields::Dwell;
+use crate::distance::Distance;
 use std::marker::Model;
 
 /// For how many slots more one service holds its next text or name back, and the flag that it will have.
@@ -58,11 +58,11 @@ impl Hold {
     }
 
     /// A set is accepted: it goes on air, with the other flag.
-    pub(crate) fn accept(&mut self, dwell: Dwell)
-        ensures { (moves : List Move) (x : List ℕ) → HoldsBack dwell self.old moves
-            → reply_to dwell moves ≡ Ok tt → HoldsBack dwell self.new (Set x ∷ moves) }
+    pub(crate) fn accept(&mut self, distance: Distance)
+        ensures { (moves : List Move) (x : List ℕ) → HoldsBack distance self.old moves
+            → reply_to distance moves ≡ Ok tt → HoldsBack distance self.new (Set x ∷ moves) }
     {
-        self.left = 2 * u32::from(dwell.get());
+        self.left = 2 * distance.get();
         self.next_flag = !self.next_flag;
     }
 
@@ -82,11 +82,11 @@ impl Hold {
         !self.next_flag
     }
 
-    /// Whether what is on air has been so for the dwell.
-    pub(crate) fn has_lasted(&self, dwell: Dwell) -> bool
-        ensures { (moves : List Move) (air : OnAir) → HoldsBack dwell self.now moves
-            → on_air dwell moves ≡ Some air → result ≡ nat_le (air.start + dwell) (slot_of moves) }
+    /// Whether what is on air has been so for the dwell and the lateness.
+    pub(crate) fn has_lasted(&self, distance: Distance) -> bool
+        ensures { (moves : List Move) (air : OnAir) → HoldsBack distance self.now moves
+            → on_air distance moves ≡ Some air → result ≡ nat_le (air.start + distance) (slot_of moves) }
     {
-        self.left <= u32::from(dwell.get())
+        self.left <= distance.get()
     }
 }

@@ -6,14 +6,16 @@
 //! takes no memory, and it never puts a text on air later than it accepts it.
 //!
 //! ```text
-//! let mut encoder = Encoder::new(head, Dwell::new(4)?);
+//! let mut encoder = Encoder::new(head, Dwell::new(4)?, Late::new(0)?);
 //! encoder.set_text(Text::new(b"HI")?) == Err(Refusal::Silent(4))
 //! encoder.tick(true) == None
 //! ```
 #![tactic(auto)]
 
+mod distance;
 mod encoder;
 mod hold;
+mod late;
 mod laws;
 mod refusal;
 mod round;
@@ -24,6 +26,7 @@ mod turn;
 mod wait;
 
 pub use encoder::Encoder;
+pub use late::Late;
 pub use laws::{
     broadcasts_are_spaced, even_turns_are_the_texts, numbers_name_broadcasts,
     on_air_from_its_start_on, on_air_is_sent_whole, on_air_is_what_covers_the_slot,

@@ -5,7 +5,7 @@ ghost use Rattle.rds_encoder.specs.Reply.{unless_silent};
 ghost use Rattle.rds_encoder.specs.Standing.{silence_left};
 
 use crate::Refusal;
-use rds_fields::Dwell;
+use crate::distance::Distance;
 use std::marker::Model;
 
 /// For how many slots more an encoder is silent.
@@ -23,12 +23,12 @@ impl Model for Silence {
 }
 
 impl Silence {
-    /// The silence of the dwell, from this slot on.
-    pub(crate) fn new(dwell: Dwell) -> Silence
-        ensures { result ≡ dwell }
+    /// The silence after a restart, from this slot on.
+    pub(crate) fn new(distance: Distance) -> Silence
+        ensures { result ≡ distance }
     {
         Silence {
-            left: u32::from(dwell.get()),
+            left: distance.get(),
         }
     }
 

@@ -46,14 +46,20 @@ fn send(rt: &impl Abort, encoder: &mut Encoder, free: bool, slots: u32, wanted: 
     }
 }
 
-/// An encoder of PI C201, TP 0, PTY 10 at a restart.
+/// An encoder of PI C201, TP 0, PTY 10 at a restart, of receivers that are on time.
 fn restarted(dwell: u16) -> Result<Encoder, Fail> {
+    restarted_late(dwell, 0)
+}
+
+/// Such an encoder of receivers whose groups come at most so many slots late.
+fn restarted_late(dwell: u16, late: u16) -> Result<Encoder, Fail> {
     let head = Head {
         pi: 0xC201,
         tp: false,
         pty: Place::new(10).ok_or("pty")?,
     };
-    Ok(Encoder::new(head, Dwell::new(dwell).ok_or("dwell")?))
+    let dwell = Dwell::new(dwell).ok_or("dwell")?;
+    Ok(Encoder::new(head, dwell, Late::new(late).ok_or("late")?))
 }
 
 fn text(bytes: [u8; 2]) -> Result<Text, Fail> {
@@ -352,6 +358,41 @@ fn printed_refusals(rt: HostRuntime) -> Result<(), Fail> {
     for (refusal, words) in rows {
         assert_eq!(rt; format!(in rt.alloc(); "{refusal}")?.as_str(), words);
     }
+    Ok(())
+}
+
+/// A lateness is 0 to 1024 slots.
+#[test]
+fn latenesses(rt: HostRuntime) -> Result<(), Fail> {
+    for slots in [0, 1, 1024] {
+        assert_eq!(rt; Late::new(slots).map(Late::get), Some(slots));
+    }
+    assert_eq!(rt; Late::new(1025), None);
+    assert_eq!(rt; Late::new(65535), None);
+    Ok(())
+}
+
+/// With a dwell of four slots and groups up to two slots late: silent for six slots, held for twelve.
+#[test]
+fn silent_and_held_for_late_groups(rt: HostRuntime) -> Result<(), Fail> {
+    let mut encoder = restarted_late(4, 2)?;
+    play(
+        &rt,
+        &mut encoder,
+        &[
+            Row::Others(5),
+            Row::Text(*b"HI", Err(Refusal::Silent(1))),
+            Row::Others(1),
+            Row::Text(*b"HI", Ok(())),
+            Row::Others(11),
+            Row::Text(*b"YO", Err(Refusal::Held(1))),
+            Row::Others(1),
+            Row::Text(*b"YO", Ok(())),
+            Row::Free(1, Some(YO_AGAIN)),
+        ],
+    )?;
+    let longest = restarted_late(65535, 1024)?;
+    assert_eq!(rt; longest.wait(), wait(66559, 0, 0));
     Ok(())
 }
 

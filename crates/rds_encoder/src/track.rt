@@ -6,8 +6,8 @@ ghost use Rattle.rds_encoder.specs.Reply.{held_reply, last_accepted, reply_to};
 ghost use Rattle.rds_encoder.specs.Standing.{Follows, HoldsBack};
 
 use crate::Refusal;
+use crate::distance::Distance;
 use crate::hold::Hold;
-use rds_fields::Dwell;
 use std::marker::Model;
 
 /// What of one service is on air, and for how long it holds the next back.
@@ -42,17 +42,17 @@ impl<V: Drop> Track<V> {
     }
 
     /// Puts the value on air in place of the one before, unless that one holds it back.
-    pub(crate) fn set(&mut self, value: V, dwell: Dwell) -> Result<(), Refusal>
-        ensures reply { (moves : List Move) → HoldsBack dwell self.old.hold moves
-            → result ≡ held_reply dwell (slot_of moves) (last_accepted dwell moves) }
+    pub(crate) fn set(&mut self, value: V, distance: Distance) -> Result<(), Refusal>
+        ensures reply { (moves : List Move) → HoldsBack distance self.old.hold moves
+            → result ≡ held_reply distance (slot_of moves) (last_accepted distance moves) }
         ensures kept { OnErr result (self.new ≡ self.old) }
         ensures value { OnOk result (self.new.on_air ≡ Some value) }
         ensures hold { OnOk result ((moves : List Move) (x : List ℕ)
-            → HoldsBack dwell self.old.hold moves → reply_to dwell moves ≡ Ok tt
-            → HoldsBack dwell self.new.hold (Set x ∷ moves)) }
+            → HoldsBack distance self.old.hold moves → reply_to distance moves ≡ Ok tt
+            → HoldsBack distance self.new.hold (Set x ∷ moves)) }
     {
         self.hold.check()?;
-        self.hold.accept(dwell);
+        self.hold.accept(distance);
         self.on_air = Some(value);
         Ok(())
     }
