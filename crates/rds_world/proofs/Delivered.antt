@@ -1,6 +1,7 @@
 -- Who got each free one of enough slots of a broadcast shows it.
-use Rattle.std.proofs.Common.{◌≡◌, ◌+◌, ◌-◌, ◌*◌, ◌<◌, ◌≤◌, ℕ, Bool, true, false, List, [], ◌∷◌, ◌++◌, Option, append_assoc, length-append, Some, nat_eq, replicate, ◌%◌, refl, sym, ap, ◌∙◌, subst, arith, length}
+use Rattle.std.proofs.Common.{◌≡◌, ◌+◌, ◌-◌, ◌*◌, ◌<◌, ◌≤◌, ℕ, zero, suc, inl, inr, Bool, true, false, List, [], ◌∷◌, ◌++◌, Option, append_assoc, length-append, Some, nat_eq, replicate, ◌%◌, refl, sym, ap, ◌∙◌, subst, arith, length}
 use Rattle.std.proofs.lemmas.Bool.Decides.{nat_tests}
+use Rattle.std.proofs.lemmas.Bool.{cases_order}
 use Rattle.std.proofs.lemmas.List.{length-replicate}
 use Rattle.std.specs.Prelude.{slice_get}
 use Rattle.rds_fields.specs.declared.head.Head.{Head}
@@ -13,28 +14,31 @@ use Rattle.rds_assembly.specs.Whole.{IsWholeName, IsWholeText}
 use Rattle.rds_encoder.specs.Delivery.{ANameIsSentWhole, ATextIsSentWhole, IsOnThroughout, IsSentAmong}
 use Rattle.rds_encoder.specs.Entries.{Entry, Move, name_moves, slot_of, text_moves}
 use Rattle.rds_encoder.specs.Laws.{OnlyWhatIsOnAirCoversTheSlot, WhatIsOnAirWasOnAir}
+use Rattle.rds_encoder.specs.Sent.{one_if}
 use Rattle.rds_encoder.specs.Plan.{Broadcast, HasNumber, endless, on_air, plan_of}
 use Rattle.rds_receiver.specs.Receipts.{Piece, name_piece, segments, text_piece}
 use Rattle.rds_receiver.specs.Shown.{ShowsView, ShownView}
 use Rattle.rds_receiver.specs.State.{ReceiverState}
 use Rattle.rds_world.specs.Delivery.{ANameIsDelivered, ATextIsDelivered, AnyTextIsDelivered, GetsEachFree, GotRecently, LieIn, free_slots}
 use Rattle.rds_world.specs.Event.{Event}
-use Rattle.rds_world.specs.Late.{Input}
-use Rattle.rds_world.specs.Lawful.{IsLawful, names, texts}
-use Rattle.rds_world.specs.Marks.{marks, name_mark, text_mark}
+use Rattle.rds_world.specs.Due.{AreDue}
+use Rattle.rds_world.specs.Late.{CameFrom, Input, IsHeardLate}
+use Rattle.rds_world.specs.Lawful.{names, texts}
+use Rattle.rds_world.specs.Marks.{name_mark, text_mark}
 use Rattle.rds_world.specs.Plans.{AreLawful}
 use Rattle.rds_world.specs.Slots.{commanded, entries, input_of, log, plans_of}
 use Rattle.rds_world.specs.Standing.{Shows, StandsAt}
 use Rattle.rds_world.specs.State.{WorldState}
 use Rattle.rds_world.specs.Station.{TheEncoderIsLawful}
 use Rattle.rds_world.proofs.Bytes.{name_service, text_service}
+use Rattle.rds_world.proofs.Entries.{one_origin}
 use Rattle.rds_world.proofs.HeldWhole.{CameSince, came_in, in_segments, shown_whole}
 use Rattle.rds_world.proofs.InTime.{in_time, input_reaches}
 use Rattle.rds_world.proofs.LawfulStation as lawful
 use Rattle.rds_world.specs.Laws.{PlanLaws}
 use Rattle.rds_world.proofs.SafeWorld.{shows_view}
 use Rattle.rds_world.proofs.Safety.{name_pieces_marked, text_pieces_marked}
-use Rattle.rds_world.proofs.SentWhole.{IsMoves, free_told, heard_among, moves_of_names, moves_of_texts, throughout, told_parts, told_since, told_until}
+use Rattle.rds_world.proofs.SentWhole.{IsMoves, came_in_own, free_told, heard_among, moves_of_names, moves_of_texts, throughout, told_parts, told_since, told_until}
 
 -- what is proved of every encoder
 pub record DeliveryLaws : Type 0 where
@@ -100,130 +104,186 @@ module _ (laws : DeliveryLaws) (m : ℕ) (some : 0 < m) (newer : List Event) (ol
       let input = input_of m i (newer ++ oldest ∷ before) in
       record { segment = came_in w.at p; since = w.since; at = refl; is_in = in_segments pick input.first input.heard w.at message p w.heard is }
 
--- what a receiver got of these slots
-record Listened (station : Head) (m : ℕ) (w : WorldState) (events recent before : List Event) (i : ℕ) (r : ReceiverState) (view : ShownView) : Type 0 where
-  stands : StandsAt station m w events
-  long : length events ≡ length recent + length before
-  within : length recent ≤ m
+-- what a receiver got of these slots, the oldest of which is free
+record Listened (station : Head) (m k : ℕ) (w : WorldState) (newer : List Event) (oldest : Event) (before : List Event) (i : ℕ) (r : ReceiverState) (view : ShownView) : Type 0 where
+  stands : StandsAt station m k w (newer ++ oldest ∷ before)
+  within : length (newer ++ oldest ∷ []) ≤ m
+  free : oldest.free ≡ true
   there : slice_get w.receivers i ≡ Some r
-  got : GetsEachFree i recent
+  got : GetsEachFree i (newer ++ oldest ∷ [])
   shows : Shows r view
 
-module _ (laws : DeliveryLaws) (station : Head) (m : ℕ) (w : WorldState) (newer : List Event) (oldest : Event) (before : List Event) (i : ℕ) (r : ReceiverState) (view : ShownView) (k : ℕ) (b : Broadcast)
-    (listened : Listened station m w (newer ++ oldest ∷ before) (newer ++ oldest ∷ []) before i r view) (from : b.start ≤ length before) (to : length (newer ++ oldest ∷ before) ≤ b.end + 1) where
+module _ (laws : DeliveryLaws) (station : Head) (m k : ℕ) (w : WorldState) (newer : List Event) (oldest : Event) (before : List Event) (i : ℕ) (r : ReceiverState) (view : ShownView) (number : ℕ) (b : Broadcast)
+    (listened : Listened station m k w newer oldest before i r view) (from : b.start ≤ length before) (to : length (newer ++ oldest ∷ before) ≤ b.end + 1) where
+  abbrev d : ℕ
+  d = m + k
+
   abbrev all_slots : List Event
   all_slots = newer ++ oldest ∷ before
 
   abbrev its_input : Input
-  its_input = input_of m i all_slots
+  its_input = input_of d i all_slots
 
-  own : m ≡ m + 0
-  own = omega arith
+  lasts : 0 < d
+  lasts = (let some = listened.stands.lasts in omega arith)
 
   some_recent : length before < length all_slots
   some_recent = omega (arith, length-append newer (oldest ∷ before))
 
+  soon : length all_slots - 1 < length before + m
+  soon = omega (arith, some_recent, length-append newer (oldest ∷ before), length-append newer (oldest ∷ []), listened.within)
+
   last : length all_slots ≡ length all_slots - 1 + 1
   last = omega (arith, some_recent)
+
+  late : IsHeardLate k (log d all_slots) its_input
+  late = in_time d k i all_slots listened.stands.due
+
+  -- what came since the oldest of these slots was sent since then
+  fresh : (u s : ℕ) → length before ≤ u → CameFrom its_input u s → length before ≤ s
+  fresh u s since came =
+      let earlier : IsHeardLate k (log d before) (input_of d i before) = in_time d k i before (due_before newer listened.stands.due) in
+      let reached = input_reaches d i before in
+      let long = earlier.beside in
+      let own : CameFrom its_input (length before) (length before) = came_in_own d i newer oldest before listened.free listened.got (omega (arith, reached, long)) in
+      elim (cases_order (length before) u) [
+        | inl same ↦ omega (arith, one_origin its_input (length before) (length before) s own (subst (λ (n : ℕ). CameFrom its_input n s) (sym same) came))
+        | inr other ↦ elim other [
+          | inl less ↦ omega (arith, late.rising (length before) u (length before) s own came less)
+          | inr more ↦ absurd (omega (arith, since, more))
+        ]
+      ]
+    where
+      due_before : (xs : List Event) → AreDue k (xs ++ oldest ∷ before) → AreDue k before
+      due_before [] due = due.1
+      due_before (x ∷ xs) due = due_before xs due.1
 
   shown : ShowsView m its_input.first its_input.heard view
   shown = shows_view station m its_input r view (listened.stands.receivers.each i r listened.there) listened.shows
 
-  law : AreLawful m (plans_of m all_slots) (log m all_slots)
-  law = laws.lawful m all_slots listened.stands.lasts listened.stands.values
+  law : AreLawful d (plans_of d all_slots) (log d all_slots)
+  law = laws.lawful d all_slots lasts listened.stands.values
 
-  text_shown : HasNumber (plans_of m all_slots).text k b → 2 * segment_count (text_body b.bytes) ≤ free_slots (newer ++ oldest ∷ []) → view.text ≡ Some b.bytes
+  text_shown : HasNumber (plans_of d all_slots).text number b → 2 * segment_count (text_body b.bytes) ≤ free_slots (newer ++ oldest ∷ []) → view.text ≡ Some b.bytes
   text_shown planned enough =
-      let value : IsText b.bytes = law.text.values k b planned in
-      let throughout = on_throughout laws m listened.stands.lasts newer oldest before IsText text_moves lawful.text_service (lawful.reaches IsText text_mark text_moves lawful.text_service) moves_of_texts k b planned from to in
+      let value : IsText b.bytes = law.text.values number b planned in
+      let throughout = on_throughout laws d lasts newer oldest before IsText text_moves lawful.text_service (lawful.reaches IsText text_mark text_moves lawful.text_service) moves_of_texts number b planned from to in
       let free = free_told newer oldest in
-      shown_whole laws.plan m (length all_slots - 1) (length before) texts text_piece text_mark (plans_of m all_slots).text (log m all_slots) its_input k b
-      text_pieces_marked (subst (λ n. IsLawful n texts (plans_of m all_slots).text (marks text_mark (log m all_slots))) own law.text) (in_time m i all_slots) (input_reaches m i all_slots ∙ last)
-      planned from (omega (arith, to, some_recent)) (omega (arith, some_recent, listened.long, listened.within))
+      shown_whole laws.plan m (length all_slots - 1) (length before) texts text_piece text_mark (plans_of d all_slots).text (log d all_slots) its_input number b
+      text_pieces_marked k law.text late (input_reaches d i all_slots ∙ last) fresh planned from (omega (arith, to, some_recent)) soon
       IsWholeText text_service (λ cells held. all_text cells b.bytes value held) ((some_segments b.bytes value).0)
       (λ a within.
       let bytes = segment_of (text_body b.bytes) a in
-      came laws m listened.stands.lasts newer oldest before i text_piece (Text b.flag a bytes) record { flag = b.flag; address = a; bytes = bytes } refl listened.got
-      (laws.text m (told_since newer oldest) (told_until oldest before) (endless b) throughout (omega (arith, enough, free)) a within))
+      came laws d lasts newer oldest before i text_piece (Text b.flag a bytes) record { flag = b.flag; address = a; bytes = bytes } refl listened.got
+      (laws.text d (told_since newer oldest) (told_until oldest before) (endless b) throughout (omega (arith, enough, free)) a within))
       view.text shown.text
 
-  name_shown : HasNumber (plans_of m all_slots).name k b → 8 ≤ free_slots (newer ++ oldest ∷ []) → view.name ≡ Some b.bytes
+  name_shown : HasNumber (plans_of d all_slots).name number b → 8 ≤ free_slots (newer ++ oldest ∷ []) → view.name ≡ Some b.bytes
   name_shown planned enough =
-      let value : IsName b.bytes = law.name.values k b planned in
-      let throughout = on_throughout laws m listened.stands.lasts newer oldest before IsName name_moves lawful.name_service (lawful.reaches IsName name_mark name_moves lawful.name_service) moves_of_names k b planned from to in
+      let value : IsName b.bytes = law.name.values number b planned in
+      let throughout = on_throughout laws d lasts newer oldest before IsName name_moves lawful.name_service (lawful.reaches IsName name_mark name_moves lawful.name_service) moves_of_names number b planned from to in
       let free = free_told newer oldest in
       let two = two_segments b.bytes value in
-      shown_whole laws.plan m (length all_slots - 1) (length before) names name_piece name_mark (plans_of m all_slots).name (log m all_slots) its_input k b
-      name_pieces_marked (subst (λ n. IsLawful n names (plans_of m all_slots).name (marks name_mark (log m all_slots))) own law.name) (in_time m i all_slots) (input_reaches m i all_slots ∙ last)
-      planned from (omega (arith, to, some_recent)) (omega (arith, some_recent, listened.long, listened.within))
+      shown_whole laws.plan m (length all_slots - 1) (length before) names name_piece name_mark (plans_of d all_slots).name (log d all_slots) its_input number b
+      name_pieces_marked k law.name late (input_reaches d i all_slots ∙ last) fresh planned from (omega (arith, to, some_recent)) soon
       IsWholeName name_service (λ cells held. all_name cells b.bytes value held) (omega (arith, two))
       (λ a within.
       let bytes = segment_of (name_body b.bytes) a in
-      came laws m listened.stands.lasts newer oldest before i name_piece (Name b.flag a bytes) record { flag = b.flag; address = a; bytes = bytes } refl listened.got
-      (laws.name m (told_since newer oldest) (told_until oldest before) (endless b) throughout (omega (arith, enough, free)) a (omega (arith, within, two))))
+      came laws d lasts newer oldest before i name_piece (Name b.flag a bytes) record { flag = b.flag; address = a; bytes = bytes } refl listened.got
+      (laws.name d (told_since newer oldest) (told_until oldest before) (endless b) throughout (omega (arith, enough, free)) a (omega (arith, within, two))))
       view.name shown.name
 
--- some slots are newer ones and the oldest
+-- some slots are newer ones, the oldest that is free, and older ones of which none is
 record HasOldest (slots : List Event) : Type 0 where
   newer : List Event
   oldest : Event
-  is : slots ≡ newer ++ oldest ∷ []
+  older : List Event
+  is : slots ≡ newer ++ oldest ∷ older
+  free : oldest.free ≡ true
+  others : free_slots older ≡ 0
 
 has_oldest : (slots : List Event) → 0 < free_slots slots → HasOldest slots
 has_oldest [] some = absurd (omega (arith, some))
-has_oldest (e ∷ slots) some = of e slots
+has_oldest (e ∷ slots) some = by e.free (free_slots slots) refl refl (has_oldest slots)
   where
-    of : (e : Event) (slots : List Event) → HasOldest (e ∷ slots)
-    of e [] = record { newer = []; oldest = e; is = refl }
-    of e (f ∷ slots) = (let rest = of f slots in record { newer = e ∷ rest.newer; oldest = rest.oldest; is = ap (λ (xs : List Event). e ∷ xs) rest.is })
+    by : (free : Bool) (n : ℕ) → e.free ≡ free → free_slots slots ≡ n → (0 < free_slots slots → HasOldest slots) → HasOldest (e ∷ slots)
+    by true zero is none rest = record { newer = []; oldest = e; older = slots; is = refl; free = is; others = none }
+    by false zero is none rest = absurd (let no : one_if e.free ≡ 0 = ap one_if is in omega (arith, some, no, none))
+    by free (suc n) is more rest =
+        let o = rest (omega (arith, more)) in
+        record { newer = e ∷ o.newer; oldest = o.oldest; older = o.older; is = ap (λ (xs : List Event). e ∷ xs) o.is; free = o.free; others = o.others }
 
-listened_to : (station : Head) (m : ℕ) (w : WorldState) (newer : List Event) (oldest : Event) (before : List Event) (i : ℕ) (r : ReceiverState) (view : ShownView)
-    → GotRecently station m w (newer ++ oldest ∷ []) before i r view → Listened station m w (newer ++ oldest ∷ before) (newer ++ oldest ∷ []) before i r view
-listened_to station m w newer oldest before i r view got =
-    let parts : (newer ++ oldest ∷ []) ++ before ≡ newer ++ oldest ∷ before = append_assoc newer (oldest ∷ []) before in
-    record {
-      stands = subst (λ (events : List Event). StandsAt station m w events) parts got.stands;
-      long = sym (ap (λ (events : List Event). length events) parts) ∙ length-append (newer ++ oldest ∷ []) before;
-      within = got.within;
-      there = got.there;
-      got = got.got;
-      shows = got.shows;
-    }
+-- older slots of which none is free are no loss
+free_without : (newer : List Event) (oldest : Event) (older : List Event) → free_slots older ≡ 0 → free_slots (newer ++ oldest ∷ older) ≡ free_slots (newer ++ oldest ∷ [])
+free_without [] oldest older none = omega (arith, none)
+free_without (e ∷ newer) oldest older none = omega (arith, free_without newer oldest older none)
+
+got_without : (i : ℕ) (newer : List Event) (oldest : Event) (older : List Event) → GetsEachFree i (newer ++ oldest ∷ older) → GetsEachFree i (newer ++ oldest ∷ [])
+got_without i [] oldest older got = (got.0, tt)
+got_without i (e ∷ newer) oldest older got = (got.0, got_without i newer oldest older got.1)
+
+-- the oldest slots are some of those before
+parts : (newer : List Event) (oldest : Event) (older before : List Event) → (newer ++ oldest ∷ older) ++ before ≡ newer ++ oldest ∷ (older ++ before)
+parts newer oldest older before = append_assoc newer (oldest ∷ older) before
+
+listened_to : (station : Head) (m k : ℕ) (w : WorldState) (newer : List Event) (oldest : Event) (older before : List Event) (i : ℕ) (r : ReceiverState) (view : ShownView) → oldest.free ≡ true
+    → GotRecently station m k w (newer ++ oldest ∷ older) before i r view → Listened station m k w newer oldest (older ++ before) i r view
+listened_to station m k w newer oldest older before i r view free got = record {
+  stands = subst (λ (events : List Event). StandsAt station m k w events) (parts newer oldest older before) got.stands;
+  within = (let within = got.within in omega (arith, within, length-append newer (oldest ∷ older), length-append newer (oldest ∷ [])));
+  free = free;
+  there = got.there;
+  got = got_without i newer oldest older got.got;
+  shows = got.shows;
+}
+
+module _ (laws : DeliveryLaws) (station : Head) (m k : ℕ) (w : WorldState) (before : List Event) (i : ℕ) (r : ReceiverState) (view : ShownView) (b : Broadcast) where
+  text_of : (newer : List Event) (oldest : Event) (older : List Event) → oldest.free ≡ true → free_slots older ≡ 0 → GotRecently station m k w (newer ++ oldest ∷ older) before i r view
+      → LieIn (plans_of (m + k) ((newer ++ oldest ∷ older) ++ before)).text (newer ++ oldest ∷ older) before b
+      → 2 * segment_count (text_body b.bytes) ≤ free_slots (newer ++ oldest ∷ older) → view.text ≡ Some b.bytes
+  text_of newer oldest older free none got lies enough =
+      let e = parts newer oldest older before in
+      let from = lies.from in
+      text_shown laws station m k w newer oldest (older ++ before) i r view lies.number b (listened_to station m k w newer oldest older before i r view free got)
+      (omega (arith, from, length-append older before))
+      (subst (λ (events : List Event). length events ≤ b.end + 1) e lies.to) (subst (λ (events : List Event). HasNumber (plans_of (m + k) events).text lies.number b) e lies.planned)
+      (omega (arith, enough, free_without newer oldest older none))
+
+  name_of : (newer : List Event) (oldest : Event) (older : List Event) → oldest.free ≡ true → free_slots older ≡ 0 → GotRecently station m k w (newer ++ oldest ∷ older) before i r view
+      → LieIn (plans_of (m + k) ((newer ++ oldest ∷ older) ++ before)).name (newer ++ oldest ∷ older) before b
+      → 8 ≤ free_slots (newer ++ oldest ∷ older) → view.name ≡ Some b.bytes
+  name_of newer oldest older free none got lies enough =
+      let e = parts newer oldest older before in
+      let from = lies.from in
+      name_shown laws station m k w newer oldest (older ++ before) i r view lies.number b (listened_to station m k w newer oldest older before i r view free got)
+      (omega (arith, from, length-append older before))
+      (subst (λ (events : List Event). length events ≤ b.end + 1) e lies.to) (subst (λ (events : List Event). HasNumber (plans_of (m + k) events).name lies.number b) e lies.planned)
+      (omega (arith, enough, free_without newer oldest older none))
+
+-- a planned text is a text
+planned_text : DeliveryLaws → (station : Head) (m k : ℕ) (w : WorldState) (recent before : List Event) (i : ℕ) (r : ReceiverState) (view : ShownView) (b : Broadcast)
+    → GotRecently station m k w recent before i r view → LieIn (plans_of (m + k) (recent ++ before)).text recent before b → IsText b.bytes
+planned_text laws station m k w recent before i r view b got lies =
+    (let lasts = got.stands.lasts in (laws.lawful (m + k) (recent ++ before) (omega arith) got.stands.values).text.values lies.number b lies.planned)
 
 pub text_delivered : DeliveryLaws → ATextIsDelivered
-text_delivered laws station m w recent before i r view b got lies enough = by (has_oldest recent (omega (arith, enough, (some_segments b.bytes value).0)))
-  where
-    value : IsText b.bytes
-    value = (laws.lawful m (recent ++ before) got.stands.lasts got.stands.values).text.values lies.number b lies.planned
-
-    of : (newer : List Event) (oldest : Event) → GotRecently station m w (newer ++ oldest ∷ []) before i r view → LieIn (plans_of m ((newer ++ oldest ∷ []) ++ before)).text (newer ++ oldest ∷ []) before b
-        → 2 * segment_count (text_body b.bytes) ≤ free_slots (newer ++ oldest ∷ []) → view.text ≡ Some b.bytes
-    of newer oldest got lies enough =
-        let parts : (newer ++ oldest ∷ []) ++ before ≡ newer ++ oldest ∷ before = append_assoc newer (oldest ∷ []) before in
-        text_shown laws station m w newer oldest before i r view lies.number b (listened_to station m w newer oldest before i r view got) lies.from
-        (subst (λ (events : List Event). length events ≤ b.end + 1) parts lies.to) (subst (λ (events : List Event). HasNumber (plans_of m events).text lies.number b) parts lies.planned) enough
-
-    by : HasOldest recent → view.text ≡ Some b.bytes
-    by o = of o.newer o.oldest (subst (λ (slots : List Event). GotRecently station m w slots before i r view) o.is got)
-        (subst (λ (slots : List Event). LieIn (plans_of m (slots ++ before)).text slots before b) o.is lies)
-        (subst (λ (slots : List Event). 2 * segment_count (text_body b.bytes) ≤ free_slots slots) o.is enough)
+text_delivered laws station m k w recent before i r view b got lies enough =
+    let value = planned_text laws station m k w recent before i r view b got lies in
+    let o = has_oldest recent (omega (arith, enough, (some_segments b.bytes value).0)) in
+    text_of laws station m k w before i r view b o.newer o.oldest o.older o.free o.others
+    (subst (λ (slots : List Event). GotRecently station m k w slots before i r view) o.is got)
+    (subst (λ (slots : List Event). LieIn (plans_of (m + k) (slots ++ before)).text slots before b) o.is lies)
+    (subst (λ (slots : List Event). 2 * segment_count (text_body b.bytes) ≤ free_slots slots) o.is enough)
 
 pub any_text_delivered : DeliveryLaws → AnyTextIsDelivered
-any_text_delivered laws station m w recent before i r view b got lies enough =
-    let value = (laws.lawful m (recent ++ before) got.stands.lasts got.stands.values).text.values lies.number b lies.planned in
-    text_delivered laws station m w recent before i r view b got lies (omega (arith, enough, (some_segments b.bytes value).1))
+any_text_delivered laws station m k w recent before i r view b got lies enough =
+    let value = planned_text laws station m k w recent before i r view b got lies in
+    text_delivered laws station m k w recent before i r view b got lies (omega (arith, enough, (some_segments b.bytes value).1))
 
 pub name_delivered : DeliveryLaws → ANameIsDelivered
-name_delivered laws station m w recent before i r view b got lies enough = by (has_oldest recent (omega (arith, enough)))
-  where
-    of : (newer : List Event) (oldest : Event) → GotRecently station m w (newer ++ oldest ∷ []) before i r view → LieIn (plans_of m ((newer ++ oldest ∷ []) ++ before)).name (newer ++ oldest ∷ []) before b
-        → 8 ≤ free_slots (newer ++ oldest ∷ []) → view.name ≡ Some b.bytes
-    of newer oldest got lies enough =
-        let parts : (newer ++ oldest ∷ []) ++ before ≡ newer ++ oldest ∷ before = append_assoc newer (oldest ∷ []) before in
-        name_shown laws station m w newer oldest before i r view lies.number b (listened_to station m w newer oldest before i r view got) lies.from
-        (subst (λ (events : List Event). length events ≤ b.end + 1) parts lies.to) (subst (λ (events : List Event). HasNumber (plans_of m events).name lies.number b) parts lies.planned) enough
-
-    by : HasOldest recent → view.name ≡ Some b.bytes
-    by o = of o.newer o.oldest (subst (λ (slots : List Event). GotRecently station m w slots before i r view) o.is got)
-        (subst (λ (slots : List Event). LieIn (plans_of m (slots ++ before)).name slots before b) o.is lies)
-        (subst (λ (slots : List Event). 8 ≤ free_slots slots) o.is enough)
+name_delivered laws station m k w recent before i r view b got lies enough =
+    let o = has_oldest recent (omega (arith, enough)) in
+    name_of laws station m k w before i r view b o.newer o.oldest o.older o.free o.others
+    (subst (λ (slots : List Event). GotRecently station m k w slots before i r view) o.is got)
+    (subst (λ (slots : List Event). LieIn (plans_of (m + k) (slots ++ before)).name slots before b) o.is lies)
+    (subst (λ (slots : List Event). 8 ≤ free_slots slots) o.is enough)

@@ -11,7 +11,7 @@ use Rattle.rds_encoder.specs.Spaced.{IsSpaced}
 use Rattle.rds_receiver.specs.Receipts.{Piece, Segment, picked, segments, with_segment}
 use Rattle.rds_receiver.specs.Run.{cells_of, is_same, run, run_at, run_before}
 use Rattle.rds_receiver.specs.Shown.{IsShown}
-use Rattle.rds_world.specs.Late.{HasEntry, Input, IsHeardLate}
+use Rattle.rds_world.specs.Late.{CameFrom, HasEntry, Input, IsHeardLate}
 use Rattle.rds_world.specs.Lawful.{IsLawful, Kind}
 use Rattle.rds_world.specs.Marks.{Mark, marks}
 use Rattle.rds_world.proofs.Flags.{is_same_flag}
@@ -128,8 +128,8 @@ pub record CameSince (gs : List Segment) (s address : ℕ) : Type 0 where
   pub is_in : IsIn gs segment
 
 module _ (laws : PlanLaws) (m t s : ℕ) (kind : Kind) (pick : Message → Option Piece) (of : Option Message → Mark) (plan : List Broadcast) (log : List (Option Message)) (input : Input) (number : ℕ) (b : Broadcast)
-    (alike : PicksWhatIsMarked pick of) (law : IsLawful (m + 0) kind plan (marks of log)) (late : IsHeardLate 0 log input) (now : input.first + length input.heard ≡ t + 1)
-    (planned : HasNumber plan number b) (from : b.start ≤ s) (to : t ≤ b.end) (soon : t < s + m) where
+    (alike : PicksWhatIsMarked pick of) (k : ℕ) (law : IsLawful (m + k) kind plan (marks of log)) (late : IsHeardLate k log input) (now : input.first + length input.heard ≡ t + 1)
+    (fresh : (u r : ℕ) → s ≤ u → CameFrom input u r → s ≤ r) (planned : HasNumber plan number b) (from : b.start ≤ s) (to : t ≤ b.end) (soon : t < s + m) where
   abbrev pub its_segments : List Segment
   its_segments = segments pick input.first input.heard
 
@@ -139,12 +139,12 @@ module _ (laws : PlanLaws) (m t s : ℕ) (kind : Kind) (pick : Message → Optio
     where
       flag : s ≤ g.slot → g.piece.flag ≡ b.flag
       flag since =
-          let came = arrival 0 log input g.slot all.0.message late all.0.came in
+          let came = arrival k log input g.slot all.0.message late all.0.came in
           let sent = rw (alike all.0.message g.piece all.0.piece) at (mark_sent of log came.slot (Some all.0.message) came.late.sent) in
           let lies = law.pieces came.slot g.piece sent in
           let by_now = before_end input.first input.heard g.slot (Some all.0.message) all.0.came in
-          let mine : Covers b came.slot = record { from = omega (arith, from, since, came.late.late); to = omega (arith, to, by_now, now, came.late.past) } in
-          let same : lies.broadcast ≡ b = one_covers laws (m + 0) plan lies.number number lies.broadcast b came.slot law.spaced lies.planned planned lies.is.covers mine in
+          let mine : Covers b came.slot = record { from = omega (arith, from, fresh g.slot came.slot since came.from); to = omega (arith, to, by_now, now, came.late.past) } in
+          let same : lies.broadcast ≡ b = one_covers laws (m + k) plan lies.number number lies.broadcast b came.slot law.spaced lies.planned planned lies.is.covers mine in
           lies.is.flag ∙ ap (λ (x : Broadcast). x.flag) same
 
   run_is : (heard : List (Option Message)) → input.first + length heard ≡ t + 1 → run_at pick m input.first heard ≡ run m t (segments pick input.first heard)
@@ -156,7 +156,7 @@ module _ (laws : PlanLaws) (m t s : ℕ) (kind : Kind) (pick : Message → Optio
       kept m t s b.flag soon its_segments g (subst (λ (n : ℕ). AreFalling n its_segments) now (segments_fall pick input.first input.heard)) (flags its_segments (all_picked pick input.first input.heard)) since is_in
 
   -- what is shown of a run that lies in one broadcast, and has each segment of this one
-  shown_of : (IsWhole : Cells → List ℕ → Type 0) → IsService kind IsWhole → (the_run : List Segment) → RunLiesInOne m 0 t kind plan input the_run → ((g : Segment) → s ≤ g.slot → IsIn its_segments g → IsIn the_run g)
+  shown_of : (IsWhole : Cells → List ℕ → Type 0) → IsService kind IsWhole → (the_run : List Segment) → RunLiesInOne m k t kind plan input the_run → ((g : Segment) → s ≤ g.slot → IsIn its_segments g → IsIn the_run g)
       → ((cells : Cells) → AreAllHeld (kind.body b.bytes) cells → IsWhole cells b.bytes) → 0 < segment_count (kind.body b.bytes)
       → ((a : ℕ) → a < segment_count (kind.body b.bytes) → CameSince its_segments s a) → (shown : Option (List ℕ)) → IsShown IsWhole (cells_of the_run) shown → shown ≡ Some b.bytes
   shown_of IsWhole service [] lies holds all some each shown is = absurd (holds (each 0 some).segment (each 0 some).since (each 0 some).is_in)
@@ -166,28 +166,28 @@ module _ (laws : PlanLaws) (m t s : ℕ) (kind : Kind) (pick : Message → Optio
       same =
           let w = each 0 some in
           let g = w.segment in
-          let own : IsSegmentOf 0 kind input g lies.broadcast = all_in (λ (x : Segment). IsSegmentOf 0 kind input x lies.broadcast) (h ∷ older) g lies.all (holds g w.since w.is_in) in
+          let own : IsSegmentOf k kind input g lies.broadcast = all_in (λ (x : Segment). IsSegmentOf k kind input x lies.broadcast) (h ∷ older) g lies.all (holds g w.since w.is_in) in
           let by_now = in_below (t + 1) its_segments g (subst (λ (n : ℕ). AreFalling n its_segments) now (segments_fall pick input.first input.heard)) w.is_in in
-          let mine : Covers b own.slot = record { from = omega (arith, from, w.since, own.late); to = omega (arith, to, by_now, own.past) } in
-          one_covers laws (m + 0) plan lies.number number lies.broadcast b own.slot law.spaced lies.planned planned own.has.covers mine
+          let mine : Covers b own.slot = record { from = omega (arith, from, fresh g.slot own.slot w.since own.from); to = omega (arith, to, by_now, own.past) } in
+          one_covers laws (m + k) plan lies.number number lies.broadcast b own.slot law.spaced lies.planned planned own.has.covers mine
 
-      own_run : AreOf 0 kind input b (h ∷ older)
-      own_run = subst (λ (x : Broadcast). AreOf 0 kind input x (h ∷ older)) same lies.all
+      own_run : AreOf k kind input b (h ∷ older)
+      own_run = subst (λ (x : Broadcast). AreOf k kind input x (h ∷ older)) same lies.all
 
       held : (a : ℕ) → a < segment_count (kind.body b.bytes) → get (cells_of (h ∷ older)) a ≡ Some (segment_of (kind.body b.bytes) a)
       held a within =
           let w = each a within in
           subst (λ (n : ℕ). get (cells_of (h ∷ older)) n ≡ Some (segment_of (kind.body b.bytes) n)) w.at
-          (held_own 0 kind input b (h ∷ older) w.segment own_run (holds w.segment w.since w.is_in))
+          (held_own k kind input b (h ∷ older) w.segment own_run (holds w.segment w.since w.is_in))
 
       by : (shown : Option (List ℕ)) → IsShown IsWhole (cells_of (h ∷ older)) shown → shown ≡ Some b.bytes
       by None is = absurd (is b.bytes (all (cells_of (h ∷ older)) record { held = held }))
-      by (Some x) is = ap Some (bytes_of_run m 0 t kind IsWhole plan input h older x service law.values lies is ∙ ap (λ (y : Broadcast). y.bytes) same)
+      by (Some x) is = ap Some (bytes_of_run m k t kind IsWhole plan input h older x service law.values lies is ∙ ap (λ (y : Broadcast). y.bytes) same)
 
   pub shown_whole : (IsWhole : Cells → List ℕ → Type 0) → IsService kind IsWhole → ((cells : Cells) → AreAllHeld (kind.body b.bytes) cells → IsWhole cells b.bytes) → 0 < segment_count (kind.body b.bytes)
       → ((a : ℕ) → a < segment_count (kind.body b.bytes) → CameSince its_segments s a) → (shown : Option (List ℕ)) → IsShown IsWhole (cells_of (run_at pick m input.first input.heard)) shown → shown ≡ Some b.bytes
   shown_whole IsWhole service all some each shown is =
       let the_run : run_at pick m input.first input.heard ≡ run m t its_segments = run_is input.heard now in
       shown_of IsWhole service (run m t its_segments)
-      (subst (λ (xs : List Segment). RunLiesInOne m 0 t kind plan input xs) the_run (heard_run_lies laws m 0 t kind pick of plan log input alike law late now))
+      (subst (λ (xs : List Segment). RunLiesInOne m k t kind plan input xs) the_run (heard_run_lies laws m k t kind pick of plan log input alike law late now))
       in_run all some each shown (subst (λ (xs : List Segment). IsShown IsWhole (cells_of xs) shown) the_run is)

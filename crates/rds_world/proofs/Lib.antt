@@ -9,6 +9,7 @@ pub mod Safety
 pub mod OnTime
 pub mod Groups
 pub mod Received
+pub mod DueSteps
 pub mod Stepped
 pub mod LawfulStation
 pub mod InTime

@@ -1,4 +1,4 @@
--- What a receiver has heard after one more slot, and one of several receivers after it was written.
+-- What a receiver has heard after one more slot, and one of a list after it was written.
 use Rattle.std.proofs.Common.{◌≡◌, ◌≢◌, ◌<◌, ℕ, zero, suc, List, [], ◌∷◌, Option, Some, None, refl, ap, subst, inl, take, length, arith}
 use Rattle.std.specs.List.{AllByRecursion}
 use Rattle.std.specs.Prelude.{slice_get, slice_set}
@@ -36,21 +36,21 @@ pub heard_nothing : (station : Head) (m first : ℕ) (r : ReceiverState) → IsN
     → HasHeard station m (input_from first [] []) r
 heard_nothing station m first r begins = record { groups = []; spelled = tt; stands = begins first }
 
--- one receiver was written
-pub other_kept : (rs : List ReceiverState) (i k : ℕ) (r : ReceiverState) → k ≢ i → slice_get (slice_set rs i r) k ≡ slice_get rs k
+-- one of a list was written
+pub other_kept : {X : Type 0} (rs : List X) (i k : ℕ) (r : X) → k ≢ i → slice_get (slice_set rs i r) k ≡ slice_get rs k
 other_kept [] i k r ne = refl
 other_kept (x ∷ rs) zero zero r ne = absurd (ne refl)
 other_kept (x ∷ rs) zero (suc k) r ne = refl
 other_kept (x ∷ rs) (suc i) zero r ne = refl
 other_kept (x ∷ rs) (suc i) (suc k) r ne = other_kept rs i k r (λ e. ne (ap suc e))
 
-pub written : (rs : List ReceiverState) (i : ℕ) (r s : ReceiverState) → slice_get (slice_set rs i r) i ≡ Some s → r ≡ s
+pub written : {X : Type 0} (rs : List X) (i : ℕ) (r s : X) → slice_get (slice_set rs i r) i ≡ Some s → r ≡ s
 written [] i r s e = absurd (cc)
 written (x ∷ rs) zero r s e = cc
 written (x ∷ rs) (suc i) r s e = written rs i r s e
 
 -- one of the first is one of all
-pub one_of_first : (P : ReceiverState → Type 0) (n : ℕ) (rs : List ReceiverState) (i : ℕ) (r : ReceiverState) → AllByRecursion P rs → slice_get (take n rs) i ≡ Some r → P r
+pub one_of_first : {X : Type 0} (P : X → Type 0) (n : ℕ) (rs : List X) (i : ℕ) (r : X) → AllByRecursion P rs → slice_get (take n rs) i ≡ Some r → P r
 one_of_first P zero rs i r all e = absurd (cc)
 one_of_first P (suc n) [] i r all e = absurd (cc)
 one_of_first P (suc n) (x ∷ rs) zero r all e = subst P (cc) all.0

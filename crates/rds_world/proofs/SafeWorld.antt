@@ -8,9 +8,10 @@ use Rattle.rds_fields.specs.declared.message.Message.{Message}
 use Rattle.rds_receiver.specs.OneView.{same_heard}
 use Rattle.rds_receiver.specs.Shown.{ShowsView, ShownView}
 use Rattle.rds_receiver.specs.State.{ReceiverState}
+use Rattle.rds_world.specs.Due.{AreDue}
 use Rattle.rds_world.specs.Event.{Event}
 use Rattle.rds_world.specs.Late.{Input}
-use Rattle.rds_world.specs.Laws.{LawfulPlansAreSafeOnTime}
+use Rattle.rds_world.specs.Laws.{LawfulPlansAreSafe}
 use Rattle.rds_world.specs.Safe.{ListensTo}
 use Rattle.rds_world.specs.SafeSlots.{OnlyWhatWasOnAirIsShown, listeners}
 use Rattle.rds_world.specs.Slots.{input_of, log, plans_of}
@@ -25,37 +26,39 @@ shows_view station m input r view has shows =
     let v = shows (tuned_to station m input) has.groups has.stands in
     subst (λ (heard : List (Option Message)). ShowsView m input.first heard view) (same_heard station.pi has.groups v.0 input.heard v.1 has.spelled) v.2
 
-listens : (station : Head) (m : ℕ) (e : Event) (before : List Event) (i : ℕ) (r : ReceiverState) (view : ShownView)
-    → HasHeard station m (input_of m i (e ∷ before)) r → Shows r view
-    → ListensTo 0 m (length before) (log m (e ∷ before)) record { input = input_of m i (e ∷ before); view = view }
-listens station m e before i r view has shows = record {
-  late = in_time m i (e ∷ before);
-  now = input_reaches m i (e ∷ before) ∙ omega arith;
-  shows = shows_view station m (input_of m i (e ∷ before)) r view has shows;
+listens : (station : Head) (m k : ℕ) (e : Event) (before : List Event) (i : ℕ) (r : ReceiverState) (view : ShownView)
+    → AreDue k (e ∷ before) → HasHeard station m (input_of (m + k) i (e ∷ before)) r → Shows r view
+    → ListensTo k m (length before) (log (m + k) (e ∷ before)) record { input = input_of (m + k) i (e ∷ before); view = view }
+listens station m k e before i r view due has shows = record {
+  late = in_time (m + k) k i (e ∷ before) due;
+  now = input_reaches (m + k) i (e ∷ before) ∙ omega arith;
+  shows = shows_view station m (input_of (m + k) i (e ∷ before)) r view has shows;
 }
 
-all_listen : (station : Head) (m : ℕ) (e : Event) (before : List Event) (i : ℕ) (receivers : List ReceiverState) (views : List ShownView)
-    → ((k : ℕ) (r : ReceiverState) → slice_get receivers k ≡ Some r → HasHeard station m (input_of m (i + k) (e ∷ before)) r) → AllZip Shows receivers views
-    → AllByRecursion (ListensTo 0 m (length before) (log m (e ∷ before))) (listeners m (e ∷ before) i views)
-all_listen station m e before i [] [] has shows = tt
-all_listen station m e before i [] (view ∷ views) has shows = absurd shows
-all_listen station m e before i (r ∷ receivers) [] has shows = absurd shows
-all_listen station m e before i (r ∷ receivers) (view ∷ views) has shows =
+all_listen : (station : Head) (m k : ℕ) (e : Event) (before : List Event) (i : ℕ) (receivers : List ReceiverState) (views : List ShownView) → AreDue k (e ∷ before)
+    → ((n : ℕ) (r : ReceiverState) → slice_get receivers n ≡ Some r → HasHeard station m (input_of (m + k) (i + n) (e ∷ before)) r) → AllZip Shows receivers views
+    → AllByRecursion (ListensTo k m (length before) (log (m + k) (e ∷ before))) (listeners (m + k) (e ∷ before) i views)
+all_listen station m k e before i [] [] due has shows = tt
+all_listen station m k e before i [] (view ∷ views) due has shows = absurd shows
+all_listen station m k e before i (r ∷ receivers) [] due has shows = absurd shows
+all_listen station m k e before i (r ∷ receivers) (view ∷ views) due has shows =
     let here : i + 0 ≡ i = omega arith in (
-      listens station m e before i r view (subst (λ n. HasHeard station m (input_of m n (e ∷ before)) r) here (has 0 r refl)) shows.0,
-      all_listen station m e before (i + 1) receivers views
-          (λ k s at.
-          let next : i + suc k ≡ i + 1 + k = omega arith in
-          subst (λ n. HasHeard station m (input_of m n (e ∷ before)) s) next (has (suc k) s at))
+      listens station m k e before i r view due (subst (λ n. HasHeard station m (input_of (m + k) n (e ∷ before)) r) here (has 0 r refl)) shows.0,
+      all_listen station m k e before (i + 1) receivers views due
+          (λ n s at.
+          let next : i + suc n ≡ i + 1 + n = omega arith in
+          subst (λ n. HasHeard station m (input_of (m + k) n (e ∷ before)) s) next (has (suc n) s at))
           shows.1,
     )
 
-pub safe_world : TheEncoderIsLawful → LawfulPlansAreSafeOnTime → (station : Head) (m : ℕ) (w : WorldState) (events : List Event) → StandsAt station m w events → OnlyWhatWasOnAirIsShown m events w.receivers
-safe_world lawful safe station m w [] st = tt
-safe_world lawful safe station m w (e ∷ before) st = λ views shows.
+pub safe_world : TheEncoderIsLawful → LawfulPlansAreSafe → (station : Head) (m k : ℕ) (w : WorldState) (events : List Event) → StandsAt station m k w events → OnlyWhatWasOnAirIsShown m k events w.receivers
+safe_world lawful safe station m k w [] st = tt
+safe_world lawful safe station m k w (e ∷ before) st = λ views shows.
     let events = e ∷ before in
-    let all : AllByRecursion (ListensTo 0 m (length before) (log m events)) (listeners m events 0 views) =
-    all_listen station m e before 0 w.receivers views
-    (λ k r at. (let same : k ≡ 0 + k = omega arith in subst (λ n. HasHeard station m (input_of m n events) r) same (st.receivers.each k r at))) shows in
-    safe m (length before) (plans_of m events) (log m events) (listeners m events 0 views) (lawful m events st.lasts st.values)
-    (All-from_recursion _ (listeners m events 0 views) all)
+    let d = m + k in
+    let some = st.lasts in
+    let all : AllByRecursion (ListensTo k m (length before) (log d events)) (listeners d events 0 views) =
+    all_listen station m k e before 0 w.receivers views st.due
+    (λ n r at. (let same : n ≡ 0 + n = omega arith in subst (λ i. HasHeard station m (input_of d i events) r) same (st.receivers.each n r at))) shows in
+    safe m k (length before) (plans_of d events) (log d events) (listeners d events 0 views) (lawful d events (omega (arith, some)) st.values)
+    (All-from_recursion _ (listeners d events 0 views) all)

@@ -1,5 +1,5 @@
 -- In slots that lie in one broadcast each segment of it is sent, and who got each free one of them heard it.
-use Rattle.std.proofs.Common.{◌≡◌, ◌+◌, ◌<◌, ◌≤◌, ℕ, List, [], ◌∷◌, ◌++◌, Bool, true, false, Option, Some, None, refl, sym, ap, ◌∙◌, subst, inl, inr, arith, length}
+use Rattle.std.proofs.Common.{◌≡◌, ◌+◌, ◌-◌, ◌<◌, ◌≤◌, ℕ, List, [], ◌∷◌, ◌++◌, Bool, true, false, Option, Some, None, refl, sym, ap, ◌∙◌, subst, inl, inr, arith, length}
 use Rattle.std.specs.Prelude.{slice_index_or}
 use Rattle.rds_fields.specs.declared.message.Message.{Message}
 use Rattle.rds_encoder.specs.Delivery.{IsOnThroughout, IsSentAmong, free_in}
@@ -14,8 +14,8 @@ use Rattle.rds_world.specs.declared.event.Reception.TheVariants.{Got, Lost}
 use Rattle.rds_world.specs.declared.event.Reception.TheVariants as reception
 use Rattle.rds_world.specs.Delivery.{GetsEachFree, GetsIfFree, free_slots}
 use Rattle.rds_world.specs.Event.{Event}
-use Rattle.rds_world.specs.Late.{HasEntry, Input}
-use Rattle.rds_world.specs.Slots.{commanded, entries, input_of, received, sent_at}
+use Rattle.rds_world.specs.Late.{CameFrom, HasEntry, Input}
+use Rattle.rds_world.specs.Slots.{commanded, entries, input_of, log, received, sent_at, sent_back}
 use Rattle.rds_world.proofs.InTime.{input_reaches}
 
 -- what the encoder was told from the end of the oldest of the recent slots on, and what before
@@ -55,17 +55,19 @@ free_told (e ∷ newer) oldest =
     omega (arith, rest)
 
 -- what a receiver got of a free slot it heard, and what it heard before it has heard still
-heard_now : (r : Reception) (free : Bool) (slot : ℕ) (sent : Option Message) (input : Input) (message : Message) → GetsIfFree free r → sent ≡ Some message → (free ≡ false → sent ≡ None)
-    → input.first + length input.heard ≡ slot → HasEntry (received r slot sent input).first (received r slot sent input).heard slot (Some message)
-heard_now Got free slot sent input message gets is silent now = inl (sym now, sym is)
-heard_now Lost true slot sent input message gets is silent now = absurd gets
-heard_now Lost false slot sent input message gets is silent now = absurd (let none = silent refl in cc)
-heard_now reception.Restart true slot sent input message gets is silent now = absurd gets
-heard_now reception.Restart false slot sent input message gets is silent now = absurd gets
+heard_now : (r : Reception) (free : Bool) (slot : ℕ) (sent : Option Message) (before : List (Option Message)) (input : Input) (message : Message) → GetsIfFree free r → sent ≡ Some message
+    → (free ≡ false → sent ≡ None) → input.first + length input.heard ≡ slot
+    → HasEntry (received r slot (sent ∷ before) input).first (received r slot (sent ∷ before) input).heard slot (Some message)
+heard_now (Got back) true slot sent before input message gets is silent now = inl (sym now, sym (ap (λ (n : ℕ). sent_back n (sent ∷ before)) gets ∙ is))
+heard_now (Got back) false slot sent before input message gets is silent now = absurd (let none = silent refl in cc)
+heard_now Lost true slot sent before input message gets is silent now = absurd gets
+heard_now Lost false slot sent before input message gets is silent now = absurd (let none = silent refl in cc)
+heard_now reception.Restart true slot sent before input message gets is silent now = absurd gets
+heard_now reception.Restart false slot sent before input message gets is silent now = absurd gets
 
-heard_still : (r : Reception) (free : Bool) (slot : ℕ) (sent : Option Message) (input : Input) (u : ℕ) (message : Message) → GetsIfFree free r
+heard_still : (r : Reception) (free : Bool) (slot : ℕ) (sent : List (Option Message)) (input : Input) (u : ℕ) (message : Message) → GetsIfFree free r
     → HasEntry input.first input.heard u (Some message) → HasEntry (received r slot sent input).first (received r slot sent input).heard u (Some message)
-heard_still Got free slot sent input u message gets has = inr has
+heard_still (Got back) free slot sent input u message gets has = inr has
 heard_still Lost free slot sent input u message gets has = inr has
 heard_still reception.Restart true slot sent input u message gets has = absurd gets
 heard_still reception.Restart false slot sent input u message gets has = absurd gets
@@ -95,7 +97,7 @@ heard_among m i [] oldest before message gets (inr never) = absurd never
 heard_among m i [] oldest before message gets (inl sent) = record {
   at = length before;
   since = omega arith;
-  heard = heard_now (slice_index_or oldest.receptions i Lost) oldest.free (length before) (sent_at m oldest before) (input_of m i before) message gets.0 sent
+  heard = heard_now (slice_index_or oldest.receptions i Lost) oldest.free (length before) (sent_at m oldest before) (log m before) (input_of m i before) message gets.0 sent
       (others_slot m oldest.free (told_until oldest before)) (input_reaches m i before);
 }
 heard_among m i (e ∷ newer) oldest before message gets (inl sent) =
@@ -108,7 +110,7 @@ heard_among m i (e ∷ newer) oldest before message gets (inl sent) =
     record {
       at = length older;
       since = later newer;
-      heard = heard_now (slice_index_or e.receptions i Lost) e.free (length older) (sent_at m e older) (input_of m i older) message gets.0 is
+      heard = heard_now (slice_index_or e.receptions i Lost) e.free (length older) (sent_at m e older) (log m older) (input_of m i older) message gets.0 is
           (others_slot m e.free (commanded e.command (entries older))) (input_reaches m i older);
     }
   where
@@ -123,8 +125,30 @@ heard_among m i (e ∷ newer) oldest before message gets (inr among) =
     record {
       at = rest.at;
       since = rest.since;
-      heard = heard_still (slice_index_or e.receptions i Lost) e.free (length older) (sent_at m e older) (input_of m i older) rest.at message gets.0 rest.heard;
+      heard = heard_still (slice_index_or e.receptions i Lost) e.free (length older) (log m (e ∷ older)) (input_of m i older) rest.at message gets.0 rest.heard;
     }
+
+-- the oldest of these slots, which is free, the receiver got in its own slot
+own_origin : (r : Reception) (slot : ℕ) (sent : List (Option Message)) (input : Input) → GetsIfFree true r → input.first + length input.origins ≡ slot → CameFrom (received r slot sent input) slot slot
+own_origin (Got back) slot sent input gets now = inl (sym now, (let own : slot ≡ slot - back = omega (arith, gets) in ap (λ (n : ℕ). Some n) own))
+own_origin Lost slot sent input gets now = absurd gets
+own_origin reception.Restart slot sent input gets now = absurd gets
+
+came_still : (r : Reception) (free : Bool) (slot : ℕ) (sent : List (Option Message)) (input : Input) (t s : ℕ) → GetsIfFree free r → CameFrom input t s → CameFrom (received r slot sent input) t s
+came_still (Got back) free slot sent input t s gets came = inr came
+came_still Lost free slot sent input t s gets came = inr came
+came_still reception.Restart true slot sent input t s gets came = absurd gets
+came_still reception.Restart false slot sent input t s gets came = absurd gets
+
+pub came_in_own : (d i : ℕ) (newer : List Event) (oldest : Event) (before : List Event) → oldest.free ≡ true → GetsEachFree i (newer ++ oldest ∷ [])
+    → (input_of d i before).first + length (input_of d i before).origins ≡ length before → CameFrom (input_of d i (newer ++ oldest ∷ before)) (length before) (length before)
+came_in_own d i [] oldest before free gets now =
+    own_origin (slice_index_or oldest.receptions i Lost) (length before) (log d (oldest ∷ before)) (input_of d i before)
+    (subst (λ (b : Bool). GetsIfFree b (slice_index_or oldest.receptions i Lost)) free gets.0) now
+came_in_own d i (e ∷ newer) oldest before free gets now =
+    let older = newer ++ oldest ∷ before in
+    came_still (slice_index_or e.receptions i Lost) e.free (length older) (log d (e ∷ older)) (input_of d i older) (length before) (length before) gets.0
+    (came_in_own d i newer oldest before free gets.1 now)
 
 -- one service: an entry is at most one move of it, and the end of a slot is one
 pub record IsMoves (moves : List Entry → List Move) : Type 0 where

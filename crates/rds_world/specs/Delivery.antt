@@ -1,5 +1,5 @@
 -- What is on air reaches those who listen (this project's own rule): a receiver that got each free one of some
--- slots of a broadcast, enough of them and no more than the dwell, shows that broadcast. Lists have the newest
+-- slots of a broadcast, enough of them and no more than its dwell, shows that broadcast. Lists have the newest
 -- first.
 use Rattle.std.specs.Prelude.{◌≡◌, ◌+◌, ◌*◌, ◌≤◌, ℕ, Bool, true, false, List, [], ◌∷◌, ◌++◌, Some, length, slice_get, slice_index_or}
 use Rattle.std.specs.List.{AllByRecursion}
@@ -21,12 +21,12 @@ abbrev pub free_slots : List Event → ℕ
 free_slots [] = 0
 free_slots (e ∷ before) = one_if e.free + free_slots before
 
--- the receiver got the slot, if it is free, and was not restarted in it
+-- the receiver got the slot, if it is free, and no slot late; it was not restarted in it
 abbrev pub GetsIfFree : Bool → Reception → Type 0
-GetsIfFree true Got = Unit {0}
+GetsIfFree true (Got back) = back ≡ 0
 GetsIfFree true Lost = ⊥
 GetsIfFree true Restart = ⊥
-GetsIfFree false Got = Unit {0}
+GetsIfFree false (Got back) = Unit {0}
 GetsIfFree false Lost = Unit {0}
 GetsIfFree false Restart = ⊥
 
@@ -42,9 +42,9 @@ pub record LieIn (plan : List Broadcast) (recent before : List Event) (b : Broad
   pub to : length (recent ++ before) ≤ b.end + 1
 
 -- in a world that stands at the recent slots and those before, receiver i, of state r, got each free one of the
--- recent slots, which are no more than the dwell, and shows this
-pub record GotRecently (station : Head) (m : ℕ) (w : WorldState) (recent before : List Event) (i : ℕ) (r : ReceiverState) (view : ShownView) : Type 0 where
-  pub stands : StandsAt station m w (recent ++ before)
+-- recent slots, which are no more than its dwell, and shows this
+pub record GotRecently (station : Head) (m k : ℕ) (w : WorldState) (recent before : List Event) (i : ℕ) (r : ReceiverState) (view : ShownView) : Type 0 where
+  pub stands : StandsAt station m k w (recent ++ before)
   pub within : length recent ≤ m
   pub there : slice_get w.receivers i ≡ Some r
   pub got : GetsEachFree i recent
@@ -53,20 +53,20 @@ pub record GotRecently (station : Head) (m : ℕ) (w : WorldState) (recent befor
 -- a text of n segments is shown after 2 n free slots of its broadcast
 abbrev pub ATextIsDelivered : Type 0
 ATextIsDelivered =
-    (station : Head) (m : ℕ) (w : WorldState) (recent before : List Event) (i : ℕ) (r : ReceiverState) (view : ShownView) (b : Broadcast)
-    → GotRecently station m w recent before i r view → LieIn (plans_of m (recent ++ before)).text recent before b
+    (station : Head) (m k : ℕ) (w : WorldState) (recent before : List Event) (i : ℕ) (r : ReceiverState) (view : ShownView) (b : Broadcast)
+    → GotRecently station m k w recent before i r view → LieIn (plans_of (m + k) (recent ++ before)).text recent before b
     → 2 * segment_count (text_body b.bytes) ≤ free_slots recent → view.text ≡ Some b.bytes
 
 -- and any text after 32
 abbrev pub AnyTextIsDelivered : Type 0
 AnyTextIsDelivered =
-    (station : Head) (m : ℕ) (w : WorldState) (recent before : List Event) (i : ℕ) (r : ReceiverState) (view : ShownView) (b : Broadcast)
-    → GotRecently station m w recent before i r view → LieIn (plans_of m (recent ++ before)).text recent before b
+    (station : Head) (m k : ℕ) (w : WorldState) (recent before : List Event) (i : ℕ) (r : ReceiverState) (view : ShownView) (b : Broadcast)
+    → GotRecently station m k w recent before i r view → LieIn (plans_of (m + k) (recent ++ before)).text recent before b
     → 32 ≤ free_slots recent → view.text ≡ Some b.bytes
 
 -- a name is shown after eight
 abbrev pub ANameIsDelivered : Type 0
 ANameIsDelivered =
-    (station : Head) (m : ℕ) (w : WorldState) (recent before : List Event) (i : ℕ) (r : ReceiverState) (view : ShownView) (b : Broadcast)
-    → GotRecently station m w recent before i r view → LieIn (plans_of m (recent ++ before)).name recent before b
+    (station : Head) (m k : ℕ) (w : WorldState) (recent before : List Event) (i : ℕ) (r : ReceiverState) (view : ShownView) (b : Broadcast)
+    → GotRecently station m k w recent before i r view → LieIn (plans_of (m + k) (recent ++ before)).name recent before b
     → 8 ≤ free_slots recent → view.name ≡ Some b.bytes

@@ -6,6 +6,7 @@ pub mod Source
 pub mod Safe
 pub mod Laws
 pub mod Event
+pub mod Due
 pub mod Slots
 pub mod State
 pub mod Replies

@@ -16,17 +16,18 @@ abbrev pub listeners : ℕ → List Event → ℕ → List ShownView → List Li
 listeners d events i [] = []
 listeners d events i (view ∷ views) = record { input = input_of d i events; view = view } ∷ listeners d events (i + 1) views
 
--- For every list of slots, in each of which the encoder or any receiver may restart and each receiver gets the
--- group sent or nothing: at the end of the newest slot every whole text or name that these receivers show was
--- on air within the last m slots, every tag shown was sent for the text shown, and any two receivers show the
--- same broadcast or two neighbouring ones. Here m is the dwell, of the encoder and of the receivers.
-abbrev pub OnlyWhatWasOnAirIsShown : ℕ → List Event → List ReceiverState → Type 0
-OnlyWhatWasOnAirIsShown m [] receivers = Unit {0}
-OnlyWhatWasOnAirIsShown m (newest ∷ before) receivers =
+-- For every list of slots, in each of which the encoder or any receiver may restart and each receiver gets a group
+-- that was sent at most k slots before, in the order of sending, or nothing: at the end of the newest slot every
+-- whole text or name that these receivers show was on air within the last m + k slots, every tag shown was sent
+-- for the text shown, and any two receivers show the same broadcast or two neighbouring ones. Here m is the dwell
+-- of the receivers; the encoder's is m + k.
+abbrev pub OnlyWhatWasOnAirIsShown : ℕ → ℕ → List Event → List ReceiverState → Type 0
+OnlyWhatWasOnAirIsShown m k [] receivers = Unit {0}
+OnlyWhatWasOnAirIsShown m k (newest ∷ before) receivers =
     (views : List ShownView) → AllZip Shows receivers views
-    → AreSafe m m (length before) (plans_of m (newest ∷ before)) (log m (newest ∷ before)) (listeners m (newest ∷ before) 0 views)
+    → AreSafe (m + k) m (length before) (plans_of (m + k) (newest ∷ before)) (log (m + k) (newest ∷ before)) (listeners (m + k) (newest ∷ before) 0 views)
 
 -- so it is in every world, wherever it stands
 abbrev pub EveryWorldShowsOnlyWhatWasOnAir : Type 0
 EveryWorldShowsOnlyWhatWasOnAir =
-    (station : Head) (m : ℕ) (w : WorldState) (events : List Event) → StandsAt station m w events → OnlyWhatWasOnAirIsShown m events w.receivers
+    (station : Head) (m k : ℕ) (w : WorldState) (events : List Event) → StandsAt station m k w events → OnlyWhatWasOnAirIsShown m k events w.receivers

@@ -1,6 +1,7 @@
 -- What a list of slots comes to (this project's own rule): what the encoder was told, what was sent in each
 -- slot, which broadcasts were planned, and what each receiver got. Lists have the newest first, and the slot of
--- an event is the number of events before it. The encoder's dwell is d.
+-- an event is the number of events before it. The encoder's dwell is d: that of the receivers and the greatest
+-- lateness together.
 use Rattle.std.specs.Prelude.{ℕ, ◌+◌, ◌-◌, List, [], ◌∷◌, Option, Some, None, length, slice_index_or}
 use Rattle.std.specs.List.{AllByRecursion}
 use Rattle.rds_fields.specs.declared.message.Message.{Message}
@@ -58,14 +59,18 @@ plans_of d events = record {
   name = plan_of d (length events - 1) (name_moves (entries events));
 }
 
--- the input of a receiver after one more slot: what was sent in it, or nothing; a new receiver has got nothing
--- yet, and its input begins in the slot after
-abbrev pub received : Reception → ℕ → Option Message → Input → Input
-received Got slot sent before = record { first = before.first; heard = sent ∷ before.heard; origins = Some slot ∷ before.origins }
+-- what was sent so many slots before the last one of a log; nothing where that is before slot 0
+abbrev pub sent_back : ℕ → List (Option Message) → Option Message
+sent_back back sent = slice_index_or sent back None
+
+-- the input of a receiver after one more slot, up to which this was sent: what was sent so many slots before, or
+-- nothing; a new receiver has got nothing yet, and its input begins in the slot after
+abbrev pub received : Reception → ℕ → List (Option Message) → Input → Input
+received (Got back) slot sent before = record { first = before.first; heard = sent_back back sent ∷ before.heard; origins = Some (slot - back) ∷ before.origins }
 received Lost slot sent before = record { first = before.first; heard = None ∷ before.heard; origins = None ∷ before.origins }
 received reception.Restart slot sent before = record { first = slot + 1; heard = []; origins = [] }
 
 -- the input of receiver i since its last restart
 abbrev pub input_of : ℕ → ℕ → List Event → Input
 input_of d i [] = record { first = 0; heard = []; origins = [] }
-input_of d i (e ∷ before) = received (slice_index_or e.receptions i Lost) (length before) (sent_at d e before) (input_of d i before)
+input_of d i (e ∷ before) = received (slice_index_or e.receptions i Lost) (length before) (log d (e ∷ before)) (input_of d i before)

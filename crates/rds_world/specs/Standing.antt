@@ -1,15 +1,18 @@
 -- What a world holds after a list of slots. Lists have the newest first.
-use Rattle.std.specs.Prelude.{◌≡◌, ◌<◌, ℕ, List, [], Option, Some, slice_get}
+use Rattle.std.specs.Prelude.{◌≡◌, ◌+◌, ◌<◌, ◌≤◌, ℕ, List, [], Option, Some, None, length, slice_get, slice_index_or}
 use Rattle.rds_block.specs.declared.group.Group.{Group}
 use Rattle.rds_fields.specs.declared.head.Head.{Head}
+use Rattle.rds_fields.specs.declared.message.Message.{Message}
+use Rattle.rds_encoder.specs.Sent.{IsSent}
 use Rattle.rds_encoder.specs.Standing as encoder
 use Rattle.rds_receiver.specs.Receipts.{AreHeard, Tuning}
 use Rattle.rds_receiver.specs.Shown.{IsView, ShownView}
 use Rattle.rds_receiver.specs.Standing as receiver
 use Rattle.rds_receiver.specs.State.{ReceiverState}
+use Rattle.rds_world.specs.Due.{AreDue, last_named, reach_of}
 use Rattle.rds_world.specs.Event.{Event}
 use Rattle.rds_world.specs.Late.{Input}
-use Rattle.rds_world.specs.Slots.{SetValues, entries, input_of}
+use Rattle.rds_world.specs.Slots.{SetValues, entries, input_of, log, sent_back}
 use Rattle.rds_world.specs.State.{WorldState}
 
 -- tuned to the station, with dwell m, from the slot on in which the input begins
@@ -30,18 +33,31 @@ IsNew station m r = (first : ℕ) → receiver.StandsAt record { programme = sta
 pub record AllHaveHeard (station : Head) (m : ℕ) (inputs : ℕ → Input) (receivers : List ReceiverState) : Type 0 where
   pub each : (i : ℕ) (r : ReceiverState) → slice_get receivers i ≡ Some r → HasHeard station m (inputs i) r
 
--- the world of this station and of dwell m stands at these slots
-pub record StandsAt (station : Head) (m : ℕ) (w : WorldState) (events : List Event) : Type 0 where
+-- these are the groups of the last k + 1 slots of a log, the newest first
+abbrev pub AreLastSent : Head → ℕ → List (Option Message) → List (Option Group) → Type 0
+AreLastSent station k sent groups = (back : ℕ) → back ≤ k → IsSent station (sent_back back sent) (slice_index_or groups back None)
+
+-- this is how many slots back each receiver may be handed what was sent
+pub record HaveReaches (k : ℕ) (events : List Event) (reaches : List ℕ) : Type 0 where
+  pub each : (i reach : ℕ) → slice_get reaches i ≡ Some reach → reach ≡ reach_of k (length events) (last_named i events)
+
+-- the world of this station, of dwell m and with groups up to k slots late stands at these slots; its encoder keeps
+-- m + k slots for a dwell
+pub record StandsAt (station : Head) (m k : ℕ) (w : WorldState) (events : List Event) : Type 0 where
   pub head : w.head ≡ station
   pub dwell : w.dwell ≡ m
+  pub late : w.late ≡ k
   pub lasts : 0 < m
   pub values : SetValues events
-  pub encoder : encoder.StandsAt station m w.encoder (entries events)
-  pub receivers : AllHaveHeard station m (λ i. input_of m i events) w.receivers
+  pub due : AreDue k events
+  pub encoder : encoder.StandsAt station (m + k) w.encoder (entries events)
+  pub receivers : AllHaveHeard station m (λ i. input_of (m + k) i events) w.receivers
+  pub reaches : HaveReaches k events w.reaches
+  pub sent : AreLastSent station k (log (m + k) events) w.sent
 
--- wherever the world stands, this holds of its station, of its dwell and of its slots
-abbrev pub WhereItStands : WorldState → (Head → ℕ → List Event → Type 0) → Type 0
-WhereItStands w Holds = (station : Head) (m : ℕ) (events : List Event) → StandsAt station m w events → Holds station m events
+-- wherever the world stands, this holds of its station, of its dwell, of its greatest lateness and of its slots
+abbrev pub WhereItStands : WorldState → (Head → ℕ → ℕ → List Event → Type 0) → Type 0
+WhereItStands w Holds = (station : Head) (m k : ℕ) (events : List Event) → StandsAt station m k w events → Holds station m k events
 
 -- the receiver shows this: wherever it stands, it is the view of its input
 abbrev pub Shows : ReceiverState → ShownView → Type 0

@@ -317,7 +317,7 @@ fn sent_by_an_encoder(dice: &mut Dice) -> Result<[Sent; LONG], Fail> {
         dwell: Dwell::new(8).ok_or("dwell")?,
         ..config()?
     };
-    let mut encoder = Encoder::new(config.head, config.dwell);
+    let mut encoder = Encoder::new(config.head, config.dwell, config.late);
     let mut log = [NOTHING; LONG];
     for slot in 0..LONG {
         obey(&mut encoder, &config, dice.told().command()?);

@@ -9,7 +9,7 @@ use std::marker::Model;
 pub enum Command {
     /// Nothing.
     Quiet,
-    /// The encoder begins anew, and is silent for the dwell.
+    /// The encoder begins anew, and is silent for the dwell and the lateness.
     Restart,
     /// A text is set.
     SetText(Text),
@@ -22,8 +22,8 @@ pub enum Command {
 /// What a receiver gets of a slot.
 #[derive(Clone, Copy, Default)]
 pub enum Reception {
-    /// The group that is sent, or nothing where none is.
-    Got,
+    /// The group that was sent so many slots before this one, or nothing where none was.
+    Got(u16),
     /// Nothing.
     #[default]
     Lost,

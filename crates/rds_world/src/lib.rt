@@ -1,8 +1,8 @@
-//! A station and its receivers, slot by slot: an encoder, and up to eight receivers that each get the group
-//! that is sent, or nothing.
+//! A station and its receivers, slot by slot: an encoder, and up to eight receivers that each get a group that
+//! was sent, in its slot or some slots late, or nothing.
 //!
 //! Lists of slots have the newest first. Whatever the slots are, each text that a receiver shows was on air
-//! within the last dwell.
+//! within the last slots, as many as the dwell and the lateness together.
 //!
 //! An `Audit` is told what some other encoder sent, slot by slot. It passes a log exactly where plans of
 //! broadcasts exist that are lawful and dense, and then no receiver of that log ever shows a mix.
@@ -17,7 +17,9 @@ mod content;
 mod event;
 mod laws;
 mod lengths;
+mod reach;
 mod receivers;
+mod recent;
 mod reigns;
 mod reply;
 mod slots;

@@ -1,9 +1,9 @@
-//! A plain check beside the theorem: many worlds from fixed seeds, in which what receivers show is looked up in
-//! a diary of all that was on air.
+//! A plain check beside the theorem: many worlds from fixed seeds, with groups up to none, one, two or three slots
+//! late, in which what receivers show is looked up in a diary of all that was on air.
 
 use crate::station::obey;
-use crate::tests::{config, slot_event};
-use crate::{Command, Reception, Reply, World};
+use crate::tests::{config, late_config, slot_event};
+use crate::{Command, Reception, Reply, SlotEvent, StepRefused, World};
 use rds_assembly::{Name, Text};
 use rds_encoder::Encoder;
 use rds_fields::{Dwell, Tag, TagPair, Which};
@@ -12,11 +12,11 @@ use std::alloc::Global;
 use std::process::Abort;
 use std::test::Fail;
 
-/// The dwell of the station.
+/// The dwell of the receivers.
 const DWELL: usize = 4;
 
 /// How many slots each world has.
-const SLOTS: u32 = 64;
+const SLOTS: usize = 64;
 
 /// How many worlds.
 const WORLDS: u32 = 200;
@@ -55,8 +55,9 @@ impl Dice {
     fn reception(&mut self) -> Reception {
         match self.roll() {
             0..2 => Reception::Restart,
-            2..20 => Reception::Lost,
-            _ => Reception::Got,
+            2..16 => Reception::Lost,
+            16..44 => Reception::Got(0),
+            other => Reception::Got((other % 4) as u16),
         }
     }
 }
@@ -216,18 +217,76 @@ fn is_title(text: Option<&[u8]>, tag: Option<(u8, &[u8])>) -> bool {
     }
 }
 
-/// Checks what the receivers of the world show at the end of a slot.
-fn check(rt: &impl Abort, alloc: Global, world: &World, diaries: &Diaries) -> Result<(), Fail> {
+/// What two receivers may be handed: no more than so many slots late, and later than what they were handed last.
+#[derive(Drop)]
+struct Order {
+    late: usize,
+    last: [Option<usize>; 2],
+}
+
+impl Order {
+    /// Whether this receiver may be handed this in the slot.
+    fn is_due(&self, slot: usize, i: usize, reception: Reception) -> bool {
+        let Reception::Got(back) = reception else {
+            return true;
+        };
+        let back = usize::from(back);
+        let last = self.last.get(i).copied().flatten();
+        match (slot.checked_sub(back), last) {
+            (None, _) => false,
+            (Some(named), Some(last)) => back <= self.late && last < named,
+            (Some(_), None) => back <= self.late,
+        }
+    }
+
+    /// The slot ends, in which this receiver was handed this.
+    fn note(&mut self, slot: usize, i: usize, reception: Reception) {
+        if let (Reception::Got(back), Some(last)) = (reception, self.last.get_mut(i)) {
+            *last = slot.checked_sub(usize::from(back));
+        }
+    }
+}
+
+/// Plays one slot, and tells whether its command was done. What is not due is refused first, and then lost.
+fn step(
+    rt: &impl Abort,
+    world: &mut World,
+    order: &mut Order,
+    slot: usize,
+    event: &mut SlotEvent,
+) -> Result<bool, Fail> {
+    for i in 0..2 {
+        let reception = *event.receptions.get(i).ok_or("reception")?;
+        if !order.is_due(slot, i, reception) {
+            assert_eq!(rt; world.step(event).err(), Some(StepRefused::Late(i)));
+            *event.receptions.get_mut(i).ok_or("reception")? = Reception::Lost;
+        }
+    }
+    for i in 0..2 {
+        order.note(slot, i, *event.receptions.get(i).ok_or("reception")?);
+    }
+    let answer = world.step(event).ok().ok_or("receptions")?;
+    Ok(answer.reply == Reply::Done)
+}
+
+/// Checks what the receivers of the world show at the end of a slot: what was on air within so many slots.
+fn check(
+    rt: &impl Abort,
+    alloc: Global,
+    world: &World,
+    diaries: &Diaries,
+    within: usize,
+) -> Result<(), Fail> {
     let one = world.receiver(0).ok_or("receiver")?;
     let two = world.receiver(1).ok_or("receiver")?;
     let texts = [one.text(), two.text()];
     let names = [one.name(), two.name()];
-    assert!(rt; diaries.texts.are_right(alloc, DWELL, &texts)?);
-    assert!(rt; diaries.names.are_right(alloc, DWELL, &names)?);
+    assert!(rt; diaries.texts.are_right(alloc, within, &texts)?);
+    assert!(rt; diaries.names.are_right(alloc, within, &names)?);
     assert!(rt; is_title(one.text(), one.tag(Which::One)));
     assert!(rt; is_title(two.text(), two.tag(Which::One)));
     if let (Some(one), Some(two)) = (one.text(), two.text()) {
-        assert!(rt; diaries.texts.are_near(alloc, DWELL, one, two)?);
+        assert!(rt; diaries.texts.are_near(alloc, within, one, two)?);
     }
     Ok(())
 }
@@ -235,16 +294,23 @@ fn check(rt: &impl Abort, alloc: Global, world: &World, diaries: &Diaries) -> Re
 /// Plays a world from a seed, and checks each slot.
 fn play(rt: &impl Abort, alloc: Global, seed: u32) -> Result<(), Fail> {
     let mut dice = Dice { state: seed };
-    let mut world = World::new(config()?, 2).ok().ok_or("receivers")?;
+    let late = (seed % 4) as u16;
+    let mut world = World::new(alloc, late_config(late)?, 2)
+        .ok()
+        .ok_or("world")?;
+    let mut order = Order {
+        late: usize::from(late),
+        last: [None; 2],
+    };
     let mut diaries = Diaries::new(alloc);
-    for _slot in 0..SLOTS {
+    for slot in 0..SLOTS {
         let told = dice.told();
         let free = dice.roll() > 7;
         let receptions = [dice.reception(), dice.reception()];
-        let event = slot_event(told.command()?, free, &receptions)?;
-        let answer = world.step(&event).ok().ok_or("receptions")?;
-        diaries.note(told, answer.reply == Reply::Done)?;
-        check(rt, alloc, &world, &diaries)?;
+        let mut event = slot_event(told.command()?, free, &receptions)?;
+        let done = step(rt, &mut world, &mut order, slot, &mut event)?;
+        diaries.note(told, done)?;
+        check(rt, alloc, &world, &diaries, DWELL + usize::from(late))?;
     }
     Ok(())
 }
@@ -262,7 +328,7 @@ fn worlds(rt: HostRuntime) -> Result<(), Fail> {
 fn mixes(alloc: Global, seed: u32) -> Result<bool, Fail> {
     let mut dice = Dice { state: seed };
     let config = config()?;
-    let mut encoder = Encoder::new(config.head, config.dwell);
+    let mut encoder = Encoder::new(config.head, config.dwell, config.late);
     let twice = Dwell::new(8).ok_or("dwell")?;
     let mut receiver = Receiver::new(config.head.pi, twice);
     let mut diaries = Diaries::new(alloc);
@@ -272,7 +338,7 @@ fn mixes(alloc: Global, seed: u32) -> Result<bool, Fail> {
         let reply = obey(&mut encoder, &config, told.command()?);
         let group = encoder.tick(dice.roll() > 7);
         match dice.reception() {
-            Reception::Got => receiver.slot(group),
+            Reception::Got(_) => receiver.slot(group),
             _ => receiver.slot(None),
         };
         diaries.note(told, reply == Reply::Done)?;

@@ -28,6 +28,8 @@ pub struct Answer {
 pub enum WorldRefused {
     /// More than 8 receivers.
     TooManyReceivers,
+    /// Not enough memory for the groups of the last slots.
+    Memory,
 }
 
 /// Why a slot is not taken.
@@ -35,4 +37,7 @@ pub enum WorldRefused {
 pub enum StepRefused {
     /// It has another number of receptions than there are receivers.
     ReceiverCount,
+    /// The first receiver that was to get what is not due to it: sent too many slots before, or before the first
+    /// slot, or no later than what that receiver's last `Got` named.
+    Late(usize),
 }

@@ -1,35 +1,51 @@
 //! A world by all of its slots.
-ghost use Rattle.std.specs.Prelude.{◌≡◌, ◌<◌, ◌↔◌, IfErr, IfOk, IsOk, length, reverse};
+ghost use Rattle.std.specs.Prelude.{◌≡◌, IfErr, IfOk, IsOk, length, reverse};
 ghost use Rattle.rds_world.specs.Replies.{CanBePlayed, IsPlayRefused};
 ghost use Rattle.rds_world.specs.SafeSlots.{OnlyWhatWasOnAirIsShown};
 ghost use Rattle.rds_world.specs.Standing.{StandsAt};
 
-use crate::{Config, SlotEvent, World};
+use crate::{Config, SlotEvent, StepRefused, World, WorldRefused};
+use std::alloc::Global;
 
 /// Why slots are not played.
 #[derive(Clone, Copy, Debug, PartialEq, Eq)]
 pub enum PlayRefused {
     /// More than 8 receivers.
     TooManyReceivers,
-    /// The index of the first event with another number of receptions than there are receivers.
+    /// Not enough memory for the groups of the last slots.
+    Memory,
+    /// The index of the first event that can't be taken, where it has another number of receptions than there are
+    /// receivers.
     ReceiverCount(usize),
+    /// That index where the number is right, and the first receiver that was to get what is not due to it.
+    Late(usize, usize),
 }
 
 /// The world after these slots, the first of which is the oldest.
-pub fn play(config: Config, receivers: usize, events: &[SlotEvent]) -> Result<World, PlayRefused>
-    ensures stands { IfOk result (λ w. StandsAt config.head config.dwell w (reverse events.now)) }
+pub fn play(
+    alloc: Global,
+    config: Config,
+    receivers: usize,
+    events: &[SlotEvent],
+) -> Result<World, PlayRefused>
+    ensures stands { IfOk result (λ w.
+        StandsAt config.head config.dwell config.late w (reverse events.now)) }
     ensures count { IfOk result (λ w. length w.receivers ≡ receivers) }
     ensures safe { IfOk result (λ w.
-        OnlyWhatWasOnAirIsShown config.dwell (reverse events.now) w.receivers) }
-    ensures taken { IsOk result → CanBePlayed receivers events.now }
-    ensures refused { IfErr result (λ r. IsPlayRefused receivers events.now r) }
+        OnlyWhatWasOnAirIsShown config.dwell config.late (reverse events.now) w.receivers) }
+    ensures taken { IsOk result → CanBePlayed config.late receivers events.now }
+    ensures refused { IfErr result (IsPlayRefused config.late receivers events.now) }
 {
-    let Ok(mut world) = World::new(config, receivers) else {
-        return Err(PlayRefused::TooManyReceivers);
+    let mut world = match World::new(alloc, config, receivers) {
+        Ok(world) => world,
+        Err(WorldRefused::TooManyReceivers) => return Err(PlayRefused::TooManyReceivers),
+        Err(WorldRefused::Memory) => return Err(PlayRefused::Memory),
     };
     for (i, event) in events.iter().enumerate() {
-        if world.step(event).is_err() {
-            return Err(PlayRefused::ReceiverCount(i));
+        match world.step(event) {
+            Ok(_) => {}
+            Err(StepRefused::ReceiverCount) => return Err(PlayRefused::ReceiverCount(i)),
+            Err(StepRefused::Late(receiver)) => return Err(PlayRefused::Late(i, receiver)),
         }
     }
     Ok(world)

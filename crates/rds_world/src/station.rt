@@ -1,5 +1,5 @@
 //! The encoder's part of a slot.
-ghost use Rattle.std.specs.Prelude.{◌≡◌, List};
+ghost use Rattle.std.specs.Prelude.{◌≡◌, ◌+◌, List};
 ghost use Rattle.rds_encoder.specs.Entries.{Entry};
 ghost use Rattle.rds_encoder.specs.Standing.{StandsAt};
 ghost use Rattle.rds_world.specs.Replies.{answered, reply_at};
@@ -12,16 +12,16 @@ use rds_encoder::{Encoder, Refusal};
 pub(crate) fn obey(encoder: &mut Encoder, config: &Config, command: Command) -> Reply
     ensures value { SetsAValue command }
     ensures reply { (entries : List Entry)
-        → StandsAt config.now.head config.now.dwell encoder.old entries
-        → result ≡ reply_at config.now.dwell command entries }
+        → StandsAt config.now.head (config.now.dwell + config.now.late) encoder.old entries
+        → result ≡ reply_at (config.now.dwell + config.now.late) command entries }
     ensures stands { (entries : List Entry)
-        → StandsAt config.now.head config.now.dwell encoder.old entries
-        → StandsAt config.now.head config.now.dwell encoder.new (commanded command entries) }
+        → StandsAt config.now.head (config.now.dwell + config.now.late) encoder.old entries
+        → StandsAt config.now.head (config.now.dwell + config.now.late) encoder.new (commanded command entries) }
 {
     match command {
         Command::Quiet => Reply::Quiet,
         Command::Restart => {
-            *encoder = Encoder::new(config.head, config.dwell);
+            *encoder = Encoder::new(config.head, config.dwell, config.late);
             Reply::Restarted
         }
         Command::SetText(text) => answer(encoder.set_text(text)),

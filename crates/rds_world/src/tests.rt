@@ -4,12 +4,13 @@ use super::*;
 use arrayvec::ArrayVec;
 use rds_assembly::{Name, Text};
 use rds_block::Place;
-use rds_encoder::Refusal;
+use rds_encoder::{Late, Refusal};
 use rds_fields::{Dwell, Head, Tag, TagPair, Which};
+use std::alloc::Global;
 use std::process::Abort;
 use std::test::Fail;
 
-const GOT: Reception = Reception::Got;
+const GOT: Reception = Reception::Got(0);
 
 const LOST: Reception = Reception::Lost;
 
@@ -72,9 +73,25 @@ impl Row {
     }
 }
 
-/// Plays the rows on a new world of so many receivers, whose dwell is four slots, and gives that world.
-fn played(rt: &impl Abort, receivers: usize, rows: &[Row]) -> Result<World, Fail> {
-    let mut world = World::new(config()?, receivers).ok().ok_or("receivers")?;
+/// A new world of so many receivers, whose dwell is four slots, and which are on time.
+fn new_world(alloc: Global, receivers: usize) -> Result<World, Fail> {
+    Ok(World::new(alloc, config()?, receivers).ok().ok_or("world")?)
+}
+
+/// Plays the rows on a new world of so many receivers, and gives that world.
+fn played(rt: &impl Abort, alloc: Global, receivers: usize, rows: &[Row]) -> Result<World, Fail> {
+    let mut world = new_world(alloc, receivers)?;
+    step_rows(rt, &mut world, receivers, rows)?;
+    Ok(world)
+}
+
+/// Plays the rows on this world of so many receivers.
+fn step_rows(
+    rt: &impl Abort,
+    world: &mut World,
+    receivers: usize,
+    rows: &[Row],
+) -> Result<(), Fail> {
     for (place, row) in rows.iter().enumerate() {
         for slot in 0..row.slots {
             let receptions = row.receptions.get(..receivers).ok_or("receivers")?;
@@ -83,10 +100,10 @@ fn played(rt: &impl Abort, receivers: usize, rows: &[Row]) -> Result<World, Fail
             assert_eq!(rt; answer.reply, row.reply, "row {place}, slot {slot}");
             let sent = answer.sent.map(|group| group.to_blocks());
             assert_eq!(rt; sent, row.sent, "row {place}, slot {slot}");
-            assert_texts(rt, &world, receivers, row)?;
+            assert_texts(rt, world, receivers, row)?;
         }
     }
-    Ok(world)
+    Ok(())
 }
 
 fn assert_texts(rt: &impl Abort, world: &World, receivers: usize, row: &Row) -> Result<(), Fail> {
@@ -117,7 +134,7 @@ pub(crate) fn slot_event(
     })
 }
 
-/// PI C201, TP 0, PTY 10, and a dwell of four slots.
+/// PI C201, TP 0, PTY 10, a dwell of four slots, and receivers that are on time.
 pub(crate) fn config() -> Result<Config, Fail> {
     let head = Head {
         pi: 0xC201,
@@ -127,6 +144,15 @@ pub(crate) fn config() -> Result<Config, Fail> {
     Ok(Config {
         head,
         dwell: Dwell::new(4).ok_or("dwell")?,
+        late: Late::new(0).ok_or("late")?,
+    })
+}
+
+/// The same with groups that come up to so many slots late.
+pub(crate) fn late_config(slots: u16) -> Result<Config, Fail> {
+    Ok(Config {
+        late: Late::new(slots).ok_or("late")?,
+        ..config()?
     })
 }
 
@@ -172,7 +198,7 @@ fn silence_dwell_and_age(rt: HostRuntime) -> Result<(), Fail> {
         quiet(3).of_others().shows(first(b"HI")?),
         quiet(1).of_others(),
     ];
-    played(&rt, 1, &rows)?;
+    played(&rt, rt.alloc(), 1, &rows)?;
     Ok(())
 }
 
@@ -187,12 +213,12 @@ fn held_for_twice_the_dwell(rt: HostRuntime) -> Result<(), Fail> {
         told(yo, Reply::Refused(Refusal::Held(1))).of_others(),
         told(yo, Reply::Done).sends(YO_AGAIN).shows(first(b"YO")?),
     ];
-    let world = played(&rt, 1, &rows)?;
+    let world = played(&rt, rt.alloc(), 1, &rows)?;
     assert_eq!(rt; world.on_air(), (Some(b"YO".as_slice()), None));
 
     let tags = set_tags((4, 0, 3), (1, 7, 7))?;
     let rows = [quiet(4), told(tags, Reply::Refused(Refusal::NoText))];
-    played(&rt, 0, &rows)?;
+    played(&rt, rt.alloc(), 0, &rows)?;
     Ok(())
 }
 
@@ -211,9 +237,9 @@ fn restart_keeps_silence(rt: HostRuntime) -> Result<(), Fail> {
         told(yo, Reply::Refused(Refusal::Silent(1))),
         told(yo, Reply::Done).sends(YO).shows(first(b"YO")?),
     ];
-    let silent = played(&rt, 1, &rows[..5])?;
+    let silent = played(&rt, rt.alloc(), 1, &rows[..5])?;
     assert_eq!(rt; silent.on_air(), (None, None));
-    played(&rt, 1, &rows)?;
+    played(&rt, rt.alloc(), 1, &rows)?;
     Ok(())
 }
 
@@ -242,7 +268,7 @@ fn tags_on_air(rt: HostRuntime) -> Result<(), Fail> {
             .got_by(third_loses),
         whole.sends([0xC201, 0xB158, 0x8006, 0x08E7]),
     ];
-    let world = played(&rt, 3, &rows)?;
+    let world = played(&rt, rt.alloc(), 3, &rows)?;
     let first = world.receiver(0).ok_or("receiver")?;
     assert_eq!(rt; first.item(), Some((true, true)));
     assert_eq!(rt; first.tag(Which::One), Some((4, b"ABBA".as_slice())));
@@ -260,7 +286,7 @@ fn tags_on_air(rt: HostRuntime) -> Result<(), Fail> {
 #[test]
 fn two_skipped_flags(rt: HostRuntime) -> Result<(), Fail> {
     for third in [b"THIRD SONG", b"THIRT SONG"] {
-        let mut world = World::new(config()?, 1).ok().ok_or("receivers")?;
+        let mut world = new_world(rt.alloc(), 1)?;
         for slot in 0..25 {
             let command = match slot {
                 4 => set_text(b"FIRST SONG")?,
@@ -314,7 +340,106 @@ fn neighbours_in_one_slot(rt: HostRuntime) -> Result<(), Fail> {
         quiet(1).shows([two, one, None]),
         quiet(1).sends(second).shows([two, two, None]),
     ];
-    played(&rt, 2, &rows)?;
+    played(&rt, rt.alloc(), 2, &rows)?;
+    Ok(())
+}
+
+/// The slots of these two neighbours in one call, up to slot 12 and up to slot 14.
+#[test]
+fn neighbours_played(rt: HostRuntime) -> Result<(), Fail> {
+    let mut events = Vec::new(rt.alloc());
+    for slot in 0..15 {
+        let command = match slot {
+            4 => set_text(b"ONE")?,
+            12 => set_text(b"TWO")?,
+            _ => Command::Quiet,
+        };
+        let second = if slot == 12 { LOST } else { GOT };
+        events.push(slot_event(command, true, &[GOT, second])?)?;
+    }
+    let one = Some(b"ONE".as_slice());
+    let two = Some(b"TWO".as_slice());
+    for (slots, second) in [(13, one), (15, two)] {
+        let slots = events.get(..slots).ok_or("slots")?;
+        let world = play(rt.alloc(), config()?, 2, slots).ok().ok_or("played")?;
+        assert_eq!(rt; world.receiver(0).ok_or("receiver")?.text(), two);
+        assert_eq!(rt; world.receiver(1).ok_or("receiver")?.text(), second);
+    }
+    Ok(())
+}
+
+/// A dwell of four slots and groups up to two slots late: the text set in slot 6 is sent in it and in slot 8. The
+/// receiver gets the first of these groups in slot 8, and shows it for four slots.
+#[test]
+fn late_group(rt: HostRuntime) -> Result<(), Fail> {
+    let hi = set_text(b"HI")?;
+    let silent = Reply::Refused(Refusal::Silent(1));
+    let shown = first(b"HI")?;
+    let rows = [
+        quiet(5),
+        told(hi, silent),
+        told(hi, Reply::Done).sends(HI).got_by([LOST, LOST, LOST]),
+        quiet(1).got_by([LOST, LOST, LOST]),
+        quiet(1)
+            .sends(HI)
+            .got_by([Reception::Got(2), LOST, LOST])
+            .shows(shown),
+        quiet(3).of_others().got_by([LOST, LOST, LOST]).shows(shown),
+        quiet(1).of_others().got_by([LOST, LOST, LOST]),
+    ];
+    let mut world = World::new(rt.alloc(), late_config(2)?, 1)
+        .ok()
+        .ok_or("world")?;
+    step_rows(&rt, &mut world, 1, &rows)
+}
+
+/// What is not due is refused, and the first receiver of it named; the world stays as it was.
+#[test]
+fn late_group_refused(rt: HostRuntime) -> Result<(), Fail> {
+    let config = late_config(2)?;
+    let mut world = World::new(rt.alloc(), config, 2).ok().ok_or("world")?;
+    let early = slot_event(Command::Restart, true, &[GOT, Reception::Got(3)])?;
+    assert_eq!(rt; world.step(&early).err(), Some(StepRefused::Late(1)));
+    let quiet = slot_event(Command::Quiet, true, &[GOT, GOT])?;
+    let answer = world.step(&quiet).ok().ok_or("first slot")?;
+    assert_eq!(rt; answer.reply, Reply::Quiet);
+    let refused = play(rt.alloc(), config, 2, &[early]).err();
+    assert_eq!(rt; refused, Some(PlayRefused::Late(0, 1)));
+    Ok(())
+}
+
+/// What one receiver of a world with groups up to two slots late is handed, slot by slot, and the first slot that
+/// is refused: before the first slot, more than two slots late, the same slot again, also after the receiver or
+/// the encoder restarted, and an earlier one.
+#[test]
+fn receptions_in_order(rt: HostRuntime) -> Result<(), Fail> {
+    let again = Reception::Restart;
+    let cases: [(&[Reception], Option<usize>); 9] = [
+        (&[GOT, GOT, GOT], None),
+        (&[LOST, LOST, Reception::Got(2), Reception::Got(2)], None),
+        (&[Reception::Got(1)], Some(0)),
+        (&[LOST, LOST, LOST, Reception::Got(3)], Some(3)),
+        (&[GOT, Reception::Got(1)], Some(1)),
+        (&[LOST, GOT, again, Reception::Got(2)], Some(3)),
+        (&[LOST, GOT, again, Reception::Got(1)], None),
+        (&[LOST, LOST, GOT, Reception::Got(2)], Some(3)),
+        (&[GOT, LOST, LOST, LOST, LOST, Reception::Got(2)], None),
+    ];
+    for (receptions, wanted) in cases.iter() {
+        for command in [Command::Quiet, Command::Restart] {
+            let mut world = World::new(rt.alloc(), late_config(2)?, 1)
+                .ok()
+                .ok_or("world")?;
+            let mut refused = None;
+            for (slot, reception) in receptions.iter().enumerate() {
+                let event = slot_event(command, true, &[*reception])?;
+                if world.step(&event).is_err() && refused.is_none() {
+                    refused = Some(slot);
+                }
+            }
+            assert_eq!(rt; refused, *wanted);
+        }
+    }
     Ok(())
 }
 
@@ -331,7 +456,7 @@ fn jazz_name(rt: HostRuntime) -> Result<(), Fail> {
             quiet(1).got_by([reception, LOST, LOST]),
             quiet(1).sends([0xC201, 0xA141, 0x2046, 0x4D20]),
         ];
-        let world = played(&rt, 1, &rows)?;
+        let world = played(&rt, rt.alloc(), 1, &rows)?;
         assert_eq!(rt; world.receiver(0).ok_or("receiver")?.name(), shown);
         assert_eq!(rt; world.on_air(), (None, name));
     }
@@ -341,7 +466,7 @@ fn jazz_name(rt: HostRuntime) -> Result<(), Fail> {
 /// A ninth receiver, and a slot with one reception in a world of two, which leaves the world as it was.
 #[test]
 fn refused_words(rt: HostRuntime) -> Result<(), Fail> {
-    let nine = World::new(config()?, 9).err();
+    let nine = World::new(rt.alloc(), config()?, 9).err();
     assert_eq!(rt; nine, Some(WorldRefused::TooManyReceivers));
     let hi = text(b"HI")?;
     let both = [Some(hi), Some(hi), None];
@@ -351,9 +476,9 @@ fn refused_words(rt: HostRuntime) -> Result<(), Fail> {
             .sends(HI)
             .shows(both),
     ];
-    let mut world = played(&rt, 2, &rows)?;
+    let mut world = played(&rt, rt.alloc(), 2, &rows)?;
     let short = slot_event(Command::Restart, true, &[LOST])?;
-    assert!(rt; world.step(&short).is_err());
+    assert_eq!(rt; world.step(&short).err(), Some(StepRefused::ReceiverCount));
     assert_eq!(rt; world.on_air(), (Some(b"HI".as_slice()), None));
     assert!(rt; world.receiver(2).is_none());
     Ok(())
@@ -368,9 +493,9 @@ fn played_slots(rt: HostRuntime) -> Result<(), Fail> {
         slot_event(Command::Quiet, true, &[GOT])?,
     ];
     let nine = PlayRefused::TooManyReceivers;
-    assert_eq!(rt; play(config()?, 9, &events).err(), Some(nine));
+    assert_eq!(rt; play(rt.alloc(), config()?, 9, &events).err(), Some(nine));
     let second = PlayRefused::ReceiverCount(1);
-    assert_eq!(rt; play(config()?, 2, &events).err(), Some(second));
+    assert_eq!(rt; play(rt.alloc(), config()?, 2, &events).err(), Some(second));
     let hi = set_text(b"HI")?;
     let slots = [
         slot_event(Command::Quiet, true, &both)?,
@@ -379,7 +504,7 @@ fn played_slots(rt: HostRuntime) -> Result<(), Fail> {
         slot_event(Command::Quiet, true, &both)?,
         slot_event(hi, true, &both)?,
     ];
-    let world = play(config()?, 2, &slots).ok().ok_or("played")?;
+    let world = play(rt.alloc(), config()?, 2, &slots).ok().ok_or("played")?;
     assert_eq!(rt; world.on_air().0, Some(b"HI".as_slice()));
     assert_eq!(rt;
         world.receiver(0).ok_or("receiver")?.text(),

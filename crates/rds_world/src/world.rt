@@ -1,28 +1,33 @@
 //! A station and its receivers, slot by slot.
-ghost use Rattle.std.specs.Prelude.{◌≡◌, ◌≢◌, ◌<◌, ◌↔◌, [], ◌∷◌, IsErr, IsSome, IfOk, IfSome, OnErr, OnOk, length, option_map};
+ghost use Rattle.std.specs.Prelude.{◌≡◌, ◌≢◌, ◌+◌, ◌<◌, ◌≤◌, ◌↔◌, [], ◌∷◌, IsErrOf, IsOk, IsSome, IfOk, IfSome, MatchResult, OnErr, OnOk, length, option_map};
 ghost use Rattle.std.specs.Option.{option_copied};
 ghost use Rattle.rds_encoder.specs.Entries.{name_moves, text_moves};
 ghost use Rattle.rds_encoder.specs.Plan.{bytes_of, on_air};
 ghost use Rattle.rds_encoder.specs.Sent.{IsSent};
 ghost use Rattle.rds_receiver.specs.Shown.{ShownView};
-ghost use Rattle.rds_world.specs.Replies.{reply_at};
+ghost use Rattle.rds_world.specs.Replies.{CanBeTaken, IsStepRefused, reply_at};
 ghost use Rattle.rds_world.specs.SafeSlots.{OnlyWhatWasOnAirIsShown};
 ghost use Rattle.rds_world.specs.Slots.{entries, input_of, sent_at};
 ghost use Rattle.rds_world.specs.Standing.{HasHeard, IsViewOfInput, Shows, StandsAt, WhereItStands};
 
+use crate::reach::{Reach, end_slot, first_late};
 use crate::receivers::{eight_receivers, hand_out};
+use crate::recent::Recent;
 use crate::station::obey;
 use crate::{Answer, SlotEvent, StepRefused, WorldRefused, only_what_was_on_air_is_shown};
-use rds_encoder::Encoder;
+use rds_encoder::{Encoder, Late};
 use rds_fields::{Dwell, Head};
 use rds_receiver::Receiver;
+use std::alloc::Global;
 use std::marker::Model;
 
-/// The head of every group that the station sends, and the dwell in slots, the encoder's and the receivers'.
+/// The head of every group that the station sends, the dwell of the receivers, and how late a group may reach
+/// them, both in slots.
 #[derive(Clone, Copy)]
 pub struct Config {
     pub head: Head,
     pub dwell: Dwell,
+    pub late: Late,
 }
 
 /// One encoder and up to eight receivers of its programme.
@@ -34,11 +39,13 @@ pub struct World {
     config: Config,
     encoder: Encoder,
     receivers: [Receiver; 8],
+    reaches: [Reach; 8],
     count: usize,
+    recent: Recent,
 }
 
 impl Model for World {
-    ghost use Rattle.std.specs.Prelude.{◌≡◌, ◌≤◌, length, take};
+    ghost use Rattle.std.specs.Prelude.{◌≡◌, ◌≤◌, ◌+◌, length, take};
     ghost use Rattle.std.specs.Coded.{codes};
     ghost use Rattle.rds_receiver.specs.Codes.{receiver_code};
     ghost use Rattle.rds_world.specs.State.{WorldState};
@@ -50,45 +57,61 @@ impl Model for World {
     ghost view = { λ w. record {
       head = w.config.head;
       dwell = w.config.dwell;
+      late = w.config.late;
       encoder = w.encoder;
       receivers = take w.count w.receivers;
+      reaches = take w.count w.reaches;
+      sent = w.recent.items;
     } };
 
-    ghost invariant = { λ w. (w.count ≤ 8) × (length w.receivers ≡ 8) };
+    ghost invariant = { λ w. (w.count ≤ 8) × (length w.receivers ≡ 8)
+        × (length w.reaches ≡ 8) × (w.recent.capacity ≡ w.config.late + 1) };
 }
 
 impl World {
-    /// A world before its first slot: the encoder at a restart, and receivers that heard nothing yet.
-    pub fn new(config: Config, receivers: usize) -> Result<World, WorldRefused>
-        ensures refused { IsErr result ↔ (8 < receivers) }
+    /// A world before its first slot: the encoder at a restart, and receivers that heard nothing yet. It takes the
+    /// memory for the groups of as many slots as one may be late, and one more; no later call takes any.
+    pub fn new(alloc: Global, config: Config, receivers: usize) -> Result<World, WorldRefused>
+        ensures refused { IsErrOf result WorldRefused.TooManyReceivers ↔ (8 < receivers) }
+        ensures few { IsOk result → receivers ≤ 8 }
         ensures count { IfOk result (λ w. length w.receivers ≡ receivers) }
-        ensures stands { IfOk result (λ w. StandsAt config.head config.dwell w []) }
+        ensures stands { IfOk result (λ w.
+            StandsAt config.head config.dwell config.late w []) }
     {
         if receivers > 8 {
             return Err(WorldRefused::TooManyReceivers);
         }
+        let Ok(recent) = Recent::new(alloc, config.late) else {
+            return Err(WorldRefused::Memory);
+        };
         Ok(World {
             config,
-            encoder: Encoder::new(config.head, config.dwell),
+            encoder: Encoder::new(config.head, config.dwell, config.late),
             receivers: eight_receivers(&config),
+            reaches: [Reach::new(); 8],
             count: receivers,
+            recent,
         })
     }
 
     /// One slot: the command, then the encoder's part, then the receivers'. A command that is refused is
-    /// answered, and the slot goes on.
+    /// answered, and the slot goes on. A slot that is refused leaves the world as it was.
     pub fn step(&mut self, event: &SlotEvent) -> Result<Answer, StepRefused>
-        ensures refused { IsErr result ↔ (length event.now.receptions ≢ length self.old.receivers) }
+        ensures counted { IsErrOf result StepRefused.ReceiverCount
+            ↔ (length event.now.receptions ≢ length self.old.receivers) }
+        ensures refused { WhereItStands self.old (λ _ _ k events. MatchResult result
+            (λ _. CanBeTaken k (length self.old.receivers) event.now events)
+            (IsStepRefused k (length self.old.receivers) event.now events)) }
         ensures kept { OnErr result (self.new ≡ self.old) }
         ensures count { length self.new.receivers ≡ length self.old.receivers }
-        ensures reply { WhereItStands self.old (λ _ m events.
-            IfOk result (λ answer. answer.reply ≡ reply_at m event.now.command (entries events))) }
-        ensures sent { WhereItStands self.old (λ station m events.
-            IfOk result (λ answer. IsSent station (sent_at m event.now events) answer.sent)) }
-        ensures stands { WhereItStands self.old (λ station m events.
-            OnOk result (StandsAt station m self.new (event.now ∷ events))) }
-        ensures safe { WhereItStands self.old (λ _ m events.
-            OnOk result (OnlyWhatWasOnAirIsShown m (event.now ∷ events) self.new.receivers)) }
+        ensures reply { WhereItStands self.old (λ _ m k events. IfOk result (λ answer.
+            answer.reply ≡ reply_at (m + k) event.now.command (entries events))) }
+        ensures sent { WhereItStands self.old (λ station m k events. IfOk result (λ answer.
+            IsSent station (sent_at (m + k) event.now events) answer.sent)) }
+        ensures stands { WhereItStands self.old (λ station m k events.
+            OnOk result (StandsAt station m k self.new (event.now ∷ events))) }
+        ensures safe { WhereItStands self.old (λ _ m k events.
+            OnOk result (OnlyWhatWasOnAirIsShown m k (event.now ∷ events) self.new.receivers)) }
     {
         // the law by which `safe` holds
         only_what_was_on_air_is_shown();
@@ -96,24 +119,29 @@ impl World {
         if receptions.len() != self.count {
             return Err(StepRefused::ReceiverCount);
         }
+        if let Some(receiver) = first_late(&self.reaches[..self.count], event) {
+            return Err(StepRefused::Late(receiver));
+        }
         let reply = obey(&mut self.encoder, &self.config, event.command);
         let sent = self.encoder.tick(event.free);
         let handed = sent;
+        self.recent.push(handed);
         hand_out(
             &mut self.receivers[..self.count],
             &self.config,
             receptions,
-            handed,
+            &self.recent,
         );
+        end_slot(&mut self.reaches[..self.count], self.config.late, event);
         Ok(Answer { reply, sent })
     }
 
     /// The text and the name on air, lent: up to 64 bytes, and eight; `None` where none is.
     pub fn on_air(&self) -> (Option<&[u8]>, Option<&[u8]>)
-        ensures text { WhereItStands self.now (λ _ m events.
-            option_copied result.0 ≡ option_map bytes_of (on_air m (text_moves (entries events)))) }
-        ensures name { WhereItStands self.now (λ _ m events.
-            option_copied result.1 ≡ option_map bytes_of (on_air m (name_moves (entries events)))) }
+        ensures text { WhereItStands self.now (λ _ m k events. option_copied result.0
+            ≡ option_map bytes_of (on_air (m + k) (text_moves (entries events)))) }
+        ensures name { WhereItStands self.now (λ _ m k events. option_copied result.1
+            ≡ option_map bytes_of (on_air (m + k) (name_moves (entries events)))) }
     {
         (self.encoder.text(), self.encoder.name())
     }
@@ -121,11 +149,11 @@ impl World {
     /// Receiver i; they are counted from 0.
     pub fn receiver(&self, i: usize) -> Option<&Receiver>
         ensures there { IsSome result ↔ (i < length self.now.receivers) }
-        ensures heard { WhereItStands self.now (λ station m events.
-            IfSome result (λ r. HasHeard station m (input_of m i events) r.now)) }
-        ensures shows { WhereItStands self.now (λ station m events.
+        ensures heard { WhereItStands self.now (λ station m k events.
+            IfSome result (λ r. HasHeard station m (input_of (m + k) i events) r.now)) }
+        ensures shows { WhereItStands self.now (λ station m k events.
             IfSome result (λ r. (view : ShownView) → Shows r.now view
-            → IsViewOfInput station m (input_of m i events) view)) }
+            → IsViewOfInput station m (input_of (m + k) i events) view)) }
     {
         self.receivers[..self.count].get(i)
     }

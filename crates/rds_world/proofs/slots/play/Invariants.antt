@@ -1,13 +1,13 @@
 use Rattle.std.proofs.Common.{◌≡◌, ◌<◌, ℕ, length, reverse, take}
-use Rattle.rds_world.specs.Replies.{Names}
+use Rattle.rds_world.specs.Replies.{IsTaken}
 use Rattle.rds_world.specs.SafeSlots.{OnlyWhatWasOnAirIsShown}
 use Rattle.rds_world.specs.Standing.{StandsAt}
 use Rattle.rds_world.proofs.slots.play.Given as goal
 
 abbrev pub invariant-loop-i : goal.invariant-loop-i
 invariant-loop-i l = record {
-  stands : StandsAt l.fn.config.head l.fn.config.dwell l.world (reverse (take l.i l.events));
-  safe : OnlyWhatWasOnAirIsShown l.fn.config.dwell (reverse (take l.i l.events)) l.world.receivers;
+  stands : StandsAt l.fn.config.head l.fn.config.dwell l.fn.config.late l.world (reverse (take l.i l.events));
+  safe : OnlyWhatWasOnAirIsShown l.fn.config.dwell l.fn.config.late (reverse (take l.i l.events)) l.world.receivers;
   count : length l.world.receivers ≡ l.fn.receivers;
-  good : (k : ℕ) → k < l.i → Names l.fn.receivers l.events k;
+  good : (place : ℕ) → place < l.i → IsTaken l.fn.config.late l.fn.receivers l.events place;
 }

@@ -1,5 +1,8 @@
-use Rattle.std.proofs.Common.{arith, refl}
-use Rattle.rds_world.specs.Standing.{IsNew}
+use Rattle.std.proofs.Common.{◌≡◌, ◌+◌, ◌∙◌, [], ℕ, None, Option, arith, length, refl, subst, sym}
+use Rattle.circular_buffer.specs.Buffer.{Buffer}
+use Rattle.rds_block.specs.declared.group.Group.{Group}
+use Rattle.rds_world.specs.Standing.{AreLastSent, IsNew}
+use Rattle.rds_world.proofs.DueSteps.{at_first}
 use Rattle.rds_world.proofs.Received.{heard_nothing, one_of_first, some_slots}
 use Rattle.rds_world.proofs.world.World.new.Goals as goal
 
@@ -7,15 +10,23 @@ pub returns-clause-stands : goal.returns-clause-stands
 returns-clause-stands c =
     let station = c.args.config.head in
     let m = c.args.config.dwell in
+    let k = c.args.config.late in
     let made = c.eight_receivers.result in
+    let one = c.new-3.ensures in
     record {
       head = refl;
       dwell = refl;
+      late = refl;
       lasts = some_slots station m made c.eight_receivers.ensures (omega (arith, c.eight_receivers.type_inv));
       values = tt;
-      encoder = c.new.ensures.first;
+      due = tt;
+      encoder = c.new-2.ensures.first;
       receivers = record {
         each = λ i r e. heard_nothing station m 0 r
             (one_of_first (IsNew station m) c.args.receivers made i r c.eight_receivers.ensures e);
       };
+      reaches = record {
+        each = λ i reach e. one_of_first (λ n. n ≡ 1) c.args.receivers _ i reach (one, (one, (one, (one, (one, (one, (one, (one, tt)))))))) e ∙ at_first k;
+      };
+      sent = subst (λ (b : Buffer (Option Group)). AreLastSent station k [] b.items) (sym c.in-Ok.ensures) (λ back within. tt);
     }

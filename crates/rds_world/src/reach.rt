@@ -1,0 +1,90 @@
+//! How far back a receiver may be handed what was sent.
+ghost use Rattle.std.specs.Prelude.{◌≡◌, ◌<◌, ◌+◌, ◌↔◌, ◌∷◌, ℕ, List, Option, IsTrue, IfSome, MatchOption, length};
+ghost use Rattle.rds_world.specs.Due.{IsDue, IsDueToAll, IsFirstLate, named, reach_of};
+ghost use Rattle.rds_world.specs.Event.{Event};
+ghost use Rattle.rds_world.specs.Standing.{HaveReaches};
+
+use crate::{Reception, SlotEvent};
+use rds_encoder::Late;
+use std::marker::Model;
+
+/// Below how many slots back what was sent is due to a receiver (this project's own rule): at most so late, and
+/// later than what its last `Got` named. It stops at one slot more than the lateness.
+#[derive(Clone, Copy)]
+pub(crate) struct Reach {
+    slots: u16,
+}
+
+impl Model for Reach {
+    ghost use Rattle.std.specs.Prelude.{ℕ};
+
+    ghost Value = { ℕ };
+
+    ghost view = { λ r. r.slots };
+
+    ghost inverse = { λ n. record { slots = n } };
+}
+
+impl Reach {
+    /// In the first slot, before which there was none.
+    pub(crate) fn new() -> Reach
+        ensures { result ≡ 1 }
+    {
+        Reach { slots: 1 }
+    }
+
+    /// Whether the reception is due.
+    pub(crate) fn allows(self, reception: Reception) -> bool
+        ensures { (k slot : ℕ) (last : Option ℕ) → self ≡ reach_of k slot last
+            → IsTrue result ↔ IsDue k slot last reception }
+    {
+        match reception {
+            Reception::Got(back) => back < self.slots,
+            Reception::Lost | Reception::Restart => true,
+        }
+    }
+
+    /// In the slot after this reception. A restart changes nothing of it.
+    pub(crate) fn after(self, reception: Reception, late: Late) -> Reach
+        ensures { (slot : ℕ) (last : Option ℕ) → IfSome last (λ s. s < slot)
+            → self ≡ reach_of late slot last → IsDue late slot last reception
+            → result ≡ reach_of late (slot + 1) (named reception slot last) }
+    {
+        let back = match reception {
+            Reception::Got(back) => back,
+            Reception::Lost | Reception::Restart => self.slots,
+        };
+        Reach {
+            slots: back.min(late.get()) + 1,
+        }
+    }
+}
+
+/// The first receiver whose reception is not due.
+pub(crate) fn first_late(reaches: &[Reach], event: &SlotEvent) -> Option<usize>
+    requires { length event.now.receptions ≡ length reaches.now }
+    ensures { (k : ℕ) (before : List Event) → HaveReaches k before reaches.now
+        → MatchOption result
+        (IsDueToAll k event.now before) (IsFirstLate k event.now before) }
+{
+    let receptions = event.receptions.as_slice();
+    for i in 0..receptions.len() {
+        if !reaches[i].allows(receptions[i]) {
+            return Some(i);
+        }
+    }
+    None
+}
+
+/// The slot ends, with receptions that were due.
+pub(crate) fn end_slot(reaches: &mut [Reach], late: Late, event: &SlotEvent)
+    requires { length event.now.receptions ≡ length reaches.old }
+    ensures count { length reaches.new ≡ length reaches.old }
+    ensures reaches { (before : List Event) → HaveReaches late before reaches.old
+        → IsDueToAll late event.now before → HaveReaches late (event.now ∷ before) reaches.new }
+{
+    let receptions = event.receptions.as_slice();
+    for i in 0..reaches.len() {
+        reaches[i] = reaches[i].after(receptions[i], late);
+    }
+}
