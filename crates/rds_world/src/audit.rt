@@ -1,10 +1,10 @@
 //! The audit of a log.
-ghost use Rattle.std.specs.Prelude.{◌≡◌, ◌+◌, ◌≤◌, ◌↔◌, ℕ, List, [], ◌∷◌, Option, Some, None, Ok, Err, IsErr, IsTrue, IfOk, IfErr, MatchResult};
+ghost use Rattle.std.specs.Prelude.{◌≡◌, ◌+◌, ◌<◌, ◌≤◌, ◌↔◌, ℕ, List, [], ◌∷◌, Option, Some, None, Ok, Err, IsErr, IsTrue, IfOk, IfErr, MatchResult};
 ghost use Rattle.rds_block.specs.declared.group.Group.{Group};
 ghost use Rattle.rds_fields.specs.declared.message.Message.{Message};
 ghost use Rattle.rds_receiver.specs.Receipts.{Hears};
 ghost use Rattle.rds_world.specs.declared.audit_fault.AuditFault.{AuditFault};
-ghost use Rattle.rds_world.specs.AuditLaws.{IsSafeOnTime};
+ghost use Rattle.rds_world.specs.AuditLaws.{IsSafeLog};
 ghost use Rattle.rds_world.specs.AuditStanding.{AuditStandsAt, HoldsLog, HoldsSlot, WhereTheAuditStands};
 ghost use Rattle.rds_world.specs.Dense.{HasPlans};
 ghost use Rattle.rds_world.specs.Rules.{BreaksFirst, IsFaultOf, LogPasses};
@@ -13,11 +13,12 @@ use crate::audited::{Names, Texts};
 use crate::reigns::Reigns;
 use crate::{AuditFault, one_fault, passes_by_plans, what_passes_is_safe};
 use rds_block::Group;
+use rds_encoder::Late;
 use rds_fields::{Dwell, Message};
 use std::marker::Model;
 
 /// The audit of a log: what a station sent, slot by slot. It passes the log where some texts and names of a
-/// station that keeps them apart by the dwell could have been sent so.
+/// station that keeps them apart by the dwell and the lateness could have been sent so.
 ///
 /// It holds ages that stop at a limit and no slot numbers, so it takes any number of slots. `AuditStandsAt` is
 /// the relation between an audit and its log: a new one stands at the empty log, and each `slot` goes on to the
@@ -25,7 +26,8 @@ use std::marker::Model;
 #[derive(Drop)]
 pub struct Audit {
     pi: u16,
-    /// In slots; far below the limit, so that twice as many can be counted.
+    /// The dwell of the receivers and the lateness together, in slots; far below the limit, so that twice as many
+    /// can be counted.
     dwell: u32,
     text: Reigns<Texts>,
     name: Reigns<Names>,
@@ -52,12 +54,13 @@ impl Model for Audit {
 }
 
 impl Audit {
-    /// The audit of this programme before the first slot.
-    pub fn new(pi: u16, dwell: Dwell) -> Audit
-        ensures stands { AuditStandsAt pi dwell result [] }
+    /// The audit of this programme before the first slot, for receivers of this dwell whose groups come no later
+    /// than so.
+    pub fn new(pi: u16, dwell: Dwell, late: Late) -> Audit
+        ensures stands { AuditStandsAt pi (dwell + late) result [] }
         ensures passed { result.fault ≡ None }
     {
-        let dwell = u32::from(dwell.get());
+        let dwell = u32::from(dwell.get()) + u32::from(late.get());
         Audit {
             pi,
             dwell,
@@ -91,12 +94,14 @@ impl Audit {
         Ok(())
     }
 
-    /// Whether the log passes so far.
+    /// Whether the log passes so far. What passes with a dwell and a lateness is safe for every receiver of that
+    /// dwell whose groups come no later than so.
     pub fn passed(&self) -> bool
         ensures fault { IsTrue result ↔ (self.now.fault ≡ None) }
         ensures passes { WhereTheAuditStands self.now (λ d heard. IsTrue result ↔ LogPasses d heard) }
         ensures plans { WhereTheAuditStands self.now (λ d heard. IsTrue result ↔ HasPlans d heard) }
-        ensures safe { WhereTheAuditStands self.now (λ d heard. IsTrue result → IsSafeOnTime d heard) }
+        ensures safe { WhereTheAuditStands self.now (λ d heard. (m k : ℕ) → 0 < m → m + k ≡ d
+            → IsTrue result → IsSafeLog m k heard) }
     {
         // the laws by which `plans` and `safe` hold
         one_fault();

@@ -11,7 +11,7 @@ use crate::{
     what_passes_is_safe,
 };
 use rds_block::Group;
-use rds_encoder::Encoder;
+use rds_encoder::{Encoder, Late};
 use rds_fields::{Dwell, Message};
 use std::process::Abort;
 use std::test::Fail;
@@ -51,18 +51,31 @@ const SONG: [Sent; 12] = [
     LONG_TAGS,
 ];
 
-fn audit(dwell: u16) -> Result<Audit, Fail> {
-    Ok(Audit::new(PI, Dwell::new(dwell).ok_or("dwell")?))
+fn audit(dwell: u16, late: u16) -> Result<Audit, Fail> {
+    let dwell = Dwell::new(dwell).ok_or("dwell")?;
+    Ok(Audit::new(PI, dwell, Late::new(late).ok_or("late")?))
 }
 
-/// Audits a log, and checks what each slot answers: the fault from its slot on, where one is wanted.
+/// Audits a log for receivers that are on time, and checks what each slot answers: the fault from its slot on,
+/// where one is wanted.
 fn audited(
     rt: &impl Abort,
     dwell: u16,
     log: &[Sent],
     fault: Option<(usize, AuditFault)>,
 ) -> Result<Audit, Fail> {
-    let mut audit = audit(dwell)?;
+    audited_late(rt, dwell, 0, log, fault)
+}
+
+/// The same for receivers whose groups come up to so many slots late.
+fn audited_late(
+    rt: &impl Abort,
+    dwell: u16,
+    late: u16,
+    log: &[Sent],
+    fault: Option<(usize, AuditFault)>,
+) -> Result<Audit, Fail> {
+    let mut audit = audit(dwell, late)?;
     assert!(rt; audit.passed());
     for (slot, sent) in log.iter().enumerate() {
         let answer = audit.slot(sent.map(|words| Group::from_blocks(words)));
@@ -82,6 +95,17 @@ fn logs_that_pass(rt: HostRuntime) -> Result<(), Fail> {
     audited(&rt, 4, &SONG, None)?;
     audited(&rt, 1, &[NOTHING, HI], None)?;
     audited(&rt, 4, &[HI, YO, NOTHING, NOTHING, NOTHING, HI], None)?;
+    Ok(())
+}
+
+/// What passes for receivers that are on time need not pass where groups come up to two slots late.
+#[test]
+fn late_logs(rt: HostRuntime) -> Result<(), Fail> {
+    audited_late(&rt, 4, 2, &SONG, None)?;
+    let tags = [HI, NOTHING, NOTHING, NOTHING, LONG_TAGS];
+    audited_late(&rt, 4, 2, &tags, Some((4, AuditFault::EarlyTag)))?;
+    let third = [HI, YO, NOTHING, NOTHING, NOTHING, HI];
+    audited_late(&rt, 4, 2, &third, Some((5, AuditFault::EarlyFlag)))?;
     Ok(())
 }
 
@@ -266,7 +290,7 @@ fn check(rt: &impl Abort, seed: u32, answers: &mut Answers) -> Result<(), Fail> 
         letters[dice.roll() % 16],
         letters[dice.roll() % 16],
     ];
-    let mut audit = audit(dwell as u16)?;
+    let mut audit = audit(dwell as u16, 0)?;
     let mut rules = Rules::new();
     let mut texts = [Mark::Nothing; SLOTS];
     let mut names = [Mark::Nothing; SLOTS];
@@ -357,7 +381,7 @@ fn judged(rules: Rules, dwell: usize, slot: usize, sent: Sent) -> Result<Rules, 
 
 /// Audits a log of dwell 8: each slot answers what the rules say, and after a fault that again.
 fn agrees(rt: &impl Abort, log: &[Sent; LONG]) -> Result<Option<AuditFault>, Fail> {
-    let mut audit = audit(8)?;
+    let mut audit = audit(8, 0)?;
     let mut rules = Rules::new();
     let mut fault = None;
     for (slot, sent) in log.iter().enumerate() {

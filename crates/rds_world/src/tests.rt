@@ -373,37 +373,38 @@ fn neighbours_played(rt: HostRuntime) -> Result<(), Fail> {
 #[test]
 fn late_group(rt: HostRuntime) -> Result<(), Fail> {
     let hi = set_text(b"HI")?;
-    let silent = Reply::Refused(Refusal::Silent(1));
-    let shown = first(b"HI")?;
+    let none = [LOST, LOST, LOST];
     let rows = [
         quiet(5),
-        told(hi, silent),
-        told(hi, Reply::Done).sends(HI).got_by([LOST, LOST, LOST]),
-        quiet(1).got_by([LOST, LOST, LOST]),
+        told(hi, Reply::Refused(Refusal::Silent(1))),
+        told(hi, Reply::Done).sends(HI).got_by(none),
+        quiet(1).got_by(none),
         quiet(1)
             .sends(HI)
             .got_by([Reception::Got(2), LOST, LOST])
-            .shows(shown),
-        quiet(3).of_others().got_by([LOST, LOST, LOST]).shows(shown),
-        quiet(1).of_others().got_by([LOST, LOST, LOST]),
+            .shows(first(b"HI")?),
+        quiet(3).of_others().got_by(none).shows(first(b"HI")?),
+        quiet(1).of_others().got_by(none),
     ];
-    let mut world = World::new(rt.alloc(), late_config(2)?, 1)
-        .ok()
-        .ok_or("world")?;
+    let world = World::new(rt.alloc(), late_config(2)?, 1);
+    let mut world = world.ok().ok_or("world")?;
     step_rows(&rt, &mut world, 1, &rows)
 }
 
 /// What is not due is refused, and the first receiver of it named; the world stays as it was.
 #[test]
 fn late_group_refused(rt: HostRuntime) -> Result<(), Fail> {
-    let config = late_config(2)?;
-    let mut world = World::new(rt.alloc(), config, 2).ok().ok_or("world")?;
-    let early = slot_event(Command::Restart, true, &[GOT, Reception::Got(3)])?;
-    assert_eq!(rt; world.step(&early).err(), Some(StepRefused::Late(1)));
+    let early = [GOT, Reception::Got(3)];
+    let event = slot_event(Command::Restart, true, &early)?;
+    let mut world = World::new(rt.alloc(), late_config(2)?, 2)
+        .ok()
+        .ok_or("world")?;
+    assert_eq!(rt; world.step(&event).err(), Some(StepRefused::Late(1)));
     let quiet = slot_event(Command::Quiet, true, &[GOT, GOT])?;
     let answer = world.step(&quiet).ok().ok_or("first slot")?;
     assert_eq!(rt; answer.reply, Reply::Quiet);
-    let refused = play(rt.alloc(), config, 2, &[early]).err();
+    let events = [slot_event(Command::Restart, true, &early)?];
+    let refused = play(rt.alloc(), late_config(2)?, 2, &events).err();
     assert_eq!(rt; refused, Some(PlayRefused::Late(0, 1)));
     Ok(())
 }
