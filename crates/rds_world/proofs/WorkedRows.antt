@@ -1,11 +1,14 @@
 -- Rows worked by hand, for the definitions of safety. Lists have the newest first.
-use Rattle.std.proofs.Common.{◌≡◌, ℕ, true, false, List, [], ◌∷◌, ◌++◌, take, drop, slice_index, Option, Some, None, refl, sym, ap, ◌∙◌, inl, inr, arith, replicate}
+use Rattle.std.proofs.Common.{◌≡◌, ◌-◌, ◌<◌, ℕ, true, false, List, [], ◌∷◌, ◌++◌, take, drop, slice_index, Option, Some, None, refl, sym, ap, ◌∙◌, inl, inr, arith, replicate}
 use Rattle.rds_fields.specs.declared.message.Message.{Message}
 use Rattle.rds_fields.specs.declared.message.Message.TheVariants.{Text}
 use Rattle.rds_encoder.specs.Entries.{Entry, Restart, SetText, SetName, SetTags, Tick, text_moves}
 use Rattle.rds_encoder.specs.Plan.{Broadcast, Covers, HasNumber, plan_of}
 use Rattle.rds_encoder.specs.Sent.{sent_in}
 use Rattle.rds_receiver.specs.Receipts.{Segment}
+use Rattle.rds_world.specs.declared.event.Reception.TheVariants.{Got}
+use Rattle.rds_world.specs.Due.{IsDueBack}
+use Rattle.rds_world.specs.Slots.{received}
 use Rattle.rds_world.specs.Late.{CameFrom, HasEntry, Input, IsHeardLate, IsHeardOnTime}
 use Rattle.rds_world.specs.Safe.{NamesPiece, WasOnAir}
 use Rattle.rds_world.specs.Source.{IsSource, text_run}
@@ -190,6 +193,30 @@ not_on_time each = elim (each 4 ng (inl (refl, refl))) [
   | inl none ↦ absurd (cc)
   | inr sent ↦ elim sent [ inl now ↦ (let none = now.1 in absurd (cc)) | inr before ↦ omega (arith, before_end 0 (ng ∷ nothing 3) 4 ng before) ]
 ]
+
+-- no slot late, a receiver hears what the slot sends, and its origin is the slot
+received_now : (slot : ℕ) (newest : Option Message) (before : List (Option Message)) (input : Input)
+    → received (Got 0) slot (newest ∷ before) input ≡ record { first = input.first; heard = newest ∷ input.heard; origins = Some slot ∷ input.origins }
+received_now slot newest before input =
+    (let same : slot - 0 ≡ slot = omega arith in ap (λ (n : ℕ). record { first = input.first; heard = newest ∷ input.heard; origins = Some n ∷ input.origins }) same)
+
+-- where none is late and the last `Got` was of an earlier slot, that of a slot is due
+due_now : (slot s : ℕ) → s < slot → IsDueBack 0 slot (Some s) 0
+due_now slot s earlier = record { soon = omega arith; there = omega arith; after = omega (arith, earlier) }
+
+-- with groups up to two slots late: after slot 4 was handed over, in slot 6 slot 5 may be, and slot 4 may not
+next_due : IsDueBack 2 6 (Some 4) 1
+next_due = record { soon = omega arith; there = omega arith; after = omega arith }
+
+not_again : IsDueBack 2 6 (Some 4) 2 → ⊥
+not_again due = (let after = due.after in omega (arith, after))
+
+-- nothing is due from before the first slot, nor what is more than two slots late
+not_before_first : IsDueBack 2 1 None 2 → ⊥
+not_before_first due = (let there = due.there in omega (arith, there))
+
+not_so_late : IsDueBack 2 6 None 3 → ⊥
+not_so_late due = (let soon = due.soon in omega (arith, soon))
 
 -- the tags of `ABBA - WATERLOO` name its artist and its title
 abbrev abba : List ℕ
