@@ -1,13 +1,10 @@
 -- A word and an argument say no command where the word is no verb, or the argument says nothing.
-use Rattle.std.proofs.Common.{◌≡◌, ◌≢◌, ◌<◌, ◌∙◌, ℕ, zero, suc, Bor, List, [], ◌∷◌, Option, Some, None, ap, arith, get_or, length, map, sym}
+use Rattle.std.proofs.Common.{◌≡◌, ◌≢◌, ◌<◌, ◌∙◌, ℕ, zero, suc, Bor, List, [], ◌∷◌, Option, Some, None, ap, arith, get_or, length, sym}
 use Rattle.std.specs.Prelude.{option_map}
 use Rattle.csv.specs.Records.{field_at}
 use Rattle.rds_world.specs.declared.event.Command.{Command}
 use Rattle.rds_world.specs.declared.event.Command.TheVariants.{Quiet, Restart, SetText, SetName, SetTags}
-use Rattle.std.proofs.lemmas.List.{get_or-map, length-map}
-use Rattle.rds_world.specs.declared.event.Reception.{Reception}
-use Rattle.rds_world.specs.declared.event.Reception.TheVariants.{Lost}
-use Rattle.rds_log.specs.Rows.{IsNameArgument, SaysCommand, letter}
+use Rattle.rds_log.specs.Rows.{IsNameArgument, SaysCommand}
 use Rattle.rds_log.specs.Verbs.{word_of}
 use Rattle.rds_log.specs.declared.row.Verb.{Verb}
 use Rattle.rds_log.specs.declared.row.Verb.TheVariants as verb
@@ -28,12 +25,6 @@ no_name word argument is none Restart says = other_head verb.Restart (sym is ∙
 no_name word argument is none (SetText x) says = other_head verb.Text (sym is ∙ says.0) (λ e. omega arith)
 no_name word argument is none (SetName x) says = none x says.1
 no_name word argument is none (SetTags pair) says = other_head verb.Tags (sym is ∙ says.0) (λ e. omega arith)
-
--- a byte that is no letter says no reception
-pub no_letter : (field : List ℕ) (i b : ℕ) → i < length field → b ≡ get_or field i 0 → ((r : Reception) → b ≡ letter r → ⊥) → (receptions : List Reception) → field ≡ map letter receptions → ⊥
-no_letter field i b within is none receptions e =
-    let size : length field ≡ length receptions = ap length e ∙ length-map receptions letter in
-    none (get_or receptions i Lost) (is ∙ ap (λ (x : List ℕ). get_or x i 0) e ∙ get_or-map letter receptions i Lost 0 (omega (arith, size, within)))
 
 -- a field that is there is found
 pub no_field : (fields : List (List ℕ)) (i : ℕ) (found : Option (Bor (List ℕ))) → option_map (λ s. s.now) found ≡ field_at fields i → i < length fields → found ≡ None → ⊥

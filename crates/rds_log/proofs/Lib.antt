@@ -14,7 +14,8 @@ pub mod Commands
 pub mod Records
 pub mod Appending
 pub mod Changes
+pub mod Receptions
+pub mod OneEvent
 pub mod Playing
 pub mod Plays
-pub mod OneEvent
 pub mod OneOutcome

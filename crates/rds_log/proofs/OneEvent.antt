@@ -1,16 +1,15 @@
 -- A row says one event, and a script's rows say one list of them.
-use Rattle.std.proofs.Common.{◌≡◌, ◌∙◌, ◌∷◌, [], ℕ, Bool, List, true, false, ap, arith, get_or, map, refl, subst, sym}
+use Rattle.std.proofs.Common.{◌≡◌, ◌∙◌, ◌∷◌, [], ℕ, Bool, List, true, false, ap, arith, get_or, refl, subst, sym}
 use Rattle.std.specs.Int.{from_bool}
 use Rattle.rds_charset.specs.Laws.{TextIsReadOneWay}
 use Rattle.rds_fields.specs.Tag.{PairFields, TagFields}
 use Rattle.rds_assembly.specs.Body.{name_body}
 use Rattle.rds_world.specs.declared.event.Command.{Command}
 use Rattle.rds_world.specs.declared.event.Command.TheVariants.{Quiet, Restart, SetText, SetName, SetTags}
-use Rattle.rds_world.specs.declared.event.Reception.{Reception}
-use Rattle.rds_world.specs.declared.event.Reception.TheVariants.{Got, Lost}
-use Rattle.rds_world.specs.declared.event.Reception.TheVariants as reception
 use Rattle.rds_world.specs.Event.{Event}
-use Rattle.rds_log.specs.Rows.{AreRows, IsNameArgument, Record, SaysCommand, SaysEvent, free_field, letter, numbers_of_pair}
+use Rattle.rds_log.specs.Rows.{AreRows, IsNameArgument, Record, SaysCommand, SaysEvent, free_field, numbers_of_pair}
+use Rattle.rds_log.specs.Receptions.{AreReceptions}
+use Rattle.rds_log.proofs.Receptions.{same_receptions}
 use Rattle.rds_log.specs.Verbs.{word_of}
 use Rattle.rds_log.specs.declared.row.Verb.{Verb}
 use Rattle.rds_log.specs.declared.row.Verb.TheVariants as verb
@@ -80,50 +79,24 @@ same_free true false e = absurd (let bits : 49 ≡ 48 = ap (λ (x : List ℕ). g
 same_free false true e = absurd (let bits : 48 ≡ 49 = ap (λ (x : List ℕ). get_or x 0 0) e in omega (arith, bits))
 same_free false false e = refl
 
-same_letter : (r s : Reception) → letter r ≡ letter s → r ≡ s
-same_letter Got Got e = refl
-same_letter Got Lost e = absurd (omega (arith, e))
-same_letter Got reception.Restart e = absurd (omega (arith, e))
-same_letter Lost Got e = absurd (omega (arith, e))
-same_letter Lost Lost e = refl
-same_letter Lost reception.Restart e = absurd (omega (arith, e))
-same_letter reception.Restart Got e = absurd (omega (arith, e))
-same_letter reception.Restart Lost e = absurd (omega (arith, e))
-same_letter reception.Restart reception.Restart e = refl
-
-same_receptions : (a b : List Reception) → map letter a ≡ map letter b → a ≡ b
-same_receptions [] [] e = refl
-same_receptions [] (s ∷ b) e = absurd (no_letters s b e)
-  where
-    no_letters : (s : Reception) (b : List Reception) → [] ≡ letter s ∷ map letter b → ⊥
-    no_letters s b e = cc
-same_receptions (r ∷ a) [] e = absurd (some_letters r a e)
-  where
-    some_letters : (r : Reception) (a : List Reception) → letter r ∷ map letter a ≡ [] → ⊥
-    some_letters r a e = cc
-same_receptions (r ∷ a) (s ∷ b) e =
-    let tail : map letter a ≡ map letter b = (cc) in
-    let head : r ≡ s = same_letter r s (cc) in
-    let rest : a ≡ b = same_receptions a b tail in
-    (cc)
-
 pub same_event : TextIsReadOneWay → (row : Record) (e f : Event) → SaysEvent row e → SaysEvent row f → e ≡ f
 same_event one row e f p q =
-    let both : p.word ∷ p.argument ∷ free_field e.free ∷ map letter e.receptions ∷ [] ≡ q.word ∷ q.argument ∷ free_field f.free ∷ map letter f.receptions ∷ [] = sym p.fields ∙ q.fields in
+    let both : p.word ∷ p.argument ∷ free_field e.free ∷ p.receptions ∷ [] ≡ q.word ∷ q.argument ∷ free_field f.free ∷ q.receptions ∷ [] = sym p.fields ∙ q.fields in
     let word : p.word ≡ q.word = (cc) in
     let argument : p.argument ≡ q.argument = (cc) in
     let command : e.command ≡ f.command = same_command one q.word q.argument e.command f.command (subst (λ (x : List ℕ). SaysCommand x q.argument e.command) word (subst (λ (x : List ℕ). SaysCommand p.word x e.command) argument p.command)) q.command in
     let free : e.free ≡ f.free = same_free e.free f.free (cc) in
-    let receptions : e.receptions ≡ f.receptions = same_receptions e.receptions f.receptions (cc) in
+    let text : p.receptions ≡ q.receptions = (cc) in
+    let receptions : e.receptions ≡ f.receptions = same_receptions q.receptions e.receptions f.receptions (subst (λ (x : List ℕ). AreReceptions x e.receptions) text p.spelled) q.spelled in
     λ i. record { command = command i; free = free i; receptions = receptions i }
 
-pub same_events : TextIsReadOneWay → (n k : ℕ) (records : List Record) (events other : List Event) → AreRows n records events → AreRows k records other → events ≡ other
-same_events one n k [] [] [] p q = refl
-same_events one n k [] [] (f ∷ other) p q = absurd q
-same_events one n k [] (e ∷ events) other p q = absurd p
-same_events one n k (row ∷ records) [] other p q = absurd p
-same_events one n k (row ∷ records) (e ∷ events) [] p q = absurd q
-same_events one n k (row ∷ records) (e ∷ events) (f ∷ other) p q =
+pub same_events : TextIsReadOneWay → (late n other_n : ℕ) (records : List Record) (events other : List Event) → AreRows late n records events → AreRows late other_n records other → events ≡ other
+same_events one late n k [] [] [] p q = refl
+same_events one late n k [] [] (f ∷ other) p q = absurd q
+same_events one late n k [] (e ∷ events) other p q = absurd p
+same_events one late n k (row ∷ records) [] other p q = absurd p
+same_events one late n k (row ∷ records) (e ∷ events) [] p q = absurd q
+same_events one late n k (row ∷ records) (e ∷ events) (f ∷ other) p q =
     let head : e ≡ f = same_event one row e f p.0 q.0 in
-    let tail : events ≡ other = same_events one n k records events other p.2 q.2 in
+    let tail : events ≡ other = same_events one late n k records events other p.2 q.2 in
     (cc)

@@ -1,6 +1,5 @@
 -- How a station goes on by a row, and why a record is no row.
-use Rattle.std.proofs.Common.{◌≡◌, ◌≢◌, ◌<◌, ◌≤◌, ◌∙◌, ◌∷◌, ◌++◌, [], ℕ, suc, List, Option, ap, ap₂, arith, inl, inr, length, map, refl, subst, sym}
-use Rattle.std.proofs.lemmas.List.{length-map}
+use Rattle.std.proofs.Common.{◌≡◌, ◌<◌, ◌≤◌, ◌∙◌, ◌∷◌, ◌++◌, [], ℕ, suc, List, Option, ap, ap₂, arith, inl, inr, length, refl, subst, sym}
 use Rattle.rds_fields.specs.declared.head.Head.{Head}
 use Rattle.rds_world.specs.Event.{Event}
 use Rattle.rds_block.specs.declared.group.Group.{Group}
@@ -11,28 +10,35 @@ use Rattle.rds_log.proofs.Changes.{changes_same}
 use Rattle.rds_log.specs.Outcomes.{AreOutcomes, Outcome, answer_lines, lines_of, newest_views, receiver_changes}
 use Rattle.rds_log.specs.Playing.{AreKept, BeginsRow, PlayerStandsAt}
 use Rattle.rds_log.specs.declared.player.Player.{Player}
-use Rattle.rds_log.specs.Rows.{AreNoRows, AreRows, IsAllowed, Record, SaysEvent, letter}
+use Rattle.rds_charset.specs.Laws.{TextIsReadOneWay}
+use Rattle.rds_world.specs.Replies.{CanBeTaken, IsStepRefused}
+use Rattle.rds_world.specs.declared.reply.StepRefused.{StepRefused}
+use Rattle.rds_world.specs.declared.reply.StepRefused.TheVariants.{Late, ReceiverCount}
+use Rattle.rds_log.specs.Receptions.{AreReceptions}
+use Rattle.rds_log.specs.Rows.{AreNoRows, AreRows, IsAllowed, Record, SaysEvent}
+use Rattle.rds_log.proofs.OneEvent.{same_event, same_events}
+use Rattle.rds_log.proofs.Receptions.{same_receptions}
 use Rattle.rds_log.specs.declared.form.Form.{Form}
 use Rattle.rds_log.specs.declared.form.Form.TheVariants.{Simulation, Log}
 
 -- a record, an event and an outcome for each slot
-pub as_many_rows : (receivers : ℕ) (records : List Record) (events : List Event) → AreRows receivers records events → length records ≡ length events
-as_many_rows receivers [] [] are = refl
-as_many_rows receivers [] (e ∷ older) are = absurd are
-as_many_rows receivers (row ∷ before) [] are = absurd are
-as_many_rows receivers (row ∷ before) (e ∷ older) are = ap suc (as_many_rows receivers before older are.2)
+pub as_many_rows : (k receivers : ℕ) (records : List Record) (events : List Event) → AreRows k receivers records events → length records ≡ length events
+as_many_rows k receivers [] [] are = refl
+as_many_rows k receivers [] (e ∷ older) are = absurd are
+as_many_rows k receivers (row ∷ before) [] are = absurd are
+as_many_rows k receivers (row ∷ before) (e ∷ older) are = ap suc (as_many_rows k receivers before older are.2)
 
-pub as_many_outcomes : (station : Head) (m : ℕ) (events : List Event) (outcomes : List Outcome) → AreOutcomes station m events outcomes → length events ≡ length outcomes
-as_many_outcomes station m [] [] are = refl
-as_many_outcomes station m [] (o ∷ older) are = absurd are
-as_many_outcomes station m (e ∷ before) [] are = absurd are
-as_many_outcomes station m (e ∷ before) (o ∷ older) are = ap suc (as_many_outcomes station m before older are.1)
+pub as_many_outcomes : (station : Head) (m k : ℕ) (events : List Event) (outcomes : List Outcome) → AreOutcomes station m k events outcomes → length events ≡ length outcomes
+as_many_outcomes station m k [] [] are = refl
+as_many_outcomes station m k [] (o ∷ older) are = absurd are
+as_many_outcomes station m k (e ∷ before) [] are = absurd are
+as_many_outcomes station m k (e ∷ before) (o ∷ older) are = ap suc (as_many_outcomes station m k before older are.1)
 
 -- a row has one number of receptions
 pub same_count : (row : Record) (e f : Event) → SaysEvent row e → SaysEvent row f → length e.receptions ≡ length f.receptions
 same_count row e f p q =
-    let same : map letter e.receptions ≡ map letter f.receptions = fourth (sym p.fields ∙ q.fields) in
-    sym (length-map e.receptions letter) ∙ ap length same ∙ length-map f.receptions letter
+    let text : p.receptions ≡ q.receptions = fourth (sym p.fields ∙ q.fields) in
+    ap length (same_receptions q.receptions e.receptions f.receptions (subst (λ (x : List ℕ). AreReceptions x e.receptions) text p.spelled) q.spelled)
   where
     fourth : {a b c d a' b' c' d' : List ℕ} → a ∷ b ∷ c ∷ d ∷ [] ≡ a' ∷ b' ∷ c' ∷ d' ∷ [] → d ≡ d'
     fourth e = (cc)
@@ -42,26 +48,21 @@ at_most_eight Simulation receivers h = h
 at_most_eight Log receivers h = omega (arith, h)
 
 -- a record that says no event
-pub says_none : (form : Form) (row : Record) (records : List Record) → ((e : Event) → length e.receptions ≤ 8 → SaysEvent row e → ⊥) → AreNoRows form (row ∷ records)
-says_none form row records none [] say = say.rows
-says_none form row records none (e ∷ older) say = none e (let few = at_most_eight form say.receivers say.allowed in omega (arith, few, say.rows.1)) say.rows.0
+pub says_none : (k : ℕ) (form : Form) (row : Record) (records : List Record) → ((e : Event) → length e.receptions ≤ 8 → SaysEvent row e → ⊥) → AreNoRows k form (row ∷ records)
+says_none k form row records none [] say = say.rows
+says_none k form row records none (e ∷ older) say = none e (let few = at_most_eight form say.receivers say.allowed in let count = say.rows.1.count in omega (arith, few, count)) say.rows.0
 
 -- a row with more receivers than its script may name
-pub names_receivers : (form : Form) (row : Record) (records : List Record) (e : Event) → SaysEvent row e → (IsAllowed form (length e.receptions) → ⊥) → AreNoRows form (row ∷ records)
-names_receivers form row records e says none [] say = say.rows
-names_receivers form row records e says none (f ∷ older) say = none (subst (IsAllowed form) (sym (same_count row e f says say.rows.0 ∙ say.rows.1)) say.allowed)
+pub names_receivers : (k : ℕ) (form : Form) (row : Record) (records : List Record) (e : Event) → SaysEvent row e → (IsAllowed form (length e.receptions) → ⊥) → AreNoRows k form (row ∷ records)
+names_receivers k form row records e says none [] say = say.rows
+names_receivers k form row records e says none (f ∷ older) say = none (subst (IsAllowed form) (sym (same_count row e f says say.rows.0 ∙ say.rows.1.count)) say.allowed)
 
--- a later row with another number of receivers
-pub other_count : (form : Form) (receivers : ℕ) (row : Record) (records : List Record) (events : List Event) (e : Event) → AreRows receivers records events → 0 < length records
-    → SaysEvent row e → length e.receptions ≢ receivers → AreNoRows form (row ∷ records)
-other_count form receivers row [] events e are some says other said say = omega (arith, some)
-other_count form receivers row (first ∷ records) [] e are some says other said say = are
-other_count form receivers row (first ∷ records) (f ∷ events) e are some says other [] say = say.rows
-other_count form receivers row (first ∷ records) (f ∷ events) e are some says other (g ∷ []) say = say.rows.2
-other_count form receivers row (first ∷ records) (f ∷ events) e are some says other (g ∷ h ∷ older) say =
-    let here = same_count row e g says say.rows.0 in
-    let before = same_count first f h are.0 say.rows.2.0 in
-    other (here ∙ say.rows.1 ∙ sym say.rows.2.1 ∙ sym before ∙ are.1)
+-- rows of one script have one number of receivers
+same_receivers : (k n other : ℕ) (records : List Record) (events older : List Event) → AreRows k n records events → AreRows k other records older → 0 < length records → n ≡ other
+same_receivers k n other [] events older p q some = absurd (omega (arith, some))
+same_receivers k n other (row ∷ records) [] older p q some = absurd p
+same_receivers k n other (row ∷ records) (e ∷ events) [] p q some = absurd q
+same_receivers k n other (row ∷ records) (e ∷ events) (f ∷ older) p q some = sym p.1.count ∙ same_count row e f p.0 q.0 ∙ q.1.count
 
 -- the lines of a slot come after those of the slots before
 pub slot_written : (form : Form) (slot n : ℕ) (command : Command) (reply : Reply) (sent : Option Group) (kept views : List ShownView) (older : List Outcome) (written answered lines : List ℕ)
@@ -75,19 +76,31 @@ slot_written form slot n command reply sent kept views older written answered li
     ap₂ (λ (x y : List ℕ). x ++ y) had (changed ∙ ap₂ (λ (x y : List ℕ). x ++ y) answer changes)
 
 -- a player that counts slots has played rows
-pub has_played : (form : Form) (station : Head) (m receivers : ℕ) (p : Player) (records : List Record) (written : List ℕ) → PlayerStandsAt form station m receivers p records written → p.slot ≡ length records
-has_played form station m receivers p records written s = s.slot ∙ sym (as_many_outcomes station m s.events s.outcomes s.are) ∙ sym (as_many_rows receivers records s.events s.rows)
+pub has_played : (form : Form) (station : Head) (m k receivers : ℕ) (p : Player) (records : List Record) (written : List ℕ) → PlayerStandsAt form station m k receivers p records written → p.slot ≡ length records
+has_played form station m k receivers p records written s = s.slot ∙ sym (as_many_outcomes station m k s.events s.outcomes s.are) ∙ sym (as_many_rows k receivers records s.events s.rows)
 
 -- before the first row
-pub nothing_played : (form : Form) (station : Head) (m receivers : ℕ) (records : List Record) (events : List Event) (outcomes : List Outcome) → AreRows receivers records events → AreOutcomes station m events outcomes
+pub nothing_played : (form : Form) (station : Head) (m k receivers : ℕ) (records : List Record) (events : List Event) (outcomes : List Outcome) → AreRows k receivers records events → AreOutcomes station m k events outcomes
     → length records ≡ 0 → (records ≡ []) × (lines_of form outcomes ≡ [])
-nothing_played form station m receivers [] [] [] rows are none = (refl, refl)
-nothing_played form station m receivers [] [] (o ∷ older) rows are none = absurd are
-nothing_played form station m receivers [] (e ∷ events) outcomes rows are none = absurd rows
-nothing_played form station m receivers (row ∷ records) events outcomes rows are none = absurd (omega (arith, none))
+nothing_played form station m k receivers [] [] [] rows are none = (refl, refl)
+nothing_played form station m k receivers [] [] (o ∷ older) rows are none = absurd are
+nothing_played form station m k receivers [] (e ∷ events) outcomes rows are none = absurd rows
+nothing_played form station m k receivers (row ∷ records) events outcomes rows are none = absurd (omega (arith, none))
+
+-- a slot that is refused can't be taken
+pub not_taken : (k receivers : ℕ) (e : Event) (before : List Event) (why : StepRefused) → IsStepRefused k receivers e before why → CanBeTaken k receivers e before → ⊥
+not_taken k receivers e before ReceiverCount other taken = other taken.count
+not_taken k receivers e before (Late r) is taken = is.late.late (taken.due r)
 
 -- a record whose event was refused
-pub refused_row : (form : Form) (station : Head) (m : ℕ) (p : Player) (row : Record) (records : List Record) (written : List ℕ) (e : Event) (asked : ℕ) → asked ≡ length e.receptions → (began : BeginsRow form station m asked p records written)
-    → SaysEvent row e → length e.receptions ≢ began.0 → AreNoRows form (row ∷ records)
-refused_row form station m p row records written e asked is (receivers, s, inl some) says other = other_count form receivers row records s.events e s.rows some says other
-refused_row form station m p row records written e asked is (receivers, s, inr same) says other = absurd (other (sym is ∙ sym same))
+pub refused_row : TextIsReadOneWay → (form : Form) (station : Head) (m k : ℕ) (p : Player) (row : Record) (records : List Record) (written : List ℕ) (e : Event) (asked : ℕ) → asked ≡ length e.receptions
+    → (began : BeginsRow form station m k asked p records written) → SaysEvent row e → (CanBeTaken k began.0 e began.1.events → ⊥) → AreNoRows k form (row ∷ records)
+refused_row one form station m k p row records written e asked is (receivers, s, how) says none [] say = say.rows
+refused_row one form station m k p row records written e asked is (receivers, s, how) says none (g ∷ older) say =
+    let same : g ≡ e = same_event one row g e say.rows.0 says in
+    let before : older ≡ s.events = same_events one k say.receivers receivers records older s.events say.rows.2 s.rows in
+    let count : say.receivers ≡ receivers = elim how [
+      | inl some ↦ same_receivers k say.receivers receivers records older s.events say.rows.2 s.rows some
+      | inr began ↦ sym say.rows.1.count ∙ same_count row g e say.rows.0 says ∙ sym is ∙ sym began
+    ] in
+    none (subst (λ (n : ℕ). CanBeTaken k n e s.events) count (subst (λ (x : Event). CanBeTaken k say.receivers x s.events) same (subst (λ (l : List Event). CanBeTaken k say.receivers g l) before say.rows.1)))

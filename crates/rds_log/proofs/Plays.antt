@@ -1,18 +1,19 @@
 -- How a script is played on by a record, and what is left at each end.
-use Rattle.std.proofs.Common.{◌≡◌, ◌+◌, ◌∙◌, ◌∷◌, ◌++◌, ℕ, List, Option, ap, inl, inr, length, sym}
+use Rattle.std.proofs.Common.{◌≡◌, ◌+◌, ◌∙◌, ◌∷◌, ◌++◌, [], ℕ, List, Option, ap, arith, inl, inr, length, refl, sym}
 use Rattle.std.specs.Prelude.{Err, IsErr, Ok, OnErr, Result}
 use Rattle.std.specs.Io.KnownBytes.{Appends}
-use Rattle.std.proofs.KnownBytes.{Appends-trans}
+use Rattle.std.proofs.KnownBytes.{Appends-nil, Appends-trans}
 use Rattle.csv.specs.Reading.{reader_state}
 use Rattle.rds_charset.specs.Puts.{AppendsPrefix-append}
 use Rattle.rds_charset.specs.Told.{AppendsPrefix, HasFailed, Traffic}
 use Rattle.rds_fields.specs.declared.head.Head.{Head}
 use Rattle.rds_log.specs.Playing.{IsReadFault, PlayedSoFar, PlayerStandsAt, PlaysRow, ScriptStandsAt}
-use Rattle.rds_log.specs.Rows.{AreNoRows, Record}
+use Rattle.rds_log.specs.Rows.{AreNoRows, IsAllowed, Record}
 use Rattle.rds_log.specs.Scripts.{HasRecords, Plays, RowsWrite, WroteRows}
 use Rattle.rds_log.specs.declared.fault.LogFault.{LogFault}
 use Rattle.rds_log.specs.declared.fault.LogFault.TheVariants.{BadRow, Write}
 use Rattle.rds_log.specs.declared.form.Form.{Form}
+use Rattle.rds_log.specs.declared.form.Form.TheVariants.{Log, Simulation}
 use Rattle.rds_log.specs.declared.player.Player.{Player}
 use Rattle.rds_log.specs.declared.script.Script.{Script}
 
@@ -21,47 +22,47 @@ pub has_records : {R : Type 0} (remaining : R → Option (List ℕ)) (known : Op
 has_records remaining known s records stands = λ script k. let (rest, source, upto) = stands.gave script k in (reader_state s.reader, rest, upto)
 
 -- what a player played, its rows write
-pub rows_write : (form : Form) (station : Head) (m receivers : ℕ) (p : Player) (records : List Record) (written : List ℕ) → PlayerStandsAt form station m receivers p records written → RowsWrite form station m records written
-rows_write form station m receivers p records written s = record {
+pub rows_write : (form : Form) (station : Head) (m k receivers : ℕ) (p : Player) (records : List Record) (written : List ℕ) → PlayerStandsAt form station m k receivers p records written → RowsWrite form station m k records written
+rows_write form station m k receivers p records written s = record {
   events = s.events;
   say = record { receivers = receivers; allowed = s.allowed; rows = s.rows };
   write = record { outcomes = s.outcomes; are = s.are; lines = s.lines };
 }
 
-pub wrote_rows : {R : Type 0} (remaining : R → Option (List ℕ)) (form : Form) (station : Head) (m : ℕ) (known : Option (List ℕ)) (w : Traffic) (s : Script R) (p : Player) (records : List Record)
-    → ScriptStandsAt remaining known s records → PlayedSoFar form station m p records w → WroteRows form station m known w records
-wrote_rows remaining form station m known w s p records stands played = record {
+pub wrote_rows : {R : Type 0} (remaining : R → Option (List ℕ)) (form : Form) (station : Head) (m k : ℕ) (known : Option (List ℕ)) (w : Traffic) (s : Script R) (p : Player) (records : List Record)
+    → ScriptStandsAt remaining known s records → PlayedSoFar form station m k p records w → WroteRows form station m k known w records
+wrote_rows remaining form station m k known w s p records stands played = record {
   begins = has_records remaining known s records stands;
   written = played.written;
-  write = rows_write form station m played.receivers p records played.written played.player;
+  write = rows_write form station m k played.receivers p records played.written played.player;
   wrote = played.wrote;
   calm = played.calm;
 }
 
 -- no record was given
-pub ends_by_read : {R : Type 0} (remaining : R → Option (List ℕ)) (form : Form) (station : Head) (m most : ℕ) (known : Option (List ℕ)) (w : Traffic) (s : Script R) (p : Player) (records : List Record) (fault : LogFault)
-    → ScriptStandsAt remaining known s records → PlayedSoFar form station m p records w → IsReadFault fault → Plays form station m most known w (Err fault)
-ends_by_read remaining form station m most known w s p records fault stands played (inl e) = rw e (records, wrote_rows remaining form station m known w s p records stands played)
-ends_by_read remaining form station m most known w s p records fault stands played (inr e) = rw e (records, wrote_rows remaining form station m known w s p records stands played)
+pub ends_by_read : {R : Type 0} (remaining : R → Option (List ℕ)) (form : Form) (station : Head) (m k most : ℕ) (known : Option (List ℕ)) (w : Traffic) (s : Script R) (p : Player) (records : List Record) (fault : LogFault)
+    → ScriptStandsAt remaining known s records → PlayedSoFar form station m k p records w → IsReadFault fault → Plays form station m k most known w (Err fault)
+ends_by_read remaining form station m k most known w s p records fault stands played (inl e) = rw e (records, wrote_rows remaining form station m k known w s p records stands played)
+ends_by_read remaining form station m k most known w s p records fault stands played (inr e) = rw e (records, wrote_rows remaining form station m k known w s p records stands played)
 
 -- the record that was given is no row
-pub ends_by_row : {R : Type 0} (remaining : R → Option (List ℕ)) (form : Form) (station : Head) (m most : ℕ) (known : Option (List ℕ)) (w : Traffic) (before s : Script R) (p : Player) (bad : List (List ℕ)) (records : List Record) (n : ℕ)
-    → ScriptStandsAt remaining known before records → ScriptStandsAt remaining known s (bad ∷ records) → PlayedSoFar form station m p records w → AreNoRows form (bad ∷ records) → length records ≡ n
-    → Plays form station m most known w (Err (BadRow (n + 1)))
-ends_by_row remaining form station m most known w before s p bad records n had stands played none number = record {
+pub ends_by_row : {R : Type 0} (remaining : R → Option (List ℕ)) (form : Form) (station : Head) (m k most : ℕ) (known : Option (List ℕ)) (w : Traffic) (before s : Script R) (p : Player) (bad : List (List ℕ)) (records : List Record) (n : ℕ)
+    → ScriptStandsAt remaining known before records → ScriptStandsAt remaining known s (bad ∷ records) → PlayedSoFar form station m k p records w → AreNoRows k form (bad ∷ records) → length records ≡ n
+    → Plays form station m k most known w (Err (BadRow (n + 1)))
+ends_by_row remaining form station m k most known w before s p bad records n had stands played none number = record {
   records = records;
   bad = bad;
-  wrote = wrote_rows remaining form station m known w before p records had played;
+  wrote = wrote_rows remaining form station m k known w before p records had played;
   begins = has_records remaining known s (bad ∷ records) stands;
   none = none;
-  number = ap (λ (k : ℕ). k + 1) (sym number);
+  number = ap (λ (x : ℕ). x + 1) (sym number);
 }
 
 -- the lines of the row came after the others
-pub played_on : (form : Form) (station : Head) (m : ℕ) (p : Player) (records : List Record) (start now after : Option (List ℕ)) (v w w' : ℕ) (written lines : List ℕ) → PlaysRow form station m p records (written ++ lines)
+pub played_on : (form : Form) (station : Head) (m k : ℕ) (p : Player) (records : List Record) (start now after : Option (List ℕ)) (v w w' : ℕ) (written lines : List ℕ) → PlaysRow form station m k p records (written ++ lines)
     → Appends start now written → w ≡ v → Appends now after lines → w' ≡ w
-    → PlayedSoFar form station m p records record { before = start; after = after; failures_before = v; failures_after = w' }
-played_on form station m p records start now after v w w' written lines (receivers, stands) had calm gave same = record {
+    → PlayedSoFar form station m k p records record { before = start; after = after; failures_before = v; failures_after = w' }
+played_on form station m k p records start now after v w w' written lines (receivers, stands) had calm gave same = record {
   receivers = receivers;
   written = written ++ lines;
   player = stands;
@@ -70,15 +71,15 @@ played_on form station m p records start now after v w w' written lines (receive
 }
 
 -- and where the writer failed, a first part of them
-pub ends_by_write : {R : Type 0} (remaining : R → Option (List ℕ)) (form : Form) (station : Head) (m most : ℕ) (known : Option (List ℕ)) (s : Script R) (p : Player) (records : List Record) (start now after : Option (List ℕ)) (v w w' : ℕ) (written lines : List ℕ)
-    → ScriptStandsAt remaining known s records → PlaysRow form station m p records (written ++ lines)
+pub ends_by_write : {R : Type 0} (remaining : R → Option (List ℕ)) (form : Form) (station : Head) (m k most : ℕ) (known : Option (List ℕ)) (s : Script R) (p : Player) (records : List Record) (start now after : Option (List ℕ)) (v w w' : ℕ) (written lines : List ℕ)
+    → ScriptStandsAt remaining known s records → PlaysRow form station m k p records (written ++ lines)
     → Appends start now written → w ≡ v → AppendsPrefix now after lines → HasFailed record { before = now; after = after; failures_before = w; failures_after = w' }
-    → Plays form station m most known record { before = start; after = after; failures_before = v; failures_after = w' } (Err Write)
-ends_by_write remaining form station m most known s p records start now after v w w' written lines stands (receivers, plays) had calm gave failed = record {
+    → Plays form station m k most known record { before = start; after = after; failures_before = v; failures_after = w' } (Err Write)
+ends_by_write remaining form station m k most known s p records start now after v w w' written lines stands (receivers, plays) had calm gave failed = record {
   records = records;
   begins = has_records remaining known s records stands;
   written = written ++ lines;
-  write = rows_write form station m receivers p records (written ++ lines) plays;
+  write = rows_write form station m k receivers p records (written ++ lines) plays;
   wrote = AppendsPrefix-append start now after written lines had gave;
   failed = rw calm at failed;
 }
@@ -87,3 +88,18 @@ ends_by_write remaining form station m most known s p records start now after v 
 pub of_err : {T E P : Type 0} (r : Result T E) → IsErr r → OnErr r P → P
 of_err (Ok a) e p = cc
 of_err (Err f) e p = p
+
+none_allowed : (form : Form) → IsAllowed form 0
+none_allowed Simulation = omega arith
+none_allowed Log = refl
+
+-- before the first record nothing was written
+pub wrote_nothing : {R : Type 0} (remaining : R → Option (List ℕ)) (form : Form) (station : Head) (m k : ℕ) (known : Option (List ℕ)) (start : Option (List ℕ)) (v : ℕ) (s : Script R) → ScriptStandsAt remaining known s []
+    → WroteRows form station m k known record { before = start; after = start; failures_before = v; failures_after = v } []
+wrote_nothing remaining form station m k known start v s stands = record {
+  begins = has_records remaining known s [] stands;
+  written = [];
+  write = record { events = []; say = record { receivers = 0; allowed = none_allowed form; rows = tt }; write = record { outcomes = []; are = tt; lines = refl } };
+  wrote = Appends-nil start;
+  calm = refl;
+}

@@ -1,5 +1,6 @@
 -- What `audit` answers, and what it leaves at each end: how much of the reader it took, and what it wrote. Lists of
--- slots and of lines have the newest first; d is the dwell in slots; r is what a call did to the reader, w what it
+-- slots and of lines have the newest first; d is the number of slots that keeps broadcasts apart, the dwell and the
+-- lateness; r is what a call did to the reader, w what it
 -- did to the writer.
 use Rattle.std.specs.Prelude.{◌≡◌, ◌≤◌, ◌↔◌, ◌++◌, ◌∷◌, ℕ, Bool, List, All, IsTrue, Ok, Err, Result, codes, decimal, length, Option}
 use Rattle.std.specs.Io.KnownBytes.{Appends, Consumes, IsAtEnd}
@@ -7,7 +8,7 @@ use Rattle.rds_block.specs.declared.group.Group.{Group}
 use Rattle.rds_charset.specs.Told.{AppendsPrefix, HasFailed, IsCalm, PutsNothing, Traffic}
 use Rattle.rds_fields.specs.declared.message.Message.{Message}
 use Rattle.rds_receiver.specs.Receipts.{AreHeard}
-use Rattle.rds_world.specs.AuditLaws.{IsSafeOnTime}
+use Rattle.rds_world.specs.AuditLaws.{IsSafeLog}
 use Rattle.rds_world.specs.Dense.{HasPlans}
 use Rattle.rds_world.specs.Rules.{IsFaultOf, LogPasses}
 use Rattle.rds_world.specs.declared.audit_fault.AuditFault.{AuditFault}
@@ -42,11 +43,12 @@ pub record SlotsFail (pi d t : ℕ) (fault : AuditFault) (slots : List (Option G
   pub are : AreHeard pi slots heard
   pub fault_is : IsFaultOf d heard fault
 
--- no receiver of these slots breaks any part of the promise, whatever it loses and whenever it restarts
-pub record AreSafe (pi d : ℕ) (slots : List (Option Group)) : Type 0 where
+-- no receiver of dwell m breaks any part of the promise by these slots, of which it is handed none more than k slots
+-- late, whatever it loses and whenever it restarts
+pub record AreSafe (pi m k : ℕ) (slots : List (Option Group)) : Type 0 where
   pub heard : List (Option Message)
   pub are : AreHeard pi slots heard
-  pub safe : IsSafeOnTime d heard
+  pub safe : IsSafeLog m k heard
 
 -- no plans of these slots are lawful and dense
 pub record HaveNoPlans (pi d : ℕ) (slots : List (Option Group)) : Type 0 where

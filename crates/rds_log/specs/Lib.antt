@@ -12,6 +12,7 @@ pub mod Engine
 pub mod Auditing
 pub mod AuditorStanding
 pub mod Verbs
+pub mod Receptions
 pub mod Rows
 pub mod Outcomes
 pub mod Scripts

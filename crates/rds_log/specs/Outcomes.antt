@@ -2,7 +2,7 @@
 -- sent, and the changes of each receiver's view; for a log the reply as a comment, and the group as a line of a log.
 -- This is the project's own format. Lists have the newest first, so the slot of an outcome is the number of outcomes
 -- behind it.
-use Rattle.std.specs.Prelude.{◌≡◌, ◌<◌, ◌++◌, ℕ, zero, suc, List, [], ◌∷◌, Option, Some, None, codes, decimal, length, slice_index_or}
+use Rattle.std.specs.Prelude.{◌≡◌, ◌<◌, ◌+◌, ◌++◌, ℕ, zero, suc, List, [], ◌∷◌, Option, Some, None, codes, decimal, length, slice_index_or}
 use Rattle.rds_block.specs.declared.group.Group.{Group}
 use Rattle.rds_block.specs.Words.{second_word_of}
 use Rattle.rds_fields.specs.declared.head.Head.{Head}
@@ -38,19 +38,19 @@ pub record Outcome : Type 0 where
   pub views : List ShownView
 
 -- the outcome of a slot after these
-pub record IsOutcome (station : Head) (m : ℕ) (e : Event) (before : List Event) (o : Outcome) : Type 0 where
+pub record IsOutcome (station : Head) (m k : ℕ) (e : Event) (before : List Event) (o : Outcome) : Type 0 where
   pub command : o.command ≡ e.command
-  pub reply : o.reply ≡ reply_at m e.command (entries before)
-  pub sent : IsSent station (sent_at m e before) o.sent
+  pub reply : o.reply ≡ reply_at (m + k) e.command (entries before)
+  pub sent : IsSent station (sent_at (m + k) e before) o.sent
   pub receivers : length o.views ≡ length e.receptions
-  pub views : (i : ℕ) → i < length o.views → IsViewOfInput station m (input_of m i (e ∷ before)) (view_at o.views i)
+  pub views : (i : ℕ) → i < length o.views → IsViewOfInput station m (input_of (m + k) i (e ∷ before)) (view_at o.views i)
 
 -- these are the outcomes of the slots
-abbrev pub AreOutcomes : Head → ℕ → List Event → List Outcome → Type 0
-AreOutcomes station m [] [] = Unit {0}
-AreOutcomes station m [] (o ∷ older) = ⊥
-AreOutcomes station m (e ∷ before) [] = ⊥
-AreOutcomes station m (e ∷ before) (o ∷ older) = IsOutcome station m e before o × AreOutcomes station m before older
+abbrev pub AreOutcomes : Head → ℕ → ℕ → List Event → List Outcome → Type 0
+AreOutcomes station m k [] [] = Unit {0}
+AreOutcomes station m k [] (o ∷ older) = ⊥
+AreOutcomes station m k (e ∷ before) [] = ⊥
+AreOutcomes station m k (e ∷ before) (o ∷ older) = IsOutcome station m k e before o × AreOutcomes station m k before older
 
 -- what a reply line says of a text, a name or tags
 abbrev pub thing_set : Command → List ℕ
@@ -134,7 +134,7 @@ lines_of form [] = []
 lines_of form (o ∷ older) = lines_of form older ++ slot_lines form (length older) (newest_views older) o
 
 -- the slots of a station write the lines of their outcomes
-pub record EventsWrite (form : Form) (station : Head) (m : ℕ) (events : List Event) (written : List ℕ) : Type 0 where
+pub record EventsWrite (form : Form) (station : Head) (m k : ℕ) (events : List Event) (written : List ℕ) : Type 0 where
   pub outcomes : List Outcome
-  pub are : AreOutcomes station m events outcomes
+  pub are : AreOutcomes station m k events outcomes
   pub lines : written ≡ lines_of form outcomes

@@ -10,13 +10,16 @@ use Rattle.rds_world.specs.Event.{Event}
 use Rattle.rds_world.specs.Standing as world
 use Rattle.rds_receiver.specs.Shown.{ShownView}
 use Rattle.rds_log.specs.Kept.{view_kept}
-use Rattle.rds_log.specs.Rows.{AreRows, IsAllowed, Record}
+use Rattle.rds_log.specs.Rows.{AreNoRows, AreRows, IsAllowed, Record}
 use Rattle.rds_log.specs.Outcomes.{AreOutcomes, Outcome, lines_of, newest_views, view_at}
 use Rattle.rds_log.specs.Scripts.{RecordsUpTo}
 use Rattle.rds_log.specs.declared.fault.LogFault.{LogFault}
 use Rattle.rds_log.specs.declared.fault.LogFault.TheVariants.{Memory, Read}
 use Rattle.rds_log.specs.declared.form.Form.{Form}
 use Rattle.rds_log.specs.declared.player.Player.{Player}
+use Rattle.rds_log.specs.declared.player.RowRefused.{RowRefused}
+use Rattle.rds_log.specs.declared.player.RowRefused.TheVariants.{NoRow}
+use Rattle.rds_log.specs.declared.player.RowRefused.TheVariants as refused
 use Rattle.rds_log.specs.declared.script.Script.{Script}
 
 -- the reader of a script gave these records
@@ -36,40 +39,46 @@ abbrev pub AreKept : List ShownView → List ShownView → Type 0
 AreKept kept views = (i : ℕ) → view_at kept i ≡ view_at views i
 
 -- the station played these rows, each with so many receivers, and gave the lines of their slots
-pub record PlayerStandsAt (form : Form) (station : Head) (m receivers : ℕ) (p : Player) (records : List Record) (written : List ℕ) : Type 0 where
+pub record PlayerStandsAt (form : Form) (station : Head) (m k receivers : ℕ) (p : Player) (records : List Record) (written : List ℕ) : Type 0 where
   pub form_is : p.form ≡ form
   pub head : p.config.head ≡ station
   pub dwell : p.config.dwell ≡ m
+  pub late : p.config.late ≡ k
   pub allowed : IsAllowed form receivers
   pub events : List Event
-  pub rows : AreRows receivers records events
-  pub world : world.StandsAt station m p.world events
+  pub rows : AreRows k receivers records events
+  pub world : world.StandsAt station m k p.world events
   pub count : length p.world.receivers ≡ receivers
   pub outcomes : List Outcome
-  pub are : AreOutcomes station m events outcomes
+  pub are : AreOutcomes station m k events outcomes
   pub slot : p.slot ≡ length outcomes
   pub shown : AreKept (map view_kept p.shown.items) (newest_views outcomes)
   pub kept : length p.shown.items ≡ receivers
   pub lines : written ≡ lines_of form outcomes
 
 -- wherever the player stands, this holds of what it played
-abbrev pub WherePlayerStands : Player → (Form → Head → ℕ → ℕ → List Record → List ℕ → Type 0) → Type 0
-WherePlayerStands p Holds = (form : Form) (station : Head) (m receivers : ℕ) (records : List Record) (written : List ℕ)
-    → PlayerStandsAt form station m receivers p records written → Holds form station m receivers records written
+abbrev pub WherePlayerStands : Player → (Form → Head → ℕ → ℕ → ℕ → List Record → List ℕ → Type 0) → Type 0
+WherePlayerStands p Holds = (form : Form) (station : Head) (m k receivers : ℕ) (records : List Record) (written : List ℕ)
+    → PlayerStandsAt form station m k receivers p records written → Holds form station m k receivers records written
 
 -- the player goes on by a row
-abbrev pub PlaysRow : Form → Head → ℕ → Player → List Record → List ℕ → Type 0
-PlaysRow form station m p records written = (receivers : ℕ) × PlayerStandsAt form station m receivers p records written
+abbrev pub PlaysRow : Form → Head → ℕ → ℕ → Player → List Record → List ℕ → Type 0
+PlaysRow form station m k p records written = (receivers : ℕ) × PlayerStandsAt form station m k receivers p records written
 
 -- the player is to play a row with so many receivers, and has so many, but where it has played rows with others
-abbrev pub BeginsRow : Form → Head → ℕ → ℕ → Player → List Record → List ℕ → Type 0
-BeginsRow form station m asked p records written =
-    (receivers : ℕ) × PlayerStandsAt form station m receivers p records written × ((0 < length records) ⊎ (receivers ≡ asked))
+abbrev pub BeginsRow : Form → Head → ℕ → ℕ → ℕ → Player → List Record → List ℕ → Type 0
+BeginsRow form station m k asked p records written =
+    (receivers : ℕ) × PlayerStandsAt form station m k receivers p records written × ((0 < length records) ⊎ (receivers ≡ asked))
+
+-- why a record is not played after those before it
+abbrev pub IsRowRefused : ℕ → Form → List Record → RowRefused → Type 0
+IsRowRefused k form records NoRow = AreNoRows k form records
+IsRowRefused k form records refused.Memory = Unit {0}
 
 -- the station played these records, and their output was written
-pub record PlayedSoFar (form : Form) (station : Head) (m : ℕ) (p : Player) (records : List Record) (w : Traffic) : Type 0 where
+pub record PlayedSoFar (form : Form) (station : Head) (m k : ℕ) (p : Player) (records : List Record) (w : Traffic) : Type 0 where
   pub receivers : ℕ
   pub written : List ℕ
-  pub player : PlayerStandsAt form station m receivers p records written
+  pub player : PlayerStandsAt form station m k receivers p records written
   pub wrote : Appends w.before w.after written
   pub calm : IsCalm w

@@ -1,6 +1,6 @@
 -- A row of a script: a record of four fields that says what happens in one slot. This is the project's own format.
 -- Lists of records and of events have the newest first.
-use Rattle.std.specs.Prelude.{◌≡◌, ◌≢◌, ◌≤◌, ◌++◌, ℕ, All, Bool, true, false, List, [], ◌∷◌, IsUtf8, codes, length, map}
+use Rattle.std.specs.Prelude.{◌≡◌, ◌≢◌, ◌≤◌, ◌++◌, ℕ, All, Bool, true, false, List, [], ◌∷◌, IsUtf8, codes, length}
 use Rattle.std.specs.Int.{from_bool}
 use Rattle.std.specs.Str.Parse.{IsNumeral, digits_value}
 use Rattle.rds_charset.specs.ReadAs.{IsReadAs}
@@ -9,10 +9,9 @@ use Rattle.rds_assembly.specs.Body.{name_body}
 use Rattle.rds_assembly.specs.Value.{IsGivenName, IsText}
 use Rattle.rds_world.specs.declared.event.Command.{Command}
 use Rattle.rds_world.specs.declared.event.Command.TheVariants.{Quiet, Restart, SetText, SetName, SetTags}
-use Rattle.rds_world.specs.declared.event.Reception.{Reception}
-use Rattle.rds_world.specs.declared.event.Reception.TheVariants.{Got, Lost}
-use Rattle.rds_world.specs.declared.event.Reception.TheVariants as reception
 use Rattle.rds_world.specs.Event.{Event}
+use Rattle.rds_world.specs.Replies.{CanBeTaken}
+use Rattle.rds_log.specs.Receptions.{AreReceptions}
 use Rattle.rds_log.specs.LineSays.{space}
 use Rattle.rds_log.specs.Verbs.{word_of}
 use Rattle.rds_log.specs.declared.row.Verb.TheVariants.{Nothing, Text, Name, Tags}
@@ -72,38 +71,35 @@ abbrev pub free_field : Bool → List ℕ
 free_field false = codes "0"
 free_field true = codes "1"
 
--- the letter of what a receiver gets
-abbrev pub letter : Reception → ℕ
-letter Got = 0x47
-letter Lost = 0x4C
-letter reception.Restart = 0x52
-
--- four fields: the command, its argument in UTF-8, whether the slot is free, and a letter for each receiver
+-- four fields: the command, its argument in UTF-8, whether the slot is free, and what each receiver gets
 pub record SaysEvent (row : Record) (e : Event) : Type 0 where
   pub word : List ℕ
   pub argument : List ℕ
-  pub fields : row ≡ word ∷ argument ∷ free_field e.free ∷ map letter e.receptions ∷ []
+  pub receptions : List ℕ
+  pub fields : row ≡ word ∷ argument ∷ free_field e.free ∷ receptions ∷ []
   pub text : IsUtf8 argument
   pub command : SaysCommand word argument e.command
+  pub spelled : AreReceptions receptions e.receptions
 
 -- a script that is simulated names up to eight receivers, and one that is encoded names none
 abbrev pub IsAllowed : Form → ℕ → Type 0
 IsAllowed Simulation receivers = receivers ≤ 8
 IsAllowed Log receivers = receivers ≡ 0
 
--- the records are rows that say these events, each with so many receivers
-abbrev pub AreRows : ℕ → List Record → List Event → Type 0
-AreRows receivers [] [] = Unit {0}
-AreRows receivers [] (e ∷ older) = ⊥
-AreRows receivers (row ∷ before) [] = ⊥
-AreRows receivers (row ∷ before) (e ∷ older) = SaysEvent row e × (length e.receptions ≡ receivers) × AreRows receivers before older
+-- the records are rows that say these events, each with so many receivers, to which each reception is due: at most
+-- k slots late, and in the order of sending
+abbrev pub AreRows : ℕ → ℕ → List Record → List Event → Type 0
+AreRows k receivers [] [] = Unit {0}
+AreRows k receivers [] (e ∷ older) = ⊥
+AreRows k receivers (row ∷ before) [] = ⊥
+AreRows k receivers (row ∷ before) (e ∷ older) = SaysEvent row e × CanBeTaken k receivers e older × AreRows k receivers before older
 
 -- the records are rows: the first of them fixes the number of receivers
-pub record RowsSay (form : Form) (records : List Record) (events : List Event) : Type 0 where
+pub record RowsSay (k : ℕ) (form : Form) (records : List Record) (events : List Event) : Type 0 where
   pub receivers : ℕ
   pub allowed : IsAllowed form receivers
-  pub rows : AreRows receivers records events
+  pub rows : AreRows k receivers records events
 
 -- not all of the records are rows
-abbrev pub AreNoRows : Form → List Record → Type 0
-AreNoRows form records = (events : List Event) → RowsSay form records events → ⊥
+abbrev pub AreNoRows : ℕ → Form → List Record → Type 0
+AreNoRows k form records = (events : List Event) → RowsSay k form records events → ⊥

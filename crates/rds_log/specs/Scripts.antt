@@ -30,43 +30,43 @@ HasAllRecords known records = (script : List ℕ) → known ≡ Some script
     → (state : State) × (rest : List ℕ) × RecordsUpTo script records state rest × (next_record default_config state [] [] rest ≡ None)
 
 -- the records are rows, and write this
-pub record RowsWrite (form : Form) (station : Head) (m : ℕ) (records : List Record) (written : List ℕ) : Type 0 where
+pub record RowsWrite (form : Form) (station : Head) (m k : ℕ) (records : List Record) (written : List ℕ) : Type 0 where
   pub events : List Event
-  pub say : RowsSay form records events
-  pub write : EventsWrite form station m events written
+  pub say : RowsSay k form records events
+  pub write : EventsWrite form station m k events written
 
 -- the output of the first records of the script was written
-pub record WroteRows (form : Form) (station : Head) (m : ℕ) (known : Option (List ℕ)) (w : Traffic) (records : List Record) : Type 0 where
+pub record WroteRows (form : Form) (station : Head) (m k : ℕ) (known : Option (List ℕ)) (w : Traffic) (records : List Record) : Type 0 where
   pub begins : HasRecords known records
   pub written : List ℕ
-  pub write : RowsWrite form station m records written
+  pub write : RowsWrite form station m k records written
   pub wrote : Appends w.before w.after written
   pub calm : IsCalm w
 
 -- the record after these is no row, and their output was written
-pub record StopsAtBadRow (form : Form) (station : Head) (m : ℕ) (known : Option (List ℕ)) (w : Traffic) (n : ℕ) : Type 0 where
+pub record StopsAtBadRow (form : Form) (station : Head) (m k : ℕ) (known : Option (List ℕ)) (w : Traffic) (n : ℕ) : Type 0 where
   pub records : List Record
   pub bad : List (List ℕ)
-  pub wrote : WroteRows form station m known w records
+  pub wrote : WroteRows form station m k known w records
   pub begins : HasRecords known (bad ∷ records)
-  pub none : AreNoRows form (bad ∷ records)
+  pub none : AreNoRows k form (bad ∷ records)
   pub number : n ≡ length records + 1
 
 -- the writer failed: a first part of the output of these records was written
-pub record StopsAtWrite (form : Form) (station : Head) (m : ℕ) (known : Option (List ℕ)) (w : Traffic) : Type 0 where
+pub record StopsAtWrite (form : Form) (station : Head) (m k : ℕ) (known : Option (List ℕ)) (w : Traffic) : Type 0 where
   pub records : List Record
   pub begins : HasRecords known records
   pub written : List ℕ
-  pub write : RowsWrite form station m records written
+  pub write : RowsWrite form station m k records written
   pub wrote : AppendsPrefix w.before w.after written
   pub failed : HasFailed w
 
 -- what playing a script did, with at most so many records: each fault comes only for its cause
-abbrev pub Plays : Form → Head → ℕ → ℕ → Option (List ℕ) → Traffic → Result (Unit {0}) LogFault → Type 0
-Plays form station m most known w (Ok done) = (records : List Record) × HasAllRecords known records × WroteRows form station m known w records
-Plays form station m most known w (Err (BadLine n)) = ⊥
-Plays form station m most known w (Err (BadRow n)) = StopsAtBadRow form station m known w n
-Plays form station m most known w (Err Read) = (records : List Record) × WroteRows form station m known w records
-Plays form station m most known w (Err Memory) = (records : List Record) × WroteRows form station m known w records
-Plays form station m most known w (Err TooLong) = (records : List Record) × WroteRows form station m known w records × (length records ≡ most)
-Plays form station m most known w (Err Write) = StopsAtWrite form station m known w
+abbrev pub Plays : Form → Head → ℕ → ℕ → ℕ → Option (List ℕ) → Traffic → Result (Unit {0}) LogFault → Type 0
+Plays form station m k most known w (Ok done) = (records : List Record) × HasAllRecords known records × WroteRows form station m k known w records
+Plays form station m k most known w (Err (BadLine n)) = ⊥
+Plays form station m k most known w (Err (BadRow n)) = StopsAtBadRow form station m k known w n
+Plays form station m k most known w (Err Read) = (records : List Record) × WroteRows form station m k known w records
+Plays form station m k most known w (Err Memory) = (records : List Record) × WroteRows form station m k known w records
+Plays form station m k most known w (Err TooLong) = (records : List Record) × WroteRows form station m k known w records × (length records ≡ most)
+Plays form station m k most known w (Err Write) = StopsAtWrite form station m k known w

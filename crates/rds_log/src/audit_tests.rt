@@ -3,6 +3,7 @@
 use crate::tests::Endless;
 use crate::{LogFault, audit, audit_within};
 use rds_charset::Told;
+use rds_encoder::Late;
 use rds_fields::Dwell;
 use std::cell::Cell;
 use std::test::Fail;
@@ -17,6 +18,10 @@ C201 B148 2002 0000
 
 fn four_slots() -> Result<Dwell, Fail> {
     Ok(Dwell::new(4).ok_or("dwell")?)
+}
+
+fn on_time() -> Result<Late, Fail> {
+    Ok(Late::new(0).ok_or("late")?)
 }
 
 /// A yes with the number of slots, and a no with the slot and the fault: here the tags count as early where the
@@ -35,6 +40,7 @@ fn yes_and_no(rt: HostRuntime) -> Result<(), Fail> {
             &mut Told::new(&mut output),
             0xC201,
             dwell,
+            on_time()?,
         );
         assert_eq!(rt; given, answer);
         assert_eq!(rt; output.as_slice(), line);
@@ -54,6 +60,7 @@ fn as_many_reads_as_may_be(rt: HostRuntime) -> Result<(), Fail> {
             &mut Told::new(&mut output),
             0xC201,
             four_slots()?,
+            on_time()?,
             most,
         );
         assert_eq!(rt; given, Err(LogFault::TooLong));
@@ -66,6 +73,7 @@ fn as_many_reads_as_may_be(rt: HostRuntime) -> Result<(), Fail> {
             &mut Told::new(&mut output),
             0xC201,
             four_slots()?,
+            on_time()?,
             most,
         );
         assert_eq!(rt; given, answer);

@@ -1,5 +1,5 @@
 //! The audit over a reader and a writer.
-ghost use Rattle.std.specs.Prelude.{◌≡◌, ◌≤◌, ◌<◌, ◌-◌, ◌^◌, ℕ, List, Option};
+ghost use Rattle.std.specs.Prelude.{◌≡◌, ◌≤◌, ◌<◌, ◌+◌, ◌-◌, ◌^◌, ℕ, List, Option};
 ghost use Rattle.rds_block.specs.declared.group.Group.{Group};
 ghost use Rattle.rds_charset.specs.Told.{traffic};
 ghost use Rattle.rds_world.specs.declared.audit_fault.AuditFault.{AuditFault};
@@ -14,14 +14,15 @@ use crate::engine::{MOST_READS, PIECE};
 use crate::lines::Lines;
 use crate::verdict::Verdict;
 use rds_charset::{TellingRead, TellingWrite, put};
+use rds_encoder::Late;
 use rds_fields::Dwell;
 use rds_world::{one_fault, passes_by_plans, what_passes_is_safe};
 
 /// Audits a log of what a station sent, a slot a line, and writes the answer line: `yes` with the number of
 /// slots, or `no` with the first slot up to which they do not pass and the name of the fault.
 ///
-/// A yes means that texts and names of a station that keeps them apart by the dwell could have been sent so,
-/// and then no receiver of that dwell ever shows a mix of them. Nothing is read after the line of the slot that
+/// A yes means that texts and names of a station that keeps them apart by the dwell and the lateness could have been
+/// sent so, and then no receiver of that dwell, whose groups come no later, ever shows a mix of them. Nothing is read after the line of the slot that
 /// does not pass, or after a fault.
 ///
 /// # Errors
@@ -32,16 +33,18 @@ pub fn audit<R: TellingRead, W: TellingWrite>(
     writer: &mut W,
     pi: u16,
     dwell: Dwell,
+    late: Late,
 ) -> Result<bool, LogFault>
-    ensures audits { Audits pi dwell (2 ^ 32)
+    ensures audits { Audits pi (dwell + late) (2 ^ 32)
         (traffic R.remaining R.failures reader.old reader.new)
         (traffic W.contents W.failures writer.old writer.new) result }
-    ensures safe { (slots : List (Option Group)) → SlotsPass pi dwell slots → AreSafe pi dwell slots }
+    ensures safe { (slots : List (Option Group)) → SlotsPass pi (dwell + late) slots
+        → AreSafe pi dwell late slots }
     ensures no_plans { (slots : List (Option Group)) (t : ℕ) (fault : AuditFault)
-        → SlotsFail pi dwell t fault slots → HaveNoPlans pi dwell slots }
+        → SlotsFail pi (dwell + late) t fault slots → HaveNoPlans pi (dwell + late) slots }
     ensures reads { MadeReads (2 ^ 32) (R.reads reader.old) (R.reads reader.new) result }
 {
-    audit_within(reader, writer, pi, dwell, MOST_READS)
+    audit_within(reader, writer, pi, dwell, late, MOST_READS)
 }
 
 /// [`audit`] with at most so many reads: a log that is not at its end by then is too long.
@@ -50,22 +53,24 @@ pub fn audit_within<R: TellingRead, W: TellingWrite>(
     writer: &mut W,
     pi: u16,
     dwell: Dwell,
+    late: Late,
     reads: u64,
 ) -> Result<bool, LogFault>
     requires { reads ≤ 2 ^ 32 }
-    ensures audits { Audits pi dwell reads
+    ensures audits { Audits pi (dwell + late) reads
         (traffic R.remaining R.failures reader.old reader.new)
         (traffic W.contents W.failures writer.old writer.new) result }
-    ensures safe { (slots : List (Option Group)) → SlotsPass pi dwell slots → AreSafe pi dwell slots }
+    ensures safe { (slots : List (Option Group)) → SlotsPass pi (dwell + late) slots
+        → AreSafe pi dwell late slots }
     ensures no_plans { (slots : List (Option Group)) (t : ℕ) (fault : AuditFault)
-        → SlotsFail pi dwell t fault slots → HaveNoPlans pi dwell slots }
+        → SlotsFail pi (dwell + late) t fault slots → HaveNoPlans pi (dwell + late) slots }
     ensures reads { MadeReads reads (R.reads reader.old) (R.reads reader.new) result }
 {
     // the laws by which `safe` and `no_plans` hold
     one_fault();
     passes_by_plans();
     what_passes_is_safe();
-    let verdict = judge(reader, pi, dwell, reads)?;
+    let verdict = judge(reader, pi, dwell, late, reads)?;
     let mut line = Lines::new();
     verdict.push(&mut line);
     put(line.bytes(), writer)?;
@@ -77,13 +82,14 @@ fn judge<R: TellingRead>(
     reader: &mut R,
     pi: u16,
     dwell: Dwell,
+    late: Late,
     reads: u64,
 ) -> Result<Verdict, LogFault>
     requires { reads ≤ 2 ^ 32 }
-    ensures judges { Judges pi dwell reads (traffic R.remaining R.failures reader.old reader.new) result }
+    ensures judges { Judges pi (dwell + late) reads (traffic R.remaining R.failures reader.old reader.new) result }
     ensures reads { MadeReads reads (R.reads reader.old) (R.reads reader.new) result }
 {
-    let mut auditor = Auditor::new(pi, dwell);
+    let mut auditor = Auditor::new(pi, dwell, late);
     let mut piece = [0u8; PIECE];
     for _turn in 0..reads {
         match reader.read_one(&mut piece) {

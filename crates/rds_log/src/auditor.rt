@@ -6,6 +6,7 @@ ghost use Rattle.rds_log.specs.LogLines.{IsLine, text_of};
 use crate::cutter::{Cutter, line_end};
 use crate::fault::BadLine;
 use crate::log_line::LogLine;
+use rds_encoder::Late;
 use rds_fields::Dwell;
 use rds_world::{Audit, AuditFault};
 
@@ -43,15 +44,15 @@ impl Auditor {
     ghost use Rattle.rds_log.specs.AuditorStanding.{AuditorStandsAt, GoesOn, StopsAtLine, WhereItAudits};
 
     /// At the start of a log.
-    pub fn new(pi: u16, dwell: Dwell) -> Auditor
+    pub fn new(pi: u16, dwell: Dwell, late: Late) -> Auditor
         ensures lines { result.cutter.lines ≡ 0 }
         ensures slots { result.slots ≡ 0 }
-        ensures stands { AuditorStandsAt pi dwell result [] [] }
+        ensures stands { AuditorStandsAt pi (dwell + late) result [] [] }
     {
         Auditor {
             cutter: Cutter::new(),
             slots: 0,
-            audit: Audit::new(pi, dwell),
+            audit: Audit::new(pi, dwell, late),
         }
     }
 

@@ -25,9 +25,9 @@ pub fn bytes_write_one_output()
 /// The output of a script is a function of its records: a row says one event, and rows write one output.
 pub fn rows_write_one_output()
     ensures one_event { (row : Record) (e f : Event) → SaysEvent row e → SaysEvent row f → e ≡ f }
-    ensures one_output { (form : Form) (station : Head) (m : ℕ) (records : List Record)
-        (written other : List ℕ) → RowsWrite form station m records written
-        → RowsWrite form station m records other → written ≡ other }
+    ensures one_output { (form : Form) (station : Head) (m k : ℕ) (records : List Record)
+        (written other : List ℕ) → RowsWrite form station m k records written
+        → RowsWrite form station m k records other → written ≡ other }
 {
     // the laws by which a text is read one way, and a message is one group
     text_is_read_one_way();

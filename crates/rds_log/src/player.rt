@@ -1,14 +1,16 @@
 //! A station that plays the rows of a script.
-ghost use Rattle.std.specs.Prelude.{◌≡◌, ◌≢◌, ◌≤◌, ◌<◌, ◌+◌, ◌-◌, ◌^◌, ◌++◌, ◌∷◌, [], ℕ, OnErr, OnOk, length, map};
+ghost use Rattle.std.specs.Prelude.{◌≡◌, ◌⊎◌, ◌≤◌, ◌<◌, ◌+◌, ◌-◌, ◌^◌, ◌++◌, ◌∷◌, [], ℕ, List, IfErr, IfOk, IsTrue, OnOk, length, map};
 ghost use Rattle.csv.specs.Records.{fields_of};
 ghost use Rattle.rds_fields.specs.declared.head.Head.{Head};
 ghost use Rattle.rds_world.specs.Event.{Event};
 ghost use Rattle.rds_world.specs.Slots.{input_of};
-ghost use Rattle.rds_world.specs.Standing.{IsViewOfInput, WhereItStands};
+ghost use Rattle.rds_world.specs.Replies.{CanBeTaken};
+ghost use Rattle.rds_world.specs.Standing.{IsViewOfInput, StandsAt, WhereItStands};
 ghost use Rattle.rds_log.specs.Kept.{view_kept};
 ghost use Rattle.rds_log.specs.Outcomes.{receiver_changes, view_at};
 ghost use Rattle.rds_log.specs.Playing.{AreKept};
-ghost use Rattle.rds_log.specs.Rows.{AreNoRows, IsAllowed, Record, SaysEvent};
+ghost use Rattle.rds_log.specs.Rows.{IsAllowed, Record, SaysEvent};
+ghost use Rattle.rds_log.specs.declared.player.RowRefused.TheVariants as refused;
 ghost use Rattle.rds_log.specs.declared.form.Form.{Form};
 
 use crate::answer_lines::push_answer;
@@ -20,7 +22,9 @@ use crate::row::event_of;
 use crate::view_lines::show;
 use arrayvec::ArrayVec;
 use csv::ByteRecord;
+use rds_charset::text_is_read_one_way;
 use rds_world::{Config, SlotEvent, World};
+use std::alloc::Global;
 
 /// The most receivers of a world.
 const RECEIVERS: usize = 8;
@@ -31,13 +35,19 @@ pub const ROW: usize = RECEIVERS * SLOT + 192;
 /// The output of a row.
 pub type RowLines = Lines<ROW>;
 
-/// This record is no row.
-#[derive(Clone, Copy)]
-pub struct NoRow;
+/// Why a record is not played.
+#[derive(Clone, Copy, Debug, PartialEq, Eq)]
+pub enum RowRefused {
+    /// It is no row.
+    NoRow,
+    /// There was no memory for the world.
+    Memory,
+}
 
 /// Plays the rows of a script, and gives the lines of each slot. The first row fixes the number of receivers.
 #[derive(Drop)]
 pub struct Player {
+    alloc: Global,
     form: Form,
     config: Config,
     world: World,
@@ -46,80 +56,103 @@ pub struct Player {
 }
 
 impl Player {
-    ghost use Rattle.rds_log.specs.Playing.{BeginsRow, PlayerStandsAt, PlaysRow, WherePlayerStands};
+    ghost use Rattle.rds_log.specs.Playing.{BeginsRow, IsRowRefused, PlayerStandsAt, PlaysRow, WherePlayerStands};
 
     /// Before the first row.
-    pub fn new(form: Form, config: Config) -> Player
-        ensures slot { result.slot ≡ 0 }
-        ensures stands { PlayerStandsAt form config.head config.dwell 0 result [] [] }
+    pub fn new(alloc: Global, form: Form, config: Config) -> Result<Player, RowRefused>
+        ensures slot { IfOk result (λ p. p.slot ≡ 0) }
+        ensures stands { IfOk result (λ p. PlayerStandsAt form config.head config.dwell config.late 0 p [] []) }
+        ensures memory { IfErr result (λ why. why ≡ refused.Memory) }
     {
         let asked = config;
-        let world = World::new(asked, 0).unwrap();
-        Player {
+        Ok(Player {
+            alloc,
             form,
             config,
-            world,
+            world: new_world(alloc, asked, 0)?,
             shown: nothing_shown(0),
             slot: 0,
-        }
+        })
     }
 
     /// Plays one record more, and gives the lines of its slot.
-    pub fn row(&mut self, row: &ByteRecord, lines: &mut RowLines) -> Result<(), NoRow>
+    pub fn row(&mut self, row: &ByteRecord, lines: &mut RowLines) -> Result<(), RowRefused>
         requires slots { self.old.slot < 2 ^ 64 - 1 }
         requires empty { lines.old ≡ [] }
         ensures slot { OnOk result (self.new.slot ≡ self.old.slot + 1) }
-        ensures stands { WherePlayerStands self.old (λ form station m receivers records written.
-            OnOk result (PlaysRow form station m self.new (fields_of row.now ∷ records)
+        ensures stands { WherePlayerStands self.old (λ form station m k receivers records written.
+            OnOk result (PlaysRow form station m k self.new (fields_of row.now ∷ records)
             (written ++ lines.new))) }
-        ensures none { WherePlayerStands self.old (λ form station m receivers records written.
-            OnErr result (AreNoRows form (fields_of row.now ∷ records))) }
+        ensures refused { WherePlayerStands self.old (λ form station m k receivers records written.
+            IfErr result (IsRowRefused k form (fields_of row.now ∷ records))) }
     {
+        // the law by which a record says one event
+        text_is_read_one_way();
         let Some(event) = event_of(row) else {
-            return Err(NoRow);
+            return Err(RowRefused::NoRow);
         };
         let receivers = event.receptions.len();
         if !self.form.allows(receivers) {
-            return Err(NoRow);
+            return Err(RowRefused::NoRow);
         }
-        self.begin(receivers);
-        self.event(&event, lines)
+        self.begin(receivers)?;
+        if self.event(&event, lines) {
+            Ok(())
+        } else {
+            Err(RowRefused::NoRow)
+        }
     }
 
     /// Fixes the number of receivers, where no row was played yet.
-    fn begin(&mut self, receivers: usize)
+    fn begin(&mut self, receivers: usize) -> Result<(), RowRefused>
         requires { receivers ≤ 8 }
         ensures slot { self.new.slot ≡ self.old.slot }
-        ensures stands { WherePlayerStands self.old (λ form station m before records written.
+        ensures stands { WherePlayerStands self.old (λ form station m k before records written.
             IsAllowed form receivers
-            → BeginsRow form station m receivers self.new records written) }
+            → OnOk result (BeginsRow form station m k receivers self.new records written)) }
+        ensures memory { IfErr result (λ why. why ≡ refused.Memory) }
     {
         if self.slot > 0 {
-            return;
+            return Ok(());
         }
-        self.world = World::new(self.config, receivers).unwrap();
+        self.world = new_world(self.alloc, self.config, receivers)?;
         self.shown = nothing_shown(receivers);
+        Ok(())
     }
 
-    /// Plays the slot of an event.
-    fn event(&mut self, event: &SlotEvent, lines: &mut RowLines) -> Result<(), NoRow>
+    /// Plays the slot of an event; `false` where the world refuses it.
+    fn event(&mut self, event: &SlotEvent, lines: &mut RowLines) -> bool
         requires slots { self.old.slot < 2 ^ 64 - 1 }
         requires empty { lines.old ≡ [] }
-        ensures slot { OnOk result (self.new.slot ≡ self.old.slot + 1) }
-        ensures stands { WherePlayerStands self.old (λ form station m receivers records written.
-            OnOk result ((row : Record) → SaysEvent row event.now
-            → PlayerStandsAt form station m receivers self.new (row ∷ records)
-            (written ++ lines.new))) }
-        ensures none { WherePlayerStands self.old (λ form station m receivers records written.
-            OnErr result (length event.now.receptions ≢ receivers)) }
+        ensures slot { IsTrue result → self.new.slot ≡ self.old.slot + 1 }
+        ensures stands { WherePlayerStands self.old (λ form station m k receivers records written.
+            IsTrue result → (row : Record) → SaysEvent row event.now
+            → PlayerStandsAt form station m k receivers self.new (row ∷ records)
+            (written ++ lines.new)) }
+        ensures refused { (form : Form) (station : Head) (m k receivers : ℕ) (records : List Record)
+            (written : List ℕ) (s : PlayerStandsAt form station m k receivers self.old records written)
+            → IsTrue result ⊎ (CanBeTaken k receivers event.now s.events → ⊥) }
     {
         let Ok(answer) = self.world.step(event) else {
-            return Err(NoRow);
+            return false;
         };
         push_answer(self.form, self.slot, event.command, answer, lines);
         push_views(self.slot, &self.world, self.shown.as_mut_slice(), lines);
         self.slot += 1;
-        Ok(())
+        true
+    }
+}
+
+/// A world with so many receivers.
+fn new_world(alloc: Global, config: Config, receivers: usize) -> Result<World, RowRefused>
+    requires { receivers ≤ 8 }
+    ensures count { IfOk result (λ w. length w.receivers ≡ receivers) }
+    ensures stands { IfOk result (λ w. StandsAt config.head config.dwell config.late w []) }
+    ensures memory { IfErr result (λ why. why ≡ refused.Memory) }
+{
+    match World::new(alloc, config, receivers) {
+        Ok(world) => Ok(world),
+        Err(_) => Err(RowRefused::Memory),
     }
 }
 
@@ -144,8 +177,8 @@ fn push_views(slot: u64, world: &World, shown: &mut [KeptView], lines: &mut RowL
         → lines.new ≡ lines.old ++ receiver_changes slot (length shown.old)
         (map view_kept shown.old) (map view_kept shown.new) }
     ensures views { length shown.old ≡ length world.now.receivers
-        → WhereItStands world.now (λ station m events. (i : ℕ) → i < length shown.old
-        → IsViewOfInput station m (input_of m i events) (view_at (map view_kept shown.new) i)) }
+        → WhereItStands world.now (λ station m k events. (i : ℕ) → i < length shown.old
+        → IsViewOfInput station m (input_of (m + k) i events) (view_at (map view_kept shown.new) i)) }
     ensures count { length shown.new ≡ length shown.old }
 {
     for i in 0..shown.len() {

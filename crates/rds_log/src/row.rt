@@ -1,6 +1,8 @@
 //! The event that a row of a script says.
-ghost use Rattle.std.specs.Prelude.{◌≡◌, ◌≢◌, ◌≤◌, ℕ, Bool, List, [], ◌∷◌, IfNone, IfSome, IsUtf8, length, map};
+ghost use Rattle.std.specs.Prelude.{◌≡◌, ◌≢◌, ◌<◌, ◌≤◌, ℕ, Bool, List, [], ◌∷◌, IfNone, IfSome, IsUtf8, length, slice_index};
+ghost use Rattle.std.specs.Char.{IsAsciiDigit, IsNotAsciiDigit};
 ghost use Rattle.std.specs.Int.{from_bool};
+ghost use Rattle.std.specs.Str.Parse.{AllDigits};
 ghost use Rattle.csv.specs.Records.{fields_of};
 ghost use Rattle.rds_charset.specs.ReadAs.{IsReadAs};
 ghost use Rattle.rds_fields.specs.Tag.{IsPair, PairFields};
@@ -10,7 +12,8 @@ ghost use Rattle.rds_world.specs.declared.event.Command.{Command};
 ghost use Rattle.rds_world.specs.declared.event.Reception.{Reception};
 ghost use Rattle.rds_log.specs.declared.row.Verb.{Verb};
 ghost use Rattle.rds_log.specs.Verbs.{word_of};
-ghost use Rattle.rds_log.specs.Rows.{AreNumbers, HasNoSpace, IsCut, IsNameArgument, IsNumber, SaysCommand, SaysEvent, free_field, letter, numbers_of_pair, numbers_of_tag};
+ghost use Rattle.rds_log.specs.Receptions.{AreReceptions, HasDigits, IsLateness, letter};
+ghost use Rattle.rds_log.specs.Rows.{AreNumbers, HasNoSpace, IsCut, IsNameArgument, IsNumber, SaysCommand, SaysEvent, free_field, numbers_of_pair, numbers_of_tag};
 
 use arrayvec::ArrayVec;
 use csv::ByteRecord;
@@ -221,26 +224,59 @@ fn free_of(field: &[u8]) -> Option<bool>
 
 /// What each receiver gets; `None` also for more than eight receivers.
 fn receptions_of(field: &[u8]) -> Option<ArrayVec<Reception, 8>>
-    ensures some { IfSome result (λ receptions. field.now ≡ map letter receptions.items) }
+    ensures some { IfSome result (λ receptions. AreReceptions field.now receptions.items) }
     ensures none { IfNone result ((receptions : List Reception) → length receptions ≤ 8
-        → field.now ≡ map letter receptions → ⊥) }
+        → AreReceptions field.now receptions → ⊥) }
 {
     let mut receptions = ArrayVec::new();
-    for byte in field {
-        receptions.try_push(reception_of(*byte)?).ok()?;
+    let mut rest = field;
+    while let Some((letter, after)) = rest.split_first() {
+        let (digits, others) = after.split_at(digits_in_front(after));
+        receptions.try_push(reception_of(*letter, digits)?).ok()?;
+        rest = others;
     }
     Some(receptions)
 }
 
-/// What the letter says.
-fn reception_of(byte: u8) -> Option<Reception>
-    ensures some { IfSome result (λ reception. byte ≡ letter reception) }
-    ensures none { IfNone result ((reception : Reception) → byte ≡ letter reception → ⊥) }
+/// How many decimal digits the text begins with.
+fn digits_in_front(text: &[u8]) -> usize
+    ensures within { result ≤ length text.now }
+    ensures digits { (k : ℕ) → k < result → IsAsciiDigit (slice_index text.now k) }
+    ensures ends { result < length text.now → IsNotAsciiDigit (slice_index text.now result) }
+{
+    text.iter()
+        .position(|byte| !byte.is_ascii_digit())
+        .unwrap_or(text.len())
+}
+
+/// What a letter says with the digits after it.
+fn reception_of(byte: u8, digits: &[u8]) -> Option<Reception>
+    requires { AllDigits 10 digits.now }
+    ensures some { IfSome result (λ reception. (byte ≡ letter reception)
+        × HasDigits reception digits.now) }
+    ensures none { IfNone result ((reception : Reception) → byte ≡ letter reception
+        → HasDigits reception digits.now → ⊥) }
 {
     match byte {
-        b'G' => Some(Reception::Got),
-        b'L' => Some(Reception::Lost),
-        b'R' => Some(Reception::Restart),
+        b'G' => Some(Reception::Got(lateness_of(digits)?)),
+        b'L' if digits.is_empty() => Some(Reception::Lost),
+        b'R' if digits.is_empty() => Some(Reception::Restart),
         _ => None,
     }
+}
+
+/// The number of slots that up to four digits write; 0 where there are none.
+fn lateness_of(digits: &[u8]) -> Option<u16>
+    requires { AllDigits 10 digits.now }
+    ensures some { IfSome result (IsLateness digits.now) }
+    ensures none { IfNone result ((late : ℕ) → IsLateness digits.now late → ⊥) }
+{
+    if digits.len() > 4 {
+        return None;
+    }
+    let mut late = 0;
+    for digit in digits {
+        late = late * 10 + u16::from(*digit - b'0');
+    }
+    Some(late)
 }

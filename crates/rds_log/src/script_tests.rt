@@ -4,6 +4,7 @@
 use crate::{LogFault, encode, encode_within, simulate, simulate_within};
 use rds_block::Place;
 use rds_charset::Told;
+use rds_encoder::Late;
 use rds_fields::{Dwell, Head};
 use rds_world::Config;
 use std::alloc::{AllocError, Global};
@@ -151,6 +152,7 @@ fn config(dwell: u16) -> Result<Config, Fail> {
             pty: Place::new(10).ok_or("pty")?,
         },
         dwell: Dwell::new(dwell).ok_or("dwell")?,
+        late: Late::new(0).ok_or("late")?,
     })
 }
 

@@ -6,7 +6,7 @@ ghost use Rattle.rds_log.specs.declared.form.Form.TheVariants as forms;
 
 use crate::LogFault;
 use crate::form::Form;
-use crate::player::{Player, RowLines};
+use crate::player::{Player, RowLines, RowRefused};
 use crate::script::Script;
 use csv::ByteRecord;
 use rds_charset::{TellingRead, TellingWrite, put};
@@ -23,15 +23,15 @@ const MOST_RECORDS: u64 = 1 << 32;
 ///
 /// # Errors
 ///
-/// The first fault: a record that is no row, a read or a write that failed, no memory for a record, or 2^32 records
-/// without an end.
+/// The first fault: a record that is no row, a read or a write that failed, no memory for the world or for a record,
+/// or 2^32 records without an end.
 pub fn simulate<R: TellingRead + Drop, W: TellingWrite>(
     alloc: Global,
     reader: R,
     writer: &mut W,
     config: Config,
 ) -> Result<(), LogFault>
-    ensures { Plays forms.Simulation config.head config.dwell (2 ^ 32) (R.remaining reader)
+    ensures { Plays forms.Simulation config.head config.dwell config.late (2 ^ 32) (R.remaining reader)
         (traffic W.contents W.failures writer.old writer.new) result }
 {
     simulate_within(alloc, reader, writer, config, MOST_RECORDS)
@@ -46,7 +46,7 @@ pub fn simulate_within<R: TellingRead + Drop, W: TellingWrite>(
     records: u64,
 ) -> Result<(), LogFault>
     requires { records ≤ 2 ^ 32 }
-    ensures { Plays forms.Simulation config.head config.dwell records (R.remaining reader)
+    ensures { Plays forms.Simulation config.head config.dwell config.late records (R.remaining reader)
         (traffic W.contents W.failures writer.old writer.new) result }
 {
     play(Form::Simulation, alloc, reader, writer, config, records)
@@ -64,7 +64,7 @@ pub fn encode<R: TellingRead + Drop, W: TellingWrite>(
     writer: &mut W,
     config: Config,
 ) -> Result<(), LogFault>
-    ensures { Plays forms.Log config.head config.dwell (2 ^ 32) (R.remaining reader)
+    ensures { Plays forms.Log config.head config.dwell config.late (2 ^ 32) (R.remaining reader)
         (traffic W.contents W.failures writer.old writer.new) result }
 {
     encode_within(alloc, reader, writer, config, MOST_RECORDS)
@@ -79,7 +79,7 @@ pub fn encode_within<R: TellingRead + Drop, W: TellingWrite>(
     records: u64,
 ) -> Result<(), LogFault>
     requires { records ≤ 2 ^ 32 }
-    ensures { Plays forms.Log config.head config.dwell records (R.remaining reader)
+    ensures { Plays forms.Log config.head config.dwell config.late records (R.remaining reader)
         (traffic W.contents W.failures writer.old writer.new) result }
 {
     play(Form::Log, alloc, reader, writer, config, records)
@@ -95,19 +95,23 @@ fn play<R: TellingRead + Drop, W: TellingWrite>(
     records: u64,
 ) -> Result<(), LogFault>
     requires { records ≤ 2 ^ 32 }
-    ensures { Plays form config.head config.dwell records (R.remaining reader)
+    ensures { Plays form config.head config.dwell config.late records (R.remaining reader)
         (traffic W.contents W.failures writer.old writer.new) result }
 {
     let mut script = Script::new(alloc, reader);
     let mut row = ByteRecord::new(alloc);
-    let mut player = Player::new(form, config);
+    let Ok(mut player) = Player::new(alloc, form, config) else {
+        return Err(LogFault::Memory);
+    };
     let mut lines = RowLines::new();
     for turn in 0..records {
         if !script.next(&mut row)? {
             return Ok(());
         }
-        if player.row(&row, &mut lines).is_err() {
-            return Err(LogFault::BadRow(turn + 1));
+        match player.row(&row, &mut lines) {
+            Ok(()) => {}
+            Err(RowRefused::NoRow) => return Err(LogFault::BadRow(turn + 1)),
+            Err(RowRefused::Memory) => return Err(LogFault::Memory),
         }
         put(lines.bytes(), writer)?;
         lines.clear();

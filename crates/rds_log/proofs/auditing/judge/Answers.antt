@@ -1,4 +1,4 @@
-use Rattle.std.proofs.Common.{◌≡◌, ◌≢◌, ◌∙◌, length, refl, rules, take, arith, Err}
+use Rattle.std.proofs.Common.{◌≡◌, ◌≢◌, ◌∙◌, ◌+◌, length, refl, rules, take, arith, Err}
 use Rattle.std.proofs.lemmas.List.{length-take}
 use Rattle.rds_charset.specs.Told.{count_next, count_none}
 use Rattle.rds_log.specs.declared.fault.LogFault.TheVariants.{Read, TooLong}
@@ -19,7 +19,7 @@ pub returns-in-None-clause-judges : goal.returns-in-None-clause-judges
 returns-in-None-clause-judges g c =
     let s = c.loop-turn.invariant.stands in
     let (failed, keeps) = c.in-None.ensures.one in (
-      passes_so_far c.args.pi c.args.dwell (g.R.Read.remaining c.args.reader.now) (g.R.Read.remaining c.loop-turn.reader) (g.R.Read.remaining c.read_one.new.self)
+      passes_so_far c.args.pi (c.args.dwell + c.args.late) (g.R.Read.remaining c.args.reader.now) (g.R.Read.remaining c.loop-turn.reader) (g.R.Read.remaining c.read_one.new.self)
           (g.R.TellingRead.failures c.args.reader.now) (g.R.TellingRead.failures c.read_one.new.self) c.loop-turn.auditor c.loop-turn._turn 0 s (omega arith) keeps,
       rw c.loop-turn.invariant.calm at failed,
     )
@@ -39,17 +39,17 @@ pub returns-in-Some-eq0-clause-judges : goal.returns-in-Some-eq0-clause-judges
 returns-in-Some-eq0-clause-judges g c =
     let s = c.loop-turn.invariant.stands in
     let (room, calm, within, gave, end) = c.in-Some-eq0.ensures.one in
-    ends_audit c.args.pi c.args.dwell c.args.reads (g.R.Read.remaining c.args.reader.now) (g.R.Read.remaining c.loop-turn.reader) (g.R.Read.remaining c.read_one.new.self)
+    ends_audit c.args.pi (c.args.dwell + c.args.late) c.args.reads (g.R.Read.remaining c.args.reader.now) (g.R.Read.remaining c.loop-turn.reader) (g.R.Read.remaining c.read_one.new.self)
     (g.R.TellingRead.failures c.args.reader.now) (g.R.TellingRead.failures c.read_one.new.self) c.loop-turn.auditor c.conclude.result c.loop-turn._turn s
     (rw c.in-Some-eq0.field-0-test at gave) (end c.in-Some-eq0.field-0-test (omega (arith, c.read_one.auto.buf)))
-    (calm ∙ c.loop-turn.invariant.calm) (c.conclude.ensures c.args.pi c.args.dwell s.closed s.begun s.stands)
+    (calm ∙ c.loop-turn.invariant.calm) (c.conclude.ensures c.args.pi (c.args.dwell + c.args.late) s.closed s.begun s.stands)
 
 pub returns-in-Some-eq0-clause-reads : goal.returns-in-Some-eq0-clause-reads
 returns-in-Some-eq0-clause-reads g c =
     let s = c.loop-turn.invariant.stands in
     stops_in_read c.args.reads c.loop-turn._turn (g.R.TellingRead.reads c.args.reader.now) (g.R.TellingRead.reads c.loop-turn.reader) (g.R.TellingRead.reads c.read_one.new.self) c.conclude.result
     c.loop-turn-test.true c.loop-turn.invariant.reads c.in-Some-eq0.ensures.counts
-    (concludes_in_time c.args.pi c.args.dwell _ c.conclude.result (c.conclude.ensures c.args.pi c.args.dwell s.closed s.begun s.stands))
+    (concludes_in_time c.args.pi (c.args.dwell + c.args.late) _ c.conclude.result (c.conclude.ensures c.args.pi (c.args.dwell + c.args.late) s.closed s.begun s.stands))
 
 pub feed-requires-clause-lines : goal.feed-requires-clause-lines
 feed-requires-clause-lines g c =
@@ -65,9 +65,9 @@ pub returns-in-Err-clause-judges : goal.returns-in-Err-clause-judges
 returns-in-Err-clause-judges g c =
     let s = c.loop-turn.invariant.stands in
     let (room, calm, within, gave, end) = c.in-Some.ensures.one in
-    rw c.stopped.ensures (stops_in_piece c.args.pi c.args.dwell c.args.reads (g.R.Read.remaining c.args.reader.now) (g.R.Read.remaining c.loop-turn.reader) (g.R.Read.remaining c.read_one.new.self)
+    rw c.stopped.ensures (stops_in_piece c.args.pi (c.args.dwell + c.args.late) c.args.reads (g.R.Read.remaining c.args.reader.now) (g.R.Read.remaining c.loop-turn.reader) (g.R.Read.remaining c.read_one.new.self)
     (g.R.TellingRead.failures c.args.reader.now) (g.R.TellingRead.failures c.read_one.new.self) c.loop-turn.auditor c.in-Err.stop c.loop-turn._turn _ s gave
-    (calm ∙ c.loop-turn.invariant.calm) (c.in-Err.ensures.step c.args.pi c.args.dwell s.closed s.begun s.stands _))
+    (calm ∙ c.loop-turn.invariant.calm) (c.in-Err.ensures.step c.args.pi (c.args.dwell + c.args.late) s.closed s.begun s.stands _))
 
 pub returns-in-Err-clause-reads : goal.returns-in-Err-clause-reads
 returns-in-Err-clause-reads g c =
@@ -87,13 +87,13 @@ loop-turn-preserved g c =
       slots = omega (arith, fed.slots, c.loop-turn.invariant.slots, size, within, c.read_one.auto.buf);
       calm = calm ∙ c.loop-turn.invariant.calm;
       reads = count_next (g.R.TellingRead.reads c.args.reader.now) c.loop-turn._turn (g.R.TellingRead.reads c.loop-turn.reader) (g.R.TellingRead.reads c.read_one.new.self) c.loop-turn.invariant.reads c.in-Some.ensures.counts;
-      stands = audits_piece c.args.pi c.args.dwell (g.R.Read.remaining c.args.reader.now) (g.R.Read.remaining c.loop-turn.reader) (g.R.Read.remaining c.read_one.new.self)
-          c.loop-turn.auditor c.feed.new.self c.loop-turn._turn _ s gave (omega (arith, size, some)) (fed.step c.args.pi c.args.dwell s.closed s.begun s.stands);
+      stands = audits_piece c.args.pi (c.args.dwell + c.args.late) (g.R.Read.remaining c.args.reader.now) (g.R.Read.remaining c.loop-turn.reader) (g.R.Read.remaining c.read_one.new.self)
+          c.loop-turn.auditor c.feed.new.self c.loop-turn._turn _ s gave (omega (arith, size, some)) (fed.step c.args.pi (c.args.dwell + c.args.late) s.closed s.begun s.stands);
     }
 
 pub returns-clause-judges : goal.returns-clause-judges
 returns-clause-judges g c = (
-  passes_so_far c.args.pi c.args.dwell (g.R.Read.remaining c.args.reader.now) (g.R.Read.remaining c.loop-turn.reader) (g.R.Read.remaining c.loop-turn.reader)
+  passes_so_far c.args.pi (c.args.dwell + c.args.late) (g.R.Read.remaining c.args.reader.now) (g.R.Read.remaining c.loop-turn.reader) (g.R.Read.remaining c.loop-turn.reader)
       (g.R.TellingRead.failures c.args.reader.now) (g.R.TellingRead.failures c.loop-turn.reader) c.loop-turn.auditor c.loop-turn._turn c.args.reads c.loop-turn.invariant.stands c.loop-turn-test.false (search rules),
   c.loop-turn.invariant.calm,
 )

@@ -1,4 +1,4 @@
-use Rattle.std.proofs.Common.{◌≡◌, ◌<◌, ◌∙◌, ◌++◌, ℕ, ap, arith, get_or, inl, inr, length, map, refl, set, subst, sym}
+use Rattle.std.proofs.Common.{◌≡◌, ◌<◌, ◌+◌, ◌∙◌, ◌++◌, ℕ, ap, arith, get_or, inl, inr, length, map, refl, set, subst, sym}
 use Rattle.std.proofs.lemmas.Grind.{common_steps}
 use Rattle.rds_receiver.specs.Lent.{view_lent}
 use Rattle.rds_receiver.specs.Shown.{ShownView}
@@ -15,7 +15,7 @@ loop-i-init c = record {
   count = refl;
   room = omega arith;
   lines = no_changes c.args.slot c.args.lines.now _ _;
-  views = λ station m events s i below. absurd (omega (arith, below));
+  views = λ station m k events s i below. absurd (omega (arith, below));
   later = λ i l. refl;
 }
 
@@ -28,10 +28,10 @@ loop-i-preserved c =
       room = omega (arith, c.show.ensures.room, c.loop-i.invariant.room);
       lines = next_changes c.args.slot c.loop-i.i c.args.shown.now c.loop-i.shown c.index-shown-i.result c.show.new.shown c.args.lines.now c.loop-i.lines c.show.new.lines within
           c.loop-i.invariant.later c.loop-i.invariant.lines (c.show.ensures.changes ∙ ap (λ (v : ShownView). c.loop-i.lines ++ change (receiver_stamp c.args.slot c.loop-i.i) (view_kept (get_or c.loop-i.shown c.loop-i.i c.index-shown-i.result)) v) (sym shows));
-      views = λ station m events s i below. elim (at_last i c.loop-i.i below) [
-        | inl less ↦ subst (IsViewOfInput station m (input_of m i events)) (sym (other_set c.loop-i.shown c.loop-i.i i c.show.new.shown (λ e. omega (arith, e, less)))) (c.loop-i.invariant.views station m events s i less)
-        | inr same ↦ subst (λ (k : ℕ). IsViewOfInput station m (input_of m k events) (view_at (map view_kept (set c.loop-i.shown c.loop-i.i c.show.new.shown)) k)) (sym same)
-            (subst (IsViewOfInput station m (input_of m c.loop-i.i events)) (sym (at_set c.loop-i.shown c.loop-i.i c.show.new.shown within ∙ shows)) (c.in-Some.ensures.shows station m events s (view_lent c.view.result) c.view.ensures))
+      views = λ station m k events s i below. elim (at_last i c.loop-i.i below) [
+        | inl less ↦ subst (IsViewOfInput station m (input_of (m + k) i events)) (sym (other_set c.loop-i.shown c.loop-i.i i c.show.new.shown (λ e. omega (arith, e, less)))) (c.loop-i.invariant.views station m k events s i less)
+        | inr same ↦ subst (λ (n : ℕ). IsViewOfInput station m (input_of (m + k) n events) (view_at (map view_kept (set c.loop-i.shown c.loop-i.i c.show.new.shown)) n)) (sym same)
+            (subst (IsViewOfInput station m (input_of (m + k) c.loop-i.i events)) (sym (at_set c.loop-i.shown c.loop-i.i c.show.new.shown within ∙ shows)) (c.in-Some.ensures.shows station m k events s (view_lent c.view.result) c.view.ensures))
       ];
       later = λ i l. other_set c.loop-i.shown c.loop-i.i i c.show.new.shown (λ e. omega (arith, e, l)) ∙ c.loop-i.invariant.later i (omega (arith, l));
     }

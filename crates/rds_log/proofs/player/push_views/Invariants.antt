@@ -10,6 +10,6 @@ invariant-loop-i l = record {
   count : length l.shown ≡ length l.initial.shown;
   room : length l.lines ≤ length l.initial.lines + l.i * 1720;
   lines : l.lines ≡ l.initial.lines ++ receiver_changes l.slot l.i (map view_kept l.initial.shown) (map view_kept l.shown);
-  views : WhereItStands l.world (λ station m events. (i : ℕ) → i < l.i → IsViewOfInput station m (input_of m i events) (view_at (map view_kept l.shown) i));
+  views : WhereItStands l.world (λ station m k events. (i : ℕ) → i < l.i → IsViewOfInput station m (input_of (m + k) i events) (view_at (map view_kept l.shown) i));
   later : (i : ℕ) → l.i ≤ i → view_at (map view_kept l.shown) i ≡ view_at (map view_kept l.initial.shown) i;
 }

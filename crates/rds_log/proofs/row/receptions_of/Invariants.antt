@@ -1,6 +1,9 @@
-use Rattle.std.proofs.Common.{◌≡◌, take, map}
-use Rattle.rds_log.specs.Rows.{letter}
+use Rattle.std.proofs.Common.{length}
+use Rattle.rds_log.proofs.Receptions.{ReadSoFar}
 use Rattle.rds_log.proofs.row.receptions_of.Given as goal
 
-abbrev pub invariant-loop-byte : goal.invariant-loop-byte
-invariant-loop-byte l = take l.byte-index l.field ≡ map letter l.receptions.items
+abbrev pub invariant-loop-letter : goal.invariant-loop-letter
+invariant-loop-letter l = ReadSoFar l.field l.receptions.items l.rest
+
+abbrev pub decreases-loop-letter : goal.decreases-loop-letter
+decreases-loop-letter l = length l.rest

@@ -1,25 +1,23 @@
-use Rattle.std.proofs.Common.{◌≡◌, ◌∙◌, [], arith, inr, length, refl, rules}
-use Rattle.rds_world.specs.Standing as world
+use Rattle.std.proofs.Common.{◌≡◌, ◌∙◌, [], arith, inr, length, refl}
 use Rattle.rds_log.proofs.Playing.{has_played, nothing_played}
 use Rattle.rds_log.proofs.player.Player.begin.Goals as goal
 
 pub returns-clause-stands : goal.returns-clause-stands
-returns-clause-stands c form station m before records written s allowed =
-    let played : c.args.self.now.slot ≡ length records = has_played form station m before c.args.self.now records written s in
+returns-clause-stands c form station m k before records written s allowed =
+    let played : c.args.self.now.slot ≡ length records = has_played form station m k before c.args.self.now records written s in
     let start : c.args.self.now.slot ≡ 0 = omega (arith, c.if-self-gt0.false) in
-    let (no_rows, no_lines) = nothing_played form station m before records s.events s.outcomes s.rows s.are (omega (arith, played, start)) in
-    let stands : world.StandsAt c.args.self.now.config.head c.args.self.now.config.dwell c.unwrap-self.result [] = search rules in
-    let count : length c.unwrap-self.result.receivers ≡ c.args.receivers = search rules in (
+    let (no_rows, no_lines) = nothing_played form station m k before records s.events s.outcomes s.rows s.are (omega (arith, played, start)) in (
       c.args.receivers,
       rw (no_rows, s.lines ∙ no_lines) record {
         form_is = s.form_is;
         head = s.head;
         dwell = s.dwell;
+        late = s.late;
         allowed = allowed;
         events = [];
         rows = tt;
-        world = rw (s.head, s.dwell) at stands;
-        count = count;
+        world = rw (s.head, s.dwell, s.late) at c.in_ok-self.ensures.stands;
+        count = c.in_ok-self.ensures.count;
         outcomes = [];
         are = tt;
         slot = start;

@@ -8,13 +8,14 @@ use Rattle.rds_log.proofs.Playing.{slot_written}
 use Rattle.rds_log.proofs.player.Player.event.Goals as goal
 
 pub returns-clause-stands : goal.returns-clause-stands
-returns-clause-stands c form station m receivers records written s row says =
+returns-clause-stands c form station m k receivers records written s t row says =
     let views = map view_kept c.push_views.new.shown in
     let command : c.event.inside.command ≡ c.args.event.now.command = ap (λ (e : Event). e.command) c.event.view_is in
-    let joined : length c.args.event.now.receptions ≡ length c.args.self.now.world.receivers = search rules in
+    let taken = c.in-Ok.ensures.refused station m k s.events s.world in
+    let joined : length c.args.event.now.receptions ≡ length c.args.self.now.world.receivers = taken.count in
     let world_count : length c.step.new.self.receivers ≡ length c.args.self.now.world.receivers = c.in-Ok.ensures.count in
     let as_many : length c.args.self.now.shown.items ≡ length c.step.new.self.receivers = s.kept ∙ sym s.count ∙ sym world_count in
-    let world = c.in-Ok.ensures.stands station m s.events s.world in
+    let world = c.in-Ok.ensures.stands station m k s.events s.world in
     let lent = c.as_mut_slice.ensures.value in
     let kept : length c.push_views.new.shown ≡ length c.args.self.now.shown.items = c.push_views.ensures.count ∙ ap length lent in
     let shown : length views ≡ length c.args.self.now.shown.items = length-map c.push_views.new.shown view_kept ∙ kept in
@@ -23,19 +24,20 @@ returns-clause-stands c form station m receivers records written s row says =
       form_is = s.form_is;
       head = s.head;
       dwell = s.dwell;
+      late = s.late;
       allowed = s.allowed;
       events = c.args.event.now ∷ s.events;
-      rows = (says, joined ∙ s.count, s.rows);
+      rows = (says, rw s.count at taken, s.rows);
       world = world;
       count = world_count ∙ s.count;
       outcomes = record { command = c.event.inside.command; reply = c.in-Ok.answer.reply; sent = c.in-Ok.answer.sent; views = views } ∷ s.outcomes;
       are = (
         record {
           command = command;
-          reply = c.in-Ok.ensures.reply station m s.events s.world;
-          sent = c.in-Ok.ensures.sent station m s.events s.world;
+          reply = c.in-Ok.ensures.reply station m k s.events s.world;
+          sent = c.in-Ok.ensures.sent station m k s.events s.world;
           receivers = shown ∙ s.kept ∙ sym s.count ∙ sym joined;
-          views = λ i within. c.push_views.ensures.views (ap length lent ∙ as_many) station m (c.args.event.now ∷ s.events) world i (omega (arith, within, shown, ap length lent));
+          views = λ i within. c.push_views.ensures.views (ap length lent ∙ as_many) station m k (c.args.event.now ∷ s.events) world i (omega (arith, within, shown, ap length lent));
         },
         s.are,
       );

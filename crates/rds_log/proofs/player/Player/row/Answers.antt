@@ -1,21 +1,30 @@
-use Rattle.std.proofs.Common.{◌≡◌, length, rules, subst}
-use Rattle.std.proofs.lemmas.Result.{on_err_weaker, on_ok_weaker}
+use Rattle.std.proofs.Common.{◌≡◌, inl, inr, length, rules, subst}
 use Rattle.csv.specs.Records.{fields_of}
 use Rattle.rds_log.specs.Rows.{IsAllowed}
-use Rattle.rds_log.proofs.Playing.{refused_row}
+use Rattle.rds_log.proofs.Playing.{names_receivers, refused_row}
 use Rattle.rds_log.proofs.player.Player.row.Goals as goal
 
-pub returns-clause-stands : goal.returns-clause-stands
-returns-clause-stands c form station m receivers records written s =
+pub returns-then-event-clause-stands : goal.returns-then-event-clause-stands
+returns-then-event-clause-stands c form station m k receivers records written s =
     let allowed : IsAllowed c.args.self.now.form c.len-receivers.result = search rules in
-    let began = c.begin.ensures.stands form station m receivers records written s (subst (λ f. IsAllowed f c.len-receivers.result) s.form_is allowed) in
-    on_ok_weaker c.event-2.result (λ stands. (began.0, stands (fields_of c.args.row.now) c.in-Some.ensures.some)) (c.event-2.ensures.stands form station m began.0 records written began.1)
+    let began = c.in_ok-begin.ensures.stands form station m k receivers records written s (subst (λ f. IsAllowed f c.len-receivers.result) s.form_is allowed) in
+    (began.0, c.event-2.ensures.stands form station m k began.0 records written began.1 c.if-event.true (fields_of c.args.row.now) c.in-Some.ensures.some)
 
-pub returns-clause-none : goal.returns-clause-none
-returns-clause-none c form station m receivers records written s =
+pub returns-else-event-clause-refused : goal.returns-else-event-clause-refused
+returns-else-event-clause-refused c form station m k receivers records written s =
     let allowed : IsAllowed c.args.self.now.form c.len-receivers.result = search rules in
-    let began = c.begin.ensures.stands form station m receivers records written s (subst (λ f. IsAllowed f c.len-receivers.result) s.form_is allowed) in
+    let began = c.in_ok-begin.ensures.stands form station m k receivers records written s (subst (λ f. IsAllowed f c.len-receivers.result) s.form_is allowed) in
     let asked : c.len-receivers.result ≡ length c.in-Some.event.receptions = search rules in
-    on_err_weaker c.event-2.result
-    (λ other. refused_row form station m c.begin.new.self (fields_of c.args.row.now) records written c.in-Some.event c.len-receivers.result asked began c.in-Some.ensures.some other)
-    (c.event-2.ensures.none form station m began.0 records written began.1)
+    elim (c.event-2.ensures.refused form station m k began.0 records written began.1) [
+      | inl taken ↦ absurd (let no = c.if-event.false in cc)
+      | inr none ↦ refused_row c.text_is_read_one_way.ensures form station m k c.begin.new.self (fields_of c.args.row.now) records written c.in-Some.event c.len-receivers.result asked began c.in-Some.ensures.some none
+    ]
+
+pub returns-then-not-allows-clause-refused : goal.returns-then-not-allows-clause-refused
+returns-then-not-allows-clause-refused c form station m k receivers records written s =
+    let asked : c.len-receivers.result ≡ length c.in-Some.event.receptions = search rules in
+    names_receivers k form (fields_of c.args.row.now) records c.in-Some.event c.in-Some.ensures.some (λ allowed.
+    let here : IsAllowed c.args.self.now.form c.len-receivers.result = rw (s.form_is, asked) allowed in
+    let yes_allowed = c.allows.ensures.1 here in
+    let no = c.if-not-allows.true in
+    cc)
