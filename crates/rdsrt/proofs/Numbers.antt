@@ -98,3 +98,16 @@ pty_between n None some value = elim (cases_lt n 32) [
 pty_between n (Some d) some value =
     let small = some.0 refl in
     rw (le-leb 0 n (omega arith), le-leb n 31 (omega (arith, small))) (ap Some value)
+
+-- a lateness is a number of slots up to 1024
+pub late_between : (n : ℕ) (o : Option ℕ) → IsNone o ↔ (1024 < n) → IfSome o (λ d. d ≡ n) → o ≡ between 0 1024 n
+late_between n None none value = sym (above 0 1024 n (none.0 refl))
+late_between n (Some d) none value = rw (le-leb 0 n (omega arith), le-leb n 1024 most) (ap Some value)
+  where
+    most : n ≤ 1024
+    most = elim (cases_lt 1024 n) [
+      | inl h ↦
+          let gone : IsNone (Some d) = none.1 h in
+          cc
+      | inr h ↦ h
+    ]

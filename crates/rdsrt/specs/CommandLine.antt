@@ -35,6 +35,15 @@ dwell_rule = record (new_rule (codes "m")) {
   parser = Some (Signed (pos 1) (pos 65535));
 }
 
+-- `--k N`, from 0 to 1024
+abbrev pub late_rule : Rule
+late_rule = record (new_rule (codes "k")) {
+  long = Some (codes "k");
+  value_names = 1;
+  defaults = codes "0" ∷ [];
+  parser = Some (Signed (pos 0) (pos 1024));
+}
+
 -- `--pty N`, from 0 to 31
 abbrev pub pty_rule : Rule
 pty_rule = record (new_rule (codes "pty")) {
@@ -52,9 +61,13 @@ tp_rule = record (new_rule (codes "tp")) { long = Some (codes "tp"); action = So
 abbrev pub log_app : Text → App
 log_app name = with_rule (with_rule (new_app name) pi_rule) dwell_rule
 
+-- a subcommand that speaks of late groups
+abbrev pub late_app : Text → App
+late_app name = with_rule (log_app name) late_rule
+
 -- a subcommand with a station of its own
 abbrev pub station_app : Text → App
-station_app name = with_rule (with_rule (log_app name) pty_rule) tp_rule
+station_app name = with_rule (with_rule (late_app name) pty_rule) tp_rule
 
 -- `rdsrt`, which has a version and wants a subcommand
 abbrev pub top_app : App
@@ -62,7 +75,7 @@ top_app = on_top (λ s. record s { has_version = true; subcommand_required = tru
 
 -- with the subcommands that read a log
 abbrev pub log_readers_app : App
-log_readers_app = with_subcommand (with_subcommand top_app (log_app (codes "decode")).top) (log_app (codes "audit")).top
+log_readers_app = with_subcommand (with_subcommand top_app (log_app (codes "decode")).top) (late_app (codes "audit")).top
 
 -- and with those that have a station of their own
 abbrev pub whole_app : App
@@ -90,6 +103,9 @@ number_from_to least most text =
 abbrev pub dwell_in : List Row → Option ℕ
 dwell_in rows = option_and_then (number_from_to 1 65535) (one_of (codes "m") rows)
 
+abbrev pub late_in : List Row → Option ℕ
+late_in rows = option_and_then (number_from_to 0 1024) (one_of (codes "k") rows)
+
 abbrev pub pty_in : List Row → Option ℕ
 pty_in rows = option_and_then (number_from_to 0 31) (one_of (codes "pty") rows)
 
@@ -99,12 +115,16 @@ tp_in rows = option_map_or (λ text. bytes_eq text (codes "true")) (first_of (co
 abbrev pub programme_in : List Row → Option Programme
 programme_in rows = option_map (λ pty. record { pty = pty; tp = tp_in rows }) (pty_in rows)
 
+-- what a station of this programme and these late groups does
+abbrev pub with_station : (Programme → ℕ → Task) → List Row → Option Task
+with_station task rows = option_and_then (λ programme. option_map (task programme) (late_in rows)) (programme_in rows)
+
 abbrev pub task_in : Text → List Row → Option Task
 task_in name rows =
     if bytes_eq name (codes "decode") then Some Decode
-    else if bytes_eq name (codes "encode") then option_map Encode (programme_in rows)
-    else if bytes_eq name (codes "sim") then option_map Simulate (programme_in rows)
-    else if bytes_eq name (codes "audit") then Some Audit
+    else if bytes_eq name (codes "encode") then with_station Encode rows
+    else if bytes_eq name (codes "sim") then with_station Simulate rows
+    else if bytes_eq name (codes "audit") then option_map Audit (late_in rows)
     else None
 
 abbrev pub asked : Option Task → Option Text → Option ℕ → Option Asked

@@ -22,10 +22,10 @@ abbrev pub decoding : Text → ℕ → Asked
 decoding pi dwell = record { task = Decode; pi = pi; dwell = dwell }
 
 abbrev pub encoding : ℕ → ℕ → Asked
-encoding dwell pty = record { task = Encode (record { pty = pty; tp = false }); pi = codes "C201"; dwell = dwell }
+encoding dwell pty = record { task = Encode (record { pty = pty; tp = false }) 0; pi = codes "C201"; dwell = dwell }
 
-abbrev pub simulating : ℕ → ℕ → Bool → Asked
-simulating dwell pty tp = record { task = Simulate (record { pty = pty; tp = tp }); pi = codes "C201"; dwell = dwell }
+abbrev pub simulating : ℕ → ℕ → Bool → ℕ → Asked
+simulating dwell pty tp late = record { task = Simulate (record { pty = pty; tp = tp }) late; pi = codes "C201"; dwell = dwell }
 
-abbrev pub auditing : ℕ → Asked
-auditing dwell = record { task = Audit; pi = codes "C201"; dwell = dwell }
+abbrev pub auditing : ℕ → ℕ → Asked
+auditing dwell late = record { task = Audit late; pi = codes "C201"; dwell = dwell }

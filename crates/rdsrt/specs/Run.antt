@@ -1,6 +1,6 @@
 -- What the whole program does with its words. This is the project's own command line.
 -- r is what a call did to the reader, w what it did to the writer.
-use Rattle.std.specs.Prelude.{◌≡◌, ◌^◌, ◌++◌, ℕ, Bool, List, [], codes, decimal, length, Option, Ok, Err, Result, if◌then◌else◌}
+use Rattle.std.specs.Prelude.{◌≡◌, ◌+◌, ◌^◌, ◌++◌, ℕ, Bool, List, [], codes, decimal, length, Option, Ok, Err, Result, if◌then◌else◌}
 use Rattle.rds_charset.specs.Puts.{Puts}
 use Rattle.rds_charset.specs.Told.{PutsNothing, Traffic}
 use Rattle.rds_charset.specs.declared.output.WriteFault.{WriteFault}
@@ -36,9 +36,9 @@ PutsLine line w = (r : Result (Unit {0}) WriteFault) × Puts w line r
 -- what stands before a fault: the log that `encode` writes has it as a note
 abbrev pub mark_of : Task → List ℕ
 mark_of Decode = []
-mark_of (Encode programme) = codes "# "
-mark_of (Simulate programme) = []
-mark_of Audit = []
+mark_of (Encode programme late) = codes "# "
+mark_of (Simulate programme late) = []
+mark_of (Audit late) = []
 
 abbrev pub TellsFault : Task → List ℕ → Traffic → Type 0
 TellsFault task text w = PutsLine (mark_of task ++ text ++ codes "\n") w
@@ -84,25 +84,25 @@ abbrev pub head_of : ℕ → Programme → Head
 head_of pi programme = record { pi = pi; tp = programme.tp; pty = programme.pty }
 
 -- a script is played for its log
-abbrev pub EncodeRuns : Programme → ℕ → ℕ → Traffic → Traffic → ℕ → Type 0
-EncodeRuns programme pi dwell r w status = Runs (Plays Log (head_of pi programme) dwell (2 ^ 32) r.before) done (Encode programme) w status
+abbrev pub EncodeRuns : Programme → ℕ → ℕ → ℕ → Traffic → Traffic → ℕ → Type 0
+EncodeRuns programme late pi dwell r w status = Runs (Plays Log (head_of pi programme) dwell late (2 ^ 32) r.before) done (Encode programme late) w status
 
 -- a script is played with its receivers
-abbrev pub SimulateRuns : Programme → ℕ → ℕ → Traffic → Traffic → ℕ → Type 0
-SimulateRuns programme pi dwell r w status = Runs (Plays Simulation (head_of pi programme) dwell (2 ^ 32) r.before) done (Simulate programme) w status
+abbrev pub SimulateRuns : Programme → ℕ → ℕ → ℕ → Traffic → Traffic → ℕ → Type 0
+SimulateRuns programme late pi dwell r w status = Runs (Plays Simulation (head_of pi programme) dwell late (2 ^ 32) r.before) done (Simulate programme late) w status
 
--- a log is audited, for a programme and with a dwell
-abbrev pub AuditRuns : ℕ → ℕ → Traffic → Traffic → ℕ → Type 0
-AuditRuns pi dwell r w status = Runs (Audits pi dwell (2 ^ 32) r) answered Audit w status
+-- a log is audited, for a programme, with a dwell and a lateness
+abbrev pub AuditRuns : ℕ → ℕ → ℕ → Traffic → Traffic → ℕ → Type 0
+AuditRuns late pi dwell r w status = Runs (Audits pi (dwell + late) (2 ^ 32) r) answered (Audit late) w status
 
 -- ---- the whole program
 
 -- the engine of the task ran
 abbrev pub TaskRuns : Task → ℕ → ℕ → Traffic → Traffic → ℕ → Type 0
 TaskRuns Decode pi dwell r w status = DecodeRuns pi dwell r w status
-TaskRuns (Encode programme) pi dwell r w status = EncodeRuns programme pi dwell r w status
-TaskRuns (Simulate programme) pi dwell r w status = SimulateRuns programme pi dwell r w status
-TaskRuns Audit pi dwell r w status = AuditRuns pi dwell r w status
+TaskRuns (Encode programme late) pi dwell r w status = EncodeRuns programme late pi dwell r w status
+TaskRuns (Simulate programme late) pi dwell r w status = SimulateRuns programme late pi dwell r w status
+TaskRuns (Audit late) pi dwell r w status = AuditRuns late pi dwell r w status
 
 -- the programme identification is refused
 pub record RefusesPi (task : Task) (w : Traffic) (status : ℕ) : Type 0 where

@@ -152,6 +152,94 @@ C201 B148 2002 0000
     },
 ];
 
+const AUDIT_ONE_LATE: [&str; 8] = ["rdsrt", "audit", "--pi", "C201", "--m", "4", "--k", "1"];
+
+const AUDIT_TWO_LATE: [&str; 8] = ["rdsrt", "audit", "--pi", "C201", "--m", "4", "--k", "2"];
+
+/// A text, and tags in the fourth slot after it that end past it.
+const TAGS_AFTER_FOUR: &[u8] = b"C201 2140 4849 0D20
+---- ---- ---- ----
+---- ---- ---- ----
+---- ---- ---- ----
+C201 B158 8006 08E7
+";
+
+/// A text, another with the other flag, and the first again after four slots.
+const FLAG_AFTER_FIVE: &[u8] = b"C201 2140 4849 0D20
+C201 2150 594F 0D20
+---- ---- ---- ----
+---- ---- ---- ----
+---- ---- ---- ----
+C201 2140 4849 0D20
+";
+
+/// A text twice, four slots apart, and then its tags.
+const TAGS_AFTER_A_GAP: &[u8] = b"C201 2140 4849 0D20
+---- ---- ---- ----
+---- ---- ---- ----
+---- ---- ---- ----
+C201 2140 4849 0D20
+C201 B148 2002 0000
+";
+
+/// The rules with M + K in place of M.
+const AUDITED_LATE: [Case; 7] = [
+    Case {
+        name: "tags_on_air",
+        words: &AUDIT_TWO_LATE,
+        input: TAGS_ON_AIR,
+        output: b"yes 12\n",
+        status: 0,
+    },
+    Case {
+        name: "tags after four slots, two late",
+        words: &AUDIT_TWO_LATE,
+        input: TAGS_AFTER_FOUR,
+        output: b"no 4 EarlyTag\n",
+        status: 1,
+    },
+    Case {
+        name: "tags after four slots, none late",
+        words: &AUDIT,
+        input: TAGS_AFTER_FOUR,
+        output: b"no 4 TagOutside\n",
+        status: 1,
+    },
+    Case {
+        name: "flag after five slots, none late",
+        words: &AUDIT,
+        input: FLAG_AFTER_FIVE,
+        output: b"yes 6\n",
+        status: 0,
+    },
+    Case {
+        name: "flag after five slots, two late",
+        words: &AUDIT_TWO_LATE,
+        input: FLAG_AFTER_FIVE,
+        output: b"no 5 EarlyFlag\n",
+        status: 1,
+    },
+    Case {
+        name: "lawful_and_not_dense, one late",
+        words: &AUDIT_ONE_LATE,
+        input: TAGS_AFTER_A_GAP,
+        output: b"yes 6\n",
+        status: 0,
+    },
+    Case {
+        name: "lawful_and_not_dense, two late",
+        words: &AUDIT_TWO_LATE,
+        input: TAGS_AFTER_A_GAP,
+        output: b"no 5 EarlyTag\n",
+        status: 1,
+    },
+];
+
+#[test]
+fn late_logs(rt: HostRuntime) -> Result<(), Fail> {
+    check(&rt, rt.alloc(), &AUDITED_LATE)
+}
+
 #[test]
 fn audited_logs(rt: HostRuntime) -> Result<(), Fail> {
     check(&rt, rt.alloc(), &AUDITED)

@@ -2,7 +2,7 @@
 ghost use Rattle.std.specs.Prelude.{◌≡◌, IfOk, codes, false};
 ghost use Rattle.clap.specs.Words.{app_of, rule_of};
 ghost use Rattle.clap.specs.declared.builder.command.Command.TheViews.{out-Command};
-ghost use Rattle.rdsrt.specs.CommandLine.{dwell_rule, log_app, log_readers_app, pi_rule, pty_rule};
+ghost use Rattle.rdsrt.specs.CommandLine.{dwell_rule, late_app, late_rule, log_app, log_readers_app, pi_rule, pty_rule};
 ghost use Rattle.rdsrt.specs.CommandLine.{station_app, top_app, tp_rule, whole_app};
 
 use clap::{Arg, ArgAction, Command, value_parser};
@@ -37,6 +37,24 @@ fn dwell<'a>(alloc: Global) -> Arg<'a>
              keeps each text on air for at least twice the dwell, and sends nothing for one\n\
              dwell when it starts. So a receiver with the dwell of its station never joins\n\
              parts of two texts.",
+        )
+}
+
+/// The option `--k`.
+fn late<'a>(alloc: Global) -> Arg<'a>
+    ensures rule { rule_of result ≡ late_rule }
+    ensures local { result.global ≡ false }
+{
+    Arg::new(alloc, "k")
+        .long("k")
+        .value_name("N")
+        .value_parser(value_parser!(u16).range(0..1025))
+        .default_value("0")
+        .help("How late a group may reach a receiver, in slots, 0 to 1024")
+        .long_help(
+            "How late a group may reach a receiver, in slots, 0 to 1024: behind a buffer, a network\n\
+             or a repeater groups come late, and in their order. A station keeps its texts apart\n\
+             by the dwell and the lateness together; a receiver keeps its dwell.",
         )
 }
 
@@ -88,25 +106,26 @@ fn decode<'a>(alloc: Global) -> Result<Command<'a>, AllocError>
 
 /// The subcommand `audit`.
 fn audit<'a>(alloc: Global) -> Result<Command<'a>, AllocError>
-    ensures app { IfOk result (λ c. app_of c ≡ log_app (codes "audit")) }
+    ensures app { IfOk result (λ c. app_of c ≡ late_app (codes "audit")) }
     ensures local { IfOk result (λ c. (out-Command c).has_globals ≡ false) }
 {
     Ok(
         log_reader(alloc, "audit")?
+            .arg(late(alloc))?
             .about(
                 "Reads a log of all groups that were sent, a slot a line, and says whether it is safe",
             )
             .after_long_help(
                 "It prints `yes N` with the number of slots, status 0, or `no T NAME` with the first\n\
                  slot that breaks a rule and the name of the fault, status 1.\n\n\
-                 Yes: no receiver of this dwell ever shows a mix of two texts from this log, whatever\n\
-                 it loses and whenever it restarts.\n\
+                 Yes: no receiver of this dwell, whose groups come no later than said, ever shows a mix\n\
+                 of two texts from this log, whatever it loses and whenever it restarts.\n\
                  No: a rule was broken, so no plan of texts and names is lawful and without a gap. A\n\
                  lawful log with few free slots can be refused too.\n\n\
                  Changed     within one text or name an address was sent with other characters\n\
                  NotOneText  no text, or no name, has the segments that were sent\n\
-                 EarlyFlag   the A/B flag changed twice within one dwell\n\
-                 EarlyTag    tags came with no text, or before it was on air for one dwell\n\
+                 EarlyFlag   the A/B flag changed twice within the dwell and the lateness\n\
+                 EarlyTag    tags came with no text, or before it was on air for as long\n\
                  TagOutside  a tag ends past the end of its text\n\n\
                  Example:\n  rdsrt encode --pi C201 --m 64 < script.csv | rdsrt audit --pi C201 --m 64",
             ),
@@ -118,9 +137,8 @@ fn station<'a>(alloc: Global, name: &'a str) -> Result<Command<'a>, AllocError>
     ensures app { IfOk result (λ c. app_of c ≡ station_app name.entry.now) }
     ensures local { IfOk result (λ c. (out-Command c).has_globals ≡ false) }
 {
-    Command::new(alloc, name)
-        .arg(pi(alloc))?
-        .arg(dwell(alloc))?
+    log_reader(alloc, name)?
+        .arg(late(alloc))?
         .arg(pty(alloc))?
         .arg(tp(alloc))
 }
@@ -151,7 +169,8 @@ fn simulate<'a>(alloc: Global) -> Result<Command<'a>, AllocError>
                 "Reads a script, a slot a row, and prints what a station sends and its receivers show",
             )
             .after_long_help(
-                "A row is COMMAND,ARGUMENT,FREE,RECEPTIONS, a letter a receiver: text,HI,1,GGL\n\n\
+                "A row is COMMAND,ARGUMENT,FREE,RECEPTIONS, a letter a receiver: text,HI,1,GGL\n\
+                 G it gets the group, G3 the one of three slots before, L it loses it, R it restarts.\n\n\
                  Example:\n  rdsrt sim --pi C201 --pty 10 --m 4 < script.csv",
             ),
     )

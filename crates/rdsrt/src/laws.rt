@@ -13,14 +13,17 @@ pub fn words_of_the_examples()
     ensures decode_spelling { AskFor (words_of (codes "rdsrt decode --m=+004 --pi=C201"))
         (decoding (codes "C201") 4) }
     ensures encode { AskFor (words_of (codes "rdsrt encode --pi C201 --pty 10 --m 8")) (encoding 8 10) }
-    ensures sim { AskFor (words_of (codes "rdsrt sim --pi C201 --pty 24 --m 8")) (simulating 8 24 false) }
-    ensures sim_tp { AskFor (words_of (codes "rdsrt sim --pi C201 --pty 10 --tp")) (simulating 128 10 true) }
-    ensures audit { AskFor (words_of (codes "rdsrt audit --pi C201 --m 4")) (auditing 4) }
+    ensures sim { AskFor (words_of (codes "rdsrt sim --pi C201 --pty 24 --m 8")) (simulating 8 24 false 0) }
+    ensures sim_tp { AskFor (words_of (codes "rdsrt sim --pi C201 --pty 10 --tp")) (simulating 128 10 true 0) }
+    ensures audit { AskFor (words_of (codes "rdsrt audit --pi C201 --m 4")) (auditing 4 0) }
+    ensures audit_late { AskFor (words_of (codes "rdsrt audit --pi C201 --m 4 --k 2")) (auditing 4 2) }
+    ensures sim_late { AskFor (words_of (codes "rdsrt sim --pi C201 --k 1024")) (simulating 128 0 false 1024) }
     ensures help { AskForHelp (words_of (codes "rdsrt --help")) }
     ensures help_of_one { AskForHelp (words_of (codes "rdsrt decode --help")) }
     ensures version { AskForHelp (words_of (codes "rdsrt --version")) }
     ensures no_dwell { AreNotTaken (words_of (codes "rdsrt decode --pi C201 --m 0")) }
     ensures no_programme { AreNotTaken (words_of (codes "rdsrt decode")) }
     ensures no_subcommand { AreNotTaken (words_of (codes "rdsrt")) }
+    ensures too_late { AreNotTaken (words_of (codes "rdsrt audit --pi C201 --k 1025")) }
     ensures large_type { AreNotTaken (words_of (codes "rdsrt encode --pi C201 --pty 32")) }
 {}

@@ -3,12 +3,13 @@ ghost use Rattle.std.specs.Prelude.{◌≡◌, IfErr, IfOk, map, option_map};
 ghost use Rattle.clap.specs.Words.{FailsBy, fault_of, found_of, kind_of, rows_of};
 ghost use Rattle.rdsrt.specs.Asks.{asked_by};
 ghost use Rattle.rdsrt.specs.CommandLine.{TakesWords, asked_in, asked_of, dwell_in};
-ghost use Rattle.rdsrt.specs.CommandLine.{programme_in, task_in, tp_in, whole_app};
+ghost use Rattle.rdsrt.specs.CommandLine.{late_in, programme_in, task_in, tp_in, whole_app};
 
 use crate::command_line::whole;
 use clap::error::ErrorKind;
 use clap::{ArgMatches, Error};
 use rds_block::Place;
+use rds_encoder::Late;
 use rds_fields::Dwell;
 use std::alloc::Global;
 
@@ -21,17 +22,17 @@ pub struct Programme {
     pub tp: bool,
 }
 
-/// What is to be done.
+/// What is to be done, by a station of a programme and with groups that come no later than this.
 #[derive(Clone, Copy, Debug, PartialEq, Eq)]
 pub enum Task {
     /// Print what a receiver shows of a log.
     Decode,
     /// Print the groups that a station sends.
-    Encode(Programme),
+    Encode(Programme, Late),
     /// Print what a station sends and what its receivers show.
-    Simulate(Programme),
+    Simulate(Programme, Late),
     /// Print whether a log of all groups that were sent passes the audit.
-    Audit,
+    Audit(Late),
 }
 
 /// What the words ask for.
@@ -82,9 +83,9 @@ fn task_of(name: &str, inner: &ArgMatches<'_>) -> Option<Task>
 {
     match name {
         "decode" => Some(Task::Decode),
-        "encode" => Some(Task::Encode(programme_of(inner)?)),
-        "sim" => Some(Task::Simulate(programme_of(inner)?)),
-        "audit" => Some(Task::Audit),
+        "encode" => Some(Task::Encode(programme_of(inner)?, late_of(inner)?)),
+        "sim" => Some(Task::Simulate(programme_of(inner)?, late_of(inner)?)),
+        "audit" => Some(Task::Audit(late_of(inner)?)),
         _ => None,
     }
 }
@@ -94,6 +95,13 @@ fn dwell_of(inner: &ArgMatches<'_>) -> Option<Dwell>
     ensures { result ≡ dwell_in (rows_of (found_of inner.now)) }
 {
     Dwell::new(inner.get_one::<u16>("m")?)
+}
+
+/// The lateness that is given.
+fn late_of(inner: &ArgMatches<'_>) -> Option<Late>
+    ensures { result ≡ late_in (rows_of (found_of inner.now)) }
+{
+    Late::new(inner.get_one::<u16>("k")?)
 }
 
 /// What is given of the programme.

@@ -13,6 +13,7 @@ use crate::request::{Programme, Request, Task, read_words};
 use clap::Error;
 use clap::error::ErrorKind;
 use rds_charset::{TellingRead, TellingWrite, put};
+use rds_encoder::Late;
 use rds_fields::{Dwell, Head};
 use rds_log::{Lines, LogFault, audit, decode, encode, simulate, word_at};
 use rds_world::Config;
@@ -140,9 +141,13 @@ fn answer<R: TellingRead, W: TellingWrite>(
     };
     match task {
         Task::Decode => run_decode(pi, dwell, reader, writer),
-        Task::Encode(programme) => run_encode(alloc, programme, pi, dwell, reader, writer),
-        Task::Simulate(programme) => run_simulate(alloc, programme, pi, dwell, reader, writer),
-        Task::Audit => run_audit(pi, dwell, reader, writer),
+        Task::Encode(programme, late) => {
+            run_encode(alloc, programme, late, pi, dwell, reader, writer)
+        }
+        Task::Simulate(programme, late) => {
+            run_simulate(alloc, programme, late, pi, dwell, reader, writer)
+        }
+        Task::Audit(late) => run_audit(late, pi, dwell, reader, writer),
     }
 }
 
@@ -174,18 +179,19 @@ fn run_decode<R: TellingRead, W: TellingWrite>(
 
 /// Audits the log, and tells its fault.
 fn run_audit<R: TellingRead, W: TellingWrite>(
+    late: Late,
     pi: u16,
     dwell: Dwell,
     reader: &mut R,
     writer: &mut W,
 ) -> u8
-    ensures { AuditRuns pi dwell (traffic R.remaining R.failures reader.old reader.new)
+    ensures { AuditRuns late pi dwell (traffic R.remaining R.failures reader.old reader.new)
         (traffic W.contents W.failures writer.old writer.new) result }
 {
-    match audit(reader, writer, pi, dwell) {
+    match audit(reader, writer, pi, dwell, late) {
         Ok(true) => DONE,
         Ok(false) => NO,
-        Err(fault) => fail_with(Task::Audit, fault, writer),
+        Err(fault) => fail_with(Task::Audit(late), fault, writer),
     }
 }
 
@@ -193,40 +199,43 @@ fn run_audit<R: TellingRead, W: TellingWrite>(
 fn run_encode<R: TellingRead, W: TellingWrite>(
     alloc: Global,
     programme: Programme,
+    late: Late,
     pi: u16,
     dwell: Dwell,
     reader: &mut R,
     writer: &mut W,
 ) -> u8
-    ensures { EncodeRuns programme pi dwell (traffic R.remaining R.failures reader.old reader.new)
+    ensures { EncodeRuns programme late pi dwell (traffic R.remaining R.failures reader.old reader.new)
         (traffic W.contents W.failures writer.old writer.new) result }
 {
-    let config = config_of(&programme, pi, dwell);
+    let config = config_of(&programme, late, pi, dwell);
     let outcome = encode(alloc, &mut *reader, writer, config);
-    end_with(Task::Encode(programme), outcome, writer)
+    end_with(Task::Encode(programme, late), outcome, writer)
 }
 
 /// Plays the script with its receivers, and tells its fault.
 fn run_simulate<R: TellingRead, W: TellingWrite>(
     alloc: Global,
     programme: Programme,
+    late: Late,
     pi: u16,
     dwell: Dwell,
     reader: &mut R,
     writer: &mut W,
 ) -> u8
-    ensures { SimulateRuns programme pi dwell (traffic R.remaining R.failures reader.old reader.new)
+    ensures { SimulateRuns programme late pi dwell (traffic R.remaining R.failures reader.old reader.new)
         (traffic W.contents W.failures writer.old writer.new) result }
 {
-    let config = config_of(&programme, pi, dwell);
+    let config = config_of(&programme, late, pi, dwell);
     let outcome = simulate(alloc, &mut *reader, writer, config);
-    end_with(Task::Simulate(programme), outcome, writer)
+    end_with(Task::Simulate(programme, late), outcome, writer)
 }
 
 /// The station that the words ask for.
-fn config_of(programme: &Programme, pi: u16, dwell: Dwell) -> Config
+fn config_of(programme: &Programme, late: Late, pi: u16, dwell: Dwell) -> Config
     ensures head { result.head ≡ head_of pi programme.now }
     ensures dwell { result.dwell ≡ dwell }
+    ensures late { result.late ≡ late }
 {
     Config {
         head: Head {
@@ -235,6 +244,7 @@ fn config_of(programme: &Programme, pi: u16, dwell: Dwell) -> Config
             pty: programme.pty,
         },
         dwell,
+        late,
     }
 }
 
@@ -303,8 +313,8 @@ fn mark(task: Task) -> &'static [u8]
     ensures short { length result.now ≤ 2 }
 {
     match task {
-        Task::Encode(_) => b"# ",
-        Task::Decode | Task::Simulate(_) | Task::Audit => b"",
+        Task::Encode(..) => b"# ",
+        Task::Decode | Task::Simulate(..) | Task::Audit(_) => b"",
     }
 }
 

@@ -569,6 +569,79 @@ C201 2140 4849 0D20
     },
 ];
 
+const SIM_TWO_LATE: [&str; 10] = [
+    "rdsrt", "sim", "--pi", "C201", "--pty", "10", "--m", "4", "--k", "2",
+];
+
+/// Groups that come up to two slots late.
+const LATE: [Case; 6] = [
+    Case {
+        name: "late_group",
+        words: &SIM_TWO_LATE,
+        input: b"-,,1,G
+-,,1,G
+-,,1,G
+-,,1,G
+-,,1,G
+-,,1,G
+text,HI,1,L
+-,,1,L
+-,,1,G2
+-,,0,L
+-,,0,L
+-,,0,L
+-,,0,L
+",
+        output: b"6 text ok
+6 sent C201 2140 4849 0D20
+8 sent C201 2140 4849 0D20
+8 r0 text \"HI\"
+12 r0 text none
+",
+        status: 0,
+    },
+    Case {
+        name: "late_group_refused",
+        words: &SIM_TWO_LATE,
+        input: b"-,,1,G\n-,,1,G\n-,,1,G\n-,,1,G\n-,,1,G\n-,,1,G\n-,,1,G\n-,,1,G2\n",
+        output: b"fault row 8\n",
+        status: 1,
+    },
+    Case {
+        name: "handed over already",
+        words: &SIM_TWO_LATE,
+        input: b"-,,1,G\n-,,1,G1\n",
+        output: b"fault row 2\n",
+        status: 1,
+    },
+    Case {
+        name: "five digits",
+        words: &SIM_TWO_LATE,
+        input: b"-,,1,G12345\n",
+        output: b"fault row 1\n",
+        status: 1,
+    },
+    Case {
+        name: "late where none may be",
+        words: &["rdsrt", "sim", "--pi", "C201", "--m", "4", "--k", "0"],
+        input: b"-,,1,G1\n",
+        output: b"fault row 1\n",
+        status: 1,
+    },
+    Case {
+        name: "late without --k",
+        words: &["rdsrt", "sim", "--pi", "C201", "--m", "4"],
+        input: b"-,,1,G1\n",
+        output: b"fault row 1\n",
+        status: 1,
+    },
+];
+
+#[test]
+fn late_groups(rt: HostRuntime) -> Result<(), Fail> {
+    check(&rt, rt.alloc(), &LATE)
+}
+
 /// Each alone as a script is no row of `sim`.
 const REFUSED_ROWS: [&[u8]; 8] = [
     b"text,HI,1\n",
@@ -1050,6 +1123,12 @@ Options:
           parts of two texts.
           \n          [default: 128]
 
+      --k <N>
+          How late a group may reach a receiver, in slots, 0 to 1024: behind a buffer, a network
+          or a repeater groups come late, and in their order. A station keeps its texts apart
+          by the dwell and the lateness together; a receiver keeps its dwell.
+          \n          [default: 0]
+
       --pty <N>
           The programme type in each group, 0 to 31 (0: none, 10: pop music)
           \n          [default: 0]
@@ -1061,6 +1140,7 @@ Options:
           Print help (see a summary with '-h')
 
 A row is COMMAND,ARGUMENT,FREE,RECEPTIONS, a letter a receiver: text,HI,1,GGL
+G it gets the group, G3 the one of three slots before, L it loses it, R it restarts.
 
 Example:
   rdsrt sim --pi C201 --pty 10 --m 4 < script.csv

@@ -13,11 +13,14 @@ returns c = record {
   sim = record { taken = refl; ask = refl };
   sim_tp = record { taken = refl; ask = refl };
   audit = record { taken = refl; ask = refl };
+  audit_late = record { taken = refl; ask = refl };
+  sim_late = record { taken = refl; ask = refl };
   help = refl;
   help_of_one = refl;
   version = refl;
   no_dwell = record { taken = refl; refused = refl };
   no_programme = record { taken = refl; refused = refl };
   no_subcommand = record { taken = refl; refused = refl };
+  too_late = record { taken = refl; refused = refl };
   large_type = record { taken = refl; refused = refl };
 }

@@ -1,5 +1,9 @@
-use Rattle.std.proofs.Common.{◌∙◌, ap, map, sym}
-use Rattle.clap.specs.Words.{App, fault_of, is_simple_and_free, takes}
+use Rattle.std.proofs.Common.{◌≡◌, ◌∙◌, Option, None, Some, ap, map, subst, sym}
+use Rattle.std.specs.Prelude.{option_and_then, option_map}
+use Rattle.std.specs.Box.{box_value}
+use Rattle.clap.specs.Words.{App, HasKind, fault_of, found_of, is_simple, is_simple_and_free, rows_of, subcommand_of, takes}
+use Rattle.clap.specs.declared.parser.matches.ArgMatches.TheViews.{out-ArgMatches, out-SubCommand}
+use Rattle.rdsrt.specs.CommandLine.{asked_of}
 use Rattle.rdsrt.proofs.request.read_words.Goals as goal
 
 pub returns-in-Err-clause-err : goal.returns-in-Err-clause-err
@@ -8,3 +12,26 @@ returns-in-Err-clause-err c = λ h. c.in-Err.ensures.passes (ap (λ (a : App). t
 pub returns-clause-kinds : goal.returns-clause-kinds
 returns-clause-kinds c =
     sym (ap (λ (a : App). fault_of a (map (λ w. w.now) c.args.words.now)) c.in_ok-whole.ensures.app) ∙ c.in-Ok.ensures.kinds (ap is_simple_and_free c.in_ok-whole.ensures.app)
+
+pub returns-in-Err-clause-kinds : goal.returns-in-Err-clause-kinds
+returns-in-Err-clause-kinds c =
+    subst (λ (a : App). HasKind (fault_of a (map (λ w. w.now) c.args.words.now)) c.in-Err.error) c.in_ok-whole.ensures.app (c.in-Err.ensures.kinds (ap is_simple_and_free c.in_ok-whole.ensures.app))
+
+-- two parts of what is there
+both_parts : {A B C : Type 0} (f : A → B) (g : A → C) (o : Option A) (x : B) (y : C) → Some x ≡ option_map f o → Some y ≡ option_map (λ (p : B × C). p.1) (option_map {U = B × C} (λ a. (f a, g a)) o)
+    → option_map {U = B × C} (λ a. (f a, g a)) o ≡ Some (x, y)
+both_parts f g None x y p q = absurd (no p)
+  where
+    no : {X : Type 0} {z : X} → Some z ≡ None → ⊥
+    no e = cc
+both_parts f g (Some a) x y p q =
+    let first : x ≡ f a = cc in
+    let second : y ≡ g a = cc in
+    λ i. Some (sym first i, sym second i)
+
+pub returns-clause-ok : goal.returns-clause-ok
+returns-clause-ok c =
+    let found = (out-ArgMatches c.in-Ok.matches).subcommand in
+    let there = both_parts (λ b. (out-SubCommand (box_value b)).name.now) (λ b. rows_of (found_of (out-SubCommand (box_value b)).matches)) found _ _ c.in-Some.ensures.name c.in-Some.ensures.rows in
+    let (_, rows) = c.in-Ok.ensures.matches (ap is_simple c.in_ok-whole.ensures.app) in
+    c.request_of.ensures ∙ ap (option_and_then asked_of) (sym there ∙ rows ∙ ap (λ (a : App). subcommand_of a (map (λ w. w.now) c.args.words.now)) c.in_ok-whole.ensures.app)

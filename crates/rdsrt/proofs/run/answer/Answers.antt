@@ -11,3 +11,6 @@ returns-in-Simulate-clause-fault_pi g c none = absurd (none c.in-Some.pi c.in-So
 
 pub returns-in-Audit-clause-fault_pi : goal.returns-in-Audit-clause-fault_pi
 returns-in-Audit-clause-fault_pi g c none = absurd (none c.in-Some.pi c.in-Some.ensures.some)
+
+pub returns-in_default-clause-runs : goal.returns-in_default-clause-runs
+returns-in_default-clause-runs g c pi is = absurd (c.in_default.ensures.none pi is)
