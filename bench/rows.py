@@ -42,8 +42,12 @@ def commands(rng):
             yield f"restart,,{free},"
 
 
-def receptions(rng, receivers):
-    """What each receiver gets, again and again the same 65,537 slots: single losses, tunnels and restarts."""
+def receptions(rng, receivers, late=0):
+    """What each receiver gets, again and again the same 65,537 slots: single losses, tunnels and restarts.
+
+    The first receiver gets groups in their own slot, the last so many slots late, and the others in between.
+    """
+    behind = [late * receiver // max(receivers - 1, 1) for receiver in range(receivers)]
     lost_until = [0] * receivers
     pool = []
     for slot in range(65_537):
@@ -52,14 +56,14 @@ def receptions(rng, receivers):
             draw = rng.random()
             if draw < 0.001:
                 lost_until[receiver] = slot + rng.randrange(400)
-            lost = slot < lost_until[receiver] or draw > 0.95
-            got += "R" if 0.001 < draw < 0.002 else "L" if lost else "G"
+            lost = slot < lost_until[receiver] or draw > 0.95 or slot < behind[receiver]
+            got += "R" if 0.001 < draw < 0.002 else "L" if lost else f"G{behind[receiver] or ''}"
         pool.append(got + "\n")
     return itertools.cycle(pool)
 
 
-def pieces(slots, receivers):
+def pieces(slots, receivers, late=0):
     """The script's bytes, some thousand rows at a time."""
-    rows = map("".join, zip(commands(random.Random(SEED)), receptions(random.Random(SEED + 1), receivers)))
+    rows = map("".join, zip(commands(random.Random(SEED)), receptions(random.Random(SEED + 1), receivers, late)))
     for first in range(0, slots, ROWS_A_PIECE):
         yield "".join(itertools.islice(rows, min(ROWS_A_PIECE, slots - first))).encode()
