@@ -1,9 +1,6 @@
 //! `audit` through `run`: words, log, answer and status.
 
-use crate::run::run;
-use crate::tests::{Case, Slow, Stubborn, check};
-use rds_charset::Told;
-use std::cell::Cell;
+use crate::tests::{Case, check, each_write_fails, ran_in_pieces};
 use std::test::Fail;
 
 const AUDIT: [&str; 6] = ["rdsrt", "audit", "--pi", "C201", "--m", "4"];
@@ -252,17 +249,9 @@ fn reads_up_to_the_no(rt: HostRuntime) -> Result<(), Fail> {
     let mut log = Vec::from_slice(rt.alloc(), CHANGED)?;
     log.extend_from_slice(TAGS_ON_AIR)?;
     for (most, last) in [(1, 40), (2, 20), (3, 14), (7, 6), (20, 2), (40, 1)] {
-        let reads = Cell::new(0);
-        let mut output = Vec::new(rt.alloc());
-        let reader = Told::new(Slow {
-            left: log.as_slice(),
-            most,
-            fails_at: 0,
-            reads: &reads,
-        });
-        let status = run(rt.alloc(), &AUDIT, reader, &mut Told::new(&mut output));
+        let (status, output, reads) = ran_in_pieces(rt.alloc(), &AUDIT, log.as_slice(), most, 0);
         assert_eq!(rt; output.as_slice(), b"no 1 Changed\n".as_slice());
-        assert_eq!(rt; (status, reads.get()), (1, last), "at {most}");
+        assert_eq!(rt; (status, reads), (1, last), "at {most}");
     }
     Ok(())
 }
@@ -271,53 +260,20 @@ fn reads_up_to_the_no(rt: HostRuntime) -> Result<(), Fail> {
 #[test]
 fn audit_reader_fails(rt: HostRuntime) -> Result<(), Fail> {
     for fails_at in 1..242 {
-        let reads = Cell::new(0);
-        let mut output = Vec::new(rt.alloc());
-        let reader = Told::new(Slow {
-            left: TAGS_ON_AIR,
-            most: 1,
-            fails_at,
-            reads: &reads,
-        });
-        let status = run(rt.alloc(), &AUDIT, reader, &mut Told::new(&mut output));
+        let (status, output, reads) = ran_in_pieces(rt.alloc(), &AUDIT, TAGS_ON_AIR, 1, fails_at);
         assert_eq!(rt;
             output.as_slice(),
             b"fault read\n".as_slice(),
             "at {fails_at}"
         );
-        assert_eq!(rt; (status, reads.get()), (1, fails_at));
+        assert_eq!(rt; (status, reads), (1, fails_at));
     }
     Ok(())
 }
 
-/// Each write of the answer fails in turn, of a yes and of a no: the status is 1, and what was written is a first
-/// part of the answer.
+/// Each write of the answer fails in turn, of a yes and of a no.
 #[test]
 fn audit_writer_fails(rt: HostRuntime) -> Result<(), Fail> {
-    let answers: [(&[u8], &[u8], u64); 2] = [
-        (TAGS_ON_AIR, b"yes 12\n", 8),
-        (CHANGED, b"no 1 Changed\n", 14),
-    ];
-    for (log, answer, after) in answers {
-        for with_error in [true, false] {
-            for fails_at in 1..after {
-                let writes = Cell::new(0);
-                let mut output = Vec::new(rt.alloc());
-                let status = {
-                    let mut writer = Told::new(Stubborn {
-                        taken: &mut output,
-                        most: 1,
-                        fails_at,
-                        with_error,
-                        writes: &writes,
-                    });
-                    run(rt.alloc(), &AUDIT, Told::new(log), &mut writer)
-                };
-                assert_eq!(rt; (status, writes.get()), (1, fails_at));
-                assert!(rt; answer.starts_with(output.as_slice()));
-                assert_eq!(rt; output.len() as u64, fails_at - 1);
-            }
-        }
-    }
-    Ok(())
+    each_write_fails(&rt, rt.alloc(), &AUDIT, TAGS_ON_AIR, b"yes 12\n")?;
+    each_write_fails(&rt, rt.alloc(), &AUDIT, CHANGED, b"no 1 Changed\n")
 }

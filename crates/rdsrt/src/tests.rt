@@ -804,14 +804,19 @@ fn refused_words(rt: HostRuntime) -> Result<(), Fail> {
         assert_eq!(rt; output.as_slice(), wanted);
         assert_eq!(rt; status, 2);
     }
-    let others: [&[&str]; 5] = [
+    Ok(())
+}
+
+#[test]
+fn refused_with_an_error(rt: HostRuntime) -> Result<(), Fail> {
+    let refused: [&[&str]; 5] = [
         &[],
         &["rdsrt", "decode", "--pi", "C201", "--m", "65536"],
         &["rdsrt", "decode", "--pi", "C201", "--m", "-1"],
         &["rdsrt", "decode", "--pi", "C201", "--pi", "C201"],
         &["rdsrt", "decode", "--pi", "C201", "--tp"],
     ];
-    for words in others {
+    for words in refused {
         let (status, output) = ran(rt.alloc(), words, b"C201 2140 4849 0D20\n")?;
         assert!(rt; output.starts_with(b"error: "));
         assert_eq!(rt; status, 2);
@@ -821,11 +826,11 @@ fn refused_words(rt: HostRuntime) -> Result<(), Fail> {
 
 /// Gives at most so many bytes a read, counts the reads, and fails at one of them.
 #[derive(Drop)]
-pub struct Slow<'a> {
-    pub left: &'a [u8],
-    pub most: usize,
-    pub fails_at: u64,
-    pub reads: &'a Cell<u64>,
+struct Slow<'a> {
+    left: &'a [u8],
+    most: usize,
+    fails_at: u64,
+    reads: &'a Cell<u64>,
 }
 
 impl Read for Slow<'_> {
@@ -843,12 +848,12 @@ impl Read for Slow<'_> {
 
 /// Takes at most so many bytes a write, and from one write on none, with an error or without.
 #[derive(Drop)]
-pub struct Stubborn<'a> {
-    pub taken: &'a mut Vec<u8>,
-    pub most: usize,
-    pub fails_at: u64,
-    pub with_error: bool,
-    pub writes: &'a Cell<u64>,
+struct Stubborn<'a> {
+    taken: &'a mut Vec<u8>,
+    most: usize,
+    fails_at: u64,
+    with_error: bool,
+    writes: &'a Cell<u64>,
 }
 
 impl Write for Stubborn<'_> {
@@ -871,19 +876,77 @@ impl Write for Stubborn<'_> {
     }
 }
 
+/// Status and output of a run whose reader gives at most so many bytes a read and fails at one of the reads, at 0 at
+/// none; and how many reads there were.
+pub fn ran_in_pieces(
+    alloc: Global,
+    words: &[&str],
+    input: &[u8],
+    most: usize,
+    fails_at: u64,
+) -> (u8, Vec<u8>, u64) {
+    let reads = Cell::new(0);
+    let mut output = Vec::new(alloc);
+    let reader = Told::new(Slow {
+        left: input,
+        most,
+        fails_at,
+        reads: &reads,
+    });
+    let status = run(alloc, words, reader, &mut Told::new(&mut output));
+    (status, output, reads.get())
+}
+
+/// Status and output of a run whose writer takes a byte a write and fails at one of the writes, with an error or by
+/// taking nothing; and how many writes there were.
+fn ran_until_a_write(
+    alloc: Global,
+    words: &[&str],
+    input: &[u8],
+    fails_at: u64,
+    with_error: bool,
+) -> (u8, Vec<u8>, u64) {
+    let writes = Cell::new(0);
+    let mut output = Vec::new(alloc);
+    let status = {
+        let mut writer = Told::new(Stubborn {
+            taken: &mut output,
+            most: 1,
+            fails_at,
+            with_error,
+            writes: &writes,
+        });
+        run(alloc, words, Told::new(input), &mut writer)
+    };
+    (status, output, writes.get())
+}
+
+/// Each write of this output, a byte each, fails in turn, with an error or by taking nothing.
+pub fn each_write_fails(
+    rt: &impl Abort,
+    alloc: Global,
+    words: &[&str],
+    input: &[u8],
+    wanted: &[u8],
+) -> Result<(), Fail> {
+    for fails_at in 1..=wanted.len() as u64 {
+        for with_error in [true, false] {
+            let (status, output, writes) = ran_until_a_write(
+                alloc, words, input, fails_at, with_error,
+            );
+            assert_eq!(rt; (status, writes), (1, fails_at));
+            assert!(rt; wanted.starts_with(output.as_slice()));
+            assert_eq!(rt; output.len() as u64, fails_at - 1);
+        }
+    }
+    Ok(())
+}
+
 /// The output doesn't depend on how the input is cut into reads.
 #[test]
 fn cut_anywhere(rt: HostRuntime) -> Result<(), Fail> {
     for most in [1, 2, 3, 7] {
-        let reads = Cell::new(0);
-        let mut output = Vec::new(rt.alloc());
-        let reader = Told::new(Slow {
-            left: MIXED_LOG,
-            most,
-            fails_at: 0,
-            reads: &reads,
-        });
-        let status = run(rt.alloc(), &DECODE, reader, &mut Told::new(&mut output));
+        let (status, output, _) = ran_in_pieces(rt.alloc(), &DECODE, MIXED_LOG, most, 0);
         assert_eq!(rt;
             output.as_slice(),
             b"2 text \"HI\"\nfault line 10\n".as_slice(),
@@ -897,17 +960,10 @@ fn cut_anywhere(rt: HostRuntime) -> Result<(), Fail> {
 /// After a bad line nothing more is read.
 #[test]
 fn stops_at_a_bad_line(rt: HostRuntime) -> Result<(), Fail> {
-    let reads = Cell::new(0);
-    let mut output = Vec::new(rt.alloc());
-    let reader = Told::new(Slow {
-        left: b"x\nC201 2140 4849 0D20\n",
-        most: 1,
-        fails_at: 0,
-        reads: &reads,
-    });
-    let status = run(rt.alloc(), &DECODE, reader, &mut Told::new(&mut output));
+    let log = b"x\nC201 2140 4849 0D20\n";
+    let (status, output, reads) = ran_in_pieces(rt.alloc(), &DECODE, log, 1, 0);
     assert_eq!(rt; output.as_slice(), b"fault line 1\n".as_slice());
-    assert_eq!(rt; (status, reads.get()), (1, 2));
+    assert_eq!(rt; (status, reads), (1, 2));
     Ok(())
 }
 
@@ -917,22 +973,14 @@ fn stops_at_a_bad_line(rt: HostRuntime) -> Result<(), Fail> {
 fn reader_fails(rt: HostRuntime) -> Result<(), Fail> {
     let (nine_lines, _) = MIXED_LOG.split_at(138);
     for fails_at in 1..140 {
-        let reads = Cell::new(0);
-        let mut output = Vec::new(rt.alloc());
-        let reader = Told::new(Slow {
-            left: nine_lines,
-            most: 1,
-            fails_at,
-            reads: &reads,
-        });
-        let status = run(rt.alloc(), &DECODE, reader, &mut Told::new(&mut output));
+        let (status, output, reads) = ran_in_pieces(rt.alloc(), &DECODE, nine_lines, 1, fails_at);
         let wanted = if fails_at > 95 {
             b"2 text \"HI\"\nfault read\n".as_slice()
         } else {
             b"fault read\n".as_slice()
         };
         assert_eq!(rt; output.as_slice(), wanted, "at {fails_at}");
-        assert_eq!(rt; (status, reads.get()), (1, fails_at));
+        assert_eq!(rt; (status, reads), (1, fails_at));
     }
     Ok(())
 }
@@ -942,32 +990,7 @@ fn reader_fails(rt: HostRuntime) -> Result<(), Fail> {
 fn writer_fails(rt: HostRuntime) -> Result<(), Fail> {
     let input = b"C201 2140 4849 0D20\nC201 2150 594F 0D20\nx\n";
     let wanted = b"0 text \"HI\"\n1 text \"YO\"\nfault line 3\n";
-    for with_error in [true, false] {
-        for fails_at in 1..38u64 {
-            let writes = Cell::new(0);
-            let mut output = Vec::new(rt.alloc());
-            let status = {
-                let mut writer = Told::new(Stubborn {
-                    taken: &mut output,
-                    most: 1,
-                    fails_at,
-                    with_error,
-                    writes: &writes,
-                });
-                run(
-                    rt.alloc(),
-                    &DECODE,
-                    Told::new(input.as_slice()),
-                    &mut writer,
-                )
-            };
-            assert_eq!(rt; status, 1);
-            assert_eq!(rt; writes.get(), fails_at);
-            assert!(rt; wanted.starts_with(output.as_slice()));
-            assert_eq!(rt; output.len() as u64, fails_at - 1);
-        }
-    }
-    Ok(())
+    each_write_fails(&rt, rt.alloc(), &DECODE, input, wanted)
 }
 
 /// Takes all, and notes at each write how many reads there were.
@@ -1030,20 +1053,12 @@ fn script_reader_fails(rt: HostRuntime) -> Result<(), Fail> {
         let mut last = 0;
         for fails_at in 1..u64::MAX {
             last = fails_at;
-            let reads = Cell::new(0);
-            let mut output = Vec::new(rt.alloc());
-            let reader = Told::new(Slow {
-                left: script,
-                most: 7,
-                fails_at,
-                reads: &reads,
-            });
-            let status = run(rt.alloc(), words, reader, &mut Told::new(&mut output));
+            let (status, output, reads) = ran_in_pieces(rt.alloc(), words, script, 7, fails_at);
             if status == 0 {
                 assert_eq!(rt; output.as_slice(), wanted);
                 break;
             }
-            assert_eq!(rt; (status, reads.get()), (1, fails_at));
+            assert_eq!(rt; (status, reads), (1, fails_at));
             assert!(rt; output.ends_with(fault));
             assert!(rt; wanted.starts_with(&output[..output.len() - fault.len()]));
         }
@@ -1067,25 +1082,7 @@ fn script_writer_fails(rt: HostRuntime) -> Result<(), Fail> {
         ),
     ];
     for (words, wanted) in engines {
-        for with_error in [true, false] {
-            for fails_at in 1..=wanted.len() as u64 {
-                let writes = Cell::new(0);
-                let mut output = Vec::new(rt.alloc());
-                let status = {
-                    let mut writer = Told::new(Stubborn {
-                        taken: &mut output,
-                        most: 1,
-                        fails_at,
-                        with_error,
-                        writes: &writes,
-                    });
-                    run(rt.alloc(), words, Told::new(script.as_slice()), &mut writer)
-                };
-                assert_eq!(rt; (status, writes.get()), (1, fails_at));
-                assert!(rt; wanted.starts_with(output.as_slice()));
-                assert_eq!(rt; output.len() as u64, fails_at - 1);
-            }
-        }
+        each_write_fails(&rt, rt.alloc(), words, script, wanted)?;
     }
     Ok(())
 }
@@ -1169,12 +1166,23 @@ fn help(rt: HostRuntime) -> Result<(), Fail> {
         assert_eq!(rt; output.as_slice(), HELP);
         assert_eq!(rt; status, 0);
     }
+    Ok(())
+}
+
+#[test]
+fn help_of_sim(rt: HostRuntime) -> Result<(), Fail> {
     let sim: [&[&str]; 2] = [&["rdsrt", "sim", "--help"], &["rdsrt", "help", "sim"]];
     for words in sim {
         let (status, output) = ran(rt.alloc(), words, b"x\n")?;
         assert_eq!(rt; output.as_slice(), HELP_OF_SIM);
         assert_eq!(rt; status, 0);
     }
+    Ok(())
+}
+
+/// The help of each subcommand ends with an example.
+#[test]
+fn examples_in_help(rt: HostRuntime) -> Result<(), Fail> {
     for (task, wanted) in EXAMPLES {
         let (status, output) = ran(rt.alloc(), &["rdsrt", task, "--help"], b"x\n")?;
         assert!(rt; output.ends_with(wanted), "in {task}");
