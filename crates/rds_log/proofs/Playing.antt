@@ -1,14 +1,16 @@
 -- How a station goes on by a row, and why a record is no row.
-use Rattle.std.proofs.Common.{◌≡◌, ◌<◌, ◌≤◌, ◌∙◌, ◌∷◌, ◌++◌, [], ℕ, suc, List, Option, ap, ap₂, arith, inl, inr, length, refl, subst, sym}
+use Rattle.std.proofs.Common.{◌≡◌, ◌<◌, ◌≤◌, ◌∙◌, ◌∷◌, ◌++◌, [], ℕ, suc, List, None, Option, Some, ap, ap₂, arith, inl, inr, length, refl, subst, sym}
+use Rattle.std.specs.Prelude.{IsSome}
 use Rattle.rds_fields.specs.declared.head.Head.{Head}
 use Rattle.rds_world.specs.Event.{Event}
+use Rattle.rds_world.specs.State.{WorldState}
 use Rattle.rds_block.specs.declared.group.Group.{Group}
 use Rattle.rds_receiver.specs.Shown.{ShownView}
 use Rattle.rds_world.specs.declared.event.Command.{Command}
 use Rattle.rds_world.specs.declared.reply.Reply.{Reply}
 use Rattle.rds_log.proofs.Changes.{changes_same}
 use Rattle.rds_log.specs.Outcomes.{AreOutcomes, Outcome, answer_lines, lines_of, newest_views, receiver_changes}
-use Rattle.rds_log.specs.Playing.{AreKept, BeginsRow, PlayerStandsAt}
+use Rattle.rds_log.specs.Playing.{AreKept, BeginsRow, HasWorld, PlayerStandsAt}
 use Rattle.rds_log.specs.declared.player.Player.{Player}
 use Rattle.rds_charset.specs.Laws.{TextIsReadOneWay}
 use Rattle.rds_world.specs.Replies.{CanBeTaken, IsStepRefused}
@@ -79,6 +81,11 @@ slot_written form slot n command reply sent kept views older written answered li
 pub has_played : (form : Form) (station : Head) (m k receivers : ℕ) (p : Player) (records : List Record) (written : List ℕ) → PlayerStandsAt form station m k receivers p records written → p.slot ≡ length records
 has_played form station m k receivers p records written s = s.slot ∙ sym (as_many_outcomes station m k s.events s.outcomes s.are) ∙ sym (as_many_rows k receivers records s.events s.rows)
 
+-- from the first row on there is a world
+pub has_world : (station : Head) (m k receivers : ℕ) (w : Option WorldState) (events : List Event) → HasWorld station m k receivers w events → 0 < length events → IsSome w
+has_world station m k receivers None events has some = absurd (omega (arith, ap length has, some))
+has_world station m k receivers (Some w) events has some = refl
+
 -- before the first row
 pub nothing_played : (form : Form) (station : Head) (m k receivers : ℕ) (records : List Record) (events : List Event) (outcomes : List Outcome) → AreRows k receivers records events → AreOutcomes station m k events outcomes
     → length records ≡ 0 → (records ≡ []) × (lines_of form outcomes ≡ [])
@@ -95,8 +102,8 @@ not_taken k receivers e before (Late r) is taken = is.late.late (taken.due r)
 -- a record whose event was refused
 pub refused_row : TextIsReadOneWay → (form : Form) (station : Head) (m k : ℕ) (p : Player) (row : Record) (records : List Record) (written : List ℕ) (e : Event) (asked : ℕ) → asked ≡ length e.receptions
     → (began : BeginsRow form station m k asked p records written) → SaysEvent row e → (CanBeTaken k began.0 e began.1.events → ⊥) → AreNoRows k form (row ∷ records)
-refused_row one form station m k p row records written e asked is (receivers, s, how) says none [] say = say.rows
-refused_row one form station m k p row records written e asked is (receivers, s, how) says none (g ∷ older) say =
+refused_row one form station m k p row records written e asked is (receivers, s, how, made) says none [] say = say.rows
+refused_row one form station m k p row records written e asked is (receivers, s, how, made) says none (g ∷ older) say =
     let same : g ≡ e = same_event one row g e say.rows.0 says in
     let before : older ≡ s.events = same_events one k say.receivers receivers records older s.events say.rows.2 s.rows in
     let count : say.receivers ≡ receivers = elim how [

@@ -1,19 +1,18 @@
 -- How a script is played on by a record, and what is left at each end.
-use Rattle.std.proofs.Common.{◌≡◌, ◌+◌, ◌∙◌, ◌∷◌, ◌++◌, [], ℕ, List, Option, ap, arith, inl, inr, length, refl, sym}
-use Rattle.std.specs.Prelude.{Err, IsErr, Ok, OnErr, Result}
+use Rattle.std.proofs.Common.{◌≡◌, ◌+◌, ◌∙◌, ◌∷◌, ◌++◌, ℕ, List, Option, ap, inl, inr, length, sym}
+use Rattle.std.specs.Prelude.{Err}
 use Rattle.std.specs.Io.KnownBytes.{Appends}
-use Rattle.std.proofs.KnownBytes.{Appends-nil, Appends-trans}
+use Rattle.std.proofs.KnownBytes.{Appends-trans}
 use Rattle.csv.specs.Reading.{reader_state}
 use Rattle.rds_charset.specs.Puts.{AppendsPrefix-append}
 use Rattle.rds_charset.specs.Told.{AppendsPrefix, HasFailed, Traffic}
 use Rattle.rds_fields.specs.declared.head.Head.{Head}
 use Rattle.rds_log.specs.Playing.{IsReadFault, PlayedSoFar, PlayerStandsAt, PlaysRow, ScriptStandsAt}
-use Rattle.rds_log.specs.Rows.{AreNoRows, IsAllowed, Record}
+use Rattle.rds_log.specs.Rows.{AreNoRows, Record}
 use Rattle.rds_log.specs.Scripts.{HasRecords, Plays, RowsWrite, WroteRows}
 use Rattle.rds_log.specs.declared.fault.LogFault.{LogFault}
 use Rattle.rds_log.specs.declared.fault.LogFault.TheVariants.{BadRow, Write}
 use Rattle.rds_log.specs.declared.form.Form.{Form}
-use Rattle.rds_log.specs.declared.form.Form.TheVariants.{Log, Simulation}
 use Rattle.rds_log.specs.declared.player.Player.{Player}
 use Rattle.rds_log.specs.declared.script.Script.{Script}
 
@@ -82,24 +81,4 @@ ends_by_write remaining form station m k most known s p records start now after 
   write = rows_write form station m k receivers p records (written ++ lines) plays;
   wrote = AppendsPrefix-append start now after written lines had gave;
   failed = rw calm at failed;
-}
-
--- what holds at an error
-pub of_err : {T E P : Type 0} (r : Result T E) → IsErr r → OnErr r P → P
-of_err (Ok a) e p = cc
-of_err (Err f) e p = p
-
-none_allowed : (form : Form) → IsAllowed form 0
-none_allowed Simulation = omega arith
-none_allowed Log = refl
-
--- before the first record nothing was written
-pub wrote_nothing : {R : Type 0} (remaining : R → Option (List ℕ)) (form : Form) (station : Head) (m k : ℕ) (known : Option (List ℕ)) (start : Option (List ℕ)) (v : ℕ) (s : Script R) → ScriptStandsAt remaining known s []
-    → WroteRows form station m k known record { before = start; after = start; failures_before = v; failures_after = v } []
-wrote_nothing remaining form station m k known start v s stands = record {
-  begins = has_records remaining known s [] stands;
-  written = [];
-  write = record { events = []; say = record { receivers = 0; allowed = none_allowed form; rows = tt }; write = record { outcomes = []; are = tt; lines = refl } };
-  wrote = Appends-nil start;
-  calm = refl;
 }

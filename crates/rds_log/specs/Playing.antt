@@ -1,6 +1,6 @@
 -- What the parts of a script's engine hold: its reader after these records, and its station after their slots.
 -- Lists have the newest first.
-use Rattle.std.specs.Prelude.{◌≡◌, ◌⊎◌, ◌<◌, ℕ, List, Option, Some, length, map, true}
+use Rattle.std.specs.Prelude.{◌≡◌, ◌⊎◌, ◌<◌, ℕ, [], IsSome, List, None, Option, Some, length, map, true}
 use Rattle.std.specs.Io.KnownBytes.{Appends}
 use Rattle.csv.specs.Reading.{Ready, default_config, is_flexible, reader_config, reader_state, reader_trim, source_of}
 use Rattle.csv.specs.declared.reader.Trim.TheVariants.{None as untrimmed}
@@ -8,6 +8,7 @@ use Rattle.rds_charset.specs.Told.{IsCalm, Traffic}
 use Rattle.rds_fields.specs.declared.head.Head.{Head}
 use Rattle.rds_world.specs.Event.{Event}
 use Rattle.rds_world.specs.Standing as world
+use Rattle.rds_world.specs.State.{WorldState}
 use Rattle.rds_receiver.specs.Shown.{ShownView}
 use Rattle.rds_log.specs.Kept.{view_kept}
 use Rattle.rds_log.specs.Rows.{AreNoRows, AreRows, IsAllowed, Record}
@@ -38,6 +39,11 @@ IsReadFault fault = (fault ≡ Memory) ⊎ (fault ≡ Read)
 abbrev pub AreKept : List ShownView → List ShownView → Type 0
 AreKept kept views = (i : ℕ) → view_at kept i ≡ view_at views i
 
+-- the world of these slots, with so many receivers; before the first slot there may be none
+abbrev pub HasWorld : Head → ℕ → ℕ → ℕ → Option WorldState → List Event → Type 0
+HasWorld station m k receivers None events = events ≡ []
+HasWorld station m k receivers (Some w) events = world.StandsAt station m k w events × (length w.receivers ≡ receivers)
+
 -- the station played these rows, each with so many receivers, and gave the lines of their slots
 pub record PlayerStandsAt (form : Form) (station : Head) (m k receivers : ℕ) (p : Player) (records : List Record) (written : List ℕ) : Type 0 where
   pub form_is : p.form ≡ form
@@ -47,8 +53,7 @@ pub record PlayerStandsAt (form : Form) (station : Head) (m k receivers : ℕ) (
   pub allowed : IsAllowed form receivers
   pub events : List Event
   pub rows : AreRows k receivers records events
-  pub world : world.StandsAt station m k p.world events
-  pub count : length p.world.receivers ≡ receivers
+  pub world : HasWorld station m k receivers p.world events
   pub outcomes : List Outcome
   pub are : AreOutcomes station m k events outcomes
   pub slot : p.slot ≡ length outcomes
@@ -65,10 +70,10 @@ WherePlayerStands p Holds = (form : Form) (station : Head) (m k receivers : ℕ)
 abbrev pub PlaysRow : Form → Head → ℕ → ℕ → Player → List Record → List ℕ → Type 0
 PlaysRow form station m k p records written = (receivers : ℕ) × PlayerStandsAt form station m k receivers p records written
 
--- the player is to play a row with so many receivers, and has so many, but where it has played rows with others
+-- the player is to play a row with so many receivers: it has a world, and so many, but where it has played rows with others
 abbrev pub BeginsRow : Form → Head → ℕ → ℕ → ℕ → Player → List Record → List ℕ → Type 0
 BeginsRow form station m k asked p records written =
-    (receivers : ℕ) × PlayerStandsAt form station m k receivers p records written × ((0 < length records) ⊎ (receivers ≡ asked))
+    (receivers : ℕ) × PlayerStandsAt form station m k receivers p records written × ((0 < length records) ⊎ (receivers ≡ asked)) × IsSome p.world
 
 -- why a record is not played after those before it
 abbrev pub IsRowRefused : ℕ → Form → List Record → RowRefused → Type 0

@@ -1,5 +1,5 @@
 //! A station that plays the rows of a script.
-ghost use Rattle.std.specs.Prelude.{◌≡◌, ◌⊎◌, ◌≤◌, ◌<◌, ◌+◌, ◌-◌, ◌^◌, ◌++◌, ◌∷◌, [], ℕ, List, IfErr, IfOk, IsTrue, OnOk, length, map};
+ghost use Rattle.std.specs.Prelude.{◌≡◌, ◌⊎◌, ◌≤◌, ◌<◌, ◌+◌, ◌-◌, ◌^◌, ◌++◌, ◌∷◌, [], ℕ, List, IfErr, IfOk, IsSome, IsTrue, OnOk, length, map};
 ghost use Rattle.csv.specs.Records.{fields_of};
 ghost use Rattle.rds_fields.specs.declared.head.Head.{Head};
 ghost use Rattle.rds_world.specs.Event.{Event};
@@ -50,7 +50,7 @@ pub struct Player {
     alloc: Global,
     form: Form,
     config: Config,
-    world: World,
+    world: Option<World>,
     shown: ArrayVec<KeptView, RECEIVERS>,
     pub slot: u64,
 }
@@ -58,21 +58,19 @@ pub struct Player {
 impl Player {
     ghost use Rattle.rds_log.specs.Playing.{BeginsRow, IsRowRefused, PlayerStandsAt, PlaysRow, WherePlayerStands};
 
-    /// Before the first row.
-    pub fn new(alloc: Global, form: Form, config: Config) -> Result<Player, RowRefused>
-        ensures slot { IfOk result (λ p. p.slot ≡ 0) }
-        ensures stands { IfOk result (λ p. PlayerStandsAt form config.head config.dwell config.late 0 p [] []) }
-        ensures memory { IfErr result (λ why. why ≡ refused.Memory) }
+    /// Before the first row, with no world yet.
+    pub fn new(alloc: Global, form: Form, config: Config) -> Player
+        ensures slot { result.slot ≡ 0 }
+        ensures stands { PlayerStandsAt form config.head config.dwell config.late 0 result [] [] }
     {
-        let asked = config;
-        Ok(Player {
+        Player {
             alloc,
             form,
             config,
-            world: new_world(alloc, asked, 0)?,
-            shown: nothing_shown(0),
+            world: None,
+            shown: ArrayVec::new(),
             slot: 0,
-        })
+        }
     }
 
     /// Plays one record more, and gives the lines of its slot.
@@ -103,7 +101,7 @@ impl Player {
         }
     }
 
-    /// Fixes the number of receivers, where no row was played yet.
+    /// Makes the world, with so many receivers, where no row was played yet.
     fn begin(&mut self, receivers: usize) -> Result<(), RowRefused>
         requires { receivers ≤ 8 }
         ensures slot { self.new.slot ≡ self.old.slot }
@@ -115,12 +113,12 @@ impl Player {
         if self.slot > 0 {
             return Ok(());
         }
-        self.world = new_world(self.alloc, self.config, receivers)?;
+        self.world = Some(new_world(self.alloc, self.config, receivers)?);
         self.shown = nothing_shown(receivers);
         Ok(())
     }
 
-    /// Plays the slot of an event; `false` where the world refuses it.
+    /// Plays the slot of an event in the world that was made; `false` where it refuses the event.
     fn event(&mut self, event: &SlotEvent, lines: &mut RowLines) -> bool
         requires slots { self.old.slot < 2 ^ 64 - 1 }
         requires empty { lines.old ≡ [] }
@@ -131,13 +129,16 @@ impl Player {
             (written ++ lines.new)) }
         ensures refused { (form : Form) (station : Head) (m k receivers : ℕ) (records : List Record)
             (written : List ℕ) (s : PlayerStandsAt form station m k receivers self.old records written)
-            → IsTrue result ⊎ (CanBeTaken k receivers event.now s.events → ⊥) }
+            → IsSome self.old.world → IsTrue result ⊎ (CanBeTaken k receivers event.now s.events → ⊥) }
     {
-        let Ok(answer) = self.world.step(event) else {
+        let Some(world) = &mut self.world else {
+            return false;
+        };
+        let Ok(answer) = world.step(event) else {
             return false;
         };
         push_answer(self.form, self.slot, event.command, answer, lines);
-        push_views(self.slot, &self.world, self.shown.as_mut_slice(), lines);
+        push_views(self.slot, world, self.shown.as_mut_slice(), lines);
         self.slot += 1;
         true
     }

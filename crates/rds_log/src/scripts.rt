@@ -100,9 +100,7 @@ fn play<R: TellingRead + Drop, W: TellingWrite>(
 {
     let mut script = Script::new(alloc, reader);
     let mut row = ByteRecord::new(alloc);
-    let Ok(mut player) = Player::new(alloc, form, config) else {
-        return Err(LogFault::Memory);
-    };
+    let mut player = Player::new(alloc, form, config);
     let mut lines = RowLines::new();
     for turn in 0..records {
         if !script.next(&mut row)? {

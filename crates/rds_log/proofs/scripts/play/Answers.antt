@@ -1,9 +1,9 @@
-use Rattle.std.proofs.Common.{◌≡◌, ◌∙◌, ◌∷◌, ◌+◌, [], ap, arith, false, rules, true}
+use Rattle.std.proofs.Common.{◌≡◌, ◌∙◌, ◌∷◌, ◌+◌, ap, arith, false, rules, true}
 use Rattle.std.proofs.lemmas.Result.{err_from_is_err_and}
 use Rattle.csv.proofs.ReadFacts.{on-ok}
 use Rattle.csv.specs.Records.{fields_of}
 use Rattle.rds_charset.specs.Told.{traffic}
-use Rattle.rds_log.proofs.Plays.{ends_by_read, ends_by_row, ends_by_write, played_on, wrote_nothing, wrote_rows}
+use Rattle.rds_log.proofs.Plays.{ends_by_read, ends_by_row, ends_by_write, played_on, wrote_rows}
 use Rattle.rds_log.proofs.scripts.play.Goals as goal
 
 pub returns-in_err-next : goal.returns-in_err-next
@@ -45,11 +45,11 @@ returns-in_err-put g c =
     let (records, stands, count, played) = c.loop-turn.invariant.played in
     let some : c.in_ok-next.field-0 ≡ true = search rules in
     let after = rw some at (c.in_ok-next.ensures.found (g.R.Read.remaining c.args.reader) records stands) in
-    let plays = on-ok c.row-in-loop-turn-2.result (search rules) (c.row-in-loop-turn-2.ensures.stands c.args.form c.args.config.head c.args.config.dwell c.args.config.late played.receivers records played.written played.player) in
+    let plays = on-ok c.row-in-loop-turn.result (search rules) (c.row-in-loop-turn.ensures.stands c.args.form c.args.config.head c.args.config.dwell c.args.config.late played.receivers records played.written played.player) in
     let p = err_from_is_err_and c.from_residual-in_err-put.result c.from_residual-in_err-put.ensures.1 in
-    rw (p.1, p.2) (ends_by_write g.R.Read.remaining c.args.form c.args.config.head c.args.config.dwell c.args.config.late c.args.records (g.R.Read.remaining c.args.reader) c.next.new.self c.row-in-loop-turn-2.new.self
+    rw (p.1, p.2) (ends_by_write g.R.Read.remaining c.args.form c.args.config.head c.args.config.dwell c.args.config.late c.args.records (g.R.Read.remaining c.args.reader) c.next.new.self c.row-in-loop-turn.new.self
     (fields_of c.next.new.row ∷ records) (g.W.Write.contents c.args.writer.now) (g.W.Write.contents c.loop-turn.writer) (g.W.Write.contents c.put.new.writer)
-    (g.W.TellingWrite.failures c.args.writer.now) (g.W.TellingWrite.failures c.loop-turn.writer) (g.W.TellingWrite.failures c.put.new.writer) played.written c.row-in-loop-turn-2.new.lines
+    (g.W.TellingWrite.failures c.args.writer.now) (g.W.TellingWrite.failures c.loop-turn.writer) (g.W.TellingWrite.failures c.put.new.writer) played.written c.row-in-loop-turn.new.lines
     after plays played.wrote played.calm (rw c.bytes.ensures at c.in_err-put.ensures.0) c.in_err-put.ensures.1)
 
 pub loop-turn-preserved : goal.loop-turn-preserved
@@ -57,8 +57,8 @@ loop-turn-preserved g c =
     let (records, stands, count, played) = c.loop-turn.invariant.played in
     let some : c.in_ok-next.field-0 ≡ true = search rules in
     let after = rw some at (c.in_ok-next.ensures.found (g.R.Read.remaining c.args.reader) records stands) in
-    let plays = on-ok c.row-in-loop-turn-2.result (search rules) (c.row-in-loop-turn-2.ensures.stands c.args.form c.args.config.head c.args.config.dwell c.args.config.late played.receivers records played.written played.player) in
-    let slot = on-ok c.row-in-loop-turn-2.result (search rules) c.row-in-loop-turn-2.ensures.slot in
+    let plays = on-ok c.row-in-loop-turn.result (search rules) (c.row-in-loop-turn.ensures.stands c.args.form c.args.config.head c.args.config.dwell c.args.config.late played.receivers records played.written played.player) in
+    let slot = on-ok c.row-in-loop-turn.result (search rules) c.row-in-loop-turn.ensures.slot in
     record {
       empty = c.clear.ensures;
       slot = slot ∙ ap (λ n. n + 1) c.loop-turn.invariant.slot;
@@ -66,17 +66,11 @@ loop-turn-preserved g c =
         fields_of c.next.new.row ∷ records,
         after,
         omega (arith, count),
-        played_on c.args.form c.args.config.head c.args.config.dwell c.args.config.late c.row-in-loop-turn-2.new.self (fields_of c.next.new.row ∷ records) (g.W.Write.contents c.args.writer.now) (g.W.Write.contents c.loop-turn.writer) (g.W.Write.contents c.put.new.writer)
-            (g.W.TellingWrite.failures c.args.writer.now) (g.W.TellingWrite.failures c.loop-turn.writer) (g.W.TellingWrite.failures c.put.new.writer) played.written c.row-in-loop-turn-2.new.lines
+        played_on c.args.form c.args.config.head c.args.config.dwell c.args.config.late c.row-in-loop-turn.new.self (fields_of c.next.new.row ∷ records) (g.W.Write.contents c.args.writer.now) (g.W.Write.contents c.loop-turn.writer) (g.W.Write.contents c.put.new.writer)
+            (g.W.TellingWrite.failures c.args.writer.now) (g.W.TellingWrite.failures c.loop-turn.writer) (g.W.TellingWrite.failures c.put.new.writer) played.written c.row-in-loop-turn.new.lines
             plays played.wrote played.calm (rw c.bytes.ensures at c.in_ok-put.ensures.0) c.in_ok-put.ensures.1,
       );
     }
-
-pub returns-in_default : goal.returns-in_default
-returns-in_default g c = (
-  [],
-  wrote_nothing g.R.Read.remaining c.args.form c.args.config.head c.args.config.dwell c.args.config.late (g.R.Read.remaining c.args.reader) (g.W.Write.contents c.args.writer.now) (g.W.TellingWrite.failures c.args.writer.now) c.new-script.result c.new-script.ensures,
-)
 
 pub returns : goal.returns
 returns g c =

@@ -1,6 +1,13 @@
-use Rattle.std.proofs.Common.{◌≡◌, ◌∙◌, [], arith, inr, length, refl}
-use Rattle.rds_log.proofs.Playing.{has_played, nothing_played}
+use Rattle.std.proofs.Common.{◌≡◌, ◌∙◌, ◌<◌, [], arith, inl, inr, length, refl}
+use Rattle.rds_log.proofs.Playing.{as_many_rows, has_played, has_world, nothing_played}
 use Rattle.rds_log.proofs.player.Player.begin.Goals as goal
+
+pub returns-then-self-gt0-clause-stands : goal.returns-then-self-gt0-clause-stands
+returns-then-self-gt0-clause-stands c form station m k before records written s allowed =
+    let played : c.args.self.now.slot ≡ length records = has_played form station m k before c.args.self.now records written s in
+    let counted : length records ≡ length s.events = as_many_rows k before records s.events s.rows in
+    let some : 0 < length records = omega (arith, played, c.if-self-gt0.true) in
+    (before, s, inl some, has_world station m k before c.args.self.now.world s.events s.world (omega (arith, some, counted)))
 
 pub returns-clause-stands : goal.returns-clause-stands
 returns-clause-stands c form station m k before records written s allowed =
@@ -16,8 +23,7 @@ returns-clause-stands c form station m k before records written s allowed =
         allowed = allowed;
         events = [];
         rows = tt;
-        world = rw (s.head, s.dwell, s.late) at c.in_ok-self.ensures.stands;
-        count = c.in_ok-self.ensures.count;
+        world = (rw (s.head, s.dwell, s.late) at c.in_ok-new_world.ensures.stands, c.in_ok-new_world.ensures.count);
         outcomes = [];
         are = tt;
         slot = start;
@@ -26,4 +32,5 @@ returns-clause-stands c form station m k before records written s allowed =
         lines = refl;
       },
       inr refl,
+      refl,
     )

@@ -1,8 +1,10 @@
-use Rattle.std.proofs.Common.{◌≡◌, ◌∙◌, ◌∷◌, ◌+◌, ℕ, List, add-one, ap, arith, drop, length, map, rules, sym}
+use Rattle.std.proofs.Common.{◌≡◌, ◌∙◌, ◌∷◌, ◌+◌, ℕ, List, Option, Some, add-one, ap, arith, drop, length, map, rules, subst, sym}
 use Rattle.std.proofs.lemmas.List.{length-map, take_at}
 use Rattle.rds_world.specs.Event.{Event}
+use Rattle.rds_world.specs.State.{WorldState}
 use Rattle.rds_log.specs.Kept.{view_kept}
 use Rattle.rds_log.specs.Outcomes.{view_at}
+use Rattle.rds_log.specs.Playing.{HasWorld}
 use Rattle.rds_log.specs.declared.kept.KeptView.{KeptView}
 use Rattle.rds_log.proofs.Playing.{slot_written}
 use Rattle.rds_log.proofs.player.Player.event.Goals as goal
@@ -11,11 +13,12 @@ pub returns-clause-stands : goal.returns-clause-stands
 returns-clause-stands c form station m k receivers records written s t row says =
     let views = map view_kept c.push_views.new.shown in
     let command : c.event.inside.command ≡ c.args.event.now.command = ap (λ (e : Event). e.command) c.event.view_is in
-    let taken = c.in-Ok.ensures.refused station m k s.events s.world in
-    let joined : length c.args.event.now.receptions ≡ length c.args.self.now.world.receivers = taken.count in
-    let world_count : length c.step.new.self.receivers ≡ length c.args.self.now.world.receivers = c.in-Ok.ensures.count in
-    let as_many : length c.args.self.now.shown.items ≡ length c.step.new.self.receivers = s.kept ∙ sym s.count ∙ sym world_count in
-    let world = c.in-Ok.ensures.stands station m k s.events s.world in
+    let had : HasWorld station m k receivers (Some c.in-Some.world) s.events = subst (λ (w : Option WorldState). HasWorld station m k receivers w s.events) c.in-Some.is s.world in
+    let taken = c.in-Ok.ensures.refused station m k s.events had.0 in
+    let joined : length c.args.event.now.receptions ≡ length c.in-Some.world.receivers = taken.count in
+    let world_count : length c.step.new.self.receivers ≡ length c.in-Some.world.receivers = c.in-Ok.ensures.count in
+    let as_many : length c.args.self.now.shown.items ≡ length c.step.new.self.receivers = s.kept ∙ sym had.1 ∙ sym world_count in
+    let world = c.in-Ok.ensures.stands station m k s.events had.0 in
     let lent = c.as_mut_slice.ensures.value in
     let kept : length c.push_views.new.shown ≡ length c.args.self.now.shown.items = c.push_views.ensures.count ∙ ap length lent in
     let shown : length views ≡ length c.args.self.now.shown.items = length-map c.push_views.new.shown view_kept ∙ kept in
@@ -27,16 +30,15 @@ returns-clause-stands c form station m k receivers records written s t row says 
       late = s.late;
       allowed = s.allowed;
       events = c.args.event.now ∷ s.events;
-      rows = (says, rw s.count at taken, s.rows);
-      world = world;
-      count = world_count ∙ s.count;
+      rows = (says, rw had.1 at taken, s.rows);
+      world = (world, world_count ∙ had.1);
       outcomes = record { command = c.event.inside.command; reply = c.in-Ok.answer.reply; sent = c.in-Ok.answer.sent; views = views } ∷ s.outcomes;
       are = (
         record {
           command = command;
-          reply = c.in-Ok.ensures.reply station m k s.events s.world;
-          sent = c.in-Ok.ensures.sent station m k s.events s.world;
-          receivers = shown ∙ s.kept ∙ sym s.count ∙ sym joined;
+          reply = c.in-Ok.ensures.reply station m k s.events had.0;
+          sent = c.in-Ok.ensures.sent station m k s.events had.0;
+          receivers = shown ∙ s.kept ∙ sym had.1 ∙ sym joined;
           views = λ i within. c.push_views.ensures.views (ap length lent ∙ as_many) station m k (c.args.event.now ∷ s.events) world i (omega (arith, within, shown, ap length lent));
         },
         s.are,

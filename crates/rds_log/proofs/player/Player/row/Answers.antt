@@ -15,7 +15,7 @@ returns-else-event-clause-refused c form station m k receivers records written s
     let allowed : IsAllowed c.args.self.now.form c.len-receivers.result = search rules in
     let began = c.in_ok-begin.ensures.stands form station m k receivers records written s (subst (λ f. IsAllowed f c.len-receivers.result) s.form_is allowed) in
     let asked : c.len-receivers.result ≡ length c.in-Some.event.receptions = search rules in
-    elim (c.event-2.ensures.refused form station m k began.0 records written began.1) [
+    elim (c.event-2.ensures.refused form station m k began.0 records written began.1 began.3) [
       | inl taken ↦ absurd (let no = c.if-event.false in cc)
       | inr none ↦ refused_row c.text_is_read_one_way.ensures form station m k c.begin.new.self (fields_of c.args.row.now) records written c.in-Some.event c.len-receivers.result asked began c.in-Some.ensures.some none
     ]
