@@ -239,10 +239,12 @@ impl Order {
         }
     }
 
-    /// The slot ends, in which this receiver was handed this.
-    fn note(&mut self, slot: usize, i: usize, reception: Reception) {
-        if let (Reception::Got(back), Some(last)) = (reception, self.last.get_mut(i)) {
-            *last = slot.checked_sub(usize::from(back));
+    /// The slot ends, in which the receivers were handed this.
+    fn end_slot(&mut self, slot: usize, receptions: &[Reception]) {
+        for (i, reception) in receptions.iter().enumerate() {
+            if let (Reception::Got(back), Some(last)) = (*reception, self.last.get_mut(i)) {
+                *last = slot.checked_sub(usize::from(back));
+            }
         }
     }
 }
@@ -262,9 +264,7 @@ fn step(
             *event.receptions.get_mut(i).ok_or("reception")? = Reception::Lost;
         }
     }
-    for i in 0..2 {
-        order.note(slot, i, *event.receptions.get(i).ok_or("reception")?);
-    }
+    order.end_slot(slot, event.receptions.as_slice());
     let answer = world.step(event).ok().ok_or("receptions")?;
     Ok(answer.reply == Reply::Done)
 }

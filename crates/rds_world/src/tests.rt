@@ -344,10 +344,21 @@ fn neighbours_in_one_slot(rt: HostRuntime) -> Result<(), Fail> {
     Ok(())
 }
 
-/// The slots of these two neighbours in one call, up to slot 12 and up to slot 14.
+/// A world takes memory, and where it is refused says so; here it isn't. `rt try --test --fail-alloc N` refuses the
+/// request N of each test.
 #[test]
-fn neighbours_played(rt: HostRuntime) -> Result<(), Fail> {
-    let mut events = Vec::new(rt.alloc());
+fn refused_memory(rt: HostRuntime) -> Result<(), Fail> {
+    let events = [slot_event(Command::Quiet, true, &[LOST])?];
+    let made = World::new(rt.alloc(), late_config(2)?, 1).err();
+    assert!(rt; made.is_none_or(|why| why == WorldRefused::Memory));
+    let played = play(rt.alloc(), late_config(2)?, 1, &events).err();
+    assert!(rt; played.is_none_or(|why| why == PlayRefused::Memory));
+    Ok(())
+}
+
+/// Two texts in fifteen slots; the second receiver loses the slot in which the second text begins.
+fn neighbours(alloc: Global) -> Result<Vec<SlotEvent>, Fail> {
+    let mut events = Vec::new(alloc);
     for slot in 0..15 {
         let command = match slot {
             4 => set_text(b"ONE")?,
@@ -357,6 +368,13 @@ fn neighbours_played(rt: HostRuntime) -> Result<(), Fail> {
         let second = if slot == 12 { LOST } else { GOT };
         events.push(slot_event(command, true, &[GOT, second])?)?;
     }
+    Ok(events)
+}
+
+/// The slots of these two neighbours in one call, up to slot 12 and up to slot 14.
+#[test]
+fn neighbours_played(rt: HostRuntime) -> Result<(), Fail> {
+    let events = neighbours(rt.alloc())?;
     let one = Some(b"ONE".as_slice());
     let two = Some(b"TWO".as_slice());
     for (slots, second) in [(13, one), (15, two)] {
@@ -427,21 +445,27 @@ fn receptions_in_order(rt: HostRuntime) -> Result<(), Fail> {
         (&[GOT, LOST, LOST, LOST, LOST, Reception::Got(2)], None),
     ];
     for (receptions, wanted) in cases.iter() {
-        for command in [Command::Quiet, Command::Restart] {
-            let mut world = World::new(rt.alloc(), late_config(2)?, 1)
-                .ok()
-                .ok_or("world")?;
-            let mut refused = None;
-            for (slot, reception) in receptions.iter().enumerate() {
-                let event = slot_event(command, true, &[*reception])?;
-                if world.step(&event).is_err() && refused.is_none() {
-                    refused = Some(slot);
-                }
-            }
-            assert_eq!(rt; refused, *wanted);
-        }
+        let quiet = first_refused(rt.alloc(), Command::Quiet, receptions)?;
+        let restarting = first_refused(rt.alloc(), Command::Restart, receptions)?;
+        assert_eq!(rt; (quiet, restarting), (*wanted, *wanted));
     }
     Ok(())
+}
+
+/// The first slot that is refused, with a lateness of two, where the station is told this in each.
+fn first_refused(
+    alloc: Global,
+    command: Command,
+    receptions: &[Reception],
+) -> Result<Option<usize>, Fail> {
+    let mut world = World::new(alloc, late_config(2)?, 1).ok().ok_or("world")?;
+    for (slot, reception) in receptions.iter().enumerate() {
+        let event = slot_event(command, true, &[*reception])?;
+        if world.step(&event).is_err() {
+            return Ok(Some(slot));
+        }
+    }
+    Ok(None)
 }
 
 /// A name is sent in two turns; a receiver that restarts between them does not show it.
