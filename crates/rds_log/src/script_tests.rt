@@ -2,6 +2,7 @@
 //! tests of the program, in rdsrt.
 
 use crate::{LogFault, encode, encode_within, simulate, simulate_within};
+use arrayvec::ArrayVec;
 use rds_block::Place;
 use rds_charset::Told;
 use rds_encoder::Late;
@@ -10,6 +11,7 @@ use rds_world::Config;
 use std::alloc::{AllocError, Global};
 use std::cell::Cell;
 use std::io::{self, ErrorKind, Read, Write};
+use std::process::Abort;
 use std::test::Fail;
 
 /// A script, the dwell in slots, and how it ends with which output, simulated or encoded.
@@ -448,6 +450,75 @@ fn writer_fails(rt: HostRuntime) -> Result<(), Fail> {
         }
         assert!(rt; runs > 10);
     }
+    Ok(())
+}
+
+/// Takes up to 1,024 bytes, and asks for no memory.
+#[derive(Drop)]
+struct Page {
+    bytes: ArrayVec<u8, 1024>,
+}
+
+impl Page {
+    fn new() -> Page {
+        Page {
+            bytes: ArrayVec::new(),
+        }
+    }
+}
+
+impl Write for Page {
+    fn write(&mut self, buf: &[u8]) -> io::Result<usize> {
+        let count = buf.len().min(self.bytes.remaining_capacity());
+        match self.bytes.try_extend_from_slice(&buf[..count]) {
+            Ok(()) => Ok(count),
+            Err(_) => Ok(0),
+        }
+    }
+
+    fn flush(&mut self) -> io::Result<()> {
+        Ok(())
+    }
+}
+
+/// A script that ends for want of memory has written a first part of its output; where there is memory, all of it.
+/// `rt try --test --fail-alloc N` refuses the request N.
+fn ends_whole_or_for_memory(
+    rt: &impl Abort,
+    done: Result<(), LogFault>,
+    page: &Page,
+    whole: &[u8],
+) {
+    let bytes = page.bytes.as_slice();
+    match done {
+        Ok(()) => assert_eq!(rt; bytes, whole),
+        Err(fault) => {
+            assert_eq!(rt; fault, LogFault::Memory);
+            assert!(rt; whole.starts_with(bytes));
+        }
+    }
+}
+
+#[test]
+fn refused_memory_in_a_simulation(rt: HostRuntime) -> Result<(), Fail> {
+    let mut page = Page::new();
+    let reader = Told::new(TAGS_ON_AIR);
+    let done = simulate(rt.alloc(), reader, &mut Told::new(&mut page), config(4)?);
+    ends_whole_or_for_memory(&rt, done, &page, TAGS_OUTPUT);
+    Ok(())
+}
+
+#[test]
+fn refused_memory_in_a_log(rt: HostRuntime) -> Result<(), Fail> {
+    let case = &ENCODED[0];
+    let mut page = Page::new();
+    let done = encode(
+        rt.alloc(),
+        Told::new(case.script),
+        &mut Told::new(&mut page),
+        config(1)?,
+    );
+    ends_whole_or_for_memory(&rt, done, &page, case.output);
     Ok(())
 }
 
