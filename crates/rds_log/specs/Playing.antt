@@ -75,10 +75,10 @@ abbrev pub BeginsRow : Form → Head → ℕ → ℕ → ℕ → Player → List
 BeginsRow form station m k asked p records written =
     (receivers : ℕ) × PlayerStandsAt form station m k receivers p records written × ((0 < length records) ⊎ (receivers ≡ asked)) × IsSome p.world
 
--- why a record is not played after those before it
+-- why the newest of these records is not played: not all are rows, or it is the first and there is no memory for a world
 abbrev pub IsRowRefused : ℕ → Form → List Record → RowRefused → Type 0
 IsRowRefused k form records NoRow = AreNoRows k form records
-IsRowRefused k form records refused.Memory = Unit {0}
+IsRowRefused k form records refused.Memory = length records ≡ 1
 
 -- the station played these records, and their output was written
 pub record PlayedSoFar (form : Form) (station : Head) (m k : ℕ) (p : Player) (records : List Record) (w : Traffic) : Type 0 where

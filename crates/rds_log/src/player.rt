@@ -108,7 +108,7 @@ impl Player {
         ensures stands { WherePlayerStands self.old (λ form station m k before records written.
             IsAllowed form receivers
             → OnOk result (BeginsRow form station m k receivers self.new records written)) }
-        ensures memory { IfErr result (λ why. why ≡ refused.Memory) }
+        ensures memory { IfErr result (λ why. (why ≡ refused.Memory) × (self.old.slot ≡ 0)) }
     {
         if self.slot > 0 {
             return Ok(());

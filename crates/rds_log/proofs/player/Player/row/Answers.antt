@@ -1,7 +1,8 @@
-use Rattle.std.proofs.Common.{◌≡◌, inl, inr, length, rules, subst}
+use Rattle.std.proofs.Common.{◌≡◌, arith, inl, inr, length, rules, subst}
+use Rattle.std.proofs.lemmas.Result.{err_from_is_err_and}
 use Rattle.csv.specs.Records.{fields_of}
 use Rattle.rds_log.specs.Rows.{IsAllowed}
-use Rattle.rds_log.proofs.Playing.{names_receivers, refused_row}
+use Rattle.rds_log.proofs.Playing.{has_played, names_receivers, refused_row}
 use Rattle.rds_log.proofs.player.Player.row.Goals as goal
 
 pub returns-then-event-clause-stands : goal.returns-then-event-clause-stands
@@ -19,6 +20,13 @@ returns-else-event-clause-refused c form station m k receivers records written s
       | inl taken ↦ absurd (let no = c.if-event.false in cc)
       | inr none ↦ refused_row c.text_is_read_one_way.ensures form station m k c.begin.new.self (fields_of c.args.row.now) records written c.in-Some.event c.len-receivers.result asked began c.in-Some.ensures.some none
     ]
+
+pub returns-in_err-begin-clause-refused : goal.returns-in_err-begin-clause-refused
+returns-in_err-begin-clause-refused c form station m k receivers records written s =
+    let p = err_from_is_err_and c.from_residual.result c.from_residual.ensures.1 in
+    let first = c.in_err-begin.ensures.memory in
+    let played : c.args.self.now.slot ≡ length records = has_played form station m k receivers c.args.self.now records written s in
+    rw (p.1, p.2, first.0) (omega (arith, played, first.1))
 
 pub returns-then-not-allows-clause-refused : goal.returns-then-not-allows-clause-refused
 returns-then-not-allows-clause-refused c form station m k receivers records written s =
