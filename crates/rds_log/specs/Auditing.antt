@@ -1,7 +1,6 @@
 -- What `audit` answers, and what it leaves at each end: how much of the reader it took, and what it wrote. Lists of
 -- slots and of lines have the newest first; d is the number of slots that keeps broadcasts apart, the dwell and the
--- lateness; r is what a call did to the reader, w what it
--- did to the writer.
+-- lateness; r is what a call did to the reader, w what it did to the writer.
 use Rattle.std.specs.Prelude.{◌≡◌, ◌≤◌, ◌↔◌, ◌++◌, ◌∷◌, ℕ, Bool, List, All, IsTrue, Ok, Err, Result, codes, decimal, length, Option}
 use Rattle.std.specs.Io.KnownBytes.{Appends, Consumes, IsAtEnd}
 use Rattle.rds_block.specs.declared.group.Group.{Group}

@@ -38,10 +38,9 @@ const LINE: usize = 64;
 ///
 /// `decode` reads a log and writes what a receiver of the programme shows; `encode` and `sim` read a script
 /// and write the log of a station, or what it sends and its receivers show; `audit` reads a log and writes
-/// whether it passes. A fault is told by its line, the
-/// last that is written. Where the words are refused or ask for help, the text of `clap` is written
-/// and nothing is read. `clap`'s contract doesn't say that numbers which it took lie in their range:
-/// where one didn't, `nothing_asked` holds.
+/// whether it passes. A fault is told by its line, the last that is written. Where the words are refused or
+/// ask for help, the text of `clap` is written and nothing is read. `clap`'s contract doesn't say that numbers
+/// which it took lie in their range: where one didn't, `nothing_asked` holds.
 pub fn run<R: TellingRead + Drop, W: TellingWrite>(
     alloc: Global,
     words: &[&str],
