@@ -113,6 +113,22 @@ impl Player {
         if self.slot > 0 {
             return Ok(());
         }
+        self.make_world(receivers)
+    }
+
+    /// Makes the world of the first row.
+    ///
+    /// It stands apart so that the other rows pay nothing for its copies.
+    #[inline(never)]
+    fn make_world(&mut self, receivers: usize) -> Result<(), RowRefused>
+        requires few { receivers ≤ 8 }
+        requires first { self.old.slot ≡ 0 }
+        ensures slot { self.new.slot ≡ self.old.slot }
+        ensures stands { WherePlayerStands self.old (λ form station m k before records written.
+            IsAllowed form receivers
+            → OnOk result (BeginsRow form station m k receivers self.new records written)) }
+        ensures memory { IfErr result (λ why. why ≡ refused.Memory) }
+    {
         self.world = Some(new_world(self.alloc, self.config, receivers)?);
         self.shown = nothing_shown(receivers);
         Ok(())
