@@ -55,6 +55,7 @@ impl Message {
 
     /// What the group says: every group says one thing. Bits 3 to 1 of a name's group may hold
     /// anything, and so may the other fields of a tag of class 0.
+    #[inline(always)]
     pub fn of(group: &Group) -> Message
         ensures spelled { Spells result group.now }
         ensures only { (m : Message) → Spells m group.now → m ≡ result }

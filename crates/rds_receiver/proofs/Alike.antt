@@ -1,5 +1,5 @@
--- What a receiver shows stays where the cells and the pair stay.
-use Rattle.std.proofs.Common.{List, Option, sym, ap, ◌∙◌, subst}
+-- What a receiver shows stays where what the cells make whole and the pair stay.
+use Rattle.std.proofs.Common.{◌≡◌, ◌⊎◌, ℕ, List, None, Option, Some, sym, ap, ◌∙◌, subst, refl, inl, inr}
 use Rattle.rds_block.specs.declared.group.Group.{Group}
 use Rattle.rds_fields.specs.declared.pair.Which.TheVariants.{One, Two}
 use Rattle.rds_fields.specs.Tag.{PairFields}
@@ -7,27 +7,55 @@ use Rattle.rds_assembly.specs.Cells.{Cells}
 use Rattle.rds_assembly.specs.Whole.{IsWholeName, IsWholeText}
 use Rattle.rds_receiver.specs.Receipts.{Tuning}
 use Rattle.rds_receiver.specs.Shown.{IsShown, IsView, ShownView}
-use Rattle.rds_receiver.specs.Standing.{ShowsAlike, StandsAt}
+use Rattle.rds_receiver.specs.Standing.{MakeAlike, ShowsAlike, StandsAt}
 use Rattle.rds_receiver.specs.State.{ReceiverState}
 use Rattle.rds_receiver.specs.Tags.{item_of, tag_of}
-use Rattle.rds_receiver.proofs.Shows.{name_cells, pair_is, text_cells}
+use Rattle.rds_receiver.proofs.Shows.{name_cells, name_shown, pair_is, text_cells, text_shown}
+
+-- cells make what they make
+pub makes_itself : (IsWhole : Cells → List ℕ → Type 0) (cells : Cells) → MakeAlike IsWhole cells cells
+makes_itself IsWhole cells shown = (λ h. h, λ h. h)
+
+pub makes_same : (IsWhole : Cells → List ℕ → Type 0) (cells after : Cells) → after ≡ cells → MakeAlike IsWhole cells after
+makes_same IsWhole cells after e = subst (λ (c : Cells). MakeAlike IsWhole cells c) (sym e) (makes_itself IsWhole cells)
+
+-- where both make nothing whole
+pub make_nothing : (IsWhole : Cells → List ℕ → Type 0) (cells after : Cells) → IsShown IsWhole cells None → IsShown IsWhole after None → MakeAlike IsWhole cells after
+make_nothing IsWhole cells after none none_after None = (λ h. none_after, λ h. none)
+make_nothing IsWhole cells after none none_after (Some x) = (λ h. absurd (none x h), λ h. absurd (none_after x h))
 
 pub alike_by : (a b c : ReceiverState) → ShowsAlike a b → ShowsAlike b c → ShowsAlike a c
-alike_by a b c p q = record { text = q.text ∙ p.text; name = q.name ∙ p.name; pair = q.pair ∙ p.pair }
+alike_by a b c p q = record {
+  text = λ shown. (λ h. (q.text shown).0 ((p.text shown).0 h), λ h. (p.text shown).1 ((q.text shown).1 h));
+  name = λ shown. (λ h. (q.name shown).0 ((p.name shown).0 h), λ h. (p.name shown).1 ((q.name shown).1 h));
+  pair = elim q.pair [
+    | inl same ↦ elim p.pair [ inl before ↦ inl (same ∙ before) | inr none ↦ inr none ]
+    | inr none ↦ inr ((p.text None).1 none)
+  ];
+}
+
+-- with no text there are no item bits and no tags, whatever the pair is
+nothing_beside : (text : Option (List ℕ)) (cells : Cells) (p q : Option PairFields) → IsShown IsWholeText cells text → (q ≡ p) ⊎ IsShown IsWholeText cells None
+    → (item_of text p ≡ item_of text q) × (tag_of One text p ≡ tag_of One text q) × (tag_of Two text p ≡ tag_of Two text q)
+nothing_beside text cells p q shown (inl same) = (ap (item_of text) (sym same), ap (tag_of One text) (sym same), ap (tag_of Two text) (sym same))
+nothing_beside None cells p q shown (inr none) = (refl, refl, refl)
+nothing_beside (Some x) cells p q shown (inr none) = absurd (none x shown)
 
 pub view_stays : (t : Tuning) (r after : ReceiverState) (input more : List (Option Group)) (view : ShownView) → StandsAt t r input → StandsAt t after more
     → ShowsAlike r after → IsView t input view → IsView t more view
 view_stays t r after input more view s u alike (heard, are, shown) =
-    let texts = sym (text_cells t r input heard s are) ∙ sym alike.text ∙ text_cells t after more u.heard u u.are in
-    let names = sym (name_cells t r input heard s are) ∙ sym alike.name ∙ name_cells t after more u.heard u u.are in
-    let pairs = sym (pair_is t r input heard s are) ∙ sym alike.pair ∙ pair_is t after more u.heard u u.are in (
+    let text : IsShown IsWholeText r.text.cells view.text = subst (λ (c : Cells). IsShown IsWholeText c view.text) (sym (text_cells t r input heard s are)) shown.text in
+    let name : IsShown IsWholeName r.name.cells view.name = subst (λ (c : Cells). IsShown IsWholeName c view.name) (sym (name_cells t r input heard s are)) shown.name in
+    let beside = nothing_beside view.text r.text.cells r.pair after.pair text alike.pair in
+    let before = pair_is t r input heard s are in
+    let now = pair_is t after more u.heard u u.are in (
       u.heard,
       u.are,
       record {
-        text = subst (λ (c : Cells). IsShown IsWholeText c view.text) texts shown.text;
-        name = subst (λ (c : Cells). IsShown IsWholeName c view.name) names shown.name;
-        item = shown.item ∙ ap (λ (p : Option PairFields). item_of view.text p) pairs;
-        one = shown.one ∙ ap (λ (p : Option PairFields). tag_of One view.text p) pairs;
-        two = shown.two ∙ ap (λ (p : Option PairFields). tag_of Two view.text p) pairs;
+        text = text_shown t after more u.heard view.text u u.are ((alike.text view.text).0 text);
+        name = name_shown t after more u.heard view.name u u.are ((alike.name view.name).0 name);
+        item = shown.item ∙ ap (item_of view.text) (sym before) ∙ beside.0 ∙ ap (item_of view.text) now;
+        one = shown.one ∙ ap (tag_of One view.text) (sym before) ∙ beside.1 ∙ ap (tag_of One view.text) now;
+        two = shown.two ∙ ap (tag_of Two view.text) (sym before) ∙ beside.2 ∙ ap (tag_of Two view.text) now;
       },
     )

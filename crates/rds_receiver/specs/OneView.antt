@@ -12,7 +12,7 @@ use Rattle.rds_receiver.specs.Shown.{IsNameShown, IsShown, IsTextShown, IsView, 
 use Rattle.rds_receiver.specs.Tags.{item_of, pair_held, tag_of}
 
 -- one message is heard in a slot
-same_heard_in : (pi : ℕ) (slot : Option Group) (m n : Option Message) → Hears pi slot m → Hears pi slot n → m ≡ n
+pub same_heard_in : (pi : ℕ) (slot : Option Group) (m n : Option Message) → Hears pi slot m → Hears pi slot n → m ≡ n
 same_heard_in pi None m n p q = p ∙ sym q
 same_heard_in pi (Some g) m n (inr (other, e)) (inr (other', f)) = e ∙ sym f
 same_heard_in pi (Some g) m n (inl (same, p)) (inr (other, f)) = absurd (other same)

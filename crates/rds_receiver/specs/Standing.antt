@@ -1,9 +1,12 @@
 -- What a receiver holds at the end of an input. Lists have the newest first.
-use Rattle.std.specs.Prelude.{◌≡◌, ◌+◌, ◌<◌, ℕ, Bool, List, [], ◌∷◌, Option, Some, length}
+use Rattle.std.specs.Prelude.{◌≡◌, ◌⊎◌, ◌↔◌, ◌+◌, ◌<◌, ℕ, Bool, List, [], ◌∷◌, Option, None, Some, length}
 use Rattle.rds_block.specs.declared.group.Group.{Group}
 use Rattle.rds_fields.specs.declared.message.Message.{Message}
+use Rattle.rds_assembly.specs.Cells.{Cells}
+use Rattle.rds_assembly.specs.Whole.{IsWholeName, IsWholeText}
 use Rattle.rds_receiver.specs.Receipts.{AreHeard, Segment, Tuning, name_piece, segments, text_piece}
 use Rattle.rds_receiver.specs.Run.{begins_in, cells_of, run}
+use Rattle.rds_receiver.specs.Shown.{IsShown}
 use Rattle.rds_receiver.specs.State.{HeldSegments, ReceiverState}
 use Rattle.rds_receiver.specs.Tags.{is_known, pair_from}
 
@@ -59,8 +62,12 @@ HearsMore old new message =
     (m first : ℕ) (heard : List (Option Message)) → HoldsAt m (first + length heard) first old heard
     → HoldsAt m (first + length heard) first new (Some message ∷ heard)
 
--- both hold the cells and the pair that are shown
+-- whatever the one cells make whole, or that they make nothing whole, the others do
+abbrev pub MakeAlike : (Cells → List ℕ → Type 0) → Cells → Cells → Type 0
+MakeAlike IsWhole cells after = (shown : Option (List ℕ)) → IsShown IsWhole cells shown ↔ IsShown IsWhole after shown
+
+-- both hold what is shown alike: the same text, name and pair, or no text and any pair
 pub record ShowsAlike (r after : ReceiverState) : Type 0 where
-  pub text : after.text.cells ≡ r.text.cells
-  pub name : after.name.cells ≡ r.name.cells
-  pub pair : after.pair ≡ r.pair
+  pub text : MakeAlike IsWholeText r.text.cells after.text.cells
+  pub name : MakeAlike IsWholeName r.name.cells after.name.cells
+  pub pair : (after.pair ≡ r.pair) ⊎ IsShown IsWholeText r.text.cells None

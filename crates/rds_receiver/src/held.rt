@@ -1,8 +1,9 @@
 //! The segments of one service that are held, with their flag and their age.
-ghost use Rattle.std.specs.Prelude.{◌≡◌, ◌≢◌, ◌+◌, ◌<◌, ◌≤◌, ◌↔◌, IsFalse, IsTrue, IfSome, length};
+ghost use Rattle.std.specs.Prelude.{◌≡◌, ◌≢◌, ◌+◌, ◌<◌, ◌≤◌, ◌↔◌, ◌⊎◌, None, IsFalse, IsTrue, IfSome, length};
 ghost use Rattle.std.specs.FinMap.{empty, insert};
 ghost use Rattle.std.specs.Option.{option_copied};
 ghost use Rattle.rds_receiver.specs.Shown.{IsShown};
+ghost use Rattle.rds_receiver.specs.Standing.{MakeAlike};
 ghost use Rattle.rds_receiver.specs.State.{HeldSegments};
 
 use rds_assembly::{Assembly, Service};
@@ -41,36 +42,40 @@ impl<S: Service> Held<S> {
         }
     }
 
-    /// One slot older; what reaches the dwell is given up. False where nothing was.
+    /// One slot older; what reaches the dwell is given up. False where no whole value was.
     pub(crate) fn grow_older(&mut self, dwell: u16) -> bool
         ensures gone { dwell ≤ self.old.age → self.new ≡ self.old }
         ensures older { self.old.age + 1 < dwell
             → self.new ≡ record self.old { age = self.old.age + 1 } }
         ensures over { self.old.age + 1 ≡ dwell
             → self.new ≡ record self.old { cells = empty; age = dwell } }
-        ensures same { IsFalse result → self.new.cells ≡ self.old.cells }
+        ensures same { IsFalse result → MakeAlike S.is_whole self.old.cells self.new.cells }
     {
         if self.age >= dwell {
             return false;
         }
         self.age += 1;
-        if self.age == dwell {
-            self.segments.clear();
-            return true;
+        if self.age < dwell {
+            return false;
         }
-        false
+        let was_whole = self.segments.whole().is_some();
+        self.segments.clear();
+        was_whole
     }
 
-    /// Takes a segment; those with the other flag are given up first. False where just this one was held.
+    /// Takes a segment; those with the other flag are given up first. False where just this one was held, and where
+    /// nothing was whole and nothing is.
     pub(crate) fn take(&mut self, flag: bool, address: u8, bytes: [u8; 4]) -> bool
         requires { address < S.SEGMENTS }
         ensures same { flag ≡ self.old.flag → self.new.cells ≡ insert self.old.cells address bytes }
         ensures other { flag ≢ self.old.flag → self.new.cells ≡ insert empty address bytes }
         ensures flag { self.new.flag ≡ flag }
         ensures age { self.new.age ≡ 0 }
-        ensures kept { IsFalse result → self.new.cells ≡ self.old.cells }
-        ensures one_flag { IsFalse result → flag ≡ self.old.flag }
+        ensures kept { IsFalse result → MakeAlike S.is_whole self.old.cells self.new.cells }
+        ensures one_flag { IsFalse result
+            → (flag ≡ self.old.flag) ⊎ IsShown S.is_whole self.old.cells None }
     {
+        let was_whole = self.segments.whole().is_some();
         let is_other = flag != self.flag;
         if is_other {
             self.segments.clear();
@@ -78,7 +83,7 @@ impl<S: Service> Held<S> {
         let is_new = self.segments.put(address, bytes);
         self.flag = flag;
         self.age = 0;
-        is_new || is_other
+        (is_new || is_other) && (was_whole || self.segments.whole().is_some())
     }
 
     /// Whether segments are held.

@@ -17,7 +17,7 @@ mod receiver;
 mod view;
 
 pub use laws::{one_view, run_is_the_longest};
-pub use receiver::Receiver;
+pub use receiver::{Receiver, heard};
 pub use view::View;
 
 #[cfg(test)]

@@ -4,6 +4,7 @@ ghost use Rattle.std.specs.Option.{option_copied};
 ghost use Rattle.rds_block.specs.declared.group.Group.{Group};
 ghost use Rattle.rds_fields.specs.declared.message.Message.{Message};
 ghost use Rattle.rds_receiver.specs.Lent.{tag_lent, view_lent};
+ghost use Rattle.rds_receiver.specs.Receipts.{Hears};
 ghost use Rattle.rds_receiver.specs.Shown.{IsItemShown, IsNameShown, IsTagShown, IsTextShown, IsView, ShownView};
 ghost use Rattle.rds_receiver.specs.Standing.{HearsMore, HoldsAt, ShowsAlike, StandsAt, WhatItHeard, WhereItStands, newest_slot};
 ghost use Rattle.rds_receiver.specs.State.{ReceiverState};
@@ -15,6 +16,18 @@ use rds_assembly::{RadioText, TypeName};
 use rds_block::Group;
 use rds_fields::{Dwell, Message, RTPLUS_AID, RTPLUS_CODE, TagPair, Which};
 use std::marker::Model;
+
+/// What a receiver of this programme hears of a slot: nothing where no group came, or another programme's.
+#[inline(always)]
+pub fn heard(pi: u16, group: Option<Group>) -> Option<Message>
+    ensures { Hears pi group result }
+{
+    let group = group?;
+    if group.pi != pi {
+        return None;
+    }
+    Some(Message::of(&group))
+}
 
 /// Shows the text, the name and the tags of one programme. Every group is taken, from any encoder.
 #[derive(Drop)]
@@ -62,21 +75,32 @@ impl Receiver {
         }
     }
 
-    /// Handles what one slot brought: a group, or nothing. Each slot has one call. False where the
-    /// view is what it was in the slot before.
+    /// Handles what one slot brought: a group, or nothing. Each slot has one call, of this or of `slot_message`.
+    /// False where the view is what it was in the slot before.
+    #[inline(always)]
     pub fn slot(&mut self, group: Option<Group>) -> bool
         ensures stands { WhereItStands self.old (λ t input. StandsAt t self.new (group ∷ input)) }
         ensures same { IsFalse result → (view : ShownView)
             → WhereItStands self.old (λ t input. IsView t input view → IsView t (group ∷ input) view) }
     {
+        let message = heard(self.pi, group);
+        self.slot_message(message)
+    }
+
+    /// [`slot`](Self::slot) of a group that was read before: the message that is heard of it.
+    #[inline(always)]
+    pub fn slot_message(&mut self, message: Option<Message>) -> bool
+        ensures stands { WhereItStands self.old (λ t input. (group : Option Group)
+            → Hears t.programme group message → StandsAt t self.new (group ∷ input)) }
+        ensures same { IsFalse result → (view : ShownView)
+            → WhereItStands self.old (λ t input. (group : Option Group)
+            → Hears t.programme group message → IsView t input view → IsView t (group ∷ input) view) }
+    {
         let gave_up = self.grow_older();
-        let Some(group) = group else {
+        let Some(message) = message else {
             return gave_up;
         };
-        if group.pi != self.pi {
-            return gave_up;
-        }
-        let heard = self.hear(Message::of(&group));
+        let heard = self.hear(message);
         heard || gave_up
     }
 

@@ -229,8 +229,28 @@ fn told_whether_the_view_stays(rt: HostRuntime) -> Result<(), Fail> {
         (None, true),
         (None, false),
     ];
+    let mut other = Receiver::new(PI, Dwell::new(4).ok_or("dwell")?);
     for (group, may_differ) in rows {
         assert_eq!(rt; receiver.slot(group), may_differ);
+        assert_eq!(rt; other.slot_message(heard(PI, group)), may_differ);
+        assert_eq!(rt; other.text(), receiver.text());
+    }
+    assert!(rt; heard(0xF201, hi).is_none());
+    Ok(())
+}
+
+/// Nor does one that brings a part of a text, where none was whole before.
+#[test]
+fn told_that_no_part_is_shown(rt: HostRuntime) -> Result<(), Fail> {
+    let mut receiver = Receiver::new(PI, Dwell::new(4).ok_or("dwell")?);
+    let rows = [
+        ([PI, 0x2140, 0x4142, 0x4241], false),
+        ([PI, 0x2150, 0x4142, 0x4241], false),
+        ([PI, 0x2151, 0x0D20, 0x2020], true),
+        ([PI, 0x2140, 0x4142, 0x4241], true),
+    ];
+    for (words, may_differ) in rows {
+        assert_eq!(rt; receiver.slot(Some(Group::from_blocks(words))), may_differ);
     }
     Ok(())
 }

@@ -1,0 +1,28 @@
+use Rattle.std.proofs.Common.{◌∙◌, None, Some}
+use Rattle.rds_receiver.proofs.Alike.{alike_by, view_stays}
+use Rattle.rds_receiver.proofs.Steps.{nothing_heard, slot_stands}
+use Rattle.rds_receiver.proofs.receiver.Receiver.slot_message.Goals as goal
+
+pub returns-in_default-clause-stands : goal.returns-in_default-clause-stands
+returns-in_default-clause-stands c t input st group hears =
+    slot_stands t _ _ input group None st (rw c.in_default.is at hears) c.grow_older-gave_up.ensures.programme
+    (nothing_heard t.dwell t.first _ st.heard (c.grow_older-gave_up.ensures.holds t.dwell t.first st.heard st.holds))
+
+pub returns-in_default-clause-same : goal.returns-in_default-clause-same
+returns-in_default-clause-same c calm view t input st group hears shown =
+    view_stays t _ _ input _ view st (returns-in_default-clause-stands c t input st group hears) (c.grow_older-gave_up.ensures.same calm) shown
+
+pub returns-then-heard-clause-stands : goal.returns-then-heard-clause-stands
+returns-then-heard-clause-stands c t input st group hears =
+    slot_stands t _ _ input group (Some c.in-Some.message) st (rw c.in-Some.is at hears)
+    (c.hear-heard.ensures.programme ∙ c.grow_older-gave_up.ensures.programme) (c.hear-heard.ensures.holds t.dwell t.first st.heard (c.grow_older-gave_up.ensures.holds t.dwell t.first st.heard st.holds))
+
+pub returns-else-heard-clause-stands : goal.returns-else-heard-clause-stands
+returns-else-heard-clause-stands c t input st group hears =
+    slot_stands t _ _ input group (Some c.in-Some.message) st (rw c.in-Some.is at hears)
+    (c.hear-heard.ensures.programme ∙ c.grow_older-gave_up.ensures.programme) (c.hear-heard.ensures.holds t.dwell t.first st.heard (c.grow_older-gave_up.ensures.holds t.dwell t.first st.heard st.holds))
+
+pub returns-else-heard-clause-same : goal.returns-else-heard-clause-same
+returns-else-heard-clause-same c calm view t input st group hears shown =
+    let alike = alike_by _ _ _ (c.grow_older-gave_up.ensures.same calm) (c.hear-heard.ensures.same c.if-heard.false) in
+    view_stays t _ _ input _ view st (returns-else-heard-clause-stands c t input st group hears) alike shown
