@@ -21,10 +21,10 @@ pub get-put : (cells : Cells) (k : ℕ) (cell : List ℕ) (a : ℕ) → get (ins
 get-put cells k cell a = get-insert nat_cmp_total cells k cell a ∙ ap (λ same. cond same (Some cell) (get cells a)) (unsigned_tied a k)
 
 -- each cell of the run is the broadcast's segment at its address
-cell_is : (k : ℕ) (kind : Kind) (input : Input) (b : Broadcast) (gs : List Segment) → AreOf k kind input b gs
+cell_is : (kind : Kind) (input : Input) (b : Broadcast) (gs : List Segment) → AreOf kind input b gs
     → (a : ℕ) (cell : List ℕ) → get (cells_of gs) a ≡ Some cell → cell ≡ segment_of (kind.body b.bytes) a
-cell_is k kind input b [] all a cell e = (let none = get-empty {X = List ℕ} nat_cmp a in absurd (cc))
-cell_is k kind input b (g ∷ older) all a cell e = by (nat_eq a g.piece.address) refl (sym (get-put (cells_of older) g.piece.address g.piece.bytes a) ∙ e) (cell_is k kind input b older all.1 a cell)
+cell_is kind input b [] all a cell e = (let none = get-empty {X = List ℕ} nat_cmp a in absurd (cc))
+cell_is kind input b (g ∷ older) all a cell e = by (nat_eq a g.piece.address) refl (sym (get-put (cells_of older) g.piece.address g.piece.bytes a) ∙ e) (cell_is kind input b older all.1 a cell)
   where
     by : (same : Bool) → nat_eq a g.piece.address ≡ same → cond same (Some g.piece.bytes) (get (cells_of older) a) ≡ Some cell
         → (get (cells_of older) a ≡ Some cell → cell ≡ segment_of (kind.body b.bytes) a)
@@ -49,9 +49,9 @@ name_service = record { own = own_name; none = no_name_of_none }
 abbrev pub HasValues : Kind → List Broadcast → Type 0
 HasValues kind plan = (number : ℕ) (b : Broadcast) → HasNumber plan number b → kind.IsValue b.bytes
 
-pub bytes_of_run : (m k t : ℕ) (kind : Kind) (IsWhole : Cells → List ℕ → Type 0) (plan : List Broadcast) (input : Input) (g : Segment) (older : List Segment) (x : List ℕ)
+pub bytes_of_run : (d t : ℕ) (kind : Kind) (IsWhole : Cells → List ℕ → Type 0) (plan : List Broadcast) (input : Input) (g : Segment) (older : List Segment) (x : List ℕ)
     → IsService kind IsWhole → HasValues kind plan
-    → (l : LiesInOne m k t kind plan input g older) → IsWhole (cells_of (g ∷ older)) x → x ≡ l.broadcast.bytes
-bytes_of_run m k t kind IsWhole plan input g older x service values l whole =
-    let own : AreSegmentsOf (kind.body l.broadcast.bytes) (cells_of (g ∷ older)) = record { taken = cell_is k kind input l.broadcast (g ∷ older) l.all } in
+    → (l : LiesInOne d t kind plan input g older) → IsWhole (cells_of (g ∷ older)) x → x ≡ l.broadcast.bytes
+bytes_of_run d t kind IsWhole plan input g older x service values l whole =
+    let own : AreSegmentsOf (kind.body l.broadcast.bytes) (cells_of (g ∷ older)) = record { taken = cell_is kind input l.broadcast (g ∷ older) l.all } in
     service.own (cells_of (g ∷ older)) l.broadcast.bytes x (values l.number l.broadcast l.planned) own whole

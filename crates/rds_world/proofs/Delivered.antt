@@ -144,12 +144,12 @@ module _ (laws : DeliveryLaws) (station : Head) (m k : ℕ) (w : WorldState) (ne
   fresh u s since came =
       let earlier : IsHeardLate k (log d before) (input_of d i before) = in_time d k i before (due_before newer listened.stands.due) in
       let reached = input_reaches d i before in
-      let long = earlier.beside in
+      let long = earlier.order.beside in
       let own : CameFrom its_input (length before) (length before) = came_in_own d i newer oldest before listened.free listened.got (omega (arith, reached, long)) in
       elim (cases_order (length before) u) [
         | inl same ↦ omega (arith, one_origin its_input (length before) (length before) s own (subst (λ (n : ℕ). CameFrom its_input n s) (sym same) came))
         | inr other ↦ elim other [
-          | inl less ↦ omega (arith, late.rising (length before) u (length before) s own came less)
+          | inl less ↦ omega (arith, late.order.rising (length before) u (length before) s own came less)
           | inr more ↦ absurd (omega (arith, since, more))
         ]
       ]

@@ -9,10 +9,11 @@ use Rattle.rds_encoder.specs.Sent.{IsSent}
 use Rattle.rds_receiver.specs.Receipts.{Hears}
 use Rattle.rds_world.specs.declared.event.Reception.{Reception}
 use Rattle.rds_world.specs.declared.event.Reception.TheVariants.{Got, Lost, Restart}
-use Rattle.rds_world.specs.Due.{IsDue, IsDueBack, IsDueTo, last_named, named, reach_of, slots_since}
+use Rattle.rds_world.specs.Due.{IsDue, IsDueBack, IsDueTo, last_named, named, reach_of}
 use Rattle.rds_world.specs.Event.{Event}
 use Rattle.rds_world.specs.Slots.{sent_back}
-use Rattle.rds_world.specs.Standing.{AreLastSent}
+use Rattle.rds_receiver.specs.OneView.{same_heard_in}
+use Rattle.rds_world.specs.Standing.{AreLastSent, IsHeardOfSome}
 use Rattle.rds_world.proofs.Received.{hears_sent}
 
 -- below the reach what was sent is due, and nothing else is
@@ -42,19 +43,14 @@ pub after_got : (k slot : ℕ) (last : Option ℕ) (back : ℕ) → IsDueBack k 
 after_got k slot last back due = (let soon = due.soon in let there = due.there in omega (arith, soon, there))
 
 -- what is kept after one more slot
-pub one_more_sent : (station : Head) (k : ℕ) (sent : Option Message) (group : Option Group) (before : List (Option Message)) (groups : List (Option Group)) → IsSent station sent group
-    → AreLastSent station k before groups → AreLastSent station k (sent ∷ before) (take (k + 1) (group ∷ groups))
-one_more_sent station k sent group before groups now kept back within =
-    subst (λ (g : Option Group). IsSent station (sent_back back (sent ∷ before)) g) (sym (get_or-take (k + 1) (group ∷ groups) back None (omega (arith, within)))) (by back within)
+pub one_more_sent : (station : Head) (k : ℕ) (sent : Option Message) (group : Option Group) (message : Option Message) (before messages : List (Option Message)) → IsSent station sent group
+    → Hears station.pi group message → AreLastSent station.pi k before messages → AreLastSent station.pi k (sent ∷ before) (take (k + 1) (message ∷ messages))
+one_more_sent station k sent group message before messages now hears kept back within =
+    let at = by back within in (get_or-take (k + 1) (message ∷ messages) back None (omega (arith, within)) ∙ at.0, at.1)
   where
-    by : (back : ℕ) → back ≤ k → IsSent station (sent_back back (sent ∷ before)) (slice_index_or (group ∷ groups) back None)
-    by zero within = now
+    by : (back : ℕ) → back ≤ k → (slice_index_or (message ∷ messages) back None ≡ sent_back back (sent ∷ before)) × IsHeardOfSome station.pi (sent_back back (sent ∷ before))
+    by zero within = (same_heard_in station.pi group message sent hears (hears_sent station sent group now), (group, hears_sent station sent group now))
     by (suc back) within = kept back (omega (arith, within))
-
--- what is handed to a receiver it hears as what was sent so many slots before
-pub hears_back : (station : Head) (k : ℕ) (sent : List (Option Message)) (groups : List (Option Group)) (back : ℕ) → AreLastSent station k sent groups → back ≤ k
-    → Hears station.pi (slice_index_or groups back None) (sent_back back sent)
-hears_back station k sent groups back kept within = hears_sent station (sent_back back sent) (slice_index_or groups back None) (kept back within)
 
 -- a reception that is there is that of the event
 pub same_reception : (e : Event) (receptions : List Reception) (i : ℕ) → receptions ≡ e.receptions → i < length receptions → slice_index_or receptions i (Got 0) ≡ slice_index_or e.receptions i Lost
@@ -68,8 +64,8 @@ due_past k e before i past = subst (λ (r : Reception). IsDue k (length before) 
 pub reached_next : (k : ℕ) (e : Event) (before : List Event) (last : Option ℕ) → reach_of k (length before + 1) last ≡ reach_of k (length (e ∷ before)) last
 reached_next k e before last = (let next : length before + 1 ≡ length (e ∷ before) = omega arith in ap (λ (n : ℕ). reach_of k n last) next)
 
--- where no group is kept so far back, nothing is read
-pub nothing_there : (groups : List (Option Group)) (back : ℕ) → slice_get groups back ≡ None → slice_index_or groups back None ≡ None
+-- where nothing is kept so far back, nothing is read
+pub nothing_there : (groups : List (Option Message)) (back : ℕ) → slice_get groups back ≡ None → slice_index_or groups back None ≡ None
 nothing_there [] back e = refl
 nothing_there (g ∷ groups) zero e = absurd (cc)
 nothing_there (g ∷ groups) (suc back) e = nothing_there groups back e

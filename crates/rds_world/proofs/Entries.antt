@@ -1,7 +1,7 @@
 -- Entries of lists by their slots, and where what was heard came from.
 use Rattle.std.proofs.Common.{◌≡◌, ◌+◌, ◌<◌, ℕ, suc, List, [], ◌∷◌, length, Option, Some, None, refl, sym, ap, ◌∙◌, inl, inr, arith}
 use Rattle.rds_fields.specs.declared.message.Message.{Message}
-use Rattle.rds_world.specs.Late.{CameFrom, HasEntry, Input, IsHeardLate, IsLate, SentIn}
+use Rattle.rds_world.specs.Late.{CameFrom, HasEntry, Input, InputOf, IsHeardInOrder, SentIn}
 use Rattle.rds_world.specs.Marks.{IsSent, Mark, marks}
 
 -- an entry's slot comes before the end of the list
@@ -25,7 +25,7 @@ entry_beside first (n ∷ before) [] t x e a = absurd (omega arith)
 entry_beside first (n ∷ before) (y ∷ ys) t x e (inl a) = (let shorter : length ys ≡ length before = omega arith in (y, inl (omega arith, refl)))
 entry_beside first (n ∷ before) (y ∷ ys) t x e (inr a) = (let w = entry_beside first before ys t x (omega arith) a in (w.0, inr w.1))
 
-marks_long : (of : Option Message → Mark) (log : List (Option Message)) → length (marks of log) ≡ length log
+pub marks_long : (of : Option Message → Mark) (log : List (Option Message)) → length (marks of log) ≡ length log
 marks_long of [] = refl
 marks_long of (x ∷ log) = ap suc (marks_long of log)
 
@@ -36,18 +36,18 @@ mark_sent of (x ∷ log) s message (inl a) = inl (omega (arith, marks_long of lo
 mark_sent of (x ∷ log) s message (inr a) = inr (mark_sent of log s message a)
 
 -- the message that came in slot t came from a slot of the log
-pub record Arrival (k : ℕ) (log : List (Option Message)) (input : Input) (t : ℕ) (message : Message) : Type 0 where
+pub record Arrival (log : List (Option Message)) (input : Input) (t : ℕ) (message : Message) : Type 0 where
   pub slot : ℕ
   pub from : CameFrom input t slot
-  pub late : IsLate k log t slot (Some message)
+  pub sent : SentIn log slot (Some message)
 
-pub arrival : (k : ℕ) (log : List (Option Message)) (input : Input) (t : ℕ) (message : Message) → IsHeardLate k log input → HasEntry input.first input.heard t (Some message) → Arrival k log input t message
-arrival k log input t message late a = by (entry_beside input.first input.heard input.origins t (Some message) late.beside a)
+pub arrival : (log : List (Option Message)) (input : Input) (t : ℕ) (message : Message) → IsHeardInOrder log input → HasEntry input.first input.heard t (Some message) → Arrival log input t message
+arrival log input t message order a = by (entry_beside input.first input.heard input.origins t (Some message) order.beside a)
   where
-    by : (origin : Option ℕ) × HasEntry input.first input.origins t origin → Arrival k log input t message
-    by (None, o) = (let none : Some message ≡ None = late.each t None (Some message) o a in absurd (cc))
-    by (Some s, o) = record { slot = s; from = o; late = late.each t (Some s) (Some message) o a }
+    by : (origin : Option ℕ) × HasEntry input.first input.origins t origin → Arrival log input t message
+    by (None, o) = (let none : Some message ≡ None = order.each t None (Some message) o a in absurd (cc))
+    by (Some s, o) = record { slot = s; from = o; sent = order.each t (Some s) (Some message) o a }
 
 -- one slot was its origin
-pub one_origin : (input : Input) (t r s : ℕ) → CameFrom input t r → CameFrom input t s → r ≡ s
+pub one_origin : {X : Type 0} (input : InputOf X) (t r s : ℕ) → CameFrom input t r → CameFrom input t s → r ≡ s
 one_origin input t r s p q = (let e = one_entry input.first input.origins t (Some r) (Some s) p q in cc)

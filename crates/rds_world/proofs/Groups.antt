@@ -1,5 +1,5 @@
--- What is late as groups is late as messages.
-use Rattle.std.proofs.Common.{◌+◌, ◌≡◌, ℕ, suc, List, [], ◌∷◌, length, Option, Some, None, refl, sym, ap, ◌∙◌, subst, inl, inr, arith}
+-- What is heard as groups is heard as messages: late, or by a clock of the receiver's own.
+use Rattle.std.proofs.Common.{◌+◌, ◌≡◌, ◌≤◌, ℕ, suc, List, [], ◌∷◌, length, Option, Some, None, refl, sym, ap, ◌∙◌, subst, inl, inr, arith}
 use Rattle.std.specs.List.{AllZip}
 use Rattle.rds_block.specs.declared.group.Group.{Group}
 use Rattle.rds_fields.specs.declared.head.Head.{Head}
@@ -8,7 +8,8 @@ use Rattle.rds_fields.specs.Spells.{Spells}
 use Rattle.rds_encoder.specs.Sent.{IsSent}
 use Rattle.rds_receiver.specs.Receipts.{AreHeard, Hears}
 use Rattle.rds_receiver.specs.Shown.{IsView, ShownView}
-use Rattle.rds_world.specs.Late.{HasEntry, InputOf, IsAsItsOriginSays, IsHeardLate}
+use Rattle.rds_world.specs.Late.{HasEntry, InputOf, IsHeardInOrder, IsHeardLate, IsOfItsOrigin}
+use Rattle.rds_world.specs.OwnClock.{IsHeardByOwnClock, ListensByOwnClock}
 use Rattle.rds_world.specs.Safe.{ListensTo}
 use Rattle.rds_world.proofs.OnTime.{input_of}
 
@@ -48,22 +49,29 @@ one_heard one pi (Some g) (Some m) (Some n) (inl p) (inl q) = ap Some (one m n g
 one_heard one pi (Some g) None n (inl p) (inl q) = absurd p.1
 one_heard one pi (Some g) (Some m) None (inl p) (inl q) = absurd q.1
 
+-- what is heard in order as groups is so as messages
+in_order_as_messages : OneMessage → (pi first : ℕ) (sent handed : List (Option Group)) (origins : List (Option ℕ)) (log heard : List (Option Message))
+    → AreHeard pi sent log → AreHeard pi handed heard
+    → IsHeardInOrder sent (input_of first handed origins) → IsHeardInOrder log (input_of first heard origins)
+in_order_as_messages one pi first sent handed origins log heard of_log of_handed order =
+    record { beside = order.beside ∙ heard_long pi handed heard of_handed; each = each; rising = order.rising }
+  where
+    says : (o : Option ℕ) (g : Option Group) (m : Option Message) → Hears pi g m → IsOfItsOrigin sent o g → IsOfItsOrigin log o m
+    says None g m hears none = subst (λ (x : Option Group). Hears pi x m) none hears
+    says (Some s) g m hears a =
+        let w = message_at pi 0 sent log s g of_log a in
+        subst (λ (x : Option Message). HasEntry 0 log s x) (one_heard one pi g w.0 m w.2 hears) w.1
+
+    each : (t : ℕ) (o : Option ℕ) (m : Option Message) → HasEntry first origins t o → HasEntry first heard t m → IsOfItsOrigin log o m
+    each t o m p q =
+        let w = group_at pi first handed heard t m of_handed q in
+        says o w.0 m w.2 (order.each t o w.0 p w.1)
+
 pub late_as_messages : OneMessage → (pi k first : ℕ) (sent handed : List (Option Group)) (origins : List (Option ℕ)) (log heard : List (Option Message))
     → AreHeard pi sent log → AreHeard pi handed heard
     → IsHeardLate k sent (input_of first handed origins) → IsHeardLate k log (input_of first heard origins)
 late_as_messages one pi k first sent handed origins log heard of_log of_handed late =
-    record { beside = late.beside ∙ heard_long pi handed heard of_handed; each = each; rising = late.rising }
-  where
-    says : (t : ℕ) (o : Option ℕ) (g : Option Group) (m : Option Message) → Hears pi g m → IsAsItsOriginSays k sent t o g → IsAsItsOriginSays k log t o m
-    says t None g m hears none = subst (λ (x : Option Group). Hears pi x m) none hears
-    says t (Some s) g m hears a =
-        let w = message_at pi 0 sent log s g of_log a.sent in
-        record { sent = subst (λ (x : Option Message). HasEntry 0 log s x) (one_heard one pi g w.0 m w.2 hears) w.1; past = a.past; late = a.late }
-
-    each : (t : ℕ) (o : Option ℕ) (m : Option Message) → HasEntry first origins t o → HasEntry first heard t m → IsAsItsOriginSays k log t o m
-    each t o m p q =
-        let w = group_at pi first handed heard t m of_handed q in
-        says t o w.0 m w.2 (late.each t o w.0 p w.1)
+    record { order = in_order_as_messages one pi first sent handed origins log heard of_log of_handed late.order; past = late.past; late = late.late }
 
 -- what a station sends is heard as its messages
 sent_heard : (station : Head) (log : List (Option Message)) (sent : List (Option Group)) → AllZip (IsSent station) log sent → AreHeard station.pi sent log
@@ -82,5 +90,19 @@ pub groups_listen : OneMessage → (station : Head) (k m t : ℕ) (log : List (O
 groups_listen one station k m t log sent input view zip late now v = record {
   late = late_as_messages one station.pi k input.first sent input.heard input.origins log v.0 (sent_heard station log sent zip) v.1 late;
   now = ap (λ (n : ℕ). input.first + n) (sym (heard_long station.pi input.heard v.0 v.1)) ∙ now;
+  shows = v.2;
+}
+
+pub groups_listen_by_own_clock : OneMessage → (station : Head) (d m now : ℕ) (log : List (Option Message)) (sent : List (Option Group)) (input : InputOf Group) (view : ShownView)
+    → AllZip (IsSent station) log sent → IsHeardByOwnClock d m now sent input
+    → (v : IsView record { programme = station.pi; dwell = m; first = input.first } input.heard view)
+    → ListensByOwnClock d m now log record { input = record { first = input.first; heard = v.0; origins = input.origins }; view = view }
+groups_listen_by_own_clock one station d m now log sent input view zip hears v = record {
+  heard = record {
+    order = in_order_as_messages one station.pi input.first sent input.heard input.origins log v.0 (sent_heard station log sent zip) v.1 hears.order;
+    between = hears.between;
+    since = λ t s from near. hears.since t s from (subst (λ (n : ℕ). input.first + n ≤ t + m) (sym (heard_long station.pi input.heard v.0 v.1)) near);
+    past = hears.past;
+  };
   shows = v.2;
 }

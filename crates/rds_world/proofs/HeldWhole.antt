@@ -14,11 +14,13 @@ use Rattle.rds_receiver.specs.Shown.{IsShown}
 use Rattle.rds_world.specs.Late.{CameFrom, HasEntry, Input, IsHeardLate}
 use Rattle.rds_world.specs.Lawful.{IsLawful, Kind}
 use Rattle.rds_world.specs.Marks.{Mark, marks}
+use Rattle.rds_world.specs.OwnClock.{IsHeardByOwnClock}
 use Rattle.rds_world.proofs.Flags.{is_same_flag}
 use Rattle.rds_world.proofs.Bytes.{IsService, bytes_of_run, get-put}
-use Rattle.rds_world.proofs.Entries.{arrival, before_end, mark_sent}
+use Rattle.rds_world.proofs.Entries.{arrival, mark_sent}
 use Rattle.rds_world.proofs.Hearing.{AreFalling, IsPicked, all_picked, segments_fall}
 use Rattle.rds_world.specs.Laws.{PlanLaws}
+use Rattle.rds_world.proofs.OwnClocks.{late_hears}
 use Rattle.rds_world.proofs.OneBroadcast.{AreOf, IsSegmentOf, PicksWhatIsMarked, RunLiesInOne, heard_run_lies}
 
 -- one of the segments
@@ -96,11 +98,11 @@ module _ (m t s : ℕ) (f : Bool) (soon : t < s + m) where
       by (inr is_in) rest = inr (rest is_in)
 
 -- at the address of each segment of a run in one broadcast that broadcast's segment is held
-held_own : (k : ℕ) (kind : Kind) (input : Input) (b : Broadcast) (gs : List Segment) (g : Segment) → AreOf k kind input b gs → IsIn gs g
+held_own : (kind : Kind) (input : Input) (b : Broadcast) (gs : List Segment) (g : Segment) → AreOf kind input b gs → IsIn gs g
     → get (cells_of gs) g.piece.address ≡ Some (segment_of (kind.body b.bytes) g.piece.address)
-held_own k kind input b [] g all is_in = absurd is_in
-held_own k kind input b (h ∷ older) g all is_in =
-    get-put (cells_of older) h.piece.address h.piece.bytes g.piece.address ∙ by (nat_eq g.piece.address h.piece.address) refl is_in (held_own k kind input b older g all.1)
+held_own kind input b [] g all is_in = absurd is_in
+held_own kind input b (h ∷ older) g all is_in =
+    get-put (cells_of older) h.piece.address h.piece.bytes g.piece.address ∙ by (nat_eq g.piece.address h.piece.address) refl is_in (held_own kind input b older g all.1)
   where
     by : (same : Bool) → nat_eq g.piece.address h.piece.address ≡ same → IsIn (h ∷ older) g
         → (IsIn older g → get (cells_of older) g.piece.address ≡ Some (segment_of (kind.body b.bytes) g.piece.address))
@@ -130,6 +132,9 @@ pub record CameSince (gs : List Segment) (s address : ℕ) : Type 0 where
 module _ (laws : PlanLaws) (m t s : ℕ) (kind : Kind) (pick : Message → Option Piece) (of : Option Message → Mark) (plan : List Broadcast) (log : List (Option Message)) (input : Input) (number : ℕ) (b : Broadcast)
     (alike : PicksWhatIsMarked pick of) (k : ℕ) (law : IsLawful (m + k) kind plan (marks of log)) (late : IsHeardLate k log input) (now : input.first + length input.heard ≡ t + 1)
     (fresh : (u r : ℕ) → s ≤ u → CameFrom input u r → s ≤ r) (planned : HasNumber plan number b) (from : b.start ≤ s) (to : t ≤ b.end) (soon : t < s + m) where
+  hears : IsHeardByOwnClock (m + k) m t log input
+  hears = late_hears k m t log input late now
+
   abbrev pub its_segments : List Segment
   its_segments = segments pick input.first input.heard
 
@@ -139,11 +144,10 @@ module _ (laws : PlanLaws) (m t s : ℕ) (kind : Kind) (pick : Message → Optio
     where
       flag : s ≤ g.slot → g.piece.flag ≡ b.flag
       flag since =
-          let came = arrival k log input g.slot all.0.message late all.0.came in
-          let sent = rw (alike all.0.message g.piece all.0.piece) at (mark_sent of log came.slot (Some all.0.message) came.late.sent) in
+          let came = arrival log input g.slot all.0.message hears.order all.0.came in
+          let sent = rw (alike all.0.message g.piece all.0.piece) at (mark_sent of log came.slot (Some all.0.message) came.sent) in
           let lies = law.pieces came.slot g.piece sent in
-          let by_now = before_end input.first input.heard g.slot (Some all.0.message) all.0.came in
-          let mine : Covers b came.slot = record { from = omega (arith, from, fresh g.slot came.slot since came.from); to = omega (arith, to, by_now, now, came.late.past) } in
+          let mine : Covers b came.slot = record { from = omega (arith, from, fresh g.slot came.slot since came.from); to = omega (arith, to, hears.past g.slot came.slot came.from) } in
           let same : lies.broadcast ≡ b = one_covers laws (m + k) plan lies.number number lies.broadcast b came.slot law.spaced lies.planned planned lies.is.covers mine in
           lies.is.flag ∙ ap (λ (x : Broadcast). x.flag) same
 
@@ -156,7 +160,7 @@ module _ (laws : PlanLaws) (m t s : ℕ) (kind : Kind) (pick : Message → Optio
       kept m t s b.flag soon its_segments g (subst (λ (n : ℕ). AreFalling n its_segments) now (segments_fall pick input.first input.heard)) (flags its_segments (all_picked pick input.first input.heard)) since is_in
 
   -- what is shown of a run that lies in one broadcast, and has each segment of this one
-  shown_of : (IsWhole : Cells → List ℕ → Type 0) → IsService kind IsWhole → (the_run : List Segment) → RunLiesInOne m k t kind plan input the_run → ((g : Segment) → s ≤ g.slot → IsIn its_segments g → IsIn the_run g)
+  shown_of : (IsWhole : Cells → List ℕ → Type 0) → IsService kind IsWhole → (the_run : List Segment) → RunLiesInOne (m + k) t kind plan input the_run → ((g : Segment) → s ≤ g.slot → IsIn its_segments g → IsIn the_run g)
       → ((cells : Cells) → AreAllHeld (kind.body b.bytes) cells → IsWhole cells b.bytes) → 0 < segment_count (kind.body b.bytes)
       → ((a : ℕ) → a < segment_count (kind.body b.bytes) → CameSince its_segments s a) → (shown : Option (List ℕ)) → IsShown IsWhole (cells_of the_run) shown → shown ≡ Some b.bytes
   shown_of IsWhole service [] lies holds all some each shown is = absurd (holds (each 0 some).segment (each 0 some).since (each 0 some).is_in)
@@ -166,28 +170,27 @@ module _ (laws : PlanLaws) (m t s : ℕ) (kind : Kind) (pick : Message → Optio
       same =
           let w = each 0 some in
           let g = w.segment in
-          let own : IsSegmentOf k kind input g lies.broadcast = all_in (λ (x : Segment). IsSegmentOf k kind input x lies.broadcast) (h ∷ older) g lies.all (holds g w.since w.is_in) in
-          let by_now = in_below (t + 1) its_segments g (subst (λ (n : ℕ). AreFalling n its_segments) now (segments_fall pick input.first input.heard)) w.is_in in
-          let mine : Covers b own.slot = record { from = omega (arith, from, fresh g.slot own.slot w.since own.from); to = omega (arith, to, by_now, own.past) } in
+          let own : IsSegmentOf kind input g lies.broadcast = all_in (λ (x : Segment). IsSegmentOf kind input x lies.broadcast) (h ∷ older) g lies.all (holds g w.since w.is_in) in
+          let mine : Covers b own.slot = record { from = omega (arith, from, fresh g.slot own.slot w.since own.from); to = omega (arith, to, hears.past g.slot own.slot own.from) } in
           one_covers laws (m + k) plan lies.number number lies.broadcast b own.slot law.spaced lies.planned planned own.has.covers mine
 
-      own_run : AreOf k kind input b (h ∷ older)
-      own_run = subst (λ (x : Broadcast). AreOf k kind input x (h ∷ older)) same lies.all
+      own_run : AreOf kind input b (h ∷ older)
+      own_run = subst (λ (x : Broadcast). AreOf kind input x (h ∷ older)) same lies.all
 
       held : (a : ℕ) → a < segment_count (kind.body b.bytes) → get (cells_of (h ∷ older)) a ≡ Some (segment_of (kind.body b.bytes) a)
       held a within =
           let w = each a within in
           subst (λ (n : ℕ). get (cells_of (h ∷ older)) n ≡ Some (segment_of (kind.body b.bytes) n)) w.at
-          (held_own k kind input b (h ∷ older) w.segment own_run (holds w.segment w.since w.is_in))
+          (held_own kind input b (h ∷ older) w.segment own_run (holds w.segment w.since w.is_in))
 
       by : (shown : Option (List ℕ)) → IsShown IsWhole (cells_of (h ∷ older)) shown → shown ≡ Some b.bytes
       by None is = absurd (is b.bytes (all (cells_of (h ∷ older)) record { held = held }))
-      by (Some x) is = ap Some (bytes_of_run m k t kind IsWhole plan input h older x service law.values lies is ∙ ap (λ (y : Broadcast). y.bytes) same)
+      by (Some x) is = ap Some (bytes_of_run (m + k) t kind IsWhole plan input h older x service law.values lies is ∙ ap (λ (y : Broadcast). y.bytes) same)
 
   pub shown_whole : (IsWhole : Cells → List ℕ → Type 0) → IsService kind IsWhole → ((cells : Cells) → AreAllHeld (kind.body b.bytes) cells → IsWhole cells b.bytes) → 0 < segment_count (kind.body b.bytes)
       → ((a : ℕ) → a < segment_count (kind.body b.bytes) → CameSince its_segments s a) → (shown : Option (List ℕ)) → IsShown IsWhole (cells_of (run_at pick m input.first input.heard)) shown → shown ≡ Some b.bytes
   shown_whole IsWhole service all some each shown is =
       let the_run : run_at pick m input.first input.heard ≡ run m t its_segments = run_is input.heard now in
       shown_of IsWhole service (run m t its_segments)
-      (subst (λ (xs : List Segment). RunLiesInOne m k t kind plan input xs) the_run (heard_run_lies laws m k t kind pick of plan log input alike law late now))
+      (subst (λ (xs : List Segment). RunLiesInOne (m + k) t kind plan input xs) the_run (heard_run_lies laws (m + k) m t kind pick of plan log input alike law hears))
       in_run all some each shown (subst (λ (xs : List Segment). IsShown IsWhole (cells_of xs) shown) the_run is)

@@ -1,26 +1,30 @@
 -- What a receiver of a world got was sent at most k slots before the slot in which it got it, where its receptions
 -- are due.
-use Rattle.std.proofs.Common.{◌≡◌, ◌+◌, ◌-◌, ◌<◌, ◌≤◌, ℕ, zero, suc, List, [], ◌∷◌, Option, Some, None, refl, ap, subst, ◌∙◌, inl, inr, arith, length}
+use Rattle.std.proofs.Common.{◌≡◌, ◌+◌, ◌-◌, ◌<◌, ◌≤◌, ℕ, zero, suc, List, [], ◌∷◌, Option, Some, None, refl, subst, ◌∙◌, inl, inr, arith, length}
 use Rattle.std.specs.Prelude.{IfSome, slice_index_or}
 use Rattle.rds_fields.specs.declared.message.Message.{Message}
 use Rattle.rds_world.specs.declared.event.Reception.{Reception}
 use Rattle.rds_world.specs.declared.event.Reception.TheVariants.{Got, Lost, Restart}
 use Rattle.rds_world.specs.Due.{AreDue, IsDue, last_named, named}
 use Rattle.rds_world.specs.Event.{Event}
-use Rattle.rds_world.specs.Late.{CameFrom, HasEntry, Input, IsAsItsOriginSays, IsHeardLate}
+use Rattle.rds_world.specs.Late.{CameFrom, HasEntry, Input, IsHeardLate, IsOfItsOrigin}
 use Rattle.rds_world.specs.Slots.{input_of, log, received, sent_at, sent_back}
 use Rattle.rds_world.proofs.OnTime.{nothing_heard, one_more}
 
 -- a longer log has what the shorter one has
-says_longer : (k : ℕ) (log : List (Option Message)) (sent : Option Message) (t : ℕ) (origin : Option ℕ) (entry : Option Message) → IsAsItsOriginSays k log t origin entry → IsAsItsOriginSays k (sent ∷ log) t origin entry
-says_longer k log sent t None entry none = none
-says_longer k log sent t (Some s) entry late = record { sent = inr late.sent; past = late.past; late = late.late }
+says_longer : (log : List (Option Message)) (sent : Option Message) (origin : Option ℕ) (entry : Option Message) → IsOfItsOrigin log origin entry → IsOfItsOrigin (sent ∷ log) origin entry
+says_longer log sent None entry none = none
+says_longer log sent (Some s) entry is = inr is
 
 longer_log : (k : ℕ) (log : List (Option Message)) (sent : Option Message) (input : Input) → IsHeardLate k log input → IsHeardLate k (sent ∷ log) input
 longer_log k log sent input late = record {
-  beside = late.beside;
-  each = λ t origin entry o a. says_longer k log sent t origin entry (late.each t origin entry o a);
-  rising = late.rising;
+  order = record {
+    beside = late.order.beside;
+    each = λ t origin entry o a. says_longer log sent origin entry (late.order.each t origin entry o a);
+    rising = late.order.rising;
+  };
+  past = late.past;
+  late = late.late;
 }
 
 -- what was sent so many slots before the last one of a log is its entry in that slot
@@ -61,18 +65,15 @@ in_time_with k (Got back) slot sent log input last reached now due upto late =
     let soon = due.soon in
     let named_slot : length log - back ≡ slot - back = omega (arith, reached) in
     one_more k (sent ∷ log) input.first input.heard input.origins (Some (slot - back)) (sent_back back (sent ∷ log)) (longer_log k log sent input late)
-    record {
-      sent = subst (λ (s : ℕ). HasEntry 0 (sent ∷ log) s (sent_back back (sent ∷ log))) named_slot (back_in_log back sent log (omega (arith, there, reached)));
-      past = omega (arith, now, there);
-      late = omega (arith, now, there, soon);
-    }
+    (subst (λ (s : ℕ). HasEntry 0 (sent ∷ log) s (sent_back back (sent ∷ log))) named_slot (back_in_log back sent log (omega (arith, there, reached))))
+    (omega (arith, now, there), omega (arith, now, there, soon))
     (λ r u s e o. (
     let here : slot - back ≡ r = cc in
     let less : s < slot - back = up_to_next last (slot - back) s due.after (upto u s o) in
     omega (arith, here, less)
     ))
 in_time_with k Lost slot sent log input last reached now due upto late =
-    one_more k (sent ∷ log) input.first input.heard input.origins None None (longer_log k log sent input late) refl (λ r u s e o. absurd (cc))
+    one_more k (sent ∷ log) input.first input.heard input.origins None None (longer_log k log sent input late) refl tt (λ r u s e o. absurd (cc))
 in_time_with k Restart slot sent log input last reached now due upto late = nothing_heard k (sent ∷ log) (slot + 1)
 
 reaches : (r : Reception) (slot : ℕ) (sent : List (Option Message)) (input : Input) → input.first + length input.heard ≡ slot → (received r slot sent input).first + length (received r slot sent input).heard ≡ slot + 1

@@ -1,9 +1,9 @@
--- The dwell and the lateness are the least. `AAAA` is on air in slot 0 alone and `BBBB` in slot c alone, both
--- with flag 0. The receiver begins in slot k: it is handed the first segment of `AAAA` k slots late, n slots of
--- nothing, and then the second segment of `BBBB` on time. For it the two came less than its dwell apart, so it
--- shows `AAAA`.
-use Rattle.std.proofs.Common.{◌≡◌, ◌≢◌, ◌⊎◌, ◌+◌, ◌-◌, ◌<◌, ℕ, zero, suc, true, false, List, [], ◌∷◌, length, slice_index, Option, Some, None, refl, sym, ap, ◌∙◌, subst, inl, inr, arith}
-use Rattle.std.specs.Prelude.{nat_lt}
+-- The dwell and the lateness are the least. `AAAACCC` is on air in slot 0 alone and `BBBBDDD` in slot j + 1 alone,
+-- both with flag 0. The receiver begins in slot k: it is handed the first segment of the one, n slots of nothing, and
+-- then the second segment of the other. For it the two came less than its dwell apart, so it shows `AAAADDD`, which
+-- nobody set. Where j is n + k, the first came k slots late and the second on time; by a clock of its own any j will do.
+use Rattle.std.proofs.Common.{◌≡◌, ◌≢◌, ◌⊎◌, ◌+◌, ◌-◌, ◌<◌, ◌≤◌, ℕ, zero, suc, true, false, List, [], ◌∷◌, length, slice_index, Option, Some, None, refl, sym, ap, ◌∙◌, subst, inl, inr, arith}
+use Rattle.std.specs.Prelude.{IfSome, nat_lt}
 use Rattle.std.specs.FinMap.{empty, get, insert}
 use Rattle.std.proofs.lemmas.Bool.{cond-true, lt-ltb}
 use Rattle.rds_fields.specs.declared.message.Message.{Message}
@@ -22,67 +22,76 @@ use Rattle.rds_receiver.specs.Receipts.{Piece, Segment, name_piece, segments, te
 use Rattle.rds_receiver.specs.Run.{run, run_at, run_before}
 use Rattle.rds_receiver.specs.Shown.{ShowsView, ShownView}
 use Rattle.rds_receiver.specs.Tags.{item_of, pair_held, tag_of}
-use Rattle.rds_world.specs.Late.{HasEntry, Input, IsHeardLate, SentIn}
+use Rattle.rds_world.specs.Late.{CameFrom, HasEntry, Input, IsHeardInOrder, IsHeardLate, SentIn}
 use Rattle.rds_world.specs.Lawful.{HasOne, HasPiece, HasTags, IsLawful, names, texts}
-use Rattle.rds_world.specs.Laws.{IsUnsafe}
+use Rattle.rds_world.specs.Laws.{ShowsAMix}
 use Rattle.rds_world.specs.Marks.{IsSent, Mark, Nothing, Sends, Tagged, marks, name_mark, text_mark}
-use Rattle.rds_world.specs.Safe.{Listener, ListensTo, WasOnAir}
-use Rattle.rds_world.specs.Source.{LastWasSentIn, text_run}
+use Rattle.rds_world.specs.OwnClock.{ListensByOwnClock, ListensBySlowClock}
+use Rattle.rds_world.specs.Plans.{AreLawful}
+use Rattle.rds_world.specs.Safe.{AreSafe, Listener, ListensTo, WasOnAir}
+use Rattle.rds_world.specs.Source.{text_run}
 use Rattle.rds_world.proofs.Bytes.{get-put}
-use Rattle.rds_world.proofs.Entries.{before_end}
-use Rattle.rds_world.proofs.OnTime.{input_of, nothing_heard, one_more}
+use Rattle.rds_world.proofs.OnTime.{input_of, nothing_heard, nothing_in_order, one_more, one_more_in_order}
+use Rattle.rds_world.proofs.OwnClocks.{late_listens}
 
--- four characters A, four characters B, and the segment after either
-abbrev four_as : List ℕ
-four_as = 65 ∷ 65 ∷ 65 ∷ 65 ∷ []
+-- a segment of one character, and one of three and a carriage return
+abbrev pub four : ℕ → List ℕ
+four a = a ∷ a ∷ a ∷ a ∷ []
 
-abbrev four_bs : List ℕ
-four_bs = 66 ∷ 66 ∷ 66 ∷ 66 ∷ []
+abbrev pub three_and_end : ℕ → List ℕ
+three_and_end b = b ∷ b ∷ b ∷ 13 ∷ []
 
-abbrev ending : List ℕ
-ending = 13 ∷ 32 ∷ 32 ∷ 32 ∷ []
+-- the text of such segments
+abbrev pub text_of_two : ℕ → ℕ → List ℕ
+text_of_two a b = a ∷ a ∷ a ∷ a ∷ b ∷ b ∷ b ∷ []
 
-abbrev first_piece : Piece
-first_piece = record { flag = false; address = 0; bytes = four_as }
+-- `AAAACCC`, `BBBBDDD`, and the first segment of the one with the second of the other
+abbrev pub older_text : List ℕ
+older_text = text_of_two 65 67
 
-abbrev last_piece : Piece
-last_piece = record { flag = false; address = 1; bytes = ending }
+abbrev pub newer_text : List ℕ
+newer_text = text_of_two 66 68
 
-abbrev first_message : Option Message
-first_message = Some (Text false 0 four_as)
+abbrev pub mix : List ℕ
+mix = text_of_two 65 68
 
-abbrev last_message : Option Message
-last_message = Some (Text false 1 ending)
+abbrev pub first_piece : Piece
+first_piece = record { flag = false; address = 0; bytes = four 65 }
 
-below_four : (P : ℕ → Type 0) → P 0 → P 1 → P 2 → P 3 → (i : ℕ) → i < 4 → P i
-below_four P a b c d zero h = a
-below_four P a b c d (suc zero) h = b
-below_four P a b c d (suc (suc zero)) h = c
-below_four P a b c d (suc (suc (suc zero))) h = d
-below_four P a b c d (suc (suc (suc (suc i)))) h = absurd (omega arith)
+abbrev pub last_piece : Piece
+last_piece = record { flag = false; address = 1; bytes = three_and_end 68 }
 
-as_are_text : IsText four_as
-as_are_text = record {
+abbrev pub first_message : Option Message
+first_message = Some (Text false 0 (four 65))
+
+abbrev pub last_message : Option Message
+last_message = Some (Text false 1 (three_and_end 68))
+
+of_seven : (P : ℕ → Type 0) (a b : ℕ) → P a → P b → (i : ℕ) → i < 7 → P (slice_index (text_of_two a b) i)
+of_seven P a b p q zero h = p
+of_seven P a b p q (suc zero) h = p
+of_seven P a b p q (suc (suc zero)) h = p
+of_seven P a b p q (suc (suc (suc zero))) h = p
+of_seven P a b p q (suc (suc (suc (suc zero)))) h = q
+of_seven P a b p q (suc (suc (suc (suc (suc zero))))) h = q
+of_seven P a b p q (suc (suc (suc (suc (suc (suc zero)))))) h = q
+of_seven P a b p q (suc (suc (suc (suc (suc (suc (suc i))))))) h = absurd (omega arith)
+
+pub is_text : (a b : ℕ) → a < 256 → b < 256 → is_text_byte a ≡ true → is_text_byte b ≡ true → IsText (text_of_two a b)
+is_text a b p q x y = record {
   at_most = omega arith;
-  bytes = below_four (λ i. slice_index four_as i < 256) (omega arith) (omega arith) (omega arith) (omega arith);
-  allowed = below_four (λ i. is_text_byte (slice_index four_as i) ≡ true) refl refl refl refl;
-}
-
-bs_are_text : IsText four_bs
-bs_are_text = record {
-  at_most = omega arith;
-  bytes = below_four (λ i. slice_index four_bs i < 256) (omega arith) (omega arith) (omega arith) (omega arith);
-  allowed = below_four (λ i. is_text_byte (slice_index four_bs i) ≡ true) refl refl refl refl;
+  bytes = of_seven (λ n. n < 256) a b p q;
+  allowed = of_seven (λ n. is_text_byte n ≡ true) a b x y;
 }
 
 -- the plan
-abbrev older : Broadcast
-older = record { start = 0; end = 0; flag = false; bytes = four_as }
+abbrev pub older : Broadcast
+older = record { start = 0; end = 0; flag = false; bytes = older_text }
 
-abbrev newer : ℕ → Broadcast
-newer c = record { start = c; end = c; flag = false; bytes = four_bs }
+abbrev pub newer : ℕ → Broadcast
+newer c = record { start = c; end = c; flag = false; bytes = newer_text }
 
-abbrev plan : ℕ → List Broadcast
+abbrev pub plan : ℕ → List Broadcast
 plan c = newer c ∷ older ∷ []
 
 which : (c k : ℕ) (b : Broadcast) → HasNumber (plan c) k b → ((k ≡ 1) × (b ≡ newer c)) ⊎ ((k ≡ 0) × (b ≡ older))
@@ -108,15 +117,15 @@ spaced c later = record {
 }
 
 -- the first segment, and then j slots of nothing
-abbrev quiet : ℕ → List (Option Message)
+abbrev pub quiet : ℕ → List (Option Message)
 quiet zero = first_message ∷ []
 quiet (suc j) = None ∷ quiet j
 
-abbrev quiet_origins : ℕ → List (Option ℕ)
+abbrev pub quiet_origins : ℕ → List (Option ℕ)
 quiet_origins zero = Some 0 ∷ []
 quiet_origins (suc j) = None ∷ quiet_origins j
 
-quiet_long : (j : ℕ) → length (quiet j) ≡ suc j
+pub quiet_long : (j : ℕ) → length (quiet j) ≡ suc j
 quiet_long zero = refl
 quiet_long (suc j) = ap suc (quiet_long j)
 
@@ -141,13 +150,13 @@ quiet_names (suc j) t m (inl s) = s.1
 quiet_names (suc j) t m (inr s) = quiet_names j t m s
 
 -- what was sent: after that the second segment
-abbrev log : ℕ → List (Option Message)
+abbrev pub log : ℕ → List (Option Message)
 log j = last_message ∷ quiet j
 
 texts_lawful : (j : ℕ) → IsLawful (j + 1) texts (plan (j + 1)) (marks text_mark (log j))
 texts_lawful j = record {
   spaced = spaced (j + 1) (omega arith);
-  values = λ k b p. elim (which (j + 1) k b p) [ inl q ↦ rw q.1 bs_are_text | inr q ↦ rw q.1 as_are_text ];
+  values = λ k b p. elim (which (j + 1) k b p) [ inl q ↦ rw q.1 (is_text 66 68 (omega arith) (omega arith) refl refl) | inr q ↦ rw q.1 (is_text 65 67 (omega arith) (omega arith) refl refl) ];
   pieces = pieces;
   tags = tags;
 }
@@ -191,129 +200,194 @@ names_lawful d j = record {
     none t m (inr s) ne = ne (quiet_names j t m s)
 
 -- what the receiver was handed, from slot k on
-abbrev heard : ℕ → List (Option Message)
+abbrev pub heard : ℕ → List (Option Message)
 heard n = last_message ∷ quiet n
 
-abbrev input : ℕ → ℕ → Input
-input k n = input_of k (heard n) (Some (n + k + 1) ∷ quiet_origins n)
+abbrev pub input : ℕ → ℕ → ℕ → Input
+input k n j = input_of k (heard n) (Some (j + 1) ∷ quiet_origins n)
 
 first_sent : (j : ℕ) → HasEntry 0 (quiet j) 0 first_message
 first_sent zero = inl (omega arith, refl)
 first_sent (suc j) = inr (first_sent j)
 
-all_from_first : (k n u s : ℕ) → HasEntry k (quiet_origins n) u (Some s) → s ≡ 0
+pub all_from_first : (k n u s : ℕ) → HasEntry k (quiet_origins n) u (Some s) → s ≡ 0
 all_from_first k zero u s (inl p) = (let e = p.1 in cc)
 all_from_first k zero u s (inr p) = absurd p
 all_from_first k (suc n) u s (inl p) = (let e = p.1 in absurd (cc))
 all_from_first k (suc n) u s (inr p) = all_from_first k n u s p
 
 quiet_late : (k n : ℕ) (sent : List (Option Message)) → SentIn sent 0 first_message → IsHeardLate k sent (input_of k (quiet n) (quiet_origins n))
-quiet_late k zero sent s = one_more k sent k [] [] (Some 0) first_message (nothing_heard k sent k) record { sent = s; past = omega arith; late = omega arith } (λ r u s e a. absurd a)
-quiet_late k (suc n) sent s = one_more k sent k (quiet n) (quiet_origins n) None None (quiet_late k n sent s) refl (λ r u s e a. absurd (cc))
+quiet_late k zero sent s = one_more k sent k [] [] (Some 0) first_message (nothing_heard k sent k) s (omega arith, omega arith) (λ r u s e a. absurd a)
+quiet_late k (suc n) sent s = one_more k sent k (quiet n) (quiet_origins n) None None (quiet_late k n sent s) refl tt (λ r u s e a. absurd (cc))
 
-is_late : (k n : ℕ) → IsHeardLate k (log (n + k)) (input k n)
+is_late : (k n : ℕ) → IsHeardLate k (log (n + k)) (input k n (n + k))
 is_late k n = one_more k (log (n + k)) k (quiet n) (quiet_origins n) (Some (n + k + 1)) last_message (quiet_late k n (log (n + k)) (inr (first_sent (n + k))))
-    record { sent = inl (omega (arith, quiet_long (n + k)), refl); past = omega (arith, quiet_long n); late = omega (arith, quiet_long n) }
+    (inl (omega (arith, quiet_long (n + k)), refl)) (omega (arith, quiet_long n), omega (arith, quiet_long n))
     (λ r u s e a. (let r_is : n + k + 1 ≡ r = cc in omega (arith, all_from_first k n u s a)))
 
+quiet_in_order : (n : ℕ) (sent : List (Option Message)) → SentIn sent 0 first_message → IsHeardInOrder sent (input_of 0 (quiet n) (quiet_origins n))
+quiet_in_order zero sent s = one_more_in_order sent 0 [] [] (Some 0) first_message (nothing_in_order sent 0) s (λ r u s e a. absurd a)
+quiet_in_order (suc n) sent s = one_more_in_order sent 0 (quiet n) (quiet_origins n) None None (quiet_in_order n sent s) refl (λ r u s e a. absurd (cc))
+
+pub in_order : (n j : ℕ) → IsHeardInOrder (log j) (input 0 n j)
+in_order n j = one_more_in_order (log j) 0 (quiet n) (quiet_origins n) (Some (j + 1)) last_message (quiet_in_order n (log j) (inr (first_sent j)))
+    (inl (omega (arith, quiet_long j), refl))
+    (λ r u s e a. (let r_is : j + 1 ≡ r = cc in omega (arith, all_from_first 0 n u s a)))
+
+-- it hears what was sent by slot j + 1
+pub sent_by : (n j t s : ℕ) → CameFrom (input 0 n j) t s → s ≤ j + 1
+sent_by n j t s (inl p) = (let e = p.1 in let s_is : s ≡ j + 1 = cc in omega arith)
+sent_by n j t s (inr p) = omega (arith, all_from_first 0 n t s p)
+
 -- its run is both segments
-abbrev first_segment : ℕ → Segment
+abbrev pub first_segment : ℕ → Segment
 first_segment k = record { slot = k + 0; piece = first_piece }
 
-abbrev last_segment : ℕ → Segment
+abbrev pub last_segment : ℕ → Segment
 last_segment t = record { slot = t; piece = last_piece }
 
 quiet_segments : (k n : ℕ) → segments text_piece k (quiet n) ≡ first_segment k ∷ []
 quiet_segments k zero = refl
 quiet_segments k (suc n) = quiet_segments k n
 
-no_segments : (k n : ℕ) → segments name_piece k (quiet n) ≡ []
+pub no_segments : (k n : ℕ) → segments name_piece k (quiet n) ≡ []
 no_segments k zero = refl
 no_segments k (suc n) = no_segments k n
 
-mixed : (k n : ℕ) → run_at text_piece (n + 2) k (heard n) ≡ last_segment (k + length (quiet n)) ∷ first_segment k ∷ []
-mixed k n =
+-- so it is up to the slot in which the last of them is as old as the dwell
+pub mixed_by : (k n now : ℕ) → now < k + length (quiet n) + (n + 2) → run (n + 2) now (segments text_piece k (heard n)) ≡ last_segment (k + length (quiet n)) ∷ first_segment k ∷ []
+mixed_by k n now soon =
     let t : ℕ = k + length (quiet n) in
-    let recent : nat_lt t (t + (n + 2)) ≡ true = lt-ltb _ _ (omega arith) in
+    let recent : nat_lt now (t + (n + 2)) ≡ true = lt-ltb _ _ soon in
     let joins : nat_lt t (k + 0 + (n + 2)) ≡ true = lt-ltb _ _ (omega (arith, quiet_long n)) in
-    ap (λ gs. run (n + 2) t (last_segment t ∷ gs)) (quiet_segments k n)
-    ∙ cond-true (nat_lt t (t + (n + 2))) (last_segment t ∷ run_before (n + 2) false t (first_segment k ∷ [])) [] recent
+    ap (λ gs. run (n + 2) now (last_segment t ∷ gs)) (quiet_segments k n)
+    ∙ cond-true (nat_lt now (t + (n + 2))) (last_segment t ∷ run_before (n + 2) false t (first_segment k ∷ [])) [] recent
     ∙ ap (λ gs. last_segment t ∷ gs) (cond-true (nat_lt t (k + 0 + (n + 2))) (first_segment k ∷ []) [] joins)
+
+mixed : (k n : ℕ) → run_at text_piece (n + 2) k (heard n) ≡ last_segment (k + length (quiet n)) ∷ first_segment k ∷ []
+mixed k n = mixed_by k n (k + length (quiet n)) (omega arith)
 
 no_name : (k n : ℕ) → run_at name_piece (n + 2) k (heard n) ≡ []
 no_name k n = ap (λ gs. run (n + 2) (k + length (quiet n)) gs) (no_segments k n)
 
-abbrev both_cells : Cells
-both_cells = insert (insert empty 0 four_as) 1 ending
+abbrev pub both_cells : Cells
+both_cells = insert (insert empty 0 (four 65)) 1 (three_and_end 68)
 
-both_held : (a : ℕ) → a < 2 → get both_cells a ≡ Some (segment_of (text_body four_as) a)
-both_held zero h = get-put (insert empty 0 four_as) 1 ending 0 ∙ get-put empty 0 four_as 0
-both_held (suc zero) h = get-put (insert empty 0 four_as) 1 ending 1
+both_held : (a : ℕ) → a < 2 → get both_cells a ≡ Some (segment_of (text_body mix) a)
+both_held zero h = get-put (insert empty 0 (four 65)) 1 (three_and_end 68) 0 ∙ get-put empty 0 (four 65) 0
+both_held (suc zero) h = get-put (insert empty 0 (four 65)) 1 (three_and_end 68) 1
 both_held (suc (suc a)) h = absurd (omega arith)
 
-as_are_whole : IsWholeText both_cells four_as
-as_are_whole = all_text both_cells four_as as_are_text record { held = both_held }
+pub mix_is_whole : IsWholeText both_cells mix
+mix_is_whole = all_text both_cells mix (is_text 65 68 (omega arith) (omega arith) refl refl) record { held = both_held }
 
 abbrev view : ℕ → ℕ → ShownView
 view k n = record {
-  text = Some four_as;
+  text = Some mix;
   name = None;
-  item = item_of (Some four_as) (pair_held (n + 2) k (heard n));
-  one = tag_of One (Some four_as) (pair_held (n + 2) k (heard n));
-  two = tag_of Two (Some four_as) (pair_held (n + 2) k (heard n));
+  item = item_of (Some mix) (pair_held (n + 2) k (heard n));
+  one = tag_of One (Some mix) (pair_held (n + 2) k (heard n));
+  two = tag_of Two (Some mix) (pair_held (n + 2) k (heard n));
 }
 
 shows : (k n : ℕ) → ShowsView (n + 2) k (heard n) (view k n)
 shows k n = record {
-  text = rw (mixed k n) as_are_whole;
+  text = rw (mixed k n) mix_is_whole;
   name = rw (no_name k n) no_name_of_none;
   item = refl;
   one = refl;
   two = refl;
 }
 
-abbrev receiver : ℕ → ℕ → Listener
-receiver k n = record { input = input k n; view = view k n }
+abbrev receiver : ℕ → ℕ → ℕ → Listener
+receiver k n j = record { input = input k n j; view = view k n }
 
-listens : (k n : ℕ) → ListensTo k (n + 2) (n + k + 1) (log (n + k)) (receiver k n)
+listens : (k n : ℕ) → ListensTo k (n + 2) (n + k + 1) (log (n + k)) (receiver k n (n + k))
 listens k n = record { late = is_late k n; now = omega (arith, quiet_long n); shows = shows k n }
 
--- the source of its text is the second broadcast, and that has other bytes
-last_sent : (k n s : ℕ) → LastWasSentIn (input k n) (last_segment (k + length (quiet n)) ∷ first_segment k ∷ []) s → s ≡ n + k + 1
-last_sent k n s (inl p) = (let e = p.1 in cc)
-last_sent k n s (inr p) = absurd (omega (arith, before_end k (quiet_origins n) _ (Some s) p, quiet_long n, origins_long n))
+listens_by_own_clock : (n j : ℕ) → ListensByOwnClock (j + 2) (n + 2) (j + 1) (log j) (receiver 0 n j)
+listens_by_own_clock n j = record {
+  heard = record {
+    order = in_order n j;
+    between = λ t u r s p q near. omega (arith, sent_by n j u s q);
+    since = λ t s p near. omega arith;
+    past = sent_by n j;
+  };
+  shows = shows 0 n;
+}
 
-first_is : (a b : ℕ) (xs ys : List ℕ) → ◌≡◌ {A = List ℕ} (a ∷ xs) (b ∷ ys) → a ≡ b
-first_is a b xs ys e = cc
+-- no broadcast has that text, so it was not on air
+one_byte : (a b : ℕ) (xs ys : List ℕ) → ◌≡◌ {A = List ℕ} (a ∷ xs) (b ∷ ys) → a ≡ b
+one_byte a b xs ys e = cc
 
-not_on_air : (k n d t : ℕ) (text_plan : List Broadcast) → text_plan ≡ plan (n + k + 1) → WasOnAir d t text_plan (input k n) (text_run (n + 2) (input k n)) four_as → ⊥
-not_on_air k n d t text_plan e w =
-    let sent = last_sent k n w.source.slot (subst (λ (gs : List Segment). LastWasSentIn (input k n) gs w.source.slot) (mixed k n) w.source.sent) in
-    elim (which (n + k + 1) w.number w.broadcast (rw e at w.source.planned)) [
-      | inl p ↦
-          let same : four_bs ≡ four_as = ap (λ (x : Broadcast). x.bytes) (sym p.1) ∙ w.bytes in
-          omega (arith, first_is _ _ _ _ same)
-      | inr p ↦ omega (arith, sent, w.source.covers.to, ap (λ (x : Broadcast). x.end) p.1)
-    ]
+fifth_byte : (a b a' b' : ℕ) → text_of_two a b ≡ text_of_two a' b' → b ≡ b'
+fifth_byte a b a' b' e = cc
 
-at_two_or_more : (n k : ℕ) → IsUnsafe (n + 2 + k - 1) (n + 2 + k) (n + 2) k
-at_two_or_more n k =
-    let d : n + k + 1 ≡ n + 2 + k - 1 = omega arith in
+of_none : (c k : ℕ) (b : Broadcast) → HasNumber (plan c) k b → b.bytes ≡ mix → ⊥
+of_none c k b p same = elim (which c k b p) [
+  | inl q ↦ (let e : newer_text ≡ mix = ap (λ (x : Broadcast). x.bytes) (sym q.1) ∙ same in omega (arith, one_byte _ _ _ _ e))
+  | inr q ↦ (let e : older_text ≡ mix = ap (λ (x : Broadcast). x.bytes) (sym q.1) ∙ same in omega (arith, fifth_byte 65 67 65 68 e))
+]
+
+not_safe : (c d m t : ℕ) (sent : List (Option Message)) (r : Listener) → r.view.text ≡ Some mix → AreSafe d m t record { text = plan c; name = [] } sent (r ∷ []) → ⊥
+not_safe c d m t sent r shown safe =
+    let w = subst (λ (x : Option (List ℕ)). IfSome x (WasOnAir d t (plan c) r.input (text_run m r.input))) shown (safe.texts 0 r (omega arith)) in
+    of_none c w.number w.broadcast w.source.planned w.bytes
+
+pub lawful : (j : ℕ) → AreLawful (j + 1) record { text = plan (j + 1); name = [] } (log j)
+lawful j = record { text = texts_lawful j; name = names_lawful (j + 1) j }
+
+-- a receiver that listens so to that log, and shows the mix
+pub mixes : (n j now : ℕ) (Listens : ℕ → List (Option Message) → Listener → Type 0) (r : Listener) → r.view.text ≡ Some mix → Listens now (log j) r → ShowsAMix (j + 1) n Listens
+mixes n j now Listens r shown listens = record {
+  plans = record { text = plan (j + 1); name = [] };
+  log = log j;
+  lawful = lawful j;
+  t = now;
+  receiver = r;
+  listens = listens;
+  mix = mix;
+  shown = shown;
+  of_none = of_none (j + 1);
+  fails = λ d. not_safe (j + 1) d n now (log j) r shown;
+}
+
+at_two_or_more : (n k : ℕ) → ShowsAMix (n + k + 1) (n + 2) (ListensTo k (n + 2))
+at_two_or_more n k = mixes (n + 2) (n + k) (n + k + 1) (ListensTo k (n + 2)) (receiver k n (n + k)) refl (listens k n)
+
+pub one_slot_less : (m k : ℕ) → 1 < m → ShowsAMix (m + k - 1) m (ListensTo k m)
+one_slot_less m k h =
+    let e : m - 2 + 2 ≡ m = omega arith in
+    let slots : m - 2 + k + 1 ≡ m + k - 1 = omega arith in
+    subst (λ (x : ℕ). ShowsAMix (m + k - 1) x (ListensTo k x)) e
+    (subst (λ (x : ℕ). ShowsAMix x (m - 2 + 2) (ListensTo k (m - 2 + 2))) slots (at_two_or_more (m - 2) k))
+
+pub one_slot_less_by_slow_clock : (m k : ℕ) → 1 < m → ShowsAMix (m + k - 1) m (ListensBySlowClock k m)
+one_slot_less_by_slow_clock m k h =
+    let late = one_slot_less m k h in
     record {
-      plans = record { text = plan (n + k + 1); name = [] };
-      log = log (n + k);
-      lawful = record {
-        text = subst (λ (x : ℕ). IsLawful x texts (plan (n + k + 1)) (marks text_mark (log (n + k)))) d (texts_lawful (n + k));
-        name = names_lawful (n + 2 + k - 1) (n + k);
-      };
-      t = n + k + 1;
-      receiver = receiver k n;
-      listens = listens k n;
-      fails = λ safe. not_on_air k n (n + 2 + k) (n + k + 1) (plan (n + k + 1)) refl (safe.texts 0 (receiver k n) (omega arith));
+      plans = late.plans;
+      log = late.log;
+      lawful = late.lawful;
+      t = late.t;
+      receiver = late.receiver;
+      listens = late_listens k m late.t late.log late.receiver late.listens;
+      mix = late.mix;
+      shown = late.shown;
+      of_none = late.of_none;
+      fails = late.fails;
     }
 
-pub one_slot_less : (m k : ℕ) → 1 < m → IsUnsafe (m + k - 1) (m + k) m k
-one_slot_less m k h = subst (λ (x : ℕ). IsUnsafe (x + k - 1) (x + k) x k) (let e : m - 2 + 2 ≡ m = omega arith in e) (at_two_or_more (m - 2) k)
+pub one_slot_less_on_time : (m : ℕ) → 1 < m → ShowsAMix (m - 1) m (ListensTo 0 m)
+one_slot_less_on_time m h = subst (λ (d : ℕ). ShowsAMix (d - 1) m (ListensTo 0 m)) (let e : m + 0 ≡ m = omega arith in e) (one_slot_less m 0 h)
 
-pub one_slot_less_on_time : (m : ℕ) → 1 < m → IsUnsafe (m - 1) m m 0
-one_slot_less_on_time m h = subst (λ (d : ℕ). IsUnsafe (d - 1) d m 0) (let e : m + 0 ≡ m = omega arith in e) (one_slot_less m 0 h)
+by_own_clock : (n j : ℕ) → ShowsAMix (j + 1) (n + 2) (ListensByOwnClock (j + 2) (n + 2))
+by_own_clock n j = mixes (n + 2) j (j + 1) (ListensByOwnClock (j + 2) (n + 2)) (receiver 0 n j) refl (listens_by_own_clock n j)
+
+pub one_slot_less_by_own_clock : (d m : ℕ) → 1 < d → 1 < m → ShowsAMix (d - 1) m (ListensByOwnClock d m)
+one_slot_less_by_own_clock d m g h =
+    let d_is : d - 2 + 2 ≡ d = omega arith in
+    let m_is : m - 2 + 2 ≡ m = omega arith in
+    let slots : d - 2 + 1 ≡ d - 1 = omega arith in
+    subst (λ (x : ℕ). ShowsAMix (d - 1) x (ListensByOwnClock d x)) m_is
+    (subst (λ (x : ℕ). ShowsAMix (d - 1) (m - 2 + 2) (ListensByOwnClock x (m - 2 + 2))) d_is (subst (λ (x : ℕ). ShowsAMix x (m - 2 + 2) (ListensByOwnClock (d - 2 + 2) (m - 2 + 2))) slots (by_own_clock (m - 2) (d - 2))))

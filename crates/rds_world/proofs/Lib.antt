@@ -7,6 +7,7 @@ pub mod Sources
 pub mod Pairs
 pub mod Safety
 pub mod OnTime
+pub mod OwnClocks
 pub mod Groups
 pub mod Received
 pub mod DueSteps
@@ -15,6 +16,7 @@ pub mod LawfulStation
 pub mod InTime
 pub mod SafeWorld
 pub mod Least
+mod LooserClocks
 pub mod WorkedRows
 pub mod SentWhole
 pub mod HeldWhole

@@ -14,14 +14,15 @@ use Rattle.rds_receiver.specs.Receipts.{Segment}
 use Rattle.rds_receiver.specs.Run.{begins_in, cells_of}
 use Rattle.rds_receiver.specs.Shown.{ShowsView, ShownView}
 use Rattle.rds_receiver.specs.Tags.{cut_by, is_known, item_of, pair_from, pair_held, pair_since, says_of_rtplus, tag_of, unless_contrary}
-use Rattle.rds_world.specs.Late.{CameFrom, HasEntry, Input, IsHeardLate}
+use Rattle.rds_world.specs.Late.{CameFrom, HasEntry, Input}
 use Rattle.rds_world.specs.Lawful.{IsLawful, Kind, texts}
 use Rattle.rds_world.specs.Laws.{PlanLaws}
 use Rattle.rds_world.specs.Marks.{IsSent, Tagged, marks, text_mark}
+use Rattle.rds_world.specs.OwnClock.{IsHeardByOwnClock}
 use Rattle.rds_world.specs.Safe.{NamesPiece, ShowsNoTags, ShowsTagsOf}
 use Rattle.rds_world.specs.Source.{text_run}
 use Rattle.rds_world.proofs.Bytes.{bytes_of_run, text_service}
-use Rattle.rds_world.proofs.Entries.{arrival, before_end, mark_sent}
+use Rattle.rds_world.proofs.Entries.{arrival, mark_sent}
 use Rattle.rds_world.proofs.OneBroadcast.{AreOf, LiesInOne, RunLiesInOne}
 use Rattle.rds_world.proofs.Sources.{source_of}
 
@@ -64,10 +65,10 @@ record BeginsIn (input : Input) (b : Broadcast) (gs : List Segment) : Type 0 whe
   from : CameFrom input since slot
   covers : Covers b slot
 
-begins : (k : ℕ) (kind : Kind) (input : Input) (b : Broadcast) (g : Segment) (older : List Segment) → AreOf k kind input b (g ∷ older) → BeginsIn input b (g ∷ older)
-begins k kind input b g [] all = record { since = g.slot; begins = refl; slot = all.0.slot; from = all.0.from; covers = all.0.has.covers }
-begins k kind input b g (h ∷ older) all =
-    let rest = begins k kind input b h older all.1 in
+begins : (kind : Kind) (input : Input) (b : Broadcast) (g : Segment) (older : List Segment) → AreOf kind input b (g ∷ older) → BeginsIn input b (g ∷ older)
+begins kind input b g [] all = record { since = g.slot; begins = refl; slot = all.0.slot; from = all.0.from; covers = all.0.has.covers }
+begins kind input b g (h ∷ older) all =
+    let rest = begins kind input b h older all.1 in
     record { since = rest.since; begins = rest.begins; slot = rest.slot; from = rest.from; covers = rest.covers }
 
 -- the pair was sent in the broadcast, d slots after its start or later
@@ -77,30 +78,30 @@ record WasSentFor (d : ℕ) (log : List (Option Message)) (b : Broadcast) (pair 
   lasted : b.start + d ≤ slot
   to : slot ≤ b.end
 
-sent_for : PlanLaws → (m k t : ℕ) (plan : List Broadcast) (log : List (Option Message)) (input : Input) (g : Segment) (older : List Segment) (pair : PairFields)
-    → IsLawful (m + k) texts plan (marks text_mark log) → IsHeardLate k log input → input.first + length input.heard ≡ t + 1
-    → (l : LiesInOne m k t texts plan input g older) → pair_from input.first (begins_in (g ∷ older)) input.heard ≡ Some pair → WasSentFor (m + k) log l.broadcast pair
-sent_for laws m k t plan log input g older pair law late now l e =
-    let b = begins k texts input l.broadcast g older l.all in
+sent_for : PlanLaws → (d m t : ℕ) (plan : List Broadcast) (log : List (Option Message)) (input : Input) (g : Segment) (older : List Segment) (pair : PairFields)
+    → IsLawful d texts plan (marks text_mark log) → IsHeardByOwnClock d m t log input
+    → (l : LiesInOne d t texts plan input g older) → pair_from input.first (begins_in (g ∷ older)) input.heard ≡ Some pair → WasSentFor d log l.broadcast pair
+sent_for laws d m t plan log input g older pair law hears l e =
+    let b = begins texts input l.broadcast g older l.all in
     let f = was_heard input.first b.since input.heard pair (rw b.begins at e) in
-    let came = arrival k log input f.slot (Tags pair) late f.came in
-    let tagged : IsSent (marks text_mark log) came.slot (Tagged pair) = mark_sent text_mark log came.slot (Some (Tags pair)) came.late.sent in
+    let came = arrival log input f.slot (Tags pair) hears.order f.came in
+    let tagged : IsSent (marks text_mark log) came.slot (Tagged pair) = mark_sent text_mark log came.slot (Some (Tags pair)) came.sent in
     let lies = law.tags came.slot pair tagged in
     let last = l.all.0 in
-    let sent_later = late.rising b.since f.slot b.slot came.slot b.from came.from f.later in
-    let by_now = before_end input.first input.heard f.slot (Some (Tags pair)) f.came in
+    let sent_later = hears.order.rising b.since f.slot b.slot came.slot b.from came.from f.later in
+    let by_now = hears.past f.slot came.slot came.from in
     elim (cases_order lies.number l.number) [
       | inl same ↦
           let b_is : lies.broadcast ≡ l.broadcast = laws.one plan l.number lies.broadcast l.broadcast (subst (λ (n : ℕ). HasNumber plan n lies.broadcast) {x = lies.number} same lies.planned) l.planned in
           record {
             slot = came.slot;
             tagged = tagged;
-            lasted = subst (λ (x : Broadcast). x.start + (m + k) ≤ came.slot) {x = lies.broadcast} b_is lies.is.lasted;
+            lasted = subst (λ (x : Broadcast). x.start + d ≤ came.slot) {x = lies.broadcast} b_is lies.is.lasted;
             to = subst (λ (x : Broadcast). came.slot ≤ x.end) {x = lies.broadcast} b_is lies.is.to;
           }
       | inr o ↦ elim o [
-        | inl less ↦ absurd (omega (arith, laws.order (m + k) plan lies.number l.number lies.broadcast l.broadcast law.spaced lies.planned l.planned less, lies.is.to, sent_later, b.covers.from))
-        | inr more ↦ absurd (omega (arith, laws.order (m + k) plan l.number lies.number l.broadcast lies.broadcast law.spaced l.planned lies.planned more, lies.is.lasted, came.late.past, by_now, now, l.recent, last.late, last.has.covers.to))
+        | inl less ↦ absurd (omega (arith, laws.order d plan lies.number l.number lies.broadcast l.broadcast law.spaced lies.planned l.planned less, lies.is.to, sent_later, b.covers.from))
+        | inr more ↦ absurd (omega (arith, laws.order d plan l.number lies.number l.broadcast lies.broadcast law.spaced l.planned lies.planned more, lies.is.lasted, by_now, l.recent, last.has.covers.to))
       ]
     ]
 
@@ -130,24 +131,24 @@ names_piece tag x bytes shown same e =
     (λ _. tt))
 
 -- what is shown of tags was sent in the source of the text
-pub shows_tags : PlanLaws → (m k t : ℕ) (plan : List Broadcast) (log : List (Option Message)) (input : Input) (view : ShownView)
-    → IsLawful (m + k) texts plan (marks text_mark log) → IsHeardLate k log input → input.first + length input.heard ≡ t + 1
-    → RunLiesInOne m k t texts plan input (text_run m input) → ShowsView m input.first input.heard view
-    → ShowsNoTags view ⊎ ShowsTagsOf (m + k) plan (marks text_mark log) input (text_run m input) view
-shows_tags laws m k t plan log input view law late now lies shows = by view.text (pair_held m input.first input.heard) refl refl shows.item shows.one shows.two
+pub shows_tags : PlanLaws → (d m t : ℕ) (plan : List Broadcast) (log : List (Option Message)) (input : Input) (view : ShownView)
+    → IsLawful d texts plan (marks text_mark log) → IsHeardByOwnClock d m t log input
+    → RunLiesInOne d t texts plan input (text_run m input) → ShowsView m input.first input.heard view
+    → ShowsNoTags view ⊎ ShowsTagsOf d plan (marks text_mark log) input (text_run m input) view
+shows_tags laws d m t plan log input view law hears lies shows = by view.text (pair_held m input.first input.heard) refl refl shows.item shows.one shows.two
   where
-    of : (the_run : List Segment) (x : List ℕ) (pair : PairFields) → IsWholeText (cells_of the_run) x → RunLiesInOne m k t texts plan input the_run
+    of : (the_run : List Segment) (x : List ℕ) (pair : PairFields) → IsWholeText (cells_of the_run) x → RunLiesInOne d t texts plan input the_run
         → pair_from input.first (begins_in the_run) input.heard ≡ Some pair → view.item ≡ item_of (Some x) (Some pair)
         → view.one ≡ tag_of One (Some x) (Some pair) → view.two ≡ tag_of Two (Some x) (Some pair)
-        → ShowsTagsOf (m + k) plan (marks text_mark log) input the_run view
+        → ShowsTagsOf d plan (marks text_mark log) input the_run view
     of [] x pair whole l e item one two = absurd (no_text_of_none x whole)
     of (g ∷ older) x pair whole l e item one two =
-        let same = bytes_of_run m k t texts IsWholeText plan input g older x text_service law.values l whole in
-        let sent = sent_for laws m k t plan log input g older pair law late now l e in
+        let same = bytes_of_run d t texts IsWholeText plan input g older x text_service law.values l whole in
+        let sent = sent_for laws d m t plan log input g older pair law hears l e in
         record {
           number = l.number;
           broadcast = l.broadcast;
-          source = source_of m k t texts plan input g older l;
+          source = source_of d t texts plan input g older l;
           pair = pair;
           slot = sent.slot;
           tagged = sent.tagged;
@@ -160,7 +161,7 @@ shows_tags laws m k t plan log input view law late now lies shows = by view.text
 
     by : (text : Option (List ℕ)) (pair : Option PairFields) → view.text ≡ text → pair_held m input.first input.heard ≡ pair
         → view.item ≡ item_of text pair → view.one ≡ tag_of One text pair → view.two ≡ tag_of Two text pair
-        → ShowsNoTags view ⊎ ShowsTagsOf (m + k) plan (marks text_mark log) input (text_run m input) view
+        → ShowsNoTags view ⊎ ShowsTagsOf d plan (marks text_mark log) input (text_run m input) view
     by None pair et ep item one two = inl record { item = item; one = one; two = two }
     by (Some x) None et ep item one two = inl record { item = item; one = one; two = two }
     by (Some x) (Some pair) et ep item one two = inr (of (text_run m input) x pair (rw et at shows.text) lies ep item one two)

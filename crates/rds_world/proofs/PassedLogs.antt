@@ -4,7 +4,7 @@ use Rattle.rds_fields.specs.declared.message.Message.{Message}
 use Rattle.rds_world.specs.AuditLaws.{IsSafeLog, IsSafeOnTime, PassesExactlyByPlans}
 use Rattle.rds_world.specs.Dense.{HasPlans}
 use Rattle.rds_world.specs.Lawful.{names, texts}
-use Rattle.rds_world.specs.Laws.{LawfulPlansAreSafe, LawfulPlansAreSafeOnTime, PlanLaws}
+use Rattle.rds_world.specs.Laws.{LawfulPlansAreSafe, LawfulPlansAreSafeByOwnClocks, LawfulPlansAreSafeOnTime, PlanLaws}
 use Rattle.rds_world.specs.Marks.{marks, name_mark, text_mark}
 use Rattle.rds_world.specs.Rules.{LogPasses}
 use Rattle.rds_world.proofs.Matching.{passes}
@@ -47,10 +47,16 @@ passed_before law d newest before pos h =
       };
     }
 
-pub safe_log : PassesExactlyByPlans → LawfulPlansAreSafe → (m k : ℕ) (log : List (Option Message)) → 0 < m → LogPasses (m + k) log → IsSafeLog m k log
-safe_log law safe m k log pos p =
+pub safe_log : PassesExactlyByPlans → LawfulPlansAreSafe → LawfulPlansAreSafeByOwnClocks → (m k : ℕ) (log : List (Option Message)) → 0 < m → LogPasses (m + k) log → IsSafeLog m k log
+safe_log law safe own m k log pos p =
     let w = (law (m + k) log (omega arith)).0 p in
-    record { plans = w.plans; lawful = w.lawful; dense = w.dense; safe = λ t receivers all. safe m k t w.plans log receivers w.lawful all }
+    record {
+      plans = w.plans;
+      lawful = w.lawful;
+      dense = w.dense;
+      safe = λ t receivers all. safe m k t w.plans log receivers w.lawful all;
+      own_clocks = λ now receivers all. own (m + k) m now w.plans log receivers w.lawful all;
+    }
 
 pub safe_on_time : PassesExactlyByPlans → LawfulPlansAreSafeOnTime → (m : ℕ) (log : List (Option Message)) → 0 < m → LogPasses m log → IsSafeOnTime m log
 safe_on_time law safe m log pos p =

@@ -1,16 +1,18 @@
 -- What a receiver has heard after one more slot, and one of a list after it was written.
-use Rattle.std.proofs.Common.{◌≡◌, ◌≢◌, ◌<◌, ℕ, zero, suc, List, [], ◌∷◌, Option, Some, None, refl, ap, subst, inl, take, length, arith}
+use Rattle.std.proofs.Common.{◌≡◌, ◌≢◌, ◌<◌, ℕ, zero, suc, Bool, true, false, List, [], ◌∷◌, Option, Some, None, refl, ap, subst, inl, take, length, arith}
 use Rattle.std.specs.List.{AllByRecursion}
-use Rattle.std.specs.Prelude.{slice_get, slice_set}
+use Rattle.std.specs.Prelude.{slice_get, slice_index_or, slice_set}
 use Rattle.rds_block.specs.declared.group.Group.{Group}
 use Rattle.rds_fields.specs.declared.head.Head.{Head}
 use Rattle.rds_fields.specs.declared.message.Message.{Message}
 use Rattle.rds_encoder.specs.Sent.{IsSent}
 use Rattle.rds_receiver.specs.Receipts.{Hears}
+use Rattle.rds_receiver.specs.OneView.{same_heard}
+use Rattle.rds_receiver.specs.Shown.{IsView, ShowsView, ShownView}
 use Rattle.rds_receiver.specs.Standing.{StandsAt, WhereItStands}
 use Rattle.rds_receiver.specs.State.{ReceiverState}
 use Rattle.rds_world.specs.Late.{Input}
-use Rattle.rds_world.specs.Standing.{HasHeard, IsNew}
+use Rattle.rds_world.specs.Standing.{HasHeard, IsNew, StaysShown, tuned_to}
 
 -- what the station sends, its receivers hear
 pub hears_sent : (station : Head) (sent : Option Message) (group : Option Group) → IsSent station sent group → Hears station.pi group sent
@@ -24,13 +26,27 @@ input_from first heard origins = record { first = first; heard = heard; origins 
 
 -- one more group was handled, and it was heard so
 pub hears_more : (station : Head) (m : ℕ) (input : Input) (old new : ReceiverState) (group : Option Group) (heard : Option Message) (origin : Option ℕ)
-    → Hears station.pi group heard → WhereItStands old (λ t groups. StandsAt t new (group ∷ groups))
+    → Hears station.pi group heard → WhereItStands old (λ t groups. (g : Option Group) → Hears t.programme g heard → StandsAt t new (g ∷ groups))
     → HasHeard station m input old → HasHeard station m (input_from input.first (heard ∷ input.heard) (origin ∷ input.origins)) new
 hears_more station m input old new group heard origin hears goes_on has = record {
   groups = group ∷ has.groups;
   spelled = (hears, has.spelled);
-  stands = goes_on record { programme = station.pi; dwell = m; first = input.first } has.groups has.stands;
+  stands = goes_on record { programme = station.pi; dwell = m; first = input.first } has.groups has.stands group hears;
 }
+
+-- one more group was handled, and what is shown stays
+pub stays_shown : (station : Head) (m : ℕ) (input : Input) (old : ReceiverState) (group : Option Group) (heard : Option Message) (origin : Option ℕ)
+    → Hears station.pi group heard → ((view : ShownView) → WhereItStands old (λ t groups. (g : Option Group) → Hears t.programme g heard → IsView t groups view → IsView t (g ∷ groups) view))
+    → HasHeard station m input old → StaysShown station m input (input_from input.first (heard ∷ input.heard) (origin ∷ input.origins))
+stays_shown station m input old group heard origin hears stays has view shown =
+    let (other, are, shows) = shown.is in
+    let same : other ≡ input.heard = same_heard station.pi shown.groups other input.heard are shown.spelled in
+    let by_own : IsView (tuned_to station m input) has.groups view = (input.heard, has.spelled, subst (λ (x : List (Option Message)). ShowsView m input.first x view) same shows) in
+    record {
+      groups = group ∷ has.groups;
+      spelled = (hears, has.spelled);
+      is = stays view (tuned_to station m input) has.groups has.stands group hears by_own;
+    }
 
 pub heard_nothing : (station : Head) (m first : ℕ) (r : ReceiverState) → IsNew station m r
     → HasHeard station m (input_from first [] []) r
@@ -56,7 +72,26 @@ one_of_first P (suc n) [] i r all e = absurd (cc)
 one_of_first P (suc n) (x ∷ rs) zero r all e = subst P (cc) all.0
 one_of_first P (suc n) (x ∷ rs) (suc i) r all e = one_of_first P n rs i r all.1 e
 
+pub of_first : {X : Type 0} (n : ℕ) (xs : List X) (i : ℕ) (x : X) → slice_get (take n xs) i ≡ Some x → (i < n) × (slice_get xs i ≡ Some x)
+of_first zero xs i x e = absurd (cc)
+of_first (suc n) [] i x e = absurd (cc)
+of_first (suc n) (y ∷ xs) zero x e = (omega arith, e)
+of_first (suc n) (y ∷ xs) (suc i) x e = (let later = of_first n xs i x e in (omega (arith, later.0), later.1))
+
 -- a receiver that stands has a dwell of some slots
 pub some_slots : (station : Head) (m : ℕ) (rs : List ReceiverState) → AllByRecursion (IsNew station m) rs → 0 < length rs → 0 < m
 some_slots station m [] all some = absurd (omega (arith, some))
 some_slots station m (r ∷ rs) all some = (all.0 0).holds.lasts
+
+-- one of a list of marks was written
+pub other_marked : {X : Type 0} (xs : List X) (i k : ℕ) (x d : X) → k ≢ i → slice_index_or (slice_set xs i x) k d ≡ slice_index_or xs k d
+other_marked [] i k x d ne = refl
+other_marked (y ∷ xs) zero zero x d ne = absurd (ne refl)
+other_marked (y ∷ xs) zero (suc k) x d ne = refl
+other_marked (y ∷ xs) (suc i) zero x d ne = refl
+other_marked (y ∷ xs) (suc i) (suc k) x d ne = other_marked xs i k x d (λ e. ne (ap suc e))
+
+pub marked : (xs : List Bool) (i : ℕ) (b : Bool) → slice_index_or (slice_set xs i b) i false ≡ true → b ≡ true
+marked [] i b e = absurd (cc)
+marked (x ∷ xs) zero b e = e
+marked (x ∷ xs) (suc i) b e = marked xs i b e

@@ -8,11 +8,13 @@ use Rattle.rds_receiver.specs.Receipts.{name_piece, text_piece}
 use Rattle.rds_world.specs.Lawful.{names, texts}
 use Rattle.rds_world.specs.Laws.{PlanLaws}
 use Rattle.rds_world.specs.Marks.{Sends, name_mark, text_mark}
+use Rattle.rds_world.specs.OwnClock.{ListensByOwnClock, ListensBySlowClock}
 use Rattle.rds_world.specs.Plans.{AreLawful, Plans}
 use Rattle.rds_world.specs.Safe.{AreNeighbours, AreSafe, Listener, ListensTo}
 use Rattle.rds_world.specs.Source.{name_run, text_run}
 use Rattle.rds_world.proofs.Bytes.{name_service, text_service}
 use Rattle.rds_world.proofs.OneBroadcast.{PicksWhatIsMarked, RunLiesInOne, heard_run_lies}
+use Rattle.rds_world.proofs.OwnClocks.{late_listens, slow_listens}
 use Rattle.rds_world.proofs.Pairs.{shows_tags}
 use Rattle.rds_world.proofs.Sources.{near_sources, shown_on_air}
 
@@ -30,32 +32,44 @@ name_pieces_marked (Announce code bits aid) p e = absurd (cc)
 name_pieces_marked (Tags pair) p e = absurd (cc)
 name_pieces_marked Other p e = absurd (cc)
 
-module _ (laws : PlanLaws) (m k t : ℕ) (plans : Plans) (log : List (Option Message)) (law : AreLawful (m + k) plans log) where
-  text_lies : (r : Listener) → ListensTo k m t log r → RunLiesInOne m k t texts plans.text r.input (text_run m r.input)
-  text_lies r h = heard_run_lies laws m k t texts text_piece text_mark plans.text log r.input text_pieces_marked law.text h.late h.now
+module _ (laws : PlanLaws) (d m t : ℕ) (plans : Plans) (log : List (Option Message)) (law : AreLawful d plans log) where
+  text_lies : (r : Listener) → ListensByOwnClock d m t log r → RunLiesInOne d t texts plans.text r.input (text_run m r.input)
+  text_lies r h = heard_run_lies laws d m t texts text_piece text_mark plans.text log r.input text_pieces_marked law.text h.heard
 
-  name_lies : (r : Listener) → ListensTo k m t log r → RunLiesInOne m k t names plans.name r.input (name_run m r.input)
-  name_lies r h = heard_run_lies laws m k t names name_piece name_mark plans.name log r.input name_pieces_marked law.name h.late h.now
+  name_lies : (r : Listener) → ListensByOwnClock d m t log r → RunLiesInOne d t names plans.name r.input (name_run m r.input)
+  name_lies r h = heard_run_lies laws d m t names name_piece name_mark plans.name log r.input name_pieces_marked law.name h.heard
 
-  neighbours : (x y : Listener) → ListensTo k m t log x → ListensTo k m t log y → AreNeighbours m plans x y
+  neighbours : (x y : Listener) → ListensByOwnClock d m t log x → ListensByOwnClock d m t log y → AreNeighbours m plans x y
   neighbours x y h i = record {
-    texts = near_sources laws m k t texts plans.text x.input (text_run m x.input) y.input (text_run m y.input) law.text.spaced (text_lies x h) (text_lies y i);
-    names = near_sources laws m k t names plans.name x.input (name_run m x.input) y.input (name_run m y.input) law.name.spaced (name_lies x h) (name_lies y i);
+    texts = near_sources laws d t texts plans.text x.input (text_run m x.input) y.input (text_run m y.input) law.text.spaced (text_lies x h) (text_lies y i);
+    names = near_sources laws d t names plans.name x.input (name_run m x.input) y.input (name_run m y.input) law.name.spaced (name_lies x h) (name_lies y i);
   }
 
-  pub are_safe : (receivers : List Listener) → All (ListensTo k m t log) receivers → AreSafe (m + k) m t plans log receivers
+  pub are_safe : (receivers : List Listener) → All (ListensByOwnClock d m t log) receivers → AreSafe d m t plans log receivers
   are_safe receivers all = record {
-    texts = λ i d h.
-        let r = slice_index_or receivers i d in
-        shown_on_air m k t texts IsWholeText plans.text r.input (text_run m r.input) r.view.text text_service law.text.values (text_lies r (all i d h)) (all i d h).shows.text;
-    names = λ i d h.
-        let r = slice_index_or receivers i d in
-        shown_on_air m k t names IsWholeName plans.name r.input (name_run m r.input) r.view.name name_service law.name.values (name_lies r (all i d h)) (all i d h).shows.name;
-    tags = λ i d h.
-        let r = slice_index_or receivers i d in
-        shows_tags laws m k t plans.text log r.input r.view law.text (all i d h).late (all i d h).now (text_lies r (all i d h)) (all i d h).shows;
-    neighbours = λ i d h j e g. neighbours (slice_index_or receivers i d) (slice_index_or receivers j e) (all i d h) (all j e g);
+    texts = λ i o h.
+        let r = slice_index_or receivers i o in
+        shown_on_air d t texts IsWholeText plans.text r.input (text_run m r.input) r.view.text text_service law.text.values (text_lies r (all i o h)) (all i o h).shows.text;
+    names = λ i o h.
+        let r = slice_index_or receivers i o in
+        shown_on_air d t names IsWholeName plans.name r.input (name_run m r.input) r.view.name name_service law.name.values (name_lies r (all i o h)) (all i o h).shows.name;
+    tags = λ i o h.
+        let r = slice_index_or receivers i o in
+        shows_tags laws d m t plans.text log r.input r.view law.text (all i o h).heard (text_lies r (all i o h)) (all i o h).shows;
+    neighbours = λ i o h j e g. neighbours (slice_index_or receivers i o) (slice_index_or receivers j e) (all i o h) (all j e g);
   }
+
+-- where the clocks of all count at most k slots too few in a dwell, the dwell and k do
+pub are_safe_by_slow_clocks : PlanLaws → (m k t : ℕ) (plans : Plans) (log : List (Option Message)) (receivers : List Listener)
+    → AreLawful (m + k) plans log → All (ListensBySlowClock k m t log) receivers → AreSafe (m + k) m t plans log receivers
+are_safe_by_slow_clocks laws m k t plans log receivers law all =
+    are_safe laws (m + k) m t plans log law receivers (λ i o h. slow_listens k m t log (slice_index_or receivers i o) (all i o h))
+
+-- and where all are at most k slots late
+pub are_safe_late : PlanLaws → (m k t : ℕ) (plans : Plans) (log : List (Option Message)) (receivers : List Listener)
+    → AreLawful (m + k) plans log → All (ListensTo k m t log) receivers → AreSafe (m + k) m t plans log receivers
+are_safe_late laws m k t plans log receivers law all =
+    are_safe_by_slow_clocks laws m k t plans log receivers law (λ i o h. late_listens k m t log (slice_index_or receivers i o) (all i o h))
 
 -- where no receiver is late, the dwell does
 pub are_safe_on_time : PlanLaws → (m t : ℕ) (plans : Plans) (log : List (Option Message)) (receivers : List Listener)
@@ -63,4 +77,4 @@ pub are_safe_on_time : PlanLaws → (m t : ℕ) (plans : Plans) (log : List (Opt
 are_safe_on_time laws m t plans log receivers law all =
     let none_late : m + 0 ≡ m = omega arith in
     subst (λ (d : ℕ). AreSafe d m t plans log receivers) none_late
-    (are_safe laws m 0 t plans log (subst (λ (d : ℕ). AreLawful d plans log) (sym none_late) law) receivers all)
+    (are_safe_late laws m 0 t plans log receivers (subst (λ (d : ℕ). AreLawful d plans log) (sym none_late) law) all)

@@ -18,34 +18,34 @@ use Rattle.rds_world.proofs.Entries.{one_origin}
 use Rattle.rds_world.proofs.OneBroadcast.{LiesInOne, RunLiesInOne}
 
 -- the source that a run has
-pub source_of : (m k t : ℕ) (kind : Kind) (plan : List Broadcast) (input : Input) (g : Segment) (older : List Segment)
-    → (l : LiesInOne m k t kind plan input g older) → IsSource plan input (g ∷ older) l.number l.broadcast
-source_of m k t kind plan input g older l =
+pub source_of : (d t : ℕ) (kind : Kind) (plan : List Broadcast) (input : Input) (g : Segment) (older : List Segment)
+    → (l : LiesInOne d t kind plan input g older) → IsSource plan input (g ∷ older) l.number l.broadcast
+source_of d t kind plan input g older l =
     record { planned = l.planned; slot = l.all.0.slot; sent = l.all.0.from; covers = l.all.0.has.covers }
 
-was_on_air : (m k t : ℕ) (kind : Kind) (IsWhole : Cells → List ℕ → Type 0) (plan : List Broadcast) (input : Input) (the_run : List Segment) (x : List ℕ)
-    → IsService kind IsWhole → HasValues kind plan → RunLiesInOne m k t kind plan input the_run → IsWhole (cells_of the_run) x
-    → WasOnAir (m + k) t plan input the_run x
-was_on_air m k t kind IsWhole plan input [] x service values l whole = absurd (service.none x whole)
-was_on_air m k t kind IsWhole plan input (g ∷ older) x service values l whole =
+was_on_air : (d t : ℕ) (kind : Kind) (IsWhole : Cells → List ℕ → Type 0) (plan : List Broadcast) (input : Input) (the_run : List Segment) (x : List ℕ)
+    → IsService kind IsWhole → HasValues kind plan → RunLiesInOne d t kind plan input the_run → IsWhole (cells_of the_run) x
+    → WasOnAir d t plan input the_run x
+was_on_air d t kind IsWhole plan input [] x service values l whole = absurd (service.none x whole)
+was_on_air d t kind IsWhole plan input (g ∷ older) x service values l whole =
     let last = l.all.0 in
     record {
       number = l.number;
       broadcast = l.broadcast;
-      source = source_of m k t kind plan input g older l;
-      bytes = sym (bytes_of_run m k t kind IsWhole plan input g older x service values l whole);
+      source = source_of d t kind plan input g older l;
+      bytes = sym (bytes_of_run d t kind IsWhole plan input g older x service values l whole);
       slot = last.slot;
       covers = last.has.covers;
-      past = omega (arith, last.past, l.now);
-      recent = omega (arith, last.late, l.recent);
+      past = l.past;
+      recent = l.recent;
     }
 
 -- what is shown was on air
-pub shown_on_air : (m k t : ℕ) (kind : Kind) (IsWhole : Cells → List ℕ → Type 0) (plan : List Broadcast) (input : Input) (the_run : List Segment) (shown : Option (List ℕ))
-    → IsService kind IsWhole → HasValues kind plan → RunLiesInOne m k t kind plan input the_run → IsShown IsWhole (cells_of the_run) shown
-    → IfSome shown (WasOnAir (m + k) t plan input the_run)
-shown_on_air m k t kind IsWhole plan input the_run None service values l is = tt
-shown_on_air m k t kind IsWhole plan input the_run (Some x) service values l is = was_on_air m k t kind IsWhole plan input the_run x service values l is
+pub shown_on_air : (d t : ℕ) (kind : Kind) (IsWhole : Cells → List ℕ → Type 0) (plan : List Broadcast) (input : Input) (the_run : List Segment) (shown : Option (List ℕ))
+    → IsService kind IsWhole → HasValues kind plan → RunLiesInOne d t kind plan input the_run → IsShown IsWhole (cells_of the_run) shown
+    → IfSome shown (WasOnAir d t plan input the_run)
+shown_on_air d t kind IsWhole plan input the_run None service values l is = tt
+shown_on_air d t kind IsWhole plan input the_run (Some x) service values l is = was_on_air d t kind IsWhole plan input the_run x service values l is
 
 -- one broadcast covers a slot
 one_covers : PlanLaws → (d : ℕ) (plan : List Broadcast) (k l : ℕ) (a b : Broadcast) (s : ℕ) → IsSpaced d plan → HasNumber plan k a → HasNumber plan l b → Covers a s → Covers b s → k ≡ l
@@ -71,21 +71,21 @@ one_source laws d plan input the_run k l a b spaced p q =
     (same, laws.one plan l a b (subst (λ (n : ℕ). HasNumber plan n a) same p.planned) q.planned)
 
 -- at one slot the source of a run is at most the next one after that of another run
-not_far : PlanLaws → (m k t : ℕ) (kind : Kind) (plan : List Broadcast) (x : Input) (x_run : List Segment) (y : Input) (y_run : List Segment) (n l : ℕ) (a b : Broadcast)
-    → IsSpaced (m + k) plan → RunLiesInOne m k t kind plan x x_run → RunLiesInOne m k t kind plan y y_run
+not_far : PlanLaws → (d t : ℕ) (kind : Kind) (plan : List Broadcast) (x : Input) (x_run : List Segment) (y : Input) (y_run : List Segment) (n l : ℕ) (a b : Broadcast)
+    → IsSpaced d plan → RunLiesInOne d t kind plan x x_run → RunLiesInOne d t kind plan y y_run
     → IsSource plan x x_run n a → IsSource plan y y_run l b → l ≤ n + 1
-not_far laws m k t kind plan x [] y y_run n l a b spaced u v p q = absurd p.sent
-not_far laws m k t kind plan x (g ∷ older) y [] n l a b spaced u v p q = absurd q.sent
-not_far laws m k t kind plan x (g ∷ g_older) y (h ∷ h_older) n l a b spaced u v p q =
+not_far laws d t kind plan x [] y y_run n l a b spaced u v p q = absurd p.sent
+not_far laws d t kind plan x (g ∷ older) y [] n l a b spaced u v p q = absurd q.sent
+not_far laws d t kind plan x (g ∷ g_older) y (h ∷ h_older) n l a b spaced u v p q =
     elim (cases_lt (n + 1) l) [
       | inr near ↦ near
       | inl far ↦
           let one = one_origin x g.slot p.slot u.all.0.slot p.sent u.all.0.from in
           let two = one_origin y h.slot q.slot v.all.0.slot q.sent v.all.0.from in
-          absurd (omega (arith, laws.far (m + k) plan n l a b spaced p.planned q.planned (omega arith), p.covers.to, q.covers.from, u.recent, u.all.0.late, v.now, v.all.0.past, one, two))
+          absurd (omega (arith, laws.far d plan n l a b spaced p.planned q.planned (omega arith), p.covers.to, q.covers.from, u.recent, v.past, one, two))
     ]
 
-pub near_sources : PlanLaws → (m k t : ℕ) (kind : Kind) (plan : List Broadcast) (x : Input) (x_run : List Segment) (y : Input) (y_run : List Segment)
-    → IsSpaced (m + k) plan → RunLiesInOne m k t kind plan x x_run → RunLiesInOne m k t kind plan y y_run → HaveNearSources plan x x_run y y_run
-near_sources laws m k t kind plan x x_run y y_run spaced u v n l a b p q =
-    (not_far laws m k t kind plan y y_run x x_run l n b a spaced v u q p, not_far laws m k t kind plan x x_run y y_run n l a b spaced u v p q)
+pub near_sources : PlanLaws → (d t : ℕ) (kind : Kind) (plan : List Broadcast) (x : Input) (x_run : List Segment) (y : Input) (y_run : List Segment)
+    → IsSpaced d plan → RunLiesInOne d t kind plan x x_run → RunLiesInOne d t kind plan y y_run → HaveNearSources plan x x_run y y_run
+near_sources laws d t kind plan x x_run y y_run spaced u v n l a b p q =
+    (not_far laws d t kind plan y y_run x x_run l n b a spaced v u q p, not_far laws d t kind plan x x_run y y_run n l a b spaced u v p q)

@@ -1,5 +1,5 @@
 -- A world after one more slot.
-use Rattle.std.proofs.Common.{◌≡◌, ◌+◌, ◌≤◌, ◌++◌, take, drop, ℕ, List, ◌∷◌, Option, Some, None, sym, ◌∙◌, subst, arith, length, refl, is_some, nat_lt}
+use Rattle.std.proofs.Common.{◌≡◌, ◌+◌, ◌≤◌, ◌++◌, take, drop, ℕ, List, ◌∷◌, Option, Some, None, sym, ◌∙◌, subst, arith, length, refl, is_some, nat_lt, true, false}
 use Rattle.std.specs.Borrow.{Bor}
 use Rattle.std.specs.Prelude.{IfSome, slice_get, slice_index_or}
 use Rattle.std.proofs.lemmas.Bool.{ltb-true}
@@ -14,7 +14,7 @@ use Rattle.rds_world.specs.declared.event.Reception.TheVariants.{Lost}
 use Rattle.rds_world.specs.Due.{IsDueToAll}
 use Rattle.rds_world.specs.Event.{Event}
 use Rattle.rds_world.specs.Slots.{SetsAValue, entries, input_of, log, received}
-use Rattle.rds_world.specs.Standing.{AllHaveHeard, AreLastSent, HaveReaches, IsViewOfInput, Shows, StandsAt, tuned_to}
+use Rattle.rds_world.specs.Standing.{AllHaveHeard, AreLastSent, HaveReaches, IsViewOfInput, Shows, ShowsStill, StandsAt, tuned_to}
 use Rattle.rds_world.specs.State.{WorldState}
 
 -- the first so many of eight were written
@@ -37,9 +37,10 @@ pub stepped : (station : Head) (m k : ℕ) (old new : WorldState) (events : List
     → SetsAValue e.command → IsDueToAll old.late e events
     → encoder.StandsAt old.head (old.dwell + old.late) new.encoder (entries (e ∷ events))
     → AllHaveHeard old.head old.dwell (λ i. received (slice_index_or e.receptions i Lost) (length events) (log (old.dwell + old.late) (e ∷ events)) (input_of (old.dwell + old.late) i events)) new.receivers
-    → HaveReaches old.late (e ∷ events) new.reaches → AreLastSent old.head old.late (log (old.dwell + old.late) (e ∷ events)) new.sent
+    → HaveReaches old.late (e ∷ events) new.reaches → AreLastSent old.head.pi old.late (log (old.dwell + old.late) (e ∷ events)) new.sent
+    → ((i : ℕ) → slice_index_or new.stays i false ≡ true → ShowsStill old.head old.dwell (old.dwell + old.late) i (e ∷ events))
     → StandsAt station m k new (e ∷ events)
-stepped station m k old new events e st same_head same_dwell same_late value due told heard reaches sent = record {
+stepped station m k old new events e st same_head same_dwell same_late value due told heard reaches sent stay = record {
   head = same_head ∙ st.head;
   dwell = same_dwell ∙ st.dwell;
   late = same_late ∙ st.late;
@@ -49,7 +50,8 @@ stepped station m k old new events e st same_head same_dwell same_late value due
   encoder = of_own (λ h n l. encoder.StandsAt h (n + l) new.encoder (entries (e ∷ events))) station m k old events st told;
   receivers = of_own (λ h n l. AllHaveHeard h n (λ i. input_of (n + l) i (e ∷ events)) new.receivers) station m k old events st heard;
   reaches = of_own (λ _ _ l. HaveReaches l (e ∷ events) new.reaches) station m k old events st reaches;
-  sent = of_own (λ h n l. AreLastSent h l (log (n + l) (e ∷ events)) new.sent) station m k old events st sent;
+  sent = of_own (λ h n l. AreLastSent h.pi l (log (n + l) (e ∷ events)) new.sent) station m k old events st sent;
+  stay = λ i is. of_own (λ h n l. ShowsStill h n (n + l) i (e ∷ events)) station m k old events st (stay i is);
 }
 
 -- what a receiver that is lent shows is the view of its input

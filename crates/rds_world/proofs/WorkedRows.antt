@@ -186,7 +186,7 @@ abbrev late_log : List (Option Message)
 late_log = None ∷ ng ∷ nothing 3
 
 one_slot_late : IsHeardLate 1 late_log record { first = 4; heard = ng ∷ []; origins = Some 3 ∷ [] }
-one_slot_late = one_more 1 late_log 4 [] [] (Some 3) ng (nothing_heard 1 late_log 4) record { sent = inr (inl (refl, refl)); past = omega arith; late = omega arith } (λ r u s e a. absurd a)
+one_slot_late = one_more 1 late_log 4 [] [] (Some 3) ng (nothing_heard 1 late_log 4) (inr (inl (refl, refl))) (omega arith, omega arith) (λ r u s e a. absurd a)
 
 not_on_time : IsHeardOnTime late_log 4 (ng ∷ []) → ⊥
 not_on_time each = elim (each 4 ng (inl (refl, refl))) [

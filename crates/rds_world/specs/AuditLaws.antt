@@ -9,6 +9,7 @@ use Rattle.rds_world.specs.declared.audit_fault.AuditFault.{AuditFault}
 use Rattle.rds_world.specs.Dense.{AreDense, HasPlans, IsDense}
 use Rattle.rds_world.specs.Lawful.{HasPiece, IsLawful, IsPieceOf, Kind}
 use Rattle.rds_world.specs.Marks.{IsSent, Mark, Sends}
+use Rattle.rds_world.specs.OwnClock.{ListensByOwnClock}
 use Rattle.rds_world.specs.Plans.{AreLawful, Plans}
 use Rattle.rds_world.specs.Reigns.{Reign, SentTags, reigns}
 use Rattle.rds_world.specs.Rules.{IsFaultOf, LogPasses}
@@ -60,13 +61,16 @@ WhatHasAFaultDoesNotPass = (d : ℕ) (log : List (Option Message)) (fault : Audi
 abbrev pub ALogHasOneFault : Type 0
 ALogHasOneFault = (d : ℕ) (log : List (Option Message)) (f g : AuditFault) → 0 < d → IsFaultOf d log f → IsFaultOf d log g → f ≡ g
 
--- some plans of the log are lawful and dense, and make every slot safe for any number of receivers, of dwell m
--- and at most k slots late
+-- some plans of the log are lawful and dense, and make every slot safe for any number of receivers of dwell m: of those
+-- that are at most k slots late, and of those with clocks of their own by which less than m slots are less than m + k
+-- of the station's
 pub record IsSafeLog (m k : ℕ) (log : List (Option Message)) : Type 0 where
   pub plans : Plans
   pub lawful : AreLawful (m + k) plans log
   pub dense : AreDense (m + k) plans log
   pub safe : (t : ℕ) (receivers : List Listener) → All (ListensTo k m t log) receivers → AreSafe (m + k) m t plans log receivers
+  pub own_clocks : (now : ℕ) (receivers : List Listener) → All (ListensByOwnClock (m + k) m now log) receivers
+      → AreSafe (m + k) m now plans log receivers
 
 -- a log that passes with the dwell and the lateness is safe
 abbrev pub WhatPassesIsSafe : Type 0

@@ -30,24 +30,25 @@ Input = InputOf Message
 abbrev pub CameFrom : {X : Type 0} → InputOf X → ℕ → ℕ → Type 0
 CameFrom input t s = HasEntry input.first input.origins t (Some s)
 
--- the entry that came in slot t was sent in slot s, at most k slots before
-pub record IsLate {X : Type 0} (k : ℕ) (log : List (Option X)) (t s : ℕ) (entry : Option X) : Type 0 where
-  pub sent : SentIn log s entry
-  pub past : s ≤ t
-  pub late : t ≤ s + k
+-- the entry is what its origin says: nothing where there is none
+abbrev pub IsOfItsOrigin : {X : Type 0} → List (Option X) → Option ℕ → Option X → Type 0
+IsOfItsOrigin log None entry = entry ≡ None
+IsOfItsOrigin log (Some s) entry = SentIn log s entry
 
--- the entry that came in slot t is what its origin says: nothing where there is none
-abbrev pub IsAsItsOriginSays : {X : Type 0} → ℕ → List (Option X) → ℕ → Option ℕ → Option X → Type 0
-IsAsItsOriginSays k log t None entry = entry ≡ None
-IsAsItsOriginSays k log t (Some s) entry = IsLate k log t s entry
-
--- the input was heard from the log at most k slots late: there is an origin beside each entry, each entry is
--- what its origin says, and what came later was sent later
-pub record IsHeardLate {X : Type 0} (k : ℕ) (log : List (Option X)) (input : InputOf X) : Type 0 where
+-- the input was heard from the log in order: there is an origin beside each entry, each entry is what its origin
+-- says, and what came later was sent later
+pub record IsHeardInOrder {X : Type 0} (log : List (Option X)) (input : InputOf X) : Type 0 where
   pub beside : length input.origins ≡ length input.heard
   pub each : (t : ℕ) (origin : Option ℕ) (entry : Option X) → HasEntry input.first input.origins t origin
-      → HasEntry input.first input.heard t entry → IsAsItsOriginSays k log t origin entry
+      → HasEntry input.first input.heard t entry → IsOfItsOrigin log origin entry
   pub rising : (t u r s : ℕ) → CameFrom input t r → CameFrom input u s → t < u → r < s
+
+-- the input was heard from the log at most k slots late: in order, and what came in slot t was sent in slot t or
+-- at most k slots before
+pub record IsHeardLate {X : Type 0} (k : ℕ) (log : List (Option X)) (input : InputOf X) : Type 0 where
+  pub order : IsHeardInOrder log input
+  pub past : (t s : ℕ) → CameFrom input t s → s ≤ t
+  pub late : (t s : ℕ) → CameFrom input t s → t ≤ s + k
 
 -- each entry is nothing or what was sent in that slot
 abbrev pub IsHeardOnTime : {X : Type 0} → List (Option X) → ℕ → List (Option X) → Type 0

@@ -1,16 +1,17 @@
 -- What holds of all plans, logs and inputs. Lists have the newest first.
-use Rattle.std.specs.Prelude.{◌≡◌, ◌+◌, ◌-◌, ◌<◌, ℕ, List, [], ◌∷◌, Option, length}
+use Rattle.std.specs.Prelude.{◌≡◌, ◌+◌, ◌-◌, ◌<◌, ◌↔◌, ℕ, List, [], ◌∷◌, Option, Some, length}
 use Rattle.std.specs.List.{All, AllZip}
 use Rattle.rds_block.specs.declared.group.Group.{Group}
 use Rattle.rds_fields.specs.declared.head.Head.{Head}
 use Rattle.rds_fields.specs.declared.message.Message.{Message}
 use Rattle.rds_encoder.specs.Laws.{ANumberIsBelowTheLength, ANumberNamesOne, SpacedAreFarApart, SpacedAreInOrder, SpacedOfOneFlagAreFarApart}
-use Rattle.rds_encoder.specs.Plan.{Broadcast}
+use Rattle.rds_encoder.specs.Plan.{Broadcast, HasNumber}
 use Rattle.rds_encoder.specs.Sent.{IsSent}
 use Rattle.rds_encoder.specs.Spaced.{IsSpaced}
 use Rattle.rds_receiver.specs.Receipts.{AreHeard, Segment}
 use Rattle.rds_receiver.specs.Shown.{IsView, ShownView}
-use Rattle.rds_world.specs.Late.{Input, InputOf, IsHeardLate, IsHeardOnTime, own_origins}
+use Rattle.rds_world.specs.Late.{Input, InputOf, IsHeardInOrder, IsHeardLate, IsHeardOnTime, own_origins}
+use Rattle.rds_world.specs.OwnClock.{IsHeardByOwnClock, IsTrueClock, ListensByOwnClock, ListensBySlowClock, LosesAtMost, next_slot}
 use Rattle.rds_world.specs.Plans.{AreLawful, Plans}
 use Rattle.rds_world.specs.Safe.{AreSafe, Listener, ListensTo}
 use Rattle.rds_world.specs.Source.{IsSource}
@@ -23,6 +24,19 @@ pub record PlanLaws : Type 0 where
   pub order : SpacedAreInOrder
   pub far : SpacedAreFarApart
   pub one_flag : SpacedOfOneFlagAreFarApart
+
+-- where less than m slots of each receiver's own clock are less than d of the station's, plans that are lawful for d
+-- make every slot safe for any number of receivers of dwell m
+abbrev pub LawfulPlansAreSafeByOwnClocks : Type 0
+LawfulPlansAreSafeByOwnClocks =
+    (d m now : ℕ) (plans : Plans) (log : List (Option Message)) (receivers : List Listener)
+    → AreLawful d plans log → All (ListensByOwnClock d m now log) receivers → AreSafe d m now plans log receivers
+
+-- where the clock of each counts at most k slots too few in a dwell, plans that are lawful for m + k do
+abbrev pub LawfulPlansAreSafeForSlowClocks : Type 0
+LawfulPlansAreSafeForSlowClocks =
+    (m k now : ℕ) (plans : Plans) (log : List (Option Message)) (receivers : List Listener)
+    → AreLawful (m + k) plans log → All (ListensBySlowClock k m now log) receivers → AreSafe (m + k) m now plans log receivers
 
 -- plans that are lawful for the dwell and the lateness make every slot safe for any number of receivers
 abbrev pub LawfulPlansAreSafe : Type 0
@@ -54,6 +68,24 @@ OnTimeIsNoSlotLate =
     (log : List (Option Message)) (first : ℕ) (heard : List (Option Message)) → IsHeardOnTime log first heard
     → IsHeardLate 0 log record { first = first; heard = heard; origins = own_origins first heard }
 
+-- for a clock that counts at most k slots too few in a dwell, less than m slots are less than m + k of the station's
+abbrev pub ASlowClockIsAnOwnClock : Type 0
+ASlowClockIsAnOwnClock =
+    (k m now : ℕ) (log : List (Option Message)) (input : Input) → IsHeardInOrder log input → LosesAtMost k m now input
+    → IsHeardByOwnClock (m + k) m now log input
+
+-- who hears at most k slots late, and has reached the station's slot, is as one whose clock counts at most k slots
+-- too few
+abbrev pub LateIsBySlowClock : Type 0
+LateIsBySlowClock =
+    (k m now : ℕ) (log : List (Option Message)) (input : Input) → IsHeardLate k log input → next_slot input ≡ now + 1
+    → IsHeardInOrder log input × LosesAtMost k m now input
+
+-- who counts the station's slots hears no slot late, and the other way round
+abbrev pub TheTrueClockIsNoSlotLate : Type 0
+TheTrueClockIsNoSlotLate =
+    (log : List (Option Message)) (input : Input) → (IsHeardInOrder log input × IsTrueClock input) ↔ IsHeardLate 0 log input
+
 -- what is late as groups is late as messages
 abbrev pub LateGroupsAreLateMessages : Type 0
 LateGroupsAreLateMessages =
@@ -70,21 +102,51 @@ WhoIsHandedGroupsListens =
     → (v : IsView record { programme = station.pi; dwell = m; first = input.first } input.heard view)
     → ListensTo k m t log record { input = record { first = input.first; heard = v.0; origins = input.origins }; view = view }
 
--- plans that are lawful for so many slots, and a slot that is not safe for d, with one receiver, of dwell m, at
--- most k slots late
-pub record IsUnsafe (slots d m k : ℕ) : Type 0 where
+-- and one that was handed them by its own clock listens by its own clock
+abbrev pub WhoIsHandedGroupsListensByOwnClock : Type 0
+WhoIsHandedGroupsListensByOwnClock =
+    (station : Head) (d m now : ℕ) (log : List (Option Message)) (sent : List (Option Group)) (input : InputOf Group) (view : ShownView)
+    → AllZip (IsSent station) log sent → IsHeardByOwnClock d m now sent input
+    → (v : IsView record { programme = station.pi; dwell = m; first = input.first } input.heard view)
+    → ListensByOwnClock d m now log record { input = record { first = input.first; heard = v.0; origins = input.origins }; view = view }
+
+-- plans that are lawful for so many slots, and one receiver, of dwell m, that listens so and shows a mix: a text that no
+-- broadcast of the plans has. So what it shows is safe for no d
+pub record ShowsAMix (slots m : ℕ) (Listens : ℕ → List (Option Message) → Listener → Type 0) : Type 0 where
   pub plans : Plans
   pub log : List (Option Message)
   pub lawful : AreLawful slots plans log
   pub t : ℕ
   pub receiver : Listener
-  pub listens : ListensTo k m t log receiver
+  pub listens : Listens t log receiver
+  pub mix : List ℕ
+  pub shown : receiver.view.text ≡ Some mix
+  pub of_none : (k : ℕ) (b : Broadcast) → HasNumber plans.text k b → b.bytes ≡ mix → ⊥
+  pub fails : (d : ℕ) → AreSafe d m t plans log (receiver ∷ []) → ⊥
+
+-- plans that are lawful for d slots, and one receiver, of dwell m, that listens so and shows what is not safe for d
+pub record IsUnsafe (d m : ℕ) (Listens : ℕ → List (Option Message) → Listener → Type 0) : Type 0 where
+  pub plans : Plans
+  pub log : List (Option Message)
+  pub lawful : AreLawful d plans log
+  pub t : ℕ
+  pub receiver : Listener
+  pub listens : Listens t log receiver
   pub fails : AreSafe d m t plans log (receiver ∷ []) → ⊥
 
 -- plans that are lawful for one slot less than the dwell and the lateness are not enough
-abbrev pub OneSlotLessIsUnsafe : Type 0
-OneSlotLessIsUnsafe = (m k : ℕ) → 1 < m → IsUnsafe (m + k - 1) (m + k) m k
+abbrev pub OneSlotLessMixes : Type 0
+OneSlotLessMixes = (m k : ℕ) → 1 < m → ShowsAMix (m + k - 1) m (ListensTo k m)
 
 -- so the least dwell of a station whose receivers are on time is theirs
-abbrev pub OneSlotLessIsUnsafeOnTime : Type 0
-OneSlotLessIsUnsafeOnTime = (m : ℕ) → 1 < m → IsUnsafe (m - 1) m m 0
+abbrev pub OneSlotLessMixesOnTime : Type 0
+OneSlotLessMixesOnTime = (m : ℕ) → 1 < m → ShowsAMix (m - 1) m (ListensTo 0 m)
+
+-- nor, where less than m slots of a receiver's own clock are less than d of the station's, are plans that are lawful
+-- for one slot less than d
+abbrev pub OneSlotLessMixesByOwnClock : Type 0
+OneSlotLessMixesByOwnClock = (d m : ℕ) → 1 < d → 1 < m → ShowsAMix (d - 1) m (ListensByOwnClock d m)
+
+-- so the slots that a clock may lose count in full
+abbrev pub OneSlotLessMixesForSlowClocks : Type 0
+OneSlotLessMixesForSlowClocks = (m k : ℕ) → 1 < m → ShowsAMix (m + k - 1) m (ListensBySlowClock k m)

@@ -4,7 +4,9 @@ pub mod Late
 pub mod Plans
 pub mod Source
 pub mod Safe
+pub mod OwnClock
 pub mod Laws
+pub mod ClockBounds
 pub mod Event
 pub mod Due
 pub mod Slots

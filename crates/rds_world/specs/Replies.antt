@@ -54,13 +54,14 @@ pub record CanBePlayed (k receivers : ℕ) (events : List Event) : Type 0 where
   pub few : receivers ≤ 8
   pub each : (place : ℕ) → place < length events → IsTaken k receivers events place
 
--- the event at this place is the first that is refused, and this is why
+-- there are at most eight receivers, the event at this place is the first that is refused, and this is why
 pub record IsFirstRefused (k receivers : ℕ) (events : List Event) (place : ℕ) (why : StepRefused) : Type 0 where
+  pub few : receivers ≤ 8
   pub refused : IfSome (slice_get events place) (λ e. IsStepRefused k receivers e (reverse (take place events)) why)
   pub there : place < length events
   pub first : (before : ℕ) → before < place → IsTaken k receivers events before
 
--- why slots are not played
+-- why slots are not played: for too many receivers exactly where there are more than eight
 abbrev pub IsPlayRefused : ℕ → ℕ → List Event → PlayRefused → Type 0
 IsPlayRefused k receivers events TooManyReceivers = 8 < receivers
 IsPlayRefused k receivers events Memory = receivers ≤ 8

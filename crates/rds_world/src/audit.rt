@@ -2,7 +2,6 @@
 ghost use Rattle.std.specs.Prelude.{◌≡◌, ◌+◌, ◌<◌, ◌≤◌, ◌↔◌, ℕ, List, [], ◌∷◌, Option, Some, None, Ok, Err, IsErr, IsTrue, IfOk, IfErr, MatchResult};
 ghost use Rattle.rds_block.specs.declared.group.Group.{Group};
 ghost use Rattle.rds_fields.specs.declared.message.Message.{Message};
-ghost use Rattle.rds_receiver.specs.Receipts.{Hears};
 ghost use Rattle.rds_world.specs.declared.audit_fault.AuditFault.{AuditFault};
 ghost use Rattle.rds_world.specs.AuditLaws.{IsSafeLog};
 ghost use Rattle.rds_world.specs.AuditStanding.{AuditStandsAt, HoldsLog, HoldsSlot, WhereTheAuditStands};
@@ -15,6 +14,7 @@ use crate::{AuditFault, one_fault, passes_by_plans, what_passes_is_safe};
 use rds_block::Group;
 use rds_encoder::Late;
 use rds_fields::{Dwell, Message};
+use rds_receiver::heard;
 use std::marker::Model;
 
 /// The audit of a log: what a station sent, slot by slot. It passes the log where some texts and names of a
@@ -82,7 +82,7 @@ impl Audit {
         ensures again { (fault : AuditFault) → self.old.fault ≡ Some fault
             → (result ≡ Err fault) × (self.new ≡ self.old) }
     {
-        let message = self.heard(group);
+        let message = heard(self.pi, group);
         if let Some(known) = self.fault {
             return Err(known);
         }
@@ -108,17 +108,6 @@ impl Audit {
         passes_by_plans();
         what_passes_is_safe();
         self.fault.is_none()
-    }
-
-    /// The message of this programme in a slot.
-    fn heard(&self, group: Option<Group>) -> Option<Message>
-        ensures { Hears self.now.programme group result }
-    {
-        let group = group?;
-        if group.pi != self.pi {
-            return None;
-        }
-        Some(Message::of(&group))
     }
 
     /// Takes what was sent in this slot.

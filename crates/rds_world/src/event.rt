@@ -1,4 +1,7 @@
 //! What happens in a slot.
+ghost use Rattle.std.specs.Prelude.{◌≡◌};
+ghost use Rattle.rds_world.specs.declared.event.Reception.TheVariants as reception;
+
 use arrayvec::ArrayVec;
 use rds_assembly::{Name, Text};
 use rds_fields::TagPair;
@@ -20,15 +23,23 @@ pub enum Command {
 }
 
 /// What a receiver gets of a slot.
-#[derive(Clone, Copy, Default)]
+#[derive(Clone, Copy)]
 pub enum Reception {
     /// The group that was sent so many slots before this one, or nothing where none was.
     Got(u16),
     /// Nothing.
-    #[default]
     Lost,
     /// A new receiver stands in its place, and gets nothing of this slot.
     Restart,
+}
+
+/// A receiver of which nothing is said gets nothing.
+impl Default for Reception {
+    ghost is_default = { λ r. r ≡ reception.Lost };
+
+    fn default() -> Reception {
+        Reception::Lost
+    }
 }
 
 /// One slot: a command, whether the station lends the slot to the text services, and what each receiver gets.

@@ -1,11 +1,15 @@
 //! What holds of all plans, logs and inputs.
-ghost use Rattle.rds_world.specs.Laws.{ARunHasOneSource, LateGroupsAreLateMessages, LawfulPlansAreSafe, LawfulPlansAreSafeOnTime, NoSlotLateIsOnTime, OnTimeIsNoSlotLate, OneSlotLessIsUnsafe, OneSlotLessIsUnsafeOnTime, PlanLaws, WhoIsHandedGroupsListens};
+ghost use Rattle.rds_world.specs.ClockBounds.{OneSlotAheadIsUnsafe, OneSlotMoreBetweenMixes, OneSlotMoreSinceIsUnsafe, OwnClocksHaveTheseBounds};
+ghost use Rattle.rds_world.specs.Laws.{ARunHasOneSource, ASlowClockIsAnOwnClock, LateGroupsAreLateMessages, LateIsBySlowClock, LawfulPlansAreSafe, LawfulPlansAreSafeByOwnClocks, LawfulPlansAreSafeForSlowClocks, LawfulPlansAreSafeOnTime, NoSlotLateIsOnTime, OnTimeIsNoSlotLate, OneSlotLessMixes, OneSlotLessMixesByOwnClock, OneSlotLessMixesForSlowClocks, OneSlotLessMixesOnTime, PlanLaws, TheTrueClockIsNoSlotLate, WhoIsHandedGroupsListens, WhoIsHandedGroupsListensByOwnClock};
 
 use rds_encoder::{broadcasts_are_spaced, numbers_name_broadcasts};
 use rds_fields::one_message;
 
-/// Plans that are lawful for the dwell and the lateness make every slot safe for any number of receivers.
+/// Plans that are lawful for the dwell and the lateness make every slot safe for any number of receivers, and so do those
+/// that are lawful for what a dwell of the receivers' own clocks lasts.
 pub fn safe_by_plans()
+    ensures own_clocks { LawfulPlansAreSafeByOwnClocks }
+    ensures slow_clocks { LawfulPlansAreSafeForSlowClocks }
     ensures late { LawfulPlansAreSafe }
     ensures on_time { LawfulPlansAreSafeOnTime }
 {
@@ -33,6 +37,14 @@ pub fn on_time()
     ensures own { OnTimeIsNoSlotLate }
 {}
 
+/// A slow clock is a clock of the receiver's own, to hear late is as to have a slow clock, and to have the station's
+/// clock is to hear no slot late.
+pub fn own_clocks()
+    ensures slow { ASlowClockIsAnOwnClock }
+    ensures late { LateIsBySlowClock }
+    ensures no_slot_late { TheTrueClockIsNoSlotLate }
+{}
+
 /// What is late as groups is late as messages.
 pub fn late_as_messages()
     ensures { LateGroupsAreLateMessages }
@@ -40,18 +52,32 @@ pub fn late_as_messages()
     one_message();
 }
 
-/// A receiver that was handed the groups of a station late, and shows their view, listens to what was sent.
+/// A receiver that was handed the groups of a station, late or by a clock of its own, and shows their view, listens to
+/// what was sent.
 pub fn groups_listen()
-    ensures { WhoIsHandedGroupsListens }
+    ensures late { WhoIsHandedGroupsListens }
+    ensures own_clock { WhoIsHandedGroupsListensByOwnClock }
 {
     one_message();
 }
 
-/// One slot less than the dwell and the lateness is not enough: there are plans, a log and a receiver that mixes two
-/// texts.
+/// One slot less than the dwell and the lateness is not enough, nor one less than a dwell of the receiver's own clock
+/// lasts: there are plans, a log and a receiver that shows a text which no broadcast has.
 pub fn the_dwell_is_the_least()
-    ensures late { OneSlotLessIsUnsafe }
-    ensures on_time { OneSlotLessIsUnsafeOnTime }
+    ensures late { OneSlotLessMixes }
+    ensures on_time { OneSlotLessMixesOnTime }
+    ensures own_clock { OneSlotLessMixesByOwnClock }
+    ensures slow_clock { OneSlotLessMixesForSlowClocks }
+{}
+
+/// None of the three bounds of a receiver's own clock can be one slot looser: with one slot more between two entries a
+/// receiver shows a text which no broadcast has; with one slot more since an entry, or an entry one slot ahead of the
+/// station, it shows what is not safe.
+pub fn each_bound_is_needed()
+    ensures bounds { OwnClocksHaveTheseBounds }
+    ensures between { OneSlotMoreBetweenMixes }
+    ensures since { OneSlotMoreSinceIsUnsafe }
+    ensures past { OneSlotAheadIsUnsafe }
 {}
 
 #[cfg(test)]
@@ -65,9 +91,11 @@ mod tests {
         safe_by_plans();
         one_source();
         on_time();
+        own_clocks();
         late_as_messages();
         groups_listen();
         the_dwell_is_the_least();
+        each_bound_is_needed();
         Ok(())
     }
 }

@@ -32,7 +32,8 @@ pub use audit_fault::AuditFault;
 pub use audit_laws::{broadcasts_are_the_reigns, one_fault, passes_by_plans, what_passes_is_safe};
 pub use event::{Command, Reception, SlotEvent};
 pub use laws::{
-    groups_listen, late_as_messages, on_time, one_source, safe_by_plans, the_dwell_is_the_least,
+    each_bound_is_needed, groups_listen, late_as_messages, on_time, one_source, own_clocks,
+    safe_by_plans, the_dwell_is_the_least,
 };
 pub use reply::{Answer, Reply, StepRefused, WorldRefused};
 pub use slots::{PlayRefused, play};

@@ -1,10 +1,12 @@
 //! A plain check beside the theorem: many worlds from fixed seeds, with groups up to none, one, two or three slots
-//! late, in which what receivers show is looked up in a diary of all that was on air.
+//! late, in which what receivers show is looked up in a diary of all that was on air; and so for receivers that count
+//! slots by clocks of their own.
 
 use crate::station::obey;
 use crate::tests::{config, late_config, slot_event};
-use crate::{Command, Reception, Reply, SlotEvent, StepRefused, World};
+use crate::{Command, Config, Reception, Reply, SlotEvent, StepRefused, World};
 use rds_assembly::{Name, Text};
+use rds_block::Group;
 use rds_encoder::Encoder;
 use rds_fields::{Dwell, Tag, TagPair, Which};
 use rds_receiver::Receiver;
@@ -357,5 +359,112 @@ fn twice_the_dwell_mixes(rt: HostRuntime) -> Result<(), Fail> {
         }
     }
     assert!(rt; mixed > 0);
+    Ok(())
+}
+
+/// A receiver that counts slots by a clock of its own, which may lose so many within a dwell.
+#[derive(Drop)]
+struct Clocked {
+    receiver: Receiver,
+    may_lose: usize,
+    own: usize,
+    lost: Vec<usize>,
+}
+
+impl Clocked {
+    fn new(alloc: Global, config: &Config, may_lose: usize) -> Clocked {
+        Clocked {
+            receiver: Receiver::new(config.head.pi, config.dwell),
+            may_lose,
+            own: 0,
+            lost: Vec::new(alloc),
+        }
+    }
+
+    /// One of its own slots.
+    fn count(&mut self, group: Option<Group>) {
+        self.receiver.slot(group);
+        self.own = self.own.wrapping_add(1);
+    }
+
+    /// Whether it lost fewer slots in its last dwell than it may.
+    fn can_lose(&self) -> bool {
+        let recent = |place: &&usize| place.wrapping_add(DWELL) > self.own;
+        self.lost.iter().filter(recent).count() < self.may_lose
+    }
+
+    /// A slot of the station: it isn't counted, or counted twice, or the group is lost, or it comes.
+    fn hear(&mut self, roll: usize, group: Option<Group>) -> Result<(), Fail> {
+        match roll {
+            0..16 if self.can_lose() => self.lost.push(self.own)?,
+            16..24 => {
+                self.count(None);
+                self.count(group);
+            }
+            24..32 => self.count(None),
+            _ => self.count(group),
+        }
+        Ok(())
+    }
+}
+
+/// Plays an encoder for groups up to so many slots late, and two receivers whose clocks may lose so many; tells whether
+/// all that they show was on air within the dwell and the lateness, and of neighbours.
+fn clocks_are_right(alloc: Global, seed: u32, late: u16, may_lose: usize) -> Result<bool, Fail> {
+    let mut dice = Dice { state: seed };
+    let config = late_config(late)?;
+    let within = DWELL.wrapping_add(usize::from(late));
+    let mut encoder = Encoder::new(config.head, config.dwell, config.late);
+    let mut one = Clocked::new(alloc, &config, may_lose);
+    let mut two = Clocked::new(alloc, &config, may_lose);
+    let mut diaries = Diaries::new(alloc);
+    let mut right = true;
+    for _slot in 0..SLOTS {
+        let told = dice.told();
+        let reply = obey(&mut encoder, &config, told.command()?);
+        let group = encoder.tick(dice.roll() > 7);
+        one.hear(dice.roll(), group)?;
+        two.hear(dice.roll(), group)?;
+        diaries.note(told, reply == Reply::Done)?;
+        let (one, two) = (&one.receiver, &two.receiver);
+        right = right
+            && diaries
+                .texts
+                .are_right(alloc, within, &[one.text(), two.text()])?;
+        right = right
+            && diaries
+                .names
+                .are_right(alloc, within, &[one.name(), two.name()])?;
+        right = right && is_title(one.text(), one.tag(Which::One));
+        if let (Some(one), Some(two)) = (one.text(), two.text()) {
+            right = right && diaries.texts.are_near(alloc, within, one, two)?;
+        }
+    }
+    Ok(right)
+}
+
+/// Clocks that run fast, and lose up to K slots within a dwell, show only what was on air within the last M + K.
+#[test]
+fn own_clocks(rt: HostRuntime) -> Result<(), Fail> {
+    for seed in 0..WORLDS {
+        let late = seed % 4;
+        assert!(rt;
+            clocks_are_right(rt.alloc(), seed, late as u16, late as usize)?,
+            "seed {seed}"
+        );
+    }
+    Ok(())
+}
+
+/// The check can fail: with a clock that loses more, some show what was not.
+#[test]
+fn slower_clocks_mix(rt: HostRuntime) -> Result<(), Fail> {
+    let mut wrong: u32 = 0;
+    for seed in 0..WORLDS {
+        if !clocks_are_right(rt.alloc(), seed, 0, 4)? {
+            wrong = wrong.wrapping_add(1);
+        }
+    }
+    assert!(rt; wrong > 0);
     Ok(())
 }

@@ -1,5 +1,5 @@
 //! How far back a receiver may be handed what was sent.
-ghost use Rattle.std.specs.Prelude.{◌≡◌, ◌<◌, ◌+◌, ◌↔◌, ◌∷◌, ℕ, List, Option, IsTrue, IfSome, MatchOption, length};
+ghost use Rattle.std.specs.Prelude.{◌≡◌, ◌<◌, ◌≤◌, ◌+◌, ◌↔◌, ◌∷◌, ℕ, List, Option, IsTrue, IfOk, IfSome, MatchResult, length, take};
 ghost use Rattle.rds_world.specs.Due.{IsDue, IsDueToAll, IsFirstLate, named, reach_of};
 ghost use Rattle.rds_world.specs.Event.{Event};
 ghost use Rattle.rds_world.specs.Standing.{HaveReaches};
@@ -60,31 +60,30 @@ impl Reach {
     }
 }
 
-/// The first receiver whose reception is not due.
-pub(crate) fn first_late(reaches: &[Reach], event: &SlotEvent) -> Option<usize>
-    requires { length event.now.receptions ≡ length reaches.now }
-    ensures { (k : ℕ) (before : List Event) → HaveReaches k before reaches.now
-        → MatchOption result
-        (IsDueToAll k event.now before) (IsFirstLate k event.now before) }
+/// The reaches of as many receivers in the slot after this event, where each reception is due; else the first receiver
+/// of which it is not.
+pub(crate) fn reaches_after(
+    reaches: &[Reach],
+    late: Late,
+    event: &SlotEvent,
+) -> Result<[Reach; 8], usize>
+    requires same { length event.now.receptions ≡ length reaches.now }
+    requires few { length reaches.now ≤ 8 }
+    ensures due { (before : List Event) → HaveReaches late before reaches.now
+        → MatchResult result
+        (λ _. IsDueToAll late event.now before) (IsFirstLate late event.now before) }
+    ensures reaches { (before : List Event) → HaveReaches late before reaches.now
+        → IfOk result (λ next. HaveReaches late (event.now ∷ before) (take (length reaches.now) next)) }
 {
     let receptions = event.receptions.as_slice();
+    let mut next = [Reach::new(); 8];
     for i in 0..receptions.len() {
-        if !reaches[i].allows(receptions[i]) {
-            return Some(i);
+        let reach = reaches[i];
+        let reception = receptions[i];
+        if !reach.allows(reception) {
+            return Err(i);
         }
+        next[i] = reach.after(reception, late);
     }
-    None
-}
-
-/// The slot ends, with receptions that were due.
-pub(crate) fn end_slot(reaches: &mut [Reach], late: Late, event: &SlotEvent)
-    requires { length event.now.receptions ≡ length reaches.old }
-    ensures count { length reaches.new ≡ length reaches.old }
-    ensures reaches { (before : List Event) → HaveReaches late before reaches.old
-        → IsDueToAll late event.now before → HaveReaches late (event.now ∷ before) reaches.new }
-{
-    let receptions = event.receptions.as_slice();
-    for i in 0..reaches.len() {
-        reaches[i] = reaches[i].after(receptions[i], late);
-    }
+    Ok(next)
 }

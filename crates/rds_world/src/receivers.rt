@@ -1,12 +1,12 @@
 //! The receivers' part of a slot.
-ghost use Rattle.std.specs.Prelude.{◌≡◌, ℕ, List, Option, length, slice_index_or};
+ghost use Rattle.std.specs.Prelude.{◌≡◌, ◌≤◌, ℕ, List, Option, IsTrue, false, length, slice_index_or, true};
 ghost use Rattle.std.specs.List.{AllByRecursion};
 ghost use Rattle.rds_fields.specs.declared.message.Message.{Message};
 ghost use Rattle.rds_world.specs.declared.event.Reception.TheVariants.{Lost};
 ghost use Rattle.rds_world.specs.Due.{IsDue};
 ghost use Rattle.rds_world.specs.Late.{Input};
 ghost use Rattle.rds_world.specs.Slots.{received};
-ghost use Rattle.rds_world.specs.Standing.{AllHaveHeard, AreLastSent, HasHeard, IsNew};
+ghost use Rattle.rds_world.specs.Standing.{AllHaveHeard, AreLastSent, HasHeard, IsNew, StaysShown};
 
 use crate::recent::Recent;
 use crate::{Config, Reception};
@@ -30,43 +30,59 @@ pub(crate) fn eight_receivers(config: &Config) -> [Receiver; 8]
     ]
 }
 
-/// Gives each receiver what it gets of a slot up to which these groups were sent.
+/// Gives each receiver what it gets of a slot up to which this was sent, and marks those that show
+/// what they showed before.
 pub(crate) fn hand_out(
     receivers: &mut [Receiver],
     config: &Config,
     receptions: &[Reception],
     recent: &Recent,
-)
-    requires { length receptions.now ≡ length receivers.old }
+) -> [bool; 8]
+    requires same { length receptions.now ≡ length receivers.old }
+    requires few { length receivers.old ≤ 8 }
     ensures count { length receivers.new ≡ length receivers.old }
     ensures heard { (slot : ℕ) (sent : List (Option Message)) (inputs : ℕ → Input)
-        (last : ℕ → Option ℕ) → AreLastSent config.now.head config.now.late sent recent.now.items
+        (last : ℕ → Option ℕ) → AreLastSent config.now.head.pi config.now.late sent recent.now.items
         → ((i : ℕ) → IsDue config.now.late slot (last i) (slice_index_or receptions.now i Lost))
         → AllHaveHeard config.now.head config.now.dwell inputs receivers.old
         → AllHaveHeard config.now.head config.now.dwell
         (λ i. received (slice_index_or receptions.now i Lost) slot sent (inputs i)) receivers.new }
+    ensures stays { (slot : ℕ) (sent : List (Option Message)) (inputs : ℕ → Input)
+        (last : ℕ → Option ℕ) → AreLastSent config.now.head.pi config.now.late sent recent.now.items
+        → ((i : ℕ) → IsDue config.now.late slot (last i) (slice_index_or receptions.now i Lost))
+        → AllHaveHeard config.now.head config.now.dwell inputs receivers.old
+        → (i : ℕ) → slice_index_or result i false ≡ true
+        → StaysShown config.now.head config.now.dwell (inputs i)
+        (received (slice_index_or receptions.now i Lost) slot sent (inputs i)) }
 {
+    let mut stays = [false; 8];
     for i in 0..receivers.len() {
-        receive(&mut receivers[i], config, receptions[i], recent);
+        stays[i] = receive(&mut receivers[i], config, receptions[i], recent);
     }
+    stays
 }
 
-/// Gives a receiver what it gets of a slot up to which these groups were sent.
-fn receive(receiver: &mut Receiver, config: &Config, reception: Reception, recent: &Recent)
-    ensures { (slot : ℕ) (sent : List (Option Message)) (input : Input) (last : Option ℕ)
-        → AreLastSent config.now.head config.now.late sent recent.now.items
+/// Gives a receiver what it gets of a slot up to which this was sent. True where it shows what it showed
+/// before.
+fn receive(receiver: &mut Receiver, config: &Config, reception: Reception, recent: &Recent) -> bool
+    ensures heard { (slot : ℕ) (sent : List (Option Message)) (input : Input) (last : Option ℕ)
+        → AreLastSent config.now.head.pi config.now.late sent recent.now.items
         → IsDue config.now.late slot last reception
         → HasHeard config.now.head config.now.dwell input receiver.old
         → HasHeard config.now.head config.now.dwell
         (received reception slot sent input) receiver.new }
+    ensures stays { (slot : ℕ) (sent : List (Option Message)) (input : Input) (last : Option ℕ)
+        → AreLastSent config.now.head.pi config.now.late sent recent.now.items
+        → IsDue config.now.late slot last reception
+        → HasHeard config.now.head config.now.dwell input receiver.old → IsTrue result
+        → StaysShown config.now.head config.now.dwell input (received reception slot sent input) }
 {
     match reception {
-        Reception::Got(back) => {
-            receiver.slot(recent.back(back));
+        Reception::Got(back) => !receiver.slot_message(recent.back(back)),
+        Reception::Lost => !receiver.slot_message(None),
+        Reception::Restart => {
+            *receiver = Receiver::new(config.head.pi, config.dwell);
+            false
         }
-        Reception::Lost => {
-            receiver.slot(None);
-        }
-        Reception::Restart => *receiver = Receiver::new(config.head.pi, config.dwell),
     }
 }

@@ -3,26 +3,26 @@ ghost use Rattle.std.specs.Prelude.{◌≡◌, ◌+◌, [], ◌∷◌, None, IfO
 ghost use Rattle.circular_buffer.specs.Buffer.{buffer};
 
 use circular_buffer::HeapCircularBuffer;
-use rds_block::Group;
 use rds_encoder::Late;
+use rds_fields::Message;
 use std::alloc::{AllocError, Global};
 use std::marker::Model;
 
-/// The groups of the newest slot and of as many before it as a group may be late, the newest first; nothing for a
+/// What was sent in the newest slot and in as many before it as a group may be late, the newest first; nothing for a
 /// slot in which nothing was sent.
 #[derive(Drop)]
 pub(crate) struct Recent {
-    groups: HeapCircularBuffer<Option<Group>>,
+    messages: HeapCircularBuffer<Option<Message>>,
 }
 
 impl Model for Recent {
     ghost use Rattle.std.specs.Prelude.{Option};
-    ghost use Rattle.rds_block.specs.declared.group.Group.{Group};
+    ghost use Rattle.rds_fields.specs.declared.message.Message.{Message};
     ghost use Rattle.circular_buffer.specs.Buffer.{Buffer};
 
-    ghost Value = { Buffer (Option Group) };
+    ghost Value = { Buffer (Option Message) };
 
-    ghost view = { λ r. r.groups };
+    ghost view = { λ r. r.messages };
 }
 
 impl Recent {
@@ -32,22 +32,22 @@ impl Recent {
     {
         let places = usize::from(late.get()) + 1;
         Ok(Recent {
-            groups: HeapCircularBuffer::with_capacity(alloc, places)?,
+            messages: HeapCircularBuffer::with_capacity(alloc, places)?,
         })
     }
 
     /// This was sent in one more slot.
-    pub(crate) fn push(&mut self, group: Option<Group>)
+    pub(crate) fn push(&mut self, message: Option<Message>)
         ensures { self.new
-            ≡ buffer (take self.old.capacity (group ∷ self.old.items)) self.old.capacity }
+            ≡ buffer (take self.old.capacity (message ∷ self.old.items)) self.old.capacity }
     {
-        self.groups.push_front(group);
+        self.messages.push_front(message);
     }
 
     /// What was sent so many slots before the newest.
-    pub(crate) fn back(&self, slots: u16) -> Option<Group>
+    pub(crate) fn back(&self, slots: u16) -> Option<Message>
         ensures { result ≡ slice_index_or self.now.items slots None }
     {
-        *self.groups.get(usize::from(slots))?
+        *self.messages.get(usize::from(slots))?
     }
 }

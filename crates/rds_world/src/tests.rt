@@ -488,6 +488,25 @@ fn jazz_name(rt: HostRuntime) -> Result<(), Fail> {
     Ok(())
 }
 
+/// A receiver shows what it showed but where a text becomes whole or is given up; of one that is not there nothing is
+/// known.
+#[test]
+fn stays(rt: HostRuntime) -> Result<(), Fail> {
+    let mut world = new_world(rt.alloc(), 1)?;
+    for slot in 0..9 {
+        let command = if slot == 4 {
+            set_text(b"HI")?
+        } else {
+            Command::Quiet
+        };
+        let free = slot < 5;
+        assert!(rt; world.step(&slot_event(command, free, &[GOT])?).is_ok());
+        assert_eq!(rt; world.stays(0), slot != 4 && slot != 8, "slot {slot}");
+        assert!(rt; !world.stays(1));
+    }
+    Ok(())
+}
+
 /// A ninth receiver, and a slot with one reception in a world of two, which leaves the world as it was.
 #[test]
 fn refused_words(rt: HostRuntime) -> Result<(), Fail> {
@@ -503,7 +522,8 @@ fn refused_words(rt: HostRuntime) -> Result<(), Fail> {
     ];
     let mut world = played(&rt, rt.alloc(), 2, &rows)?;
     let short = slot_event(Command::Restart, true, &[LOST])?;
-    assert_eq!(rt; world.step(&short).err(), Some(StepRefused::ReceiverCount));
+    let refused: Result<Answer, StepRefused> = world.step(&short);
+    assert_eq!(rt; refused, Err(StepRefused::ReceiverCount));
     assert_eq!(rt; world.on_air(), (Some(b"HI".as_slice()), None));
     assert!(rt; world.receiver(2).is_none());
     Ok(())
@@ -537,6 +557,61 @@ fn played_slots(rt: HostRuntime) -> Result<(), Fail> {
     );
     assert_eq!(rt; world.receiver(1).ok_or("receiver")?.text(), None);
     Ok(())
+}
+
+/// A world of this programme, dwell and lateness, with so many receivers: it is made, and plays some hundreds of slots;
+/// a slot late in the list with another number of receptions is told by its place, and so is one with a group that is
+/// not due, with its receiver.
+fn plays_hundreds(
+    rt: &impl Abort,
+    alloc: Global,
+    (pi, dwell, late): (u16, u16, u16),
+    receivers: usize,
+) -> Result<(), Fail> {
+    let config = Config {
+        head: Head {
+            pi,
+            ..config()?.head
+        },
+        dwell: Dwell::new(dwell).ok_or("dwell")?,
+        ..late_config(late)?
+    };
+    assert!(rt; World::new(alloc, config, receivers).is_ok());
+    let receptions = [LOST; 9];
+    let mut events = Vec::new(alloc);
+    for _slot in 0..300 {
+        let each = receptions.get(..receivers).ok_or("receivers")?;
+        events.push(slot_event(Command::Restart, true, each)?)?;
+    }
+    assert!(rt; play(alloc, config, receivers, &events).is_ok());
+    if let Some(last) = receivers.checked_sub(1) {
+        let event = events.get_mut(299).ok_or("event")?;
+        *event.receptions.get_mut(last).ok_or("reception")? = Reception::Got(late.wrapping_add(1));
+        let refused = play(alloc, config, receivers, &events).err();
+        assert_eq!(rt; refused, Some(PlayRefused::Late(299, last)));
+    }
+    let other = if receivers == 0 { 1 } else { 0 };
+    let each = receptions.get(..other).ok_or("other")?;
+    *events.get_mut(257).ok_or("event")? = slot_event(Command::Quiet, false, each)?;
+    let refused = play(alloc, config, receivers, &events).err();
+    assert_eq!(rt; refused, Some(PlayRefused::ReceiverCount(257)));
+    Ok(())
+}
+
+/// All numbers of receivers, other programmes, and the ends of the dwell and of the lateness.
+#[test]
+fn worlds_of_all_sizes(rt: HostRuntime) -> Result<(), Fail> {
+    let stations = [
+        (0xC201, 4, 0),
+        (0, 1, 0),
+        (0xF201, 128, 1),
+        (0xFFFF, 65535, 1024),
+    ];
+    for receivers in 0..9 {
+        let station = stations[receivers % 4];
+        plays_hundreds(&rt, rt.alloc(), station, receivers)?;
+    }
+    plays_hundreds(&rt, rt.alloc(), (0xFFFF, 65535, 1024), 8)
 }
 
 /// Laws do nothing when they run.

@@ -1,5 +1,5 @@
 //! A station and its receivers, slot by slot.
-ghost use Rattle.std.specs.Prelude.{◌≡◌, ◌≢◌, ◌+◌, ◌<◌, ◌≤◌, ◌↔◌, [], ◌∷◌, IsErrOf, IsOk, IsSome, IfOk, IfSome, MatchResult, OnErr, OnOk, length, option_map};
+ghost use Rattle.std.specs.Prelude.{◌≡◌, ◌≢◌, ◌+◌, ◌<◌, ◌≤◌, ◌↔◌, [], ◌∷◌, IsErrOf, IsOk, IsSome, IsTrue, IfOk, IfSome, MatchResult, OnErr, OnOk, length, option_map, slice_get};
 ghost use Rattle.std.specs.Option.{option_copied};
 ghost use Rattle.rds_encoder.specs.Entries.{name_moves, text_moves};
 ghost use Rattle.rds_encoder.specs.Plan.{bytes_of, on_air};
@@ -8,16 +8,16 @@ ghost use Rattle.rds_receiver.specs.Shown.{ShownView};
 ghost use Rattle.rds_world.specs.Replies.{CanBeTaken, IsStepRefused, reply_at};
 ghost use Rattle.rds_world.specs.SafeSlots.{OnlyWhatWasOnAirIsShown};
 ghost use Rattle.rds_world.specs.Slots.{entries, input_of, sent_at};
-ghost use Rattle.rds_world.specs.Standing.{HasHeard, IsViewOfInput, Shows, StandsAt, WhereItStands};
+ghost use Rattle.rds_world.specs.Standing.{HasHeard, IsViewOfInput, Shows, ShowsStill, StandsAt, WhereItStands};
 
-use crate::reach::{Reach, end_slot, first_late};
+use crate::reach::{Reach, reaches_after};
 use crate::receivers::{eight_receivers, hand_out};
 use crate::recent::Recent;
 use crate::station::obey;
 use crate::{Answer, SlotEvent, StepRefused, WorldRefused, only_what_was_on_air_is_shown};
 use rds_encoder::{Encoder, Late};
 use rds_fields::{Dwell, Head};
-use rds_receiver::Receiver;
+use rds_receiver::{Receiver, heard};
 use std::alloc::Global;
 use std::marker::Model;
 
@@ -39,6 +39,7 @@ pub struct World {
     config: Config,
     encoder: Encoder,
     receivers: [Receiver; 8],
+    stays: [bool; 8],
     reaches: [Reach; 8],
     count: usize,
     recent: Recent,
@@ -60,6 +61,7 @@ impl Model for World {
       late = w.config.late;
       encoder = w.encoder;
       receivers = take w.count w.receivers;
+      stays = w.stays;
       reaches = take w.count w.reaches;
       sent = w.recent.items;
     } };
@@ -88,6 +90,7 @@ impl World {
             config,
             encoder: Encoder::new(config.head, config.dwell, config.late),
             receivers: eight_receivers(&config),
+            stays: [false; 8],
             reaches: [Reach::new(); 8],
             count: receivers,
             recent,
@@ -119,20 +122,22 @@ impl World {
         if receptions.len() != self.count {
             return Err(StepRefused::ReceiverCount);
         }
-        if let Some(receiver) = first_late(&self.reaches[..self.count], event) {
-            return Err(StepRefused::Late(receiver));
-        }
+        let reaches = match reaches_after(&self.reaches[..self.count], self.config.late, event) {
+            Ok(reaches) => reaches,
+            Err(receiver) => return Err(StepRefused::Late(receiver)),
+        };
         let reply = obey(&mut self.encoder, &self.config, event.command);
         let sent = self.encoder.tick(event.free);
+        // a copy by a name of its own: what is answered may not have been lent
         let handed = sent;
-        self.recent.push(handed);
-        hand_out(
+        self.recent.push(heard(self.config.head.pi, handed));
+        self.stays = hand_out(
             &mut self.receivers[..self.count],
             &self.config,
             receptions,
             &self.recent,
         );
-        end_slot(&mut self.reaches[..self.count], self.config.late, event);
+        self.reaches = reaches;
         Ok(Answer { reply, sent })
     }
 
@@ -149,6 +154,7 @@ impl World {
     /// Receiver i; they are counted from 0.
     pub fn receiver(&self, i: usize) -> Option<&Receiver>
         ensures there { IsSome result ↔ (i < length self.now.receivers) }
+        ensures same { option_copied result ≡ slice_get self.now.receivers i }
         ensures heard { WhereItStands self.now (λ station m k events.
             IfSome result (λ r. HasHeard station m (input_of (m + k) i events) r.now)) }
         ensures shows { WhereItStands self.now (λ station m k events.
@@ -156,5 +162,16 @@ impl World {
             → IsViewOfInput station m (input_of (m + k) i events) view)) }
     {
         self.receivers[..self.count].get(i)
+    }
+
+    /// Whether receiver i is known to show what it showed before the last slot.
+    pub fn stays(&self, i: usize) -> bool
+        ensures { IsTrue result → WhereItStands self.now
+            (λ station m k events. ShowsStill station m (m + k) i events) }
+    {
+        match self.stays.get(i) {
+            Some(stays) => *stays,
+            None => false,
+        }
     }
 }

@@ -1,4 +1,4 @@
-use Rattle.std.proofs.Common.{ap, [], ◌++◌, ◌≡◌, ◌+◌, ◌<◌, ℕ, List, ◌∷◌, length, reverse, take, Some, arith, sym, ◌∙◌, subst, refl, below_more}
+use Rattle.std.proofs.Common.{ap, [], ◌++◌, ◌≡◌, ◌+◌, ◌<◌, ℕ, List, ◌∷◌, length, reverse, take, Some, sym, ◌∙◌, subst, refl, below_more}
 use Rattle.std.proofs.lemmas.List.{reverse-append, take_more}
 use Rattle.std.proofs.lemmas.Option.{slice_get_read}
 use Rattle.std.specs.Prelude.{slice_get, slice_index_or}
@@ -31,5 +31,6 @@ loop-i-preserved c =
       stands = subst (λ (xs : List Event). StandsAt station m k c.step.new.self xs) later (step.stands station m k before c.loop-i.invariant.stands);
       safe = subst (λ (xs : List Event). OnlyWhatWasOnAirIsShown m k xs c.step.new.self.receivers) later (step.safe station m k before c.loop-i.invariant.stands);
       count = step.count ∙ c.loop-i.invariant.count;
+      few = c.loop-i.invariant.few;
       good = below_more _ _ c.loop-i.invariant.good (rw at taken);
     }

@@ -1,4 +1,4 @@
-use Rattle.std.proofs.Common.{◌≡◌, ◌<◌, ℕ, length, reverse, take}
+use Rattle.std.proofs.Common.{◌≡◌, ◌<◌, ◌≤◌, ℕ, length, reverse, take}
 use Rattle.rds_world.specs.Replies.{IsTaken}
 use Rattle.rds_world.specs.SafeSlots.{OnlyWhatWasOnAirIsShown}
 use Rattle.rds_world.specs.Standing.{StandsAt}
@@ -9,5 +9,6 @@ invariant-loop-i l = record {
   stands : StandsAt l.fn.config.head l.fn.config.dwell l.fn.config.late l.world (reverse (take l.i l.events));
   safe : OnlyWhatWasOnAirIsShown l.fn.config.dwell l.fn.config.late (reverse (take l.i l.events)) l.world.receivers;
   count : length l.world.receivers ≡ l.fn.receivers;
+  few : l.fn.receivers ≤ 8;
   good : (place : ℕ) → place < l.i → IsTaken l.fn.config.late l.fn.receivers l.events place;
 }

@@ -1,7 +1,7 @@
-use Rattle.std.proofs.Common.{◌≡◌, ◌+◌, ◌++◌, ◌∷◌, ℕ, List, Option, length, take, drop, sym, ap, subst, refl}
+use Rattle.std.proofs.Common.{◌≡◌, ◌+◌, ◌++◌, ◌∷◌, ℕ, List, Option, length, take, drop, sym, subst, refl, arith}
 use Rattle.std.specs.Prelude.{slice_index_or}
 use Rattle.circular_buffer.specs.Buffer.{Buffer}
-use Rattle.rds_block.specs.declared.group.Group.{Group}
+use Rattle.rds_fields.specs.declared.message.Message.{Message}
 use Rattle.rds_receiver.specs.State.{ReceiverState}
 use Rattle.rds_world.specs.declared.event.Reception.{Reception}
 use Rattle.rds_world.specs.declared.event.Reception.TheVariants.{Lost}
@@ -13,6 +13,7 @@ use Rattle.rds_world.specs.Standing.{AllHaveHeard, AreLastSent, HaveReaches, Sta
 use Rattle.rds_world.specs.State.{WorldState}
 use Rattle.rds_world.proofs.DueSteps.{one_more_sent}
 use Rattle.rds_world.proofs.Stepped.{by_own, front_is, stepped}
+use Rattle.std.proofs.lemmas.List.{length-take-le}
 use Rattle.rds_world.proofs.world.World.step.Goals as goal
 
 pub returns-clause-stands : goal.returns-clause-stands
@@ -27,40 +28,42 @@ returns-clause-stands c station m k events st =
     let e : Event = c.args.event.now in
     let now : Event = record { command = c.event.inside.command; free = c.event.inside.free; receptions = c.event.inside.receptions.items } in
     let same : now ≡ e = c.event.view_is in
-    let due : IsDueToAll late e events = c.in_default.ensures late events own.reaches in
+    let due : IsDueToAll late e events = c.in-Ok.ensures.due events own.reaches in
     let due_now : IsDueToAll late now events = subst (λ (x : Event). IsDueToAll late x events) (sym same) due in
     let done = c.obey-reply.ensures.stands before own.encoder in
     let ticked = c.tick-sent.ensures.stands head (dwell + late) (commanded now.command before) done in
     let sent = c.tick-sent.ensures.sent head (dwell + late) (commanded now.command before) done in
     let all_sent = log (dwell + late) (now ∷ events) in
-    let kept : AreLastSent head late all_sent c.push.new.self.items =
-    subst (λ (b : Buffer (Option Group)). AreLastSent head late all_sent b.items) (sym c.push.ensures)
-    (subst (λ (n : ℕ). AreLastSent head late all_sent (take n (c.tick-sent.result ∷ world.recent.items))) (sym c.self.invariant.3)
-    (one_more_sent head late (sent_at (dwell + late) now events) c.tick-sent.result (log (dwell + late) events) world.recent.items sent own.sent)) in
+    let kept : AreLastSent head.pi late all_sent c.push.new.self.items =
+    subst (λ (b : Buffer (Option Message)). AreLastSent head.pi late all_sent b.items) (sym c.push.ensures)
+    (subst (λ (n : ℕ). AreLastSent head.pi late all_sent (take n (c.heard.result ∷ world.recent.items))) (sym c.self.invariant.3)
+    (one_more_sent head late (sent_at (dwell + late) now events) c.tick-sent.result c.heard.result (log (dwell + late) events) world.recent.items sent c.heard.ensures own.sent)) in
     let told = sym c.as_slice-receptions.ensures.value in
     let due_told = subst (λ (xs : List Reception). (i : ℕ) → IsDue late (length events) (last_named i events) (slice_index_or xs i Lost)) told due_now in
-    let heard = c.hand_out.ensures.heard (length events) all_sent (λ i. input_of (dwell + late) i events) (λ i. last_named i events) kept due_told own.receivers in
-    let old : WorldState = record { head = head; dwell = dwell; late = late; encoder = world.encoder; receivers = take world.count world.receivers; reaches = take world.count world.reaches; sent = world.recent.items } in
+    let heard = c.hand_out-self-inside.ensures.heard (length events) all_sent (λ i. input_of (dwell + late) i events) (λ i. last_named i events) kept due_told own.receivers in
+    let old : WorldState = record { head = head; dwell = dwell; late = late; encoder = world.encoder; receivers = take world.count world.receivers; stays = world.stays; reaches = take world.count world.reaches; sent = world.recent.items } in
     let new : WorldState = record {
       head = head;
       dwell = dwell;
       late = late;
       encoder = c.tick-sent.new.self;
-      receivers = take world.count (c.hand_out.new.receivers ++ drop world.count world.receivers);
-      reaches = take world.count (c.end_slot.new.reaches ++ drop world.count world.reaches);
+      receivers = take world.count (c.hand_out-self-inside.new.receivers ++ drop world.count world.receivers);
+      stays = c.hand_out-self-inside.result;
+      reaches = take world.count c.in-Ok.reaches;
       sent = c.push.new.self.items;
     } in
     let inputs : ℕ → Input = λ i. received (slice_index_or now.receptions i Lost) (length events) all_sent (input_of (dwell + late) i events) in
     let all : AllHaveHeard head dwell inputs new.receivers =
     subst (λ (rs : List ReceiverState). AllHaveHeard head dwell inputs rs)
-    (front_is c.hand_out.new.receivers world.receivers world.count c.hand_out.ensures.count c.self.invariant.0 c.self.invariant.1)
+    (front_is c.hand_out-self-inside.new.receivers world.receivers world.count c.hand_out-self-inside.ensures.count c.self.invariant.0 c.self.invariant.1)
     (rw c.as_slice-receptions.ensures.value at heard) in
+    let many : length (take world.count world.reaches) ≡ world.count = length-take-le world.count world.reaches (omega (arith, c.self.invariant.0, c.self.invariant.2)) in
     let reaches : HaveReaches late (now ∷ events) new.reaches =
-    subst (λ (rs : List ℕ). HaveReaches late (now ∷ events) rs)
-    (front_is c.end_slot.new.reaches world.reaches world.count c.end_slot.ensures.count c.self.invariant.0 c.self.invariant.2)
-    (subst (λ (x : Event). HaveReaches late (x ∷ events) c.end_slot.new.reaches) (sym same) (c.end_slot.ensures.reaches events own.reaches due)) in
+    subst (λ (x : Event). HaveReaches late (x ∷ events) new.reaches) (sym same)
+    (subst (λ (n : ℕ). HaveReaches late (e ∷ events) (take n c.in-Ok.reaches)) many (c.in-Ok.ensures.reaches events own.reaches)) in
+    let stay = rw c.as_slice-receptions.ensures.value at (c.hand_out-self-inside.ensures.stays (length events) all_sent (λ i. input_of (dwell + late) i events) (λ i. last_named i events) kept due_told own.receivers) in
     subst (λ (x : Event). StandsAt station m k new (x ∷ events)) same
-    (stepped station m k old new events now at refl refl refl c.obey-reply.ensures.value due_now ticked all reaches kept)
+    (stepped station m k old new events now at refl refl refl c.obey-reply.ensures.value due_now ticked all reaches kept stay)
 
 pub returns-clause-safe : goal.returns-clause-safe
 returns-clause-safe c station m k events st = c.only_what_was_on_air_is_shown.ensures station m k _ _ (returns-clause-stands c station m k events st)
