@@ -7,6 +7,7 @@ use Rattle.rds_log.specs.Kept.{view_kept}
 use Rattle.rds_log.specs.Outcomes.{receiver_changes, view_at}
 use Rattle.rds_log.specs.Output.{change, nothing_shown, receiver_stamp}
 use Rattle.rds_log.specs.declared.kept.KeptView.{KeptView}
+use Rattle.rds_log.proofs.Views.{no_change}
 
 -- below the next number, or at it
 pub at_last : (i n : ℕ) → i < n + 1 → (i < n) ⊎ (i ≡ n)
@@ -61,3 +62,9 @@ next_changes slot i initial shown d new start lines after within later had gave 
     ∙ ap (λ (l : List ℕ). l ++ change (receiver_stamp slot i) (view_kept at) (view_kept new)) had
     ∙ append_assoc start (receiver_changes slot i before (map view_kept shown)) (change (receiver_stamp slot i) (view_kept at) (view_kept new))
     ∙ ap (λ (l : List ℕ). start ++ l) (ap₂ (λ (x y : List ℕ). x ++ y) first last ∙ one_changes slot i before now)
+
+-- a receiver that shows what it showed
+pub stay_changes : (slot i : ℕ) (before now : List ShownView) (start lines : List ℕ) → view_at now i ≡ view_at before i → lines ≡ start ++ receiver_changes slot i before now → lines ≡ start ++ receiver_changes slot (i + 1) before now
+stay_changes slot i before now start lines same had =
+    let none = ap (λ (v : ShownView). change (receiver_stamp slot i) (view_at before i) v) same ∙ no_change (receiver_stamp slot i) (view_at before i) in
+    had ∙ ap (λ (l : List ℕ). start ++ l) (sym (append-nil (receiver_changes slot i before now)) ∙ ap (λ (l : List ℕ). receiver_changes slot i before now ++ l) (sym none) ∙ one_changes slot i before now)

@@ -10,7 +10,7 @@ use Rattle.rds_log.specs.declared.cutter.Cutter.{Cutter}
 use Rattle.rds_log.specs.declared.log_line.LogLine.{LogLine}
 
 -- more bytes of the line that is begun
-text_of-more : (closed : List Line) (begun bytes : Line) → text_of closed begun ++ bytes ≡ text_of closed (begun ++ bytes)
+pub text_of-more : (closed : List Line) (begun bytes : Line) → text_of closed begun ++ bytes ≡ text_of closed (begun ++ bytes)
 text_of-more [] begun bytes = refl
 text_of-more (line ∷ before) begun bytes = append_assoc (text_of before line) (line_feed ∷ begun) bytes
 

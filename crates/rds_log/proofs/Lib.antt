@@ -8,7 +8,9 @@ pub mod CountedReads
 pub mod Ending
 pub mod Judging
 pub mod JudgingReads
+pub mod WholeBytes
 pub mod OneOutput
+pub mod OneVerdict
 pub mod Numbers
 pub mod Commands
 pub mod Records
@@ -19,3 +21,4 @@ pub mod OneEvent
 pub mod Playing
 pub mod Plays
 pub mod OneOutcome
+pub mod OneScript

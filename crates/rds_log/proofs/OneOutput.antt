@@ -12,7 +12,11 @@ use Rattle.rds_receiver.specs.Receipts.{Tuning}
 use Rattle.rds_receiver.specs.Shown.{ShownView}
 use Rattle.rds_receiver.specs.OneView.{same_view}
 use Rattle.rds_log.specs.Output.{changes_of}
+use Rattle.rds_charset.specs.Told.{Traffic}
+use Rattle.rds_log.specs.Alike.{WriteAlike}
 use Rattle.rds_log.specs.Decoding.{AreSlots, AreViews, LogWrites}
+use Rattle.rds_log.specs.Engine.{DecodesAll}
+use Rattle.rds_log.proofs.WholeBytes.{read_whole}
 use Rattle.rds_log.specs.declared.log_line.Block.{Block}
 use Rattle.rds_log.specs.declared.log_line.Block.TheVariants.{Word, Missing}
 use Rattle.rds_log.specs.declared.log_line.LogLine.{LogLine}
@@ -49,7 +53,7 @@ same_cut (line ∷ closed) (line' ∷ other) begun begun' a b p q e =
     let line_is : line ≡ line' = same.1 in
     ((cc), last.1)
 
-same_lines : (text : List ℕ) (lines other : List Line) → AreLines text lines → AreLines text other → lines ≡ other
+pub same_lines : (text : List ℕ) (lines other : List Line) → AreLines text lines → AreLines text other → lines ≡ other
 same_lines text lines other (closed, begun, is, a, p, ends) (closed', begun', is', b, q, ends') =
     let same = same_cut closed closed' begun begun' a b p q (sym is ∙ is') in
     both same.0 same.1 ends ends'
@@ -114,7 +118,7 @@ same_said line Skip (Slot slot) p q = absurd (not_both line slot p q)
 same_said line (Slot slot) Skip p q = absurd (not_both line slot q p)
 same_said line (Slot slot) (Slot other) p q = ap Slot (same_slot line slot other p.1 q.1)
 
-same_slots : (lines : List Line) (slots other : List (Option Group)) → AreSlots lines slots → AreSlots lines other → slots ≡ other
+pub same_slots : (lines : List Line) (slots other : List (Option Group)) → AreSlots lines slots → AreSlots lines other → slots ≡ other
 same_slots [] slots other p q = p ∙ sym q
 same_slots (line ∷ before) slots other (inl (p, rest)) (inl (q, rest')) = same_slots before slots other rest rest'
 same_slots (line ∷ before) slots other (inl (p, rest)) (inr (slot, older, q, e, rest')) = absurd (not_both line slot p q)
@@ -142,3 +146,11 @@ same_output t text written other p q =
     let slots : p.write.slots ≡ q.write.slots = same_slots q.cut p.write.slots q.write.slots (rw lines at p.write.say) q.write.say in
     let views : p.write.write.views ≡ q.write.write.views = same_views t q.write.slots p.write.write.views q.write.write.views (rw slots at p.write.write.are) q.write.write.are in
     p.write.write.changes ∙ ap changes_of views ∙ sym q.write.write.changes
+
+-- two calls over the same bytes
+pub alike : (t : Tuning) (text : List ℕ) (r w q v : Traffic) → r.before ≡ Some text → q.before ≡ Some text → DecodesAll t r w → DecodesAll t q v → WriteAlike w v
+alike t text r w q v given same a b =
+    let first : a.text ≡ text = read_whole r.before r.after text a.text given a.read a.end in
+    let second : b.text ≡ text = read_whole q.before q.after text b.text same b.read b.end in
+    let one : a.written ≡ b.written = same_output t text a.written b.written (rw first at a.write) (rw second at b.write) in
+    record { written = b.written; one = rw one at a.wrote; other = b.wrote }

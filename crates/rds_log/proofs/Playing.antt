@@ -1,5 +1,5 @@
 -- How a station goes on by a row, and why a record is no row.
-use Rattle.std.proofs.Common.{◌≡◌, ◌<◌, ◌≤◌, ◌∙◌, ◌∷◌, ◌++◌, [], ℕ, suc, List, None, Option, Some, ap, ap₂, arith, inl, inr, length, refl, subst, sym}
+use Rattle.std.proofs.Common.{◌≡◌, ◌<◌, ◌≤◌, ◌+◌, ◌∙◌, ◌∷◌, ◌++◌, [], ℕ, suc, List, None, Option, Some, ap, ap₂, arith, inl, inr, length, refl, subst, sym}
 use Rattle.std.specs.Prelude.{IsSome}
 use Rattle.rds_fields.specs.declared.head.Head.{Head}
 use Rattle.rds_world.specs.Event.{Event}
@@ -9,8 +9,11 @@ use Rattle.rds_receiver.specs.Shown.{ShownView}
 use Rattle.rds_world.specs.declared.event.Command.{Command}
 use Rattle.rds_world.specs.declared.reply.Reply.{Reply}
 use Rattle.rds_log.proofs.Changes.{changes_same}
-use Rattle.rds_log.specs.Outcomes.{AreOutcomes, Outcome, answer_lines, lines_of, newest_views, receiver_changes}
-use Rattle.rds_log.specs.Playing.{AreKept, BeginsRow, HasWorld, PlayerStandsAt}
+use Rattle.rds_log.proofs.Views.{view_of_none}
+use Rattle.rds_world.specs.Slots.{input_of}
+use Rattle.rds_world.specs.Standing.{IsViewOfInput, ShowsStill, tuned_to}
+use Rattle.rds_log.specs.Outcomes.{AreOutcomes, Outcome, answer_lines, lines_of, newest_views, receiver_changes, view_at}
+use Rattle.rds_log.specs.Playing.{AreKept, BeginsRow, HasWorld, PlayerStandsAt, WereShown}
 use Rattle.rds_log.specs.declared.player.Player.{Player}
 use Rattle.rds_charset.specs.Laws.{TextIsReadOneWay}
 use Rattle.rds_world.specs.Replies.{CanBeTaken, IsStepRefused}
@@ -111,3 +114,18 @@ refused_row one form station m k p row records written e asked is (receivers, s,
       | inr began ↦ sym say.rows.1.count ∙ same_count row g e say.rows.0 says ∙ sym is ∙ sym began
     ] in
     none (subst (λ (n : ℕ). CanBeTaken k n e s.events) count (subst (λ (x : Event). CanBeTaken k say.receivers x s.events) same (subst (λ (l : List Event). CanBeTaken k say.receivers g l) before say.rows.1)))
+
+-- what a receiver shows that shows what it showed
+pub still_shown : (station : Head) (m d n i : ℕ) (events : List Event) (kept now : List ShownView) → ShowsStill station m d i events → WereShown station m d n events kept → i < n
+    → view_at now i ≡ view_at kept i → IsViewOfInput station m (input_of d i events) (view_at now i)
+still_shown station m d n i [] kept now still were within same = absurd were
+still_shown station m d n i (e ∷ before) kept now still were within same = subst (IsViewOfInput station m (input_of d i (e ∷ before))) (sym same) (still (view_at kept i) (were i within))
+
+-- what each receiver shows after these slots
+pub shown_now : (station : Head) (m k receivers : ℕ) (records : List Record) (events : List Event) (outcomes : List Outcome) → AreRows k receivers records events → AreOutcomes station m k events outcomes
+    → (i : ℕ) → i < receivers → IsViewOfInput station m (input_of (m + k) i events) (view_at (newest_views outcomes) i)
+shown_now station m k receivers records [] [] rows are i within = record { groups = []; spelled = tt; is = view_of_none (tuned_to station m (input_of (m + k) i [])) }
+shown_now station m k receivers records [] (o ∷ older) rows are i within = absurd are
+shown_now station m k receivers records (e ∷ before) [] rows are i within = absurd are
+shown_now station m k receivers [] (e ∷ before) (o ∷ older) rows are i within = absurd rows
+shown_now station m k receivers (row ∷ records) (e ∷ before) (o ∷ older) rows are i within = are.0.views i (omega (arith, within, are.0.receivers, rows.1.count))

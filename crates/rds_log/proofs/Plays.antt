@@ -1,5 +1,5 @@
 -- How a script is played on by a record, and what is left at each end.
-use Rattle.std.proofs.Common.{◌≡◌, ◌+◌, ◌∙◌, ◌∷◌, ◌++◌, ℕ, List, Option, ap, inl, inr, length, sym}
+use Rattle.std.proofs.Common.{◌≡◌, ◌<◌, ◌≤◌, ◌+◌, ◌∙◌, ◌∷◌, ◌++◌, ℕ, List, Option, ap, arith, inl, inr, length, sym}
 use Rattle.std.specs.Prelude.{Err}
 use Rattle.std.specs.Io.KnownBytes.{Appends}
 use Rattle.std.proofs.KnownBytes.{Appends-trans}
@@ -17,7 +17,7 @@ use Rattle.rds_log.specs.declared.player.Player.{Player}
 use Rattle.rds_log.specs.declared.script.Script.{Script}
 
 -- a reader that gave records: the script has them
-pub has_records : {R : Type 0} (remaining : R → Option (List ℕ)) (known : Option (List ℕ)) (s : Script R) (records : List Record) → ScriptStandsAt remaining known s records → HasRecords known records
+pub has_records : {R : Type 0} {g h : _} (remaining : R → Option (List ℕ)) (known : Option (List ℕ)) (s : Script R g h) (records : List Record) → ScriptStandsAt remaining known s records → HasRecords known records
 has_records remaining known s records stands = λ script k. let (rest, source, upto) = stands.gave script k in (reader_state s.reader, rest, upto)
 
 -- what a player played, its rows write
@@ -28,7 +28,7 @@ rows_write form station m k receivers p records written s = record {
   write = record { outcomes = s.outcomes; are = s.are; lines = s.lines };
 }
 
-pub wrote_rows : {R : Type 0} (remaining : R → Option (List ℕ)) (form : Form) (station : Head) (m k : ℕ) (known : Option (List ℕ)) (w : Traffic) (s : Script R) (p : Player) (records : List Record)
+pub wrote_rows : {R : Type 0} {g h : _} (remaining : R → Option (List ℕ)) (form : Form) (station : Head) (m k : ℕ) (known : Option (List ℕ)) (w : Traffic) (s : Script R g h) (p : Player) (records : List Record)
     → ScriptStandsAt remaining known s records → PlayedSoFar form station m k p records w → WroteRows form station m k known w records
 wrote_rows remaining form station m k known w s p records stands played = record {
   begins = has_records remaining known s records stands;
@@ -39,23 +39,26 @@ wrote_rows remaining form station m k known w s p records stands played = record
 }
 
 -- no record was given
-pub ends_by_read : {R : Type 0} (remaining : R → Option (List ℕ)) (form : Form) (station : Head) (m k most : ℕ) (known : Option (List ℕ)) (w : Traffic) (s : Script R) (p : Player) (records : List Record) (fault : LogFault)
-    → ScriptStandsAt remaining known s records → PlayedSoFar form station m k p records w → IsReadFault fault → Plays form station m k most known w (Err fault)
-ends_by_read remaining form station m k most known w s p records fault stands played (inl e) = rw e (records, wrote_rows remaining form station m k known w s p records stands played)
-ends_by_read remaining form station m k most known w s p records fault stands played (inr e) = rw e (records, wrote_rows remaining form station m k known w s p records stands played)
+pub ends_by_read : {R : Type 0} {g h : _} (remaining : R → Option (List ℕ)) (form : Form) (station : Head) (m k most : ℕ) (known : Option (List ℕ)) (ReadFailed : Type 0) (w : Traffic) (s : Script R g h) (p : Player) (records : List Record) (fault : LogFault)
+    → ScriptStandsAt remaining known s records → PlayedSoFar form station m k p records w → length records < most → IsReadFault ReadFailed fault → Plays form station m k most known ReadFailed w (Err fault)
+ends_by_read remaining form station m k most known ReadFailed w s p records fault stands played fewer (inl e) = rw e (records, wrote_rows remaining form station m k known w s p records stands played, fewer)
+ends_by_read remaining form station m k most known ReadFailed w s p records fault stands played fewer (inr (e, failed)) = rw e (records, wrote_rows remaining form station m k known w s p records stands played, fewer, failed)
 
 -- the record that was given is no row
-pub ends_by_row : {R : Type 0} (remaining : R → Option (List ℕ)) (form : Form) (station : Head) (m k most : ℕ) (known : Option (List ℕ)) (w : Traffic) (before s : Script R) (p : Player) (bad : List (List ℕ)) (records : List Record) (n : ℕ)
-    → ScriptStandsAt remaining known before records → ScriptStandsAt remaining known s (bad ∷ records) → PlayedSoFar form station m k p records w → AreNoRows k form (bad ∷ records) → length records ≡ n
-    → Plays form station m k most known w (Err (BadRow (n + 1)))
-ends_by_row remaining form station m k most known w before s p bad records n had stands played none number = record {
-  records = records;
-  bad = bad;
-  wrote = wrote_rows remaining form station m k known w before p records had played;
-  begins = has_records remaining known s (bad ∷ records) stands;
-  none = none;
-  number = ap (λ (x : ℕ). x + 1) (sym number);
-}
+pub ends_by_row : {R : Type 0} {g h : _} (remaining : R → Option (List ℕ)) (form : Form) (station : Head) (m k most : ℕ) (known : Option (List ℕ)) (ReadFailed : Type 0) (w : Traffic) (before s : Script R g h) (p : Player) (bad : List (List ℕ)) (records : List Record) (n : ℕ)
+    → ScriptStandsAt remaining known before records → ScriptStandsAt remaining known s (bad ∷ records) → PlayedSoFar form station m k p records w → AreNoRows k form (bad ∷ records) → length records ≡ n → n < most
+    → Plays form station m k most known ReadFailed w (Err (BadRow (n + 1)))
+ends_by_row remaining form station m k most known ReadFailed w before s p bad records n had stands played none number fewer = (
+  record {
+    records = records;
+    bad = bad;
+    wrote = wrote_rows remaining form station m k known w before p records had played;
+    begins = has_records remaining known s (bad ∷ records) stands;
+    none = none;
+    number = ap (λ (x : ℕ). x + 1) (sym number);
+  },
+  omega (arith, fewer),
+)
 
 -- the lines of the row came after the others
 pub played_on : (form : Form) (station : Head) (m k : ℕ) (p : Player) (records : List Record) (start now after : Option (List ℕ)) (v w w' : ℕ) (written lines : List ℕ) → PlaysRow form station m k p records (written ++ lines)
@@ -70,13 +73,14 @@ played_on form station m k p records start now after v w w' written lines (recei
 }
 
 -- and where the writer failed, a first part of them
-pub ends_by_write : {R : Type 0} (remaining : R → Option (List ℕ)) (form : Form) (station : Head) (m k most : ℕ) (known : Option (List ℕ)) (s : Script R) (p : Player) (records : List Record) (start now after : Option (List ℕ)) (v w w' : ℕ) (written lines : List ℕ)
-    → ScriptStandsAt remaining known s records → PlaysRow form station m k p records (written ++ lines)
+pub ends_by_write : {R : Type 0} {g h : _} (remaining : R → Option (List ℕ)) (form : Form) (station : Head) (m k most : ℕ) (known : Option (List ℕ)) (ReadFailed : Type 0) (s : Script R g h) (p : Player) (records : List Record) (start now after : Option (List ℕ)) (v w w' : ℕ) (written lines : List ℕ)
+    → ScriptStandsAt remaining known s records → length records ≤ most → PlaysRow form station m k p records (written ++ lines)
     → Appends start now written → w ≡ v → AppendsPrefix now after lines → HasFailed record { before = now; after = after; failures_before = w; failures_after = w' }
-    → Plays form station m k most known record { before = start; after = after; failures_before = v; failures_after = w' } (Err Write)
-ends_by_write remaining form station m k most known s p records start now after v w w' written lines stands (receivers, plays) had calm gave failed = record {
+    → Plays form station m k most known ReadFailed record { before = start; after = after; failures_before = v; failures_after = w' } (Err Write)
+ends_by_write remaining form station m k most known ReadFailed s p records start now after v w w' written lines stands within (receivers, plays) had calm gave failed = record {
   records = records;
   begins = has_records remaining known s records stands;
+  within = within;
   written = written ++ lines;
   write = rows_write form station m k receivers p records (written ++ lines) plays;
   wrote = AppendsPrefix-append start now after written lines had gave;

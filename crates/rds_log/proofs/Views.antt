@@ -52,11 +52,11 @@ same_tag : (o : Option (ℕ × List ℕ)) → is_same_tag o o ≡ true
 same_tag None = refl
 same_tag (Some (n, x)) = rw (eq-eqb n n refl, (bytes_eq-Decides x x).1 refl) refl
 
-no_change : (stamp : List ℕ) (v : ShownView) → change stamp v v ≡ []
+pub no_change : (stamp : List ℕ) (v : ShownView) → change stamp v v ≡ []
 no_change stamp v = rw (same_text v.text, same_text v.name, same_item v.item, same_tag v.one, same_tag v.two) refl
 
 -- before the first slot nothing is shown
-view_of_none : (t : Tuning) → IsView t [] nothing_shown
+pub view_of_none : (t : Tuning) → IsView t [] nothing_shown
 view_of_none t = ([], tt, record { text = no_text_of_none; name = no_name_of_none; item = refl; one = refl; two = refl })
 
 newest_view : (t : Tuning) (slots : List (Option Group)) (views : List ShownView) → AreViews t slots views → IsView t slots (newest views)

@@ -1,7 +1,7 @@
 -- What `audit` answers, and what it leaves at each end: how much of the reader it took, and what it wrote. Lists of
 -- slots and of lines have the newest first; d is the number of slots that keeps broadcasts apart, the dwell and the
 -- lateness; r is what a call did to the reader, w what it did to the writer.
-use Rattle.std.specs.Prelude.{◌≡◌, ◌≤◌, ◌↔◌, ◌++◌, ◌∷◌, ℕ, Bool, List, All, IsTrue, Ok, Err, Result, codes, decimal, length, Option}
+use Rattle.std.specs.Prelude.{◌≡◌, ◌≤◌, ◌↔◌, ◌++◌, ◌∷◌, [], ℕ, Bool, List, All, IsTrue, Ok, Err, Result, Some, codes, decimal, length, Option}
 use Rattle.std.specs.Io.KnownBytes.{Appends, Consumes, IsAtEnd}
 use Rattle.rds_block.specs.declared.group.Group.{Group}
 use Rattle.rds_charset.specs.Told.{AppendsPrefix, HasFailed, IsCalm, PutsNothing, Traffic}
@@ -112,6 +112,12 @@ pub record WholePasses (pi d n : ℕ) (text : List ℕ) : Type 0 where
   pub number : n ≡ length slots
   pub pass : SlotsPass pi d slots
 
+-- the verdict of all bytes of a log: yes where they are of good lines and the slots pass; no where they begin with good
+-- lines whose slots pass up to the newest, whatever comes after
+abbrev pub IsVerdictOf : ℕ → ℕ → List ℕ → Verdict → Type 0
+IsVerdictOf pi d bytes (Yes n) = WholePasses pi d n bytes
+IsVerdictOf pi d bytes (No t fault) = StopsAtSlot pi d t fault bytes (Some [])
+
 -- ---- reading
 
 -- the slots of the closed lines pass, and the reader gave at least so many bytes
@@ -147,6 +153,13 @@ Answers (Err given) w (Err fault) = (fault ≡ given) × PutsNothing w
 -- what `audit` did, with at most so many reads: it came to a verdict or a fault, and answered it
 abbrev pub Audits : ℕ → ℕ → ℕ → Traffic → Traffic → Result Bool LogFault → Type 0
 Audits pi d reads r w result = (judged : Result Verdict LogFault) × Judges pi d reads r judged × Answers judged w result
+
+-- the verdict of the bytes was answered
+pub record AnswersVerdictOf (pi d : ℕ) (bytes : List ℕ) (w : Traffic) (passed : Bool) : Type 0 where
+  pub verdict : Verdict
+  pub is : IsVerdictOf pi d bytes verdict
+  pub answer : IsTrue passed ↔ IsYes verdict
+  pub wrote : Appends w.before w.after (verdict_line verdict)
 
 -- ---- the parts of reading
 

@@ -1,19 +1,23 @@
 -- Hexadecimal digits of either case, and the word that four of them spell.
-use Rattle.std.specs.Prelude.{◌≡◌, ◌<◌, ◌+◌, ◌*◌, ◌/◌, ◌%◌, ℕ, List, [], ◌∷◌, map, slice_index}
+use Rattle.std.specs.Prelude.{◌≡◌, ◌<◌, ◌+◌, ◌*◌, ◌/◌, ◌%◌, ℕ, List, [], ◌∷◌, if◌then◌else◌, map, nat_lt, slice_index}
 use Rattle.std.specs.Char.{digit_value}
 use Rattle.std.specs.List.{range_with_len}
 use Rattle.rds_charset.specs.Printed.{upper_digit}
 
--- the values of all bytes as digits
-abbrev pub digit_values : List ℕ
-digit_values = map digit_value (range_with_len 0 256)
+-- the value of a byte as a hexadecimal digit, and more than any word where it is none
+abbrev pub marked_value : ℕ → ℕ
+marked_value byte = if nat_lt (digit_value byte) 16 then digit_value byte else 65536
 
--- four values are those of hexadecimal digits
-pub record AreDigits (a b c d : ℕ) : Type 0 where
-  pub first : a < 16
-  pub second : b < 16
-  pub third : c < 16
-  pub fourth : d < 16
+-- those of all bytes
+abbrev pub marked_values : List ℕ
+marked_values = map marked_value (range_with_len 0 256)
+
+-- four numbers are words
+pub record AreWords (a b c d : ℕ) : Type 0 where
+  pub first : a < 65536
+  pub second : b < 65536
+  pub third : c < 65536
+  pub fourth : d < 65536
 
 -- four hexadecimal digits stand from the place on, and spell the word
 pub record HasWord (text : List ℕ) (at w : ℕ) : Type 0 where

@@ -8,6 +8,7 @@ pub mod Decoding
 pub mod Kept
 pub mod Viewing
 pub mod Standing
+pub mod Alike
 pub mod Engine
 pub mod Auditing
 pub mod AuditorStanding
@@ -15,5 +16,8 @@ pub mod Verbs
 pub mod Receptions
 pub mod Rows
 pub mod Outcomes
+pub mod Failing
+pub mod Asking
 pub mod Scripts
+pub mod LentReads
 pub mod Playing

@@ -1,15 +1,17 @@
 -- What the parts of a script's engine hold: its reader after these records, and its station after their slots.
 -- Lists have the newest first.
-use Rattle.std.specs.Prelude.{◌≡◌, ◌⊎◌, ◌<◌, ℕ, [], IsSome, List, None, Option, Some, length, map, true}
+use Rattle.std.specs.Prelude.{◌≡◌, ◌⊎◌, ◌<◌, ◌∷◌, ℕ, [], IsSome, List, None, Option, Some, length, map, true}
 use Rattle.std.specs.Io.KnownBytes.{Appends}
 use Rattle.csv.specs.Reading.{Ready, default_config, is_flexible, reader_config, reader_state, reader_trim, source_of}
 use Rattle.csv.specs.declared.reader.Trim.TheVariants.{None as untrimmed}
 use Rattle.rds_charset.specs.Told.{IsCalm, Traffic}
 use Rattle.rds_fields.specs.declared.head.Head.{Head}
 use Rattle.rds_world.specs.Event.{Event}
+use Rattle.rds_world.specs.Slots.{input_of}
 use Rattle.rds_world.specs.Standing as world
 use Rattle.rds_world.specs.State.{WorldState}
 use Rattle.rds_receiver.specs.Shown.{ShownView}
+use Rattle.rds_log.specs.Asking.{bytes_of}
 use Rattle.rds_log.specs.Kept.{view_kept}
 use Rattle.rds_log.specs.Rows.{AreNoRows, AreRows, IsAllowed, Record}
 use Rattle.rds_log.specs.Outcomes.{AreOutcomes, Outcome, lines_of, newest_views, view_at}
@@ -24,20 +26,25 @@ use Rattle.rds_log.specs.declared.player.RowRefused.TheVariants as refused
 use Rattle.rds_log.specs.declared.script.Script.{Script}
 
 -- the reader of a script gave these records
-pub record ScriptStandsAt {R : Type 0} (remaining : R → Option (List ℕ)) (known : Option (List ℕ)) (s : Script R) (records : List Record) : Type 0 where
+pub record ScriptStandsAt {R : Type 0} {g h : _} (remaining : R → Option (List ℕ)) (known : Option (List ℕ)) (s : Script R g h) (records : List Record) : Type 0 where
   pub plain : reader_trim s.reader ≡ untrimmed
   pub flexible : is_flexible s.reader ≡ true
   pub ready : Ready s.reader
   pub config : reader_config s.reader ≡ default_config
-  pub gave : (script : List ℕ) → known ≡ Some script → (rest : List ℕ) × (source_of remaining s.reader ≡ Some rest) × RecordsUpTo script records (reader_state s.reader) rest
+  pub gave : (script : List ℕ) → known ≡ Some script → (rest : List ℕ) × (source_of (bytes_of remaining) s.reader ≡ Some rest) × RecordsUpTo script records (reader_state s.reader) rest
 
--- a read of a record fails for want of memory, or at the reader
-abbrev pub IsReadFault : LogFault → Type 0
-IsReadFault fault = (fault ≡ Memory) ⊎ (fault ≡ Read)
+-- a read of a record fails for want of memory, or where a read of the reader failed
+abbrev pub IsReadFault : Type 0 → LogFault → Type 0
+IsReadFault ReadFailed fault = (fault ≡ Memory) ⊎ ((fault ≡ Read) × ReadFailed)
 
 -- the views that are kept are those of the receivers
 abbrev pub AreKept : List ShownView → List ShownView → Type 0
 AreKept kept views = (i : ℕ) → view_at kept i ≡ view_at views i
+
+-- the views are those of the first n receivers before the newest of these slots; the encoder's dwell is d
+abbrev pub WereShown : Head → ℕ → ℕ → ℕ → List Event → List ShownView → Type 0
+WereShown station m d n [] views = ⊥
+WereShown station m d n (e ∷ before) views = (i : ℕ) → i < n → world.IsViewOfInput station m (input_of d i before) (view_at views i)
 
 -- the world of these slots, with so many receivers; before the first slot there may be none
 abbrev pub HasWorld : Head → ℕ → ℕ → ℕ → Option WorldState → List Event → Type 0

@@ -1,10 +1,10 @@
 -- What `simulate` and `encode` leave at each end. What the records of a script are, is the definition of `csv`: fields
 -- between commas, in quotes or not, one record a line. Lists of records and of events have the newest first; w is
 -- what a call did to the writer.
-use Rattle.std.specs.Prelude.{◌≡◌, ◌+◌, ◌∷◌, ℕ, List, [], Option, None, Some, Ok, Err, Result, length, reverse}
+use Rattle.std.specs.Prelude.{◌≡◌, ◌<◌, ◌≤◌, ◌+◌, ◌∷◌, ℕ, List, [], Option, None, Some, Ok, Err, Result, length, reverse}
 use Rattle.std.specs.Io.KnownBytes.{Appends}
 use Rattle.csv.specs.Machine.{next_record}
-use Rattle.csv.specs.Reading.{Reached, default_config, strip_bom}
+use Rattle.csv.specs.Reading.{AreRecords, Reached, default_config, strip_bom}
 use Rattle.csv.specs.declared.parser.State.{State}
 use Rattle.csv.specs.declared.parser.State.TheVariants.{StartRecord}
 use Rattle.rds_charset.specs.Told.{AppendsPrefix, HasFailed, IsCalm, Traffic}
@@ -35,6 +35,12 @@ pub record RowsWrite (form : Form) (station : Head) (m k : ℕ) (records : List 
   pub say : RowsSay k form records events
   pub write : EventsWrite form station m k events written
 
+-- the bytes of a script whose records are all rows write this
+pub record ScriptWrites (form : Form) (station : Head) (m k : ℕ) (script written : List ℕ) : Type 0 where
+  pub records : List Record
+  pub are : AreRecords default_config StartRecord (strip_bom script) (reverse records)
+  pub write : RowsWrite form station m k records written
+
 -- the output of the first records of the script was written
 pub record WroteRows (form : Form) (station : Head) (m k : ℕ) (known : Option (List ℕ)) (w : Traffic) (records : List Record) : Type 0 where
   pub begins : HasRecords known records
@@ -52,21 +58,31 @@ pub record StopsAtBadRow (form : Form) (station : Head) (m k : ℕ) (known : Opt
   pub none : AreNoRows k form (bad ∷ records)
   pub number : n ≡ length records + 1
 
--- the writer failed: a first part of the output of these records was written
-pub record StopsAtWrite (form : Form) (station : Head) (m k : ℕ) (known : Option (List ℕ)) (w : Traffic) : Type 0 where
+-- the writer failed: a first part of the output of these records, no more than the bound, was written
+pub record StopsAtWrite (form : Form) (station : Head) (m k most : ℕ) (known : Option (List ℕ)) (w : Traffic) : Type 0 where
   pub records : List Record
   pub begins : HasRecords known records
+  pub within : length records ≤ most
   pub written : List ℕ
   pub write : RowsWrite form station m k records written
   pub wrote : AppendsPrefix w.before w.after written
   pub failed : HasFailed w
 
--- what playing a script did, with at most so many records: each fault comes only for its cause
-abbrev pub Plays : Form → Head → ℕ → ℕ → ℕ → Option (List ℕ) → Traffic → Result (Unit {0}) LogFault → Type 0
-Plays form station m k most known w (Ok done) = (records : List Record) × HasAllRecords known records × WroteRows form station m k known w records
-Plays form station m k most known w (Err (BadLine n)) = ⊥
-Plays form station m k most known w (Err (BadRow n)) = StopsAtBadRow form station m k known w n
-Plays form station m k most known w (Err Read) = (records : List Record) × WroteRows form station m k known w records
-Plays form station m k most known w (Err Memory) = (records : List Record) × WroteRows form station m k known w records
-Plays form station m k most known w (Err TooLong) = (records : List Record) × WroteRows form station m k known w records × (length records ≡ most)
-Plays form station m k most known w (Err Write) = StopsAtWrite form station m k known w
+-- the script was read to its end, it has fewer records than the bound, and their output was written
+pub record PlaysAll (form : Form) (station : Head) (m k most : ℕ) (known : Option (List ℕ)) (w : Traffic) : Type 0 where
+  pub records : List Record
+  pub all : HasAllRecords known records
+  pub fewer : length records < most
+  pub wrote : WroteRows form station m k known w records
+
+-- what playing a script did, with this bound of its records: each fault comes only for its cause. Where it ends well,
+-- and at a failed read and for want of memory, the records are fewer than the bound; it is too long at as many.
+-- ReadFailed says that a read of the reader failed
+abbrev pub Plays : Form → Head → ℕ → ℕ → ℕ → Option (List ℕ) → Type 0 → Traffic → Result (Unit {0}) LogFault → Type 0
+Plays form station m k most known ReadFailed w (Ok done) = PlaysAll form station m k most known w
+Plays form station m k most known ReadFailed w (Err (BadLine n)) = ⊥
+Plays form station m k most known ReadFailed w (Err (BadRow n)) = StopsAtBadRow form station m k known w n × (n ≤ most)
+Plays form station m k most known ReadFailed w (Err Read) = (records : List Record) × WroteRows form station m k known w records × (length records < most) × ReadFailed
+Plays form station m k most known ReadFailed w (Err Memory) = (records : List Record) × WroteRows form station m k known w records × (length records < most)
+Plays form station m k most known ReadFailed w (Err TooLong) = (records : List Record) × WroteRows form station m k known w records × (length records ≡ most)
+Plays form station m k most known ReadFailed w (Err Write) = StopsAtWrite form station m k most known w

@@ -17,13 +17,13 @@ use rds_world::{Answer, Command, Reply};
 pub fn push_answer<const N: usize>(
     form: Form,
     slot: u64,
-    command: Command,
+    command: &Command,
     answer: Answer,
     lines: &mut Lines<N>,
 )
     requires { length lines.old + 192 ≤ N }
     ensures lines { lines.new
-        ≡ lines.old ++ answer_lines form slot command answer.reply answer.sent }
+        ≡ lines.old ++ answer_lines form slot command.now answer.reply answer.sent }
     ensures room { length lines.new ≤ length lines.old + 192 }
 {
     match form {
@@ -39,21 +39,38 @@ pub fn push_answer<const N: usize>(
 }
 
 /// Appends the line of a reply behind the mark, where there was a command.
+#[inline(always)]
 fn push_reply<const N: usize>(
     mark: &[u8],
     slot: u64,
-    command: Command,
+    command: &Command,
     reply: Reply,
     lines: &mut Lines<N>,
 )
     requires mark { length mark.now ≤ 2 }
     requires room { length lines.old + 96 ≤ N }
-    ensures line { lines.new ≡ lines.old ++ reply_line mark.now slot command reply }
+    ensures line { lines.new ≡ lines.old ++ reply_line mark.now slot command.now reply }
     ensures room { length lines.new ≤ length lines.old + 96 }
 {
-    if reply == Reply::Quiet {
-        return;
+    if reply != Reply::Quiet {
+        push_reply_line(mark, slot, command, reply, lines);
     }
+}
+
+/// Appends the line of a reply that isn't quiet behind the mark.
+fn push_reply_line<const N: usize>(
+    mark: &[u8],
+    slot: u64,
+    command: &Command,
+    reply: Reply,
+    lines: &mut Lines<N>,
+)
+    requires told { reply ≢ replies.Quiet }
+    requires mark { length mark.now ≤ 2 }
+    requires room { length lines.old + 96 ≤ N }
+    ensures line { lines.new ≡ lines.old ++ reply_line mark.now slot command.now reply }
+    ensures room { length lines.new ≤ length lines.old + 96 }
+{
     lines.push(mark);
     Stamp::Slot(slot).push(lines);
     lines.push(reply_thing(command, reply));
@@ -62,8 +79,8 @@ fn push_reply<const N: usize>(
 }
 
 /// What the reply is about.
-fn reply_thing(command: Command, reply: Reply) -> &'static [u8]
-    ensures thing { result.now ≡ reply_thing command reply }
+fn reply_thing(command: &Command, reply: Reply) -> &'static [u8]
+    ensures thing { result.now ≡ reply_thing command.now reply }
     ensures short { length result.now ≤ 7 }
 {
     match reply {
@@ -74,8 +91,8 @@ fn reply_thing(command: Command, reply: Reply) -> &'static [u8]
 }
 
 /// What the command sets.
-fn thing_set(command: Command) -> &'static [u8]
-    ensures thing { result.now ≡ thing_set command }
+fn thing_set(command: &Command) -> &'static [u8]
+    ensures thing { result.now ≡ thing_set command.now }
     ensures short { length result.now ≤ 4 }
 {
     match command {
@@ -164,19 +181,13 @@ fn push_blocks<const N: usize>(group: &Group, lines: &mut Lines<N>)
     ensures blocks { lines.new ≡ lines.old ++ block_digits group.now }
     ensures room { length lines.new ≡ length lines.old + 19 }
 {
-    let [pi, second, c, d] = group.to_blocks();
-    lines.push(&digits_of(pi));
-    push_spaced(second, lines);
-    push_spaced(c, lines);
-    push_spaced(d, lines);
-}
-
-/// Appends a space and a block.
-fn push_spaced<const N: usize>(word: u16, lines: &mut Lines<N>)
-    requires { length lines.old + 5 ≤ N }
-    ensures block { lines.new ≡ lines.old ++ spaced_digits word }
-    ensures room { length lines.new ≡ length lines.old + 5 }
-{
-    lines.push(b" ");
-    lines.push(&digits_of(word));
+    let [first, second, third, fourth] = group.to_blocks();
+    let pi = digits_of(first);
+    let kind = digits_of(second);
+    let c = digits_of(third);
+    let d = digits_of(fourth);
+    lines.push(&[
+        pi[0], pi[1], pi[2], pi[3], b' ', kind[0], kind[1], kind[2], kind[3], b' ', c[0], c[1],
+        c[2], c[3], b' ', d[0], d[1], d[2], d[3],
+    ]);
 }

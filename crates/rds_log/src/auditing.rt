@@ -22,8 +22,8 @@ use rds_world::{one_fault, passes_by_plans, what_passes_is_safe};
 /// slots, or `no` with the first slot up to which they do not pass and the name of the fault.
 ///
 /// A yes means that texts and names of a station that keeps them apart by the dwell and the lateness could have been
-/// sent so, and then no receiver of that dwell, whose groups come no later, ever shows a mix of them. Nothing is read
-/// after the line of the slot that does not pass, or after a fault.
+/// sent so, and then no receiver of that dwell, whose groups come no later, ever shows a mix of them. No read is made
+/// after the one that brought the slot that does not pass, or after a fault.
 ///
 /// # Errors
 ///

@@ -92,6 +92,7 @@ impl Auditor {
     }
 
     /// Takes the last bytes of the line that is begun, and its end.
+    #[inline(always)]
     fn close(&mut self, last: &[u8]) -> Result<(), Stop>
         requires lines { self.old.cutter.lines < 2 ^ 64 - 1 }
         requires slots { self.old.slots < 2 ^ 64 - 1 }

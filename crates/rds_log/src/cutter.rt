@@ -40,6 +40,7 @@ impl Cutter {
     }
 
     /// Takes the last bytes of the line that is begun, and its end; gives what the line says.
+    #[inline(always)]
     pub fn close(&mut self, last: &[u8]) -> Result<LogLine, BadLine>
         requires lines { self.old.lines < 2 ^ 64 - 1 }
         requires line { IsLine last.now }
@@ -71,6 +72,7 @@ impl Cutter {
     }
 
     /// What the line that is begun says where these are its last bytes; `None` for a bad line.
+    #[inline(always)]
     fn said(&mut self, last: &[u8]) -> Option<LogLine>
         ensures some { (begun : Line) → self.old.kept.items ≡ take deciding begun
             → IfSome result (LineSays (begun ++ last.now)) }
@@ -87,6 +89,7 @@ impl Cutter {
 }
 
 /// Where the first line feed stands.
+#[inline(always)]
 pub fn line_end(bytes: &[u8]) -> Option<usize>
     ensures some { IfSome result (EndsAt bytes.now) }
     ensures none { IfNone result (IsLine bytes.now) }

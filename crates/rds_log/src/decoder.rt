@@ -81,6 +81,7 @@ impl Decoder {
     }
 
     /// Takes the last bytes of the line that is begun, and its end.
+    #[inline(always)]
     fn close(&mut self, last: &[u8], output: &mut Output) -> Result<(), BadLine>
         requires lines { self.old.cutter.lines < 2 ^ 64 - 1 }
         requires slots { self.old.views.slot < 2 ^ 64 - 1 }

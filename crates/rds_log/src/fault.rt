@@ -26,10 +26,10 @@ pub enum LogFault {
     /// The writer failed.
     #[error("the writer failed")]
     Write,
-    /// The reader has no end within the reads that are made, or the script within the records that are taken.
+    /// The reader has no end within the reads that are made, or the script has as many records as the bound.
     #[error("the input has no end within the bound")]
     TooLong,
-    /// There was no memory for a record of a script.
+    /// There was no memory for a record of a script, or for its world.
     #[error("out of memory")]
     Memory,
 }

@@ -1,26 +1,52 @@
 //! What holds of all logs and of all scripts.
-ghost use Rattle.std.specs.Prelude.{◌≡◌, ℕ, List};
+ghost use Rattle.std.specs.Prelude.{◌≡◌, ◌<◌, ℕ, Bool, List, Ok, Some};
+ghost use Rattle.std.specs.Io.KnownBytes.{Appends};
+ghost use Rattle.rds_charset.specs.Told.{Traffic};
 ghost use Rattle.rds_receiver.specs.Receipts.{Tuning};
+ghost use Rattle.rds_log.specs.Alike.{WriteAlike};
+ghost use Rattle.rds_log.specs.Auditing.{AnswersVerdictOf, Audits, IsVerdictOf};
 ghost use Rattle.rds_log.specs.LogLines.{Line};
 ghost use Rattle.rds_log.specs.LineSays.{LineSays};
 ghost use Rattle.rds_log.specs.Decoding.{LogWrites};
+ghost use Rattle.rds_log.specs.Engine.{DecodesAll};
 ghost use Rattle.rds_log.specs.Rows.{Record, SaysEvent};
-ghost use Rattle.rds_log.specs.Scripts.{RowsWrite};
+ghost use Rattle.rds_log.specs.Scripts.{PlaysAll, RowsWrite, ScriptWrites};
 ghost use Rattle.rds_log.specs.declared.form.Form.{Form};
 ghost use Rattle.rds_log.specs.declared.log_line.LogLine.{LogLine};
+ghost use Rattle.rds_log.specs.declared.verdict.Verdict.{Verdict};
 ghost use Rattle.rds_fields.specs.declared.head.Head.{Head};
 ghost use Rattle.rds_world.specs.Event.{Event};
 
 use rds_charset::text_is_read_one_way;
 use rds_fields::one_group;
+use rds_world::one_fault;
 
-/// The output of a log is a function of its bytes: a line says one thing, and the bytes write one output.
+/// The output of a log is a function of its bytes: a line says one thing, the bytes write one output, and two calls of
+/// `decode` that end well wrote the same.
 pub fn bytes_write_one_output()
     ensures one_said { (line : Line) (said other : LogLine) → LineSays line said
         → LineSays line other → said ≡ other }
     ensures one_output { (t : Tuning) (text written other : List ℕ) → LogWrites t text written
         → LogWrites t text other → written ≡ other }
+    ensures alike { (t : Tuning) (text : List ℕ) (r w q v : Traffic) → r.before ≡ Some text
+        → q.before ≡ Some text → DecodesAll t r w → DecodesAll t q v → WriteAlike w v }
 {}
+
+/// The answer to a log is a function of its bytes: they have one verdict, a call of `audit` that ends well answers it
+/// and writes its line, and two such calls answered and wrote the same.
+pub fn bytes_have_one_verdict()
+    ensures one_verdict { (pi d : ℕ) (bytes : List ℕ) (v u : Verdict) → 0 < d
+        → IsVerdictOf pi d bytes v → IsVerdictOf pi d bytes u → v ≡ u }
+    ensures answered { (pi d reads : ℕ) (bytes : List ℕ) (r w : Traffic) (passed : Bool)
+        → r.before ≡ Some bytes → Audits pi d reads r w (Ok passed)
+        → AnswersVerdictOf pi d bytes w passed }
+    ensures alike { (pi d reads others : ℕ) (bytes : List ℕ) (r w q v : Traffic) (passed other : Bool)
+        → 0 < d → r.before ≡ Some bytes → q.before ≡ Some bytes
+        → Audits pi d reads r w (Ok passed) → Audits pi d others q v (Ok other)
+        → (passed ≡ other) × WriteAlike w v }
+{
+    one_fault();
+}
 
 /// The output of a script is a function of its records: a row says one event, and rows write one output.
 pub fn rows_write_one_output()
@@ -30,6 +56,24 @@ pub fn rows_write_one_output()
         → RowsWrite form station m k records other → written ≡ other }
 {
     // the laws by which a text is read one way, and a message is one group
+    text_is_read_one_way();
+    one_group();
+}
+
+/// The output of a script is a function of its bytes: they write one output, a call of `simulate` or `encode` that ends
+/// well wrote it, and two such calls wrote the same.
+pub fn script_writes_one_output()
+    ensures one_output { (form : Form) (station : Head) (m k : ℕ) (script written other : List ℕ)
+        → ScriptWrites form station m k script written → ScriptWrites form station m k script other
+        → written ≡ other }
+    ensures written { (form : Form) (station : Head) (m k most : ℕ) (script : List ℕ) (w : Traffic)
+        → PlaysAll form station m k most (Some script) w
+        → (written : List ℕ) × ScriptWrites form station m k script written
+        × Appends w.before w.after written }
+    ensures alike { (form : Form) (station : Head) (m k most others : ℕ) (script : List ℕ)
+        (w v : Traffic) → PlaysAll form station m k most (Some script) w
+        → PlaysAll form station m k others (Some script) v → WriteAlike w v }
+{
     text_is_read_one_way();
     one_group();
 }

@@ -1,10 +1,14 @@
-//! Logs of received groups, and what a receiver of them shows: `decode` reads a log and writes one line for
-//! each part of the view that changed.
+//! Logs of sent or received groups, and scripts of a station. [`decode`] writes what a receiver of a log shows, one line
+//! for each part of the view that changed; [`audit`] answers whether the slots of a log pass; [`simulate`] and
+//! [`encode`] play a script, and write what is sent.
 //!
-//! The one model is the list of a log's lines, whatever the reads that they come in. A line says a slot, or that
-//! it is to be skipped (`LineSays`); the slots have views, and what is written is the changes of these views
-//! (`LogWrites`). Bytes become lines and lines become output with no reader and no writer at hand: `decode` alone
-//! reads and writes, one write for each read, and before the next. Nothing here takes memory.
+//! The model of a log is the list of its lines, whatever the reads that they come in. A line says a slot, or that it is
+//! to be skipped (`LineSays`); the slots have views, and `decode` writes the changes of these views (`LogWrites`); the
+//! bytes have one verdict (`IsVerdictOf`), and `audit` answers it. The model of a script is the list of its records; they
+//! are rows, and rows write one output (`ScriptWrites`). Bytes become lines, and lines or rows become output, with no
+//! writer at hand: the four alone write.
+//!
+//! `decode` and `audit` take no memory; `simulate` and `encode` take memory for a record and for the world.
 //!
 //! ```text
 //! decode(&mut Told::new(reader), &mut Told::new(writer), 0xC201, Dwell::new(128)?)
@@ -12,6 +16,7 @@
 #![tactic(auto)]
 
 mod answer_lines;
+mod asked;
 mod auditing;
 mod auditor;
 mod change;
@@ -36,7 +41,9 @@ pub use auditing::{audit, audit_within};
 pub use engine::{decode, decode_within};
 pub use fault::LogFault;
 pub use hexadecimal::word_at;
-pub use laws::{bytes_write_one_output, rows_write_one_output};
+pub use laws::{
+    bytes_have_one_verdict, bytes_write_one_output, rows_write_one_output, script_writes_one_output,
+};
 pub use lines::Lines;
 pub use scripts::{encode, encode_within, simulate, simulate_within};
 
@@ -44,5 +51,7 @@ pub use scripts::{encode, encode_within, simulate, simulate_within};
 mod audit_tests;
 #[cfg(test)]
 mod script_tests;
+#[cfg(test)]
+mod stop_tests;
 #[cfg(test)]
 mod tests;

@@ -6,7 +6,7 @@ ghost use Rattle.rds_log.specs.declared.log_line.LogLine.{LogLine};
 ghost use Rattle.rds_log.specs.LogLines.{content_length};
 ghost use Rattle.rds_log.specs.LineSays.{Carry, HasDashes, IsBad, IsBlock, IsLaidOut, IsSkipped, LineSays, SaysSlot, word_of};
 
-use crate::hexadecimal::word_at;
+use crate::hexadecimal::{four_words, word_at};
 use rds_block::Group;
 
 /// How many bytes the four blocks of a slot line and the spaces between them take.
@@ -46,14 +46,16 @@ impl Block {
 }
 
 /// What the line says, from its first bytes; `None` for a bad line.
+#[inline(always)]
 pub fn said_by(line: &[u8]) -> Option<LogLine>
     ensures some { IfSome result (LineSays line.now) }
     ensures none { IfNone result (IsBad line.now) }
 {
-    if is_skipped(line) {
+    let length = content_length(line);
+    if is_skipped(line, length) {
         return Some(LogLine::Skip);
     }
-    if !is_laid_out(line) {
+    if !is_laid_out(line, length) {
         return None;
     }
     let slot = slot_of(line)?;
@@ -72,16 +74,19 @@ fn content_length(line: &[u8]) -> usize
     }
 }
 
-fn is_skipped(line: &[u8]) -> bool
+#[inline(always)]
+fn is_skipped(line: &[u8], length: usize) -> bool
+    requires { length ≡ content_length line.now }
     ensures { IsTrue result ↔ IsSkipped line.now }
 {
-    content_length(line) == 0 || line[0] == b'<' || line[0] == b'#' || line[0] == b'%'
+    length == 0 || line[0] == b'<' || line[0] == b'#' || line[0] == b'%'
 }
 
-fn is_laid_out(line: &[u8]) -> bool
+#[inline(always)]
+fn is_laid_out(line: &[u8], length: usize) -> bool
+    requires { length ≡ content_length line.now }
     ensures { IsTrue result ↔ IsLaidOut line.now }
 {
-    let length = content_length(line);
     length >= BLOCKS
         && line[4] == b' '
         && line[9] == b' '
@@ -90,11 +95,28 @@ fn is_laid_out(line: &[u8]) -> bool
 }
 
 /// What the four blocks of the line carry; `None` where one of them is no block.
+#[inline(always)]
 fn slot_of(line: &[u8]) -> Option<Option<Group>>
     requires { 19 ≤ length line.now }
     ensures some { IfSome result (SaysSlot line.now) }
     ensures none { IfNone result ((slot : Option Group) → SaysSlot line.now slot → ⊥) }
 {
+    if let Some(words) = four_words(line) {
+        return Some(Some(Group::from_blocks(words)));
+    }
+    slot_of_blocks(line)
+}
+
+/// The same, block by block, where not all four are words. It stands apart so that most lines pay nothing for it.
+#[inline(never)]
+fn slot_of_blocks(line: &[u8]) -> Option<Option<Group>>
+    requires { 19 ≤ length line.now }
+    ensures some { IfSome result (SaysSlot line.now) }
+    ensures none { IfNone result ((slot : Option Group) → SaysSlot line.now slot → ⊥) }
+{
+    if is_missing(line, 0) && is_missing(line, 5) && is_missing(line, 10) && is_missing(line, 15) {
+        return Some(None);
+    }
     let first = block_at(line, 0)?;
     let second = block_at(line, 5)?;
     let third = block_at(line, 10)?;
@@ -103,6 +125,7 @@ fn slot_of(line: &[u8]) -> Option<Option<Group>>
 }
 
 /// The group that the blocks carry; `None` where one of them is missing.
+#[inline(always)]
 fn carried(first: Block, second: Block, third: Block, fourth: Block) -> Option<Group>
     ensures { Carry first second third fourth result }
 {
@@ -111,6 +134,7 @@ fn carried(first: Block, second: Block, third: Block, fourth: Block) -> Option<G
 }
 
 /// The block from the place on; `None` where there is none.
+#[inline(always)]
 fn block_at(line: &[u8], place: usize) -> Option<Block>
     requires { place + 4 ≤ length line.now }
     ensures some { IfSome result (IsBlock line.now place) }
@@ -125,12 +149,17 @@ fn block_at(line: &[u8], place: usize) -> Option<Block>
     None
 }
 
+/// Whether four dashes stand from the place on, compared as one number.
+#[inline(always)]
 fn is_missing(line: &[u8], place: usize) -> bool
     requires { place + 4 ≤ length line.now }
     ensures { IsTrue result ↔ HasDashes line.now place }
 {
-    line[place] == b'-'
-        && line[place + 1] == b'-'
-        && line[place + 2] == b'-'
-        && line[place + 3] == b'-'
+    let block = [
+        line[place],
+        line[place + 1],
+        line[place + 2],
+        line[place + 3],
+    ];
+    u32::from_le_bytes(block) == u32::from_le_bytes(*b"----")
 }

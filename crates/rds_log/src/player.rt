@@ -8,7 +8,7 @@ ghost use Rattle.rds_world.specs.Replies.{CanBeTaken};
 ghost use Rattle.rds_world.specs.Standing.{IsViewOfInput, StandsAt, WhereItStands};
 ghost use Rattle.rds_log.specs.Kept.{view_kept};
 ghost use Rattle.rds_log.specs.Outcomes.{receiver_changes, view_at};
-ghost use Rattle.rds_log.specs.Playing.{AreKept};
+ghost use Rattle.rds_log.specs.Playing.{AreKept, WereShown};
 ghost use Rattle.rds_log.specs.Rows.{IsAllowed, Record, SaysEvent};
 ghost use Rattle.rds_log.specs.declared.player.RowRefused.TheVariants as refused;
 ghost use Rattle.rds_log.specs.declared.form.Form.{Form};
@@ -153,7 +153,7 @@ impl Player {
         let Ok(answer) = world.step(event) else {
             return false;
         };
-        push_answer(self.form, self.slot, event.command, answer, lines);
+        push_answer(self.form, self.slot, &event.command, answer, lines);
         push_views(self.slot, world, self.shown.as_mut_slice(), lines);
         self.slot += 1;
         true
@@ -186,7 +186,8 @@ fn nothing_shown(receivers: usize) -> ArrayVec<KeptView, RECEIVERS>
     shown
 }
 
-/// Appends what changed at each receiver, and keeps what it shows now.
+/// Appends what changed at each receiver, and keeps what it shows now. Where a receiver shows what it showed in the
+/// slot before, nothing of it is looked at.
 fn push_views(slot: u64, world: &World, shown: &mut [KeptView], lines: &mut RowLines)
     requires few { length shown.old ≤ 8 }
     requires room { length lines.old ≤ 192 }
@@ -194,19 +195,19 @@ fn push_views(slot: u64, world: &World, shown: &mut [KeptView], lines: &mut RowL
         → lines.new ≡ lines.old ++ receiver_changes slot (length shown.old)
         (map view_kept shown.old) (map view_kept shown.new) }
     ensures views { length shown.old ≡ length world.now.receivers
-        → WhereItStands world.now (λ station m k events. (i : ℕ) → i < length shown.old
+        → WhereItStands world.now (λ station m k events.
+        WereShown station m (m + k) (length shown.old) events (map view_kept shown.old)
+        → (i : ℕ) → i < length shown.old
         → IsViewOfInput station m (input_of (m + k) i events) (view_at (map view_kept shown.new) i)) }
     ensures count { length shown.new ≡ length shown.old }
 {
     for i in 0..shown.len() {
+        if world.stays(i) {
+            continue;
+        }
         let Some(receiver) = world.receiver(i) else {
             return;
         };
-        show(
-            Stamp::Receiver(slot, i),
-            &mut shown[i],
-            receiver.view(),
-            lines,
-        );
+        show(Stamp::Receiver(slot, i), &mut shown[i], receiver, lines);
     }
 }

@@ -244,9 +244,13 @@ fn digits_in_front(text: &[u8]) -> usize
     ensures digits { (k : ℕ) → k < result → IsAsciiDigit (slice_index text.now k) }
     ensures ends { result < length text.now → IsNotAsciiDigit (slice_index text.now result) }
 {
-    text.iter()
-        .position(|byte| !byte.is_ascii_digit())
-        .unwrap_or(text.len())
+    match text.first() {
+        Some(byte) if byte.is_ascii_digit() => text
+            .iter()
+            .position(|byte| !byte.is_ascii_digit())
+            .unwrap_or(text.len()),
+        _ => 0,
+    }
 }
 
 /// What a letter says with the digits after it.

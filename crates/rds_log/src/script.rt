@@ -1,22 +1,24 @@
 //! The records of a script.
 ghost use Rattle.std.specs.Prelude.{◌≡◌, ◌∷◌, [], ℕ, List, IfErr, IfOk, MatchBool, Option};
 ghost use Rattle.csv.specs.Records.{fields_of};
+ghost use Rattle.rds_log.specs.Failing.{SomeReadFailed};
 ghost use Rattle.rds_log.specs.Playing.{IsReadFault, ScriptStandsAt};
 ghost use Rattle.rds_log.specs.Rows.{Record};
 ghost use Rattle.rds_log.specs.Scripts.{HasAllRecords};
 
 use crate::LogFault;
-use csv::{ByteRecord, ErrorKind, Reader, ReaderBuilder};
+use crate::asked::Asked;
+use csv::{ByteRecord, Reader, ReaderBuilder};
+use rds_charset::TellingRead;
 use std::alloc::Global;
-use std::io::Read;
 
 /// A script, read record by record: fields between commas, in quotes or not, no header row, any number of fields.
 #[derive(Drop)]
-pub struct Script<R> {
-    reader: Reader<R>,
+pub struct Script<R: TellingRead> {
+    reader: Reader<Asked<R>>,
 }
 
-impl<R: Read> Script<R> {
+impl<R: TellingRead> Script<R> {
     /// Before its first record.
     pub fn new(alloc: Global, reader: R) -> Script<R>
         ensures { ScriptStandsAt R.remaining (R.remaining reader) result [] }
@@ -25,7 +27,7 @@ impl<R: Read> Script<R> {
             reader: ReaderBuilder::new()
                 .has_headers(false)
                 .flexible(true)
-                .from_reader(alloc, reader),
+                .from_reader(alloc, Asked::new(reader)),
         }
     }
 
@@ -33,21 +35,19 @@ impl<R: Read> Script<R> {
     ///
     /// # Errors
     ///
-    /// `Memory` where the record found no room, else `Read`.
+    /// `Read` where a read of the reader failed, else `Memory`.
     pub fn next(&mut self, row: &mut ByteRecord) -> Result<bool, LogFault>
         ensures found { (known : Option (List ℕ)) (records : List Record)
             → ScriptStandsAt R.remaining known self.old records
             → IfOk result (λ found. MatchBool found
             (ScriptStandsAt R.remaining known self.new (fields_of row.new ∷ records))
             (HasAllRecords known records)) }
-        ensures fault { IfErr result IsReadFault }
+        ensures fault { IfErr result (IsReadFault (SomeReadFailed R.failures)) }
     {
         match self.reader.read_byte_record(row) {
             Ok(found) => Ok(found),
-            Err(error) => match error.kind() {
-                ErrorKind::OutOfMemory => Err(LogFault::Memory),
-                _ => Err(LogFault::Read),
-            },
+            Err(_) if self.reader.get_ref().failed() => Err(LogFault::Read),
+            Err(_) => Err(LogFault::Memory),
         }
     }
 }

@@ -1,6 +1,7 @@
-//! Scripts that are played: each row is a slot of a station, and its output goes out before the next row is read.
+//! Scripts that are played: each row is a slot of a station, and its output goes out before the next row is taken.
 ghost use Rattle.std.specs.Prelude.{◌≤◌, ◌^◌};
 ghost use Rattle.rds_charset.specs.Told.{traffic};
+ghost use Rattle.rds_log.specs.Failing.{SomeReadFailed};
 ghost use Rattle.rds_log.specs.Scripts.{Plays};
 ghost use Rattle.rds_log.specs.declared.form.Form.TheVariants as forms;
 
@@ -19,12 +20,12 @@ const MOST_RECORDS: u64 = 1 << 32;
 /// Plays a script with a station and up to eight receivers, and writes for each slot the reply to its command, the
 /// group that is sent, and what changes at each receiver.
 ///
-/// The lines of a slot go out in one write where the writer takes it whole, and before the next record is read.
+/// The lines of a slot go out in one write where the writer takes it whole, and before the next record is taken.
 ///
 /// # Errors
 ///
 /// The first fault: a record that is no row, a read or a write that failed, no memory for the world or for a record,
-/// or 2^32 records without an end.
+/// or 2^32 records, whether or not the script ends there.
 pub fn simulate<R: TellingRead + Drop, W: TellingWrite>(
     alloc: Global,
     reader: R,
@@ -32,7 +33,7 @@ pub fn simulate<R: TellingRead + Drop, W: TellingWrite>(
     config: Config,
 ) -> Result<(), LogFault>
     ensures { Plays forms.Simulation config.head config.dwell config.late (2 ^ 32) (R.remaining reader)
-        (traffic W.contents W.failures writer.old writer.new) result }
+        (SomeReadFailed R.failures) (traffic W.contents W.failures writer.old writer.new) result }
 {
     simulate_within(alloc, reader, writer, config, MOST_RECORDS)
 }
@@ -47,7 +48,7 @@ pub fn simulate_within<R: TellingRead + Drop, W: TellingWrite>(
 ) -> Result<(), LogFault>
     requires { records ≤ 2 ^ 32 }
     ensures { Plays forms.Simulation config.head config.dwell config.late records (R.remaining reader)
-        (traffic W.contents W.failures writer.old writer.new) result }
+        (SomeReadFailed R.failures) (traffic W.contents W.failures writer.old writer.new) result }
 {
     play(Form::Simulation, alloc, reader, writer, config, records)
 }
@@ -65,7 +66,7 @@ pub fn encode<R: TellingRead + Drop, W: TellingWrite>(
     config: Config,
 ) -> Result<(), LogFault>
     ensures { Plays forms.Log config.head config.dwell config.late (2 ^ 32) (R.remaining reader)
-        (traffic W.contents W.failures writer.old writer.new) result }
+        (SomeReadFailed R.failures) (traffic W.contents W.failures writer.old writer.new) result }
 {
     encode_within(alloc, reader, writer, config, MOST_RECORDS)
 }
@@ -80,7 +81,7 @@ pub fn encode_within<R: TellingRead + Drop, W: TellingWrite>(
 ) -> Result<(), LogFault>
     requires { records ≤ 2 ^ 32 }
     ensures { Plays forms.Log config.head config.dwell config.late records (R.remaining reader)
-        (traffic W.contents W.failures writer.old writer.new) result }
+        (SomeReadFailed R.failures) (traffic W.contents W.failures writer.old writer.new) result }
 {
     play(Form::Log, alloc, reader, writer, config, records)
 }
@@ -96,7 +97,7 @@ fn play<R: TellingRead + Drop, W: TellingWrite>(
 ) -> Result<(), LogFault>
     requires { records ≤ 2 ^ 32 }
     ensures { Plays form config.head config.dwell config.late records (R.remaining reader)
-        (traffic W.contents W.failures writer.old writer.new) result }
+        (SomeReadFailed R.failures) (traffic W.contents W.failures writer.old writer.new) result }
 {
     let mut script = Script::new(alloc, reader);
     let mut row = ByteRecord::new(alloc);

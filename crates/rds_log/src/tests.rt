@@ -1,7 +1,10 @@
 //! Logs and their output, and readers and writers that are slow, or fail.
 
 use crate::engine::decode_within;
-use crate::{LogFault, bytes_write_one_output, decode, rows_write_one_output};
+use crate::{
+    LogFault, bytes_have_one_verdict, bytes_write_one_output, decode, rows_write_one_output,
+    script_writes_one_output,
+};
 use rds_charset::{TellingRead, Told};
 use rds_fields::Dwell;
 use std::alloc::Global;
@@ -453,5 +456,7 @@ fn reader_fails(rt: HostRuntime) -> Result<(), Fail> {
 #[test]
 fn one_output() {
     bytes_write_one_output();
+    bytes_have_one_verdict();
     rows_write_one_output();
+    script_writes_one_output();
 }

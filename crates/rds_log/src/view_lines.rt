@@ -7,7 +7,7 @@ use crate::kept::KeptView;
 use crate::lines::Lines;
 use rds_block::Group;
 use rds_fields::Dwell;
-use rds_receiver::{Receiver, View};
+use rds_receiver::Receiver;
 
 /// Feeds a receiver slot by slot, and gives a line for each part of its view that changed.
 #[derive(Drop)]
@@ -34,6 +34,7 @@ impl ViewLines {
     }
 
     /// Handles what one slot brought, and appends the line of each changed part.
+    #[inline(always)]
     pub fn slot<const N: usize>(&mut self, group: Option<Group>, lines: &mut Lines<N>)
         requires slots { self.old.slot < 2 ^ 64 - 1 }
         requires room { length lines.old + 1720 ≤ N }
@@ -48,28 +49,36 @@ impl ViewLines {
         show(
             Stamp::Slot(self.slot),
             &mut self.shown,
-            self.receiver.view(),
+            &self.receiver,
             lines,
         );
         self.slot += 1;
     }
 }
 
-ghost use Rattle.rds_receiver.specs.Lent.{view_lent};
+ghost use Rattle.rds_receiver.specs.Shown.{IsView};
+ghost use Rattle.rds_receiver.specs.Standing.{WhereItStands};
 ghost use Rattle.rds_log.specs.Kept.{view_kept};
 ghost use Rattle.rds_log.specs.Output.{change};
 ghost use Rattle.rds_log.specs.Parts.{stamp_of};
 
-/// Appends the line of each part that differs from what was shown, and keeps what is shown now.
+/// Appends the line of each part that differs from what was shown, and keeps what the receiver shows now.
 ///
 /// Few slots come here. It stands apart so that the others pay nothing for its copies.
 #[inline(never)]
-pub fn show<const N: usize>(stamp: Stamp, shown: &mut KeptView, now: View<'_>, lines: &mut Lines<N>)
+pub fn show<const N: usize>(
+    stamp: Stamp,
+    shown: &mut KeptView,
+    receiver: &Receiver,
+    lines: &mut Lines<N>,
+)
     requires { length lines.old + 1720 ≤ N }
-    ensures changes { lines.new ≡ lines.old ++ change (stamp_of stamp) (view_kept shown.old) (view_lent now.entry) }
-    ensures kept { view_kept shown.new ≡ view_lent now.entry }
+    ensures changes { lines.new
+        ≡ lines.old ++ change (stamp_of stamp) (view_kept shown.old) (view_kept shown.new) }
+    ensures shows { WhereItStands receiver.now (λ t input. IsView t input (view_kept shown.new)) }
     ensures room { length lines.new ≤ length lines.old + 1720 }
 {
+    let now = receiver.view();
     push_changes(stamp, shown.lent(), now, lines);
     *shown = KeptView::of(now);
 }

@@ -1,4 +1,4 @@
-use Rattle.rds_log.proofs.OneOutput.{same_output, same_said}
+use Rattle.rds_log.proofs.OneOutput.{alike, same_output, same_said}
 use Rattle.rds_log.proofs.laws.bytes_write_one_output.Goals as goal
 
 pub returns-clause-one_said : goal.returns-clause-one_said
@@ -6,3 +6,6 @@ returns-clause-one_said c line said other p q = same_said line said other p q
 
 pub returns-clause-one_output : goal.returns-clause-one_output
 returns-clause-one_output c t text written other p q = same_output t text written other p q
+
+pub returns-clause-alike : goal.returns-clause-alike
+returns-clause-alike c t text r w q v given same a b = alike t text r w q v given same a b

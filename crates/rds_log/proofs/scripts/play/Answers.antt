@@ -3,6 +3,7 @@ use Rattle.std.proofs.lemmas.Result.{err_from_is_err_and}
 use Rattle.csv.proofs.ReadFacts.{on-ok}
 use Rattle.csv.specs.Records.{fields_of}
 use Rattle.rds_charset.specs.Told.{traffic}
+use Rattle.rds_log.specs.Failing.{SomeReadFailed}
 use Rattle.rds_log.proofs.Plays.{ends_by_read, ends_by_row, ends_by_write, played_on, wrote_rows}
 use Rattle.rds_log.proofs.scripts.play.Goals as goal
 
@@ -10,27 +11,29 @@ pub returns-in_err-next : goal.returns-in_err-next
 returns-in_err-next g c =
     let (records, stands, count, played) = c.loop-turn.invariant.played in
     let p = err_from_is_err_and c.from_residual.result c.from_residual.ensures.1 in
-    rw (p.1, p.2) (ends_by_read g.R.Read.remaining c.args.form c.args.config.head c.args.config.dwell c.args.config.late c.args.records (g.R.Read.remaining c.args.reader) (traffic g.W.Write.contents g.W.TellingWrite.failures c.args.writer.now c.loop-turn.writer)
-    c.loop-turn.script c.loop-turn.player records c.in_err-next.field-0.0 stands played c.in_err-next.ensures.fault)
+    rw (p.1, p.2) (ends_by_read g.R.Read.remaining c.args.form c.args.config.head c.args.config.dwell c.args.config.late c.args.records (g.R.Read.remaining c.args.reader) (SomeReadFailed g.R.TellingRead.failures) (traffic g.W.Write.contents g.W.TellingWrite.failures c.args.writer.now c.loop-turn.writer)
+    c.loop-turn.script c.loop-turn.player records c.in_err-next.field-0.0 stands played (omega (arith, count, c.loop-turn-test.true)) c.in_err-next.ensures.fault)
 
 pub returns-then-not-branch : goal.returns-then-not-branch
 returns-then-not-branch g c =
     let (records, stands, count, played) = c.loop-turn.invariant.played in
-    let none : c.in_ok-next.field-0 ≡ false = search rules in (
-      records,
-      rw none at (c.in_ok-next.ensures.found (g.R.Read.remaining c.args.reader) records stands),
-      wrote_rows g.R.Read.remaining c.args.form c.args.config.head c.args.config.dwell c.args.config.late (g.R.Read.remaining c.args.reader) (traffic g.W.Write.contents g.W.TellingWrite.failures c.args.writer.now c.loop-turn.writer)
-          c.loop-turn.script c.loop-turn.player records stands played,
-    )
+    let none : c.in_ok-next.field-0 ≡ false = search rules in
+    record {
+      records = records;
+      all = rw none at (c.in_ok-next.ensures.found (g.R.Read.remaining c.args.reader) records stands);
+      fewer = omega (arith, count, c.loop-turn-test.true);
+      wrote = wrote_rows g.R.Read.remaining c.args.form c.args.config.head c.args.config.dwell c.args.config.late (g.R.Read.remaining c.args.reader) (traffic g.W.Write.contents g.W.TellingWrite.failures c.args.writer.now c.loop-turn.writer)
+          c.loop-turn.script c.loop-turn.player records stands played;
+    }
 
 pub returns-in-Err-NoRow : goal.returns-in-Err-NoRow
 returns-in-Err-NoRow g c =
     let (records, stands, count, played) = c.loop-turn.invariant.played in
     let some : c.in_ok-next.field-0 ≡ true = search rules in
     let after = rw some at (c.in_ok-next.ensures.found (g.R.Read.remaining c.args.reader) records stands) in
-    ends_by_row g.R.Read.remaining c.args.form c.args.config.head c.args.config.dwell c.args.config.late c.args.records (g.R.Read.remaining c.args.reader) (traffic g.W.Write.contents g.W.TellingWrite.failures c.args.writer.now c.loop-turn.writer)
+    ends_by_row g.R.Read.remaining c.args.form c.args.config.head c.args.config.dwell c.args.config.late c.args.records (g.R.Read.remaining c.args.reader) (SomeReadFailed g.R.TellingRead.failures) (traffic g.W.Write.contents g.W.TellingWrite.failures c.args.writer.now c.loop-turn.writer)
     c.loop-turn.script c.next.new.self c.loop-turn.player (fields_of c.next.new.row) records c.loop-turn.turn stands after played
-    (rw c.in-Err-NoRow.field-0-is at (c.in-Err-NoRow.ensures.refused c.args.form c.args.config.head c.args.config.dwell c.args.config.late played.receivers records played.written played.player)) count
+    (rw c.in-Err-NoRow.field-0-is at (c.in-Err-NoRow.ensures.refused c.args.form c.args.config.head c.args.config.dwell c.args.config.late played.receivers records played.written played.player)) count c.loop-turn-test.true
 
 pub returns-in-Err-Memory : goal.returns-in-Err-Memory
 returns-in-Err-Memory g c =
@@ -38,6 +41,7 @@ returns-in-Err-Memory g c =
       records,
       wrote_rows g.R.Read.remaining c.args.form c.args.config.head c.args.config.dwell c.args.config.late (g.R.Read.remaining c.args.reader) (traffic g.W.Write.contents g.W.TellingWrite.failures c.args.writer.now c.loop-turn.writer)
           c.loop-turn.script c.loop-turn.player records stands played,
+      omega (arith, count, c.loop-turn-test.true),
     )
 
 pub returns-in_err-put : goal.returns-in_err-put
@@ -47,10 +51,10 @@ returns-in_err-put g c =
     let after = rw some at (c.in_ok-next.ensures.found (g.R.Read.remaining c.args.reader) records stands) in
     let plays = on-ok c.row-in-loop-turn.result (search rules) (c.row-in-loop-turn.ensures.stands c.args.form c.args.config.head c.args.config.dwell c.args.config.late played.receivers records played.written played.player) in
     let p = err_from_is_err_and c.from_residual-in_err-put.result c.from_residual-in_err-put.ensures.1 in
-    rw (p.1, p.2) (ends_by_write g.R.Read.remaining c.args.form c.args.config.head c.args.config.dwell c.args.config.late c.args.records (g.R.Read.remaining c.args.reader) c.next.new.self c.row-in-loop-turn.new.self
+    rw (p.1, p.2) (ends_by_write g.R.Read.remaining c.args.form c.args.config.head c.args.config.dwell c.args.config.late c.args.records (g.R.Read.remaining c.args.reader) (SomeReadFailed g.R.TellingRead.failures) c.next.new.self c.row-in-loop-turn.new.self
     (fields_of c.next.new.row ∷ records) (g.W.Write.contents c.args.writer.now) (g.W.Write.contents c.loop-turn.writer) (g.W.Write.contents c.put.new.writer)
     (g.W.TellingWrite.failures c.args.writer.now) (g.W.TellingWrite.failures c.loop-turn.writer) (g.W.TellingWrite.failures c.put.new.writer) played.written c.row-in-loop-turn.new.lines
-    after plays played.wrote played.calm (rw c.bytes.ensures at c.in_err-put.ensures.0) c.in_err-put.ensures.1)
+    after (omega (arith, count, c.loop-turn-test.true)) plays played.wrote played.calm (rw c.bytes.ensures at c.in_err-put.ensures.0) c.in_err-put.ensures.1)
 
 pub loop-turn-preserved : goal.loop-turn-preserved
 loop-turn-preserved g c =

@@ -1,12 +1,14 @@
 use Rattle.std.proofs.Common.{◌≡◌, ◌∙◌, ◌∷◌, ◌+◌, ℕ, List, Option, Some, add-one, ap, arith, drop, length, map, rules, subst, sym}
 use Rattle.std.proofs.lemmas.List.{length-map, take_at}
 use Rattle.rds_world.specs.Event.{Event}
+use Rattle.rds_world.specs.Slots.{input_of}
+use Rattle.rds_world.specs.Standing.{IsViewOfInput}
 use Rattle.rds_world.specs.State.{WorldState}
 use Rattle.rds_log.specs.Kept.{view_kept}
 use Rattle.rds_log.specs.Outcomes.{view_at}
-use Rattle.rds_log.specs.Playing.{HasWorld}
+use Rattle.rds_log.specs.Playing.{HasWorld, WereShown}
 use Rattle.rds_log.specs.declared.kept.KeptView.{KeptView}
-use Rattle.rds_log.proofs.Playing.{slot_written}
+use Rattle.rds_log.proofs.Playing.{shown_now, slot_written}
 use Rattle.rds_log.proofs.player.Player.event.Goals as goal
 
 pub returns-clause-stands : goal.returns-clause-stands
@@ -22,6 +24,8 @@ returns-clause-stands c form station m k receivers records written s t row says 
     let lent = c.as_mut_slice.ensures.value in
     let kept : length c.push_views.new.shown ≡ length c.args.self.now.shown.items = c.push_views.ensures.count ∙ ap length lent in
     let shown : length views ≡ length c.args.self.now.shown.items = length-map c.push_views.new.shown view_kept ∙ kept in
+    let were : WereShown station m (m + k) (length c.args.self.now.shown.items) (c.args.event.now ∷ s.events) (map view_kept c.args.self.now.shown.items) =
+    λ i within. subst (IsViewOfInput station m (input_of (m + k) i s.events)) (sym (s.shown i)) (shown_now station m k receivers records s.events s.outcomes s.rows s.are i (omega (arith, within, s.kept))) in
     let back = take_at c.push_views.new.shown (drop (length c.push_views.new.shown) c.args.self.now.shown.items) (length c.args.self.now.shown.items) kept in
     record {
       form_is = s.form_is;
@@ -39,7 +43,7 @@ returns-clause-stands c form station m k receivers records written s t row says 
           reply = c.in-Ok.ensures.reply station m k s.events had.0;
           sent = c.in-Ok.ensures.sent station m k s.events had.0;
           receivers = shown ∙ s.kept ∙ sym had.1 ∙ sym joined;
-          views = λ i within. c.push_views.ensures.views (ap length lent ∙ as_many) station m k (c.args.event.now ∷ s.events) world i (omega (arith, within, shown, ap length lent));
+          views = λ i within. c.push_views.ensures.views (ap length lent ∙ as_many) station m k (c.args.event.now ∷ s.events) world (rw lent were) i (omega (arith, within, shown, ap length lent));
         },
         s.are,
       );

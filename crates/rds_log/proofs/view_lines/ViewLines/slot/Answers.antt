@@ -1,5 +1,5 @@
 use Rattle.std.proofs.Common.{◌∷◌, refl}
-use Rattle.rds_receiver.specs.Lent.{view_lent}
+use Rattle.rds_log.specs.Kept.{view_kept}
 use Rattle.rds_log.proofs.Views.{slot_given, slot_same}
 use Rattle.rds_log.proofs.view_lines.ViewLines.slot.Goals as goal
 
@@ -11,5 +11,5 @@ returns-then-not-slot-clause-change g c t slots written s =
 pub returns-clause-change : goal.returns-clause-change
 returns-clause-change g c t slots written s =
     let receiver = c.slot.ensures.stands t slots s.receiver in
-    slot_given t c.args.self.now _ slots written c.args.lines.now c.show.new.lines c.args.group (view_lent c.view.result) s
-    receiver (c.view.ensures t (c.args.group ∷ slots) receiver) refl c.show.ensures.kept c.show.ensures.changes
+    slot_given t c.args.self.now _ slots written c.args.lines.now c.show.new.lines c.args.group (view_kept c.show.new.shown) s
+    receiver (c.show.ensures.shows t (c.args.group ∷ slots) receiver) refl refl c.show.ensures.changes

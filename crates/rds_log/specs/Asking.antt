@@ -1,0 +1,15 @@
+-- A reader that remembers whether a read of it failed.
+use Rattle.std.specs.Prelude.{ℕ, Bool, List, Option}
+use Rattle.rds_log.specs.declared.asked.Asked.{Asked}
+
+-- the reader that is asked
+abbrev pub inner_of : {R : Type 0} {g h : _} → Asked R g h → R
+inner_of asked = asked.inner
+
+-- its bytes
+abbrev pub bytes_of : {R : Type 0} {g h : _} → (R → Option (List ℕ)) → Asked R g h → Option (List ℕ)
+bytes_of remaining asked = remaining (inner_of asked)
+
+-- whether a read of it failed
+abbrev pub has_failed : {R : Type 0} {g h : _} → Asked R g h → Bool
+has_failed asked = asked.failed

@@ -1,0 +1,54 @@
+//! A reader that remembers whether a read of it failed.
+ghost use Rattle.std.specs.Prelude.{◌≡◌, true};
+ghost use Rattle.rds_log.specs.Failing.{SomeReadFailed};
+
+use rds_charset::TellingRead;
+use std::io::{self, ErrorKind, Read};
+
+/// Asks a reader by its counted reads, and remembers whether one of them failed.
+#[derive(Drop)]
+pub struct Asked<R: TellingRead> {
+    inner: R,
+    failed: bool,
+    ghost told: { failed ≡ true → SomeReadFailed R.failures },
+}
+
+impl<R: TellingRead> Asked<R> {
+    ghost use Rattle.std.specs.Prelude.{false};
+    ghost use Rattle.rds_log.specs.Asking.{has_failed, inner_of};
+
+    /// A reader of which no read failed yet.
+    pub fn new(inner: R) -> Asked<R>
+        ensures inner { inner_of result ≡ inner }
+        ensures calm { has_failed result ≡ false }
+    {
+        Asked {
+            inner,
+            failed: false,
+        }
+    }
+
+    /// Whether a read failed.
+    pub fn failed(&self) -> bool
+        ensures is { result ≡ has_failed self.now }
+        ensures told { result ≡ true → SomeReadFailed R.failures }
+    {
+        self.failed
+    }
+}
+
+impl<R: TellingRead> Read for Asked<R> {
+    ghost use Rattle.rds_log.specs.Asking.{inner_of};
+
+    ghost remaining = { λ asked. R.remaining (inner_of asked) };
+
+    fn read(&mut self, buf: &mut [u8]) -> io::Result<usize> {
+        match self.inner.read_one(buf) {
+            Some(count) => Ok(count),
+            None => {
+                self.failed = true;
+                Err(io::Error::from(ErrorKind::Other))
+            }
+        }
+    }
+}
