@@ -1,4 +1,1 @@
-pub mod Asks
-pub mod CommandLine
-pub mod Examples
-pub mod Run
+pub mod Gathered

@@ -1,35 +1,40 @@
 //! `rdsrt`: texts of RDS, sent and received. `decode` reads what a receiver heard, and prints what it shows.
 //!
-//! The program is `run` over its words, a reader and a writer: its contract says which output each input
-//! has. `main` gives it the words of the command line, standard input and standard output.
+//! The program is `rds_run`: its contract says which output each input has. `main` gives it the words of the command
+//! line, standard input and standard output, whose writes are gathered: one before each read, and one at the end.
 //!
 //! ```text
 //! rdsrt decode --pi C201
 //! ```
 #![tactic(auto)]
 
-#[cfg(test)]
-mod audit_tests;
-mod command_line;
-mod laws;
-mod request;
-mod run;
-#[cfg(test)]
-mod tests;
+mod gather;
 
+ghost use Rattle.std.specs.Prelude.{◌≡◌, ◌⊎◌, IfOk, false, map, string_bytes, true};
+ghost use Rattle.rds_words.specs.CommandLine.{AreRefused, AskForHelp};
+
+use gather::{Flushing, Gathered, Gathering, send};
 use rds_charset::{Told, put};
-use run::run;
-use std::alloc::AllocError;
+use rds_run::run_lent;
+use std::alloc::{AllocError, Global};
+use std::cell::RefCell;
 use std::env;
-use std::io::{self, ErrorKind};
+use std::io::{self, ErrorKind, Read, Write};
 use std::process::ExitCode;
+
+/// The status where not all of the output could be written.
+const FAULT: u8 = 1;
 
 /// The words of the command line, the program's own name first.
 fn words_of(rt: &HostRuntime) -> io::Result<Vec<String>> {
     Ok(env::args(rt)?.collect(rt.alloc())?)
 }
 
-fn pieces<'a>(rt: &HostRuntime, words: &'a [String]) -> Result<Vec<&'a str>, AllocError> {
+/// The texts of the words, each as it is and in their order.
+fn pieces<'a>(rt: &HostRuntime, words: &'a [String]) -> Result<Vec<&'a str>, AllocError>
+    ensures { IfOk result
+        (λ pieces. map (λ p. p.now) pieces.items ≡ map string_bytes words.entry.now) }
+{
     let mut pieces = Vec::new(rt.alloc());
     for word in words {
         pieces.push(word.as_str())?;
@@ -46,6 +51,35 @@ fn no_words(rt: &HostRuntime, memory: bool) -> ExitCode {
     ExitCode::from(1)
 }
 
+/// The status of the program over its words, a reader and a writer. What it writes is gathered until it reads again,
+/// and the rest is written at the end. Help ends with 0 and a refusal of the words with 2, or either with 1.
+fn status_of<R: Read + Drop, W: Write + Drop>(
+    alloc: Global,
+    words: &[&str],
+    reader: R,
+    writer: W,
+) -> u8
+    ensures help { AskForHelp (map (λ w. w.now) words.entry.now) → (result ≡ 0) ⊎ (result ≡ 1) }
+    ensures refused { AreRefused (map (λ w. w.now) words.entry.now) → (result ≡ 2) ⊎ (result ≡ 1) }
+{
+    let gathered = RefCell::new(Gathered::new(writer));
+    let mut reader = Told::new(Flushing::new(reader, &gathered));
+    let mut writer = Gathering::new(&gathered);
+    let status = run_lent(alloc, words, &mut reader, &mut writer);
+    let all_out = send(&gathered).is_ok();
+    status_at_end(status, reader.reads() > 0, all_out)
+}
+
+/// The status where all is out is the one that was found. Where it isn't, that is a fault if anything was read: help
+/// and why the words are refused need not be out.
+fn status_at_end(status: u8, was_read: bool, all_out: bool) -> u8
+    ensures out { all_out ≡ true → result ≡ status }
+    ensures words_alone { was_read ≡ false → result ≡ status }
+    ensures fault { was_read ≡ true → all_out ≡ false → result ≡ 1 }
+{
+    if was_read && !all_out { FAULT } else { status }
+}
+
 fn main(rt: HostRuntime) -> ExitCode {
     let words = match words_of(&rt) {
         Ok(words) => words,
@@ -54,7 +88,5 @@ fn main(rt: HostRuntime) -> ExitCode {
     let Ok(words) = pieces(&rt, words.as_slice()) else {
         return no_words(&rt, true);
     };
-    let reader = Told::new(rt.stdin());
-    let mut writer = Told::new(rt.stdout());
-    ExitCode::from(run(rt.alloc(), words.as_slice(), reader, &mut writer))
+    ExitCode::from(status_of(rt.alloc(), words.as_slice(), rt.stdin(), rt.stdout()))
 }

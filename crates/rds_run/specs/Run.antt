@@ -1,0 +1,121 @@
+-- What the whole program does with its words. This is the project's own command line.
+-- r is what a call did to the reader, w what it did to the writer.
+use Rattle.std.specs.Prelude.{◌≡◌, ◌+◌, ◌^◌, ◌++◌, ℕ, Bool, List, [], codes, decimal, length, Option, Ok, Err, Result, if◌then◌else◌}
+use Rattle.rds_charset.specs.Puts.{Puts}
+use Rattle.rds_charset.specs.Told.{PutsNothing, Traffic}
+use Rattle.rds_charset.specs.declared.output.WriteFault.{WriteFault}
+use Rattle.rds_fields.specs.declared.head.Head.{Head}
+use Rattle.rds_log.specs.Auditing.{Audits}
+use Rattle.rds_log.specs.Decoding.{tuned}
+use Rattle.rds_log.specs.Digits.{HasWord}
+use Rattle.rds_log.specs.Engine.{Decodes}
+use Rattle.rds_log.specs.Scripts.{Plays}
+use Rattle.rds_log.specs.declared.fault.LogFault.{LogFault}
+use Rattle.rds_log.specs.declared.fault.LogFault.TheVariants.{BadLine, BadRow, Read, Write, TooLong, Memory}
+use Rattle.rds_log.specs.declared.form.Form.TheVariants.{Log, Simulation}
+use Rattle.rds_words.specs.declared.request.Programme.{Programme}
+use Rattle.rds_words.specs.declared.request.Task.{Task}
+use Rattle.rds_words.specs.declared.request.Task.TheVariants.{Audit, Decode, Encode, Simulate}
+
+-- what a call did begins with these bytes and these failures
+pub record Begins (t : Traffic) (bytes : Option (List ℕ)) (failures : ℕ) : Type 0 where
+  pub bytes_are : t.before ≡ bytes
+  pub failures_are : t.failures_before ≡ failures
+
+-- between two states of a reader, what it has left, the number of its failures and that of its counted reads stayed
+pub record IsUntouched {X : Type 0} (remaining : X → Option (List ℕ)) (failures reads : X → ℕ) (old new : X) : Type 0 where
+  pub bytes_are : remaining new ≡ remaining old
+  pub failures_are : failures new ≡ failures old
+  pub reads_are : reads new ≡ reads old
+
+-- four hexadecimal digits of either case, and the programme identification that they spell
+pub record IsPi (given : List ℕ) (pi : ℕ) : Type 0 where
+  pub four : length given ≡ 4
+  pub word : HasWord given 0 pi
+
+-- ---- faults
+
+-- the line, or a first part of it where the writer failed
+abbrev pub PutsLine : List ℕ → Traffic → Type 0
+PutsLine line w = (r : Result (Unit {0}) WriteFault) × Puts w line r
+
+-- what stands before a fault: the log that `encode` writes has it as a note
+abbrev pub mark_of : Task → List ℕ
+mark_of Decode = []
+mark_of (Encode programme late) = codes "# "
+mark_of (Simulate programme late) = []
+mark_of (Audit late) = []
+
+abbrev pub TellsFault : Task → List ℕ → Traffic → Type 0
+TellsFault task text w = PutsLine (mark_of task ++ text ++ codes "\n") w
+
+-- after a fault its line, and after a failed write nothing more
+abbrev pub PutsAfter : Task → LogFault → Traffic → Type 0
+PutsAfter task (BadLine n) w = TellsFault task (codes "fault line " ++ decimal n) w
+PutsAfter task (BadRow n) w = TellsFault task (codes "fault row " ++ decimal n) w
+PutsAfter task Read w = TellsFault task (codes "fault read") w
+PutsAfter task Write w = PutsNothing w
+PutsAfter task TooLong w = TellsFault task (codes "fault too long") w
+PutsAfter task Memory w = TellsFault task (codes "fault memory") w
+
+-- ---- engines
+
+-- the status of what an engine answers at its end, and 1 after a fault, which is told
+abbrev pub EndsWith : {X : Type 0} → (X → ℕ) → Task → Result X LogFault → Traffic → ℕ → Type 0
+EndsWith status_of task (Ok answer) w status = (status ≡ status_of answer) × PutsNothing w
+EndsWith status_of task (Err fault) w status = (status ≡ 1) × PutsAfter task fault w
+
+-- of an engine that has done all
+abbrev pub done : Unit {0} → ℕ
+done _ = 0
+
+-- of a yes, and of a no
+abbrev pub answered : Bool → ℕ
+answered passed = if passed then 0 else 1
+
+-- an engine ran, and then its outcome gave the status; `mid` and `failures` are the writer's in between
+pub record Runs {X : Type 0} (Engine : Traffic → Result X LogFault → Type 0) (status_of : X → ℕ) (task : Task) (w : Traffic) (status : ℕ) : Type 0 where
+  pub outcome : Result X LogFault
+  pub mid : Option (List ℕ)
+  pub failures : ℕ
+  pub ran : Engine (record w { after = mid; failures_after = failures }) outcome
+  pub ended : EndsWith status_of task outcome (record w { before = mid; failures_before = failures }) status
+
+-- a log is decoded to the end of the reader, for a programme and with a dwell
+abbrev pub DecodeRuns : ℕ → ℕ → Traffic → Traffic → ℕ → Type 0
+DecodeRuns pi dwell r w status = Runs (Decodes (tuned pi dwell) (2 ^ 32) r) done Decode w status
+
+-- the head of every group of a station
+abbrev pub head_of : ℕ → Programme → Head
+head_of pi programme = record { pi = pi; tp = programme.tp; pty = programme.pty }
+
+-- a script is played for its log; ReadFailed says that a read of the reader failed
+abbrev pub EncodeRuns : Programme → ℕ → ℕ → ℕ → Traffic → Type 0 → Traffic → ℕ → Type 0
+EncodeRuns programme late pi dwell r ReadFailed w status = Runs (Plays Log (head_of pi programme) dwell late (2 ^ 32) r.before ReadFailed) done (Encode programme late) w status
+
+-- a script is played with its receivers
+abbrev pub SimulateRuns : Programme → ℕ → ℕ → ℕ → Traffic → Type 0 → Traffic → ℕ → Type 0
+SimulateRuns programme late pi dwell r ReadFailed w status = Runs (Plays Simulation (head_of pi programme) dwell late (2 ^ 32) r.before ReadFailed) done (Simulate programme late) w status
+
+-- a log is audited, for a programme, with a dwell and a lateness
+abbrev pub AuditRuns : ℕ → ℕ → ℕ → Traffic → Traffic → ℕ → Type 0
+AuditRuns late pi dwell r w status = Runs (Audits pi (dwell + late) (2 ^ 32) r) answered (Audit late) w status
+
+-- ---- the whole program
+
+-- the engine of the task ran
+abbrev pub TaskRuns : Task → ℕ → ℕ → Traffic → Type 0 → Traffic → ℕ → Type 0
+TaskRuns Decode pi dwell r ReadFailed w status = DecodeRuns pi dwell r w status
+TaskRuns (Encode programme late) pi dwell r ReadFailed w status = EncodeRuns programme late pi dwell r ReadFailed w status
+TaskRuns (Simulate programme late) pi dwell r ReadFailed w status = SimulateRuns programme late pi dwell r ReadFailed w status
+TaskRuns (Audit late) pi dwell r ReadFailed w status = AuditRuns late pi dwell r w status
+
+-- the programme identification is refused
+pub record RefusesPi (task : Task) (w : Traffic) (status : ℕ) : Type 0 where
+  pub status_is : status ≡ 2
+  pub told : TellsFault task (codes "fault pi") w
+
+-- there was no memory for the words
+pub record NoMemory (w : Traffic) (status : ℕ) : Type 0 where
+  pub status_is : status ≡ 1
+  pub told : PutsLine (codes "fault memory\n") w

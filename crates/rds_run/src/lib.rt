@@ -1,0 +1,11 @@
+//! The whole program as a library: what it does with its words, a reader and a writer, and the status that it ends
+//! with. The contract of `run` says which output each input has.
+#![tactic(auto)]
+
+#[cfg(test)]
+mod audit_tests;
+mod program;
+#[cfg(test)]
+mod tests;
+
+pub use program::{run, run_lent};

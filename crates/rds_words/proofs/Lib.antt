@@ -1,0 +1,3 @@
+pub mod ErrorKinds
+pub mod Numbers
+pub mod Taken

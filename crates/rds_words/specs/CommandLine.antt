@@ -1,0 +1,166 @@
+-- The words of the program, as a simple command of `clap`, and what they ask for.
+-- This is the project's own command line.
+use Rattle.std.specs.Prelude.{◌≡◌, ◌&&◌, ◌∷◌, ℕ, Bool, List, [], Option, Some, None, false, true, codes, if◌then◌else◌, length, nat_le, nat_lt, not, option_and_then, option_map, pos}
+use Rattle.std.specs.List.{list_all}
+use Rattle.std.specs.Option.{option_map_or}
+use Rattle.std.specs.Str.{bytes_eq}
+use Rattle.std.specs.Str.Parse.{digits_value, without_leading_plus}
+use Rattle.clap.specs.Simple.{on_top}
+use Rattle.clap.specs.ValueTests.{is_numeral}
+use Rattle.clap.specs.Words.{App, Row, Rule, Text, fault_of, first_of, new_app, new_rule, one_of, subcommand_of, takes, with_rule, with_subcommand}
+use Rattle.clap.specs.declared.builder.action.ArgAction.TheVariants.{SetTrue}
+use Rattle.clap.specs.declared.builder.value_parser.ValueParser.TheVariants.{Signed}
+use Rattle.clap.specs.declared.error.kind.ErrorKind.{ErrorKind}
+use Rattle.clap.specs.declared.error.kind.ErrorKind.TheVariants.{DisplayHelp, DisplayVersion}
+use Rattle.rds_words.specs.declared.request.Programme.{Programme}
+use Rattle.rds_words.specs.declared.request.Task.{Task}
+use Rattle.rds_words.specs.declared.request.Task.TheVariants.{Audit, Decode, Encode, Simulate}
+
+-- ---- the command line
+
+-- `--pi HHHH`, which must be given
+abbrev pub pi_rule : Rule
+pi_rule = record (new_rule (codes "pi")) {
+  long = Some (codes "pi");
+  value_names = 1;
+  required = true;
+}
+
+-- `--m N`, from 1 to 65535
+abbrev pub dwell_rule : Rule
+dwell_rule = record (new_rule (codes "m")) {
+  long = Some (codes "m");
+  value_names = 1;
+  defaults = codes "128" ∷ [];
+  parser = Some (Signed (pos 1) (pos 65535));
+}
+
+-- `--k N`, from 0 to 1024
+abbrev pub late_rule : Rule
+late_rule = record (new_rule (codes "k")) {
+  long = Some (codes "k");
+  value_names = 1;
+  defaults = codes "0" ∷ [];
+  parser = Some (Signed (pos 0) (pos 1024));
+}
+
+-- `--pty N`, from 0 to 31
+abbrev pub pty_rule : Rule
+pty_rule = record (new_rule (codes "pty")) {
+  long = Some (codes "pty");
+  value_names = 1;
+  defaults = codes "0" ∷ [];
+  parser = Some (Signed (pos 0) (pos 31));
+}
+
+-- `--tp`, a flag
+abbrev pub tp_rule : Rule
+tp_rule = record (new_rule (codes "tp")) { long = Some (codes "tp"); action = Some SetTrue }
+
+-- a subcommand that reads a log
+unfoldable pub log_app : Text → App
+log_app name = with_rule (with_rule (new_app name) pi_rule) dwell_rule
+
+-- a subcommand that speaks of late groups
+unfoldable pub late_app : Text → App
+late_app name = with_rule (log_app name) late_rule
+
+-- a subcommand with a station of its own
+unfoldable pub station_app : Text → App
+station_app name = with_rule (with_rule (late_app name) pty_rule) tp_rule
+
+-- `rdsrt`, which has a version and wants a subcommand
+abbrev pub top_app : App
+top_app = on_top (λ s. record s { has_version = true; subcommand_required = true }) (new_app (codes "rdsrt"))
+
+-- with the subcommands that read a log
+unfoldable pub log_readers_app : App
+log_readers_app = with_subcommand (with_subcommand top_app (log_app (codes "decode")).top) (late_app (codes "audit")).top
+
+-- and with those that have a station of their own
+abbrev pub whole_app : App
+whole_app = with_subcommand (with_subcommand log_readers_app (station_app (codes "encode")).top) (station_app (codes "sim")).top
+
+-- `clap`'s definition takes the words, the program's own name first
+abbrev pub TakesWords : List Text → Type 0
+TakesWords words = takes whole_app words ≡ true
+
+-- ---- what the words ask for
+
+-- what is to be done, the text that is given as programme identification, and the dwell in slots
+pub record Asked : Type 0 where
+  pub task : Task
+  pub pi : Text
+  pub dwell : ℕ
+
+-- the number that decimal digits write, where a plus may stand first, if it lies between the two
+abbrev pub number_from_to : ℕ → ℕ → Text → Option ℕ
+number_from_to least most text =
+    let digits = without_leading_plus text in
+    let number = digits_value 10 digits in
+    if is_numeral digits && (nat_le least number && nat_le number most) then Some number else None
+
+abbrev pub dwell_in : List Row → Option ℕ
+dwell_in rows = option_and_then (number_from_to 1 65535) (one_of (codes "m") rows)
+
+abbrev pub late_in : List Row → Option ℕ
+late_in rows = option_and_then (number_from_to 0 1024) (one_of (codes "k") rows)
+
+abbrev pub pty_in : List Row → Option ℕ
+pty_in rows = option_and_then (number_from_to 0 31) (one_of (codes "pty") rows)
+
+abbrev pub tp_in : List Row → Bool
+tp_in rows = option_map_or (λ text. bytes_eq text (codes "true")) (first_of (codes "tp") rows) false
+
+abbrev pub programme_in : List Row → Option Programme
+programme_in rows = option_map (λ pty. record { pty = pty; tp = tp_in rows }) (pty_in rows)
+
+-- what a station of this programme and these late groups does
+abbrev pub with_station : (Programme → ℕ → Task) → List Row → Option Task
+with_station task rows = option_and_then (λ programme. option_map (task programme) (late_in rows)) (programme_in rows)
+
+abbrev pub task_in : Text → List Row → Option Task
+task_in name rows =
+    if bytes_eq name (codes "decode") then Some Decode
+    else if bytes_eq name (codes "encode") then with_station Encode rows
+    else if bytes_eq name (codes "sim") then with_station Simulate rows
+    else if bytes_eq name (codes "audit") then option_map Audit (late_in rows)
+    else None
+
+abbrev pub asked : Option Task → Option Text → Option ℕ → Option Asked
+asked (Some task) (Some pi) (Some dwell) = Some (record { task = task; pi = pi; dwell = dwell })
+asked _ _ _ = None
+
+-- of the name of a subcommand and what was found for its options
+abbrev pub asked_of : Text × List Row → Option Asked
+asked_of p = asked (task_in p.0 p.1) (first_of (codes "pi") p.1) (dwell_in p.1)
+
+-- what the words ask for, as `clap`'s definition reads them
+abbrev pub asked_in : List Text → Option Asked
+asked_in words = option_and_then asked_of (subcommand_of whole_app words)
+
+-- the words are taken, and ask for this
+pub record AskFor (words : List Text) (asked : Asked) : Type 0 where
+  pub taken : TakesWords words
+  pub ask : asked_in words ≡ Some asked
+
+-- ---- other words
+
+abbrev pub is_shown : ErrorKind → Bool
+is_shown DisplayHelp = true
+is_shown DisplayVersion = true
+is_shown _ = false
+
+-- `clap`'s definition answers the words, always by a kind that passes the test
+abbrev pub AreAnswered : (ErrorKind → Bool) → List Text → Type 0
+AreAnswered test words =
+    let kinds = fault_of whole_app words in
+    (nat_lt 0 (length kinds) && list_all test kinds) ≡ true
+
+-- by its help or the version
+abbrev pub AskForHelp : List Text → Type 0
+AskForHelp words = AreAnswered is_shown words
+
+-- by a refusal
+abbrev pub AreRefused : List Text → Type 0
+AreRefused words = AreAnswered (λ kind. not (is_shown kind)) words

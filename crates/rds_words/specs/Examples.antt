@@ -1,0 +1,37 @@
+-- Words that are written out, and what they ask for.
+use Rattle.std.specs.Prelude.{◌≡◌, ◌==◌, ◌∷◌, ℕ, Bool, List, [], codes, false, if◌then◌else◌}
+use Rattle.clap.specs.Words.{Text, fault_of, takes}
+use Rattle.clap.specs.declared.error.kind.ErrorKind.TheVariants.{DisplayHelp, InvalidSubcommand}
+use Rattle.rds_words.specs.CommandLine.{AreRefused, Asked, whole_app}
+use Rattle.rds_words.specs.declared.request.Task.TheVariants.{Audit, Decode, Encode, Simulate}
+
+abbrev pub in_front : ℕ → List Text → List Text
+in_front c [] = (c ∷ []) ∷ []
+in_front c (word ∷ rest) = (c ∷ word) ∷ rest
+
+-- a line, cut at its spaces
+abbrev pub words_of : List ℕ → List Text
+words_of [] = [] ∷ []
+words_of (c ∷ rest) = if c == 32 then [] ∷ words_of rest else in_front c (words_of rest)
+
+-- the words are not taken, and refused
+pub record AreNotTaken (words : List Text) : Type 0 where
+  pub taken : takes whole_app words ≡ false
+  pub refused : AreRefused words
+
+-- the words are not taken, and answered by help or by the refusal of the command that they name
+pub record CallForHelp (words : List Text) : Type 0 where
+  pub taken : takes whole_app words ≡ false
+  pub kinds : fault_of whole_app words ≡ DisplayHelp ∷ InvalidSubcommand ∷ []
+
+abbrev pub decoding : Text → ℕ → Asked
+decoding pi dwell = record { task = Decode; pi = pi; dwell = dwell }
+
+abbrev pub encoding : ℕ → ℕ → Asked
+encoding dwell pty = record { task = Encode (record { pty = pty; tp = false }) 0; pi = codes "C201"; dwell = dwell }
+
+abbrev pub simulating : ℕ → ℕ → Bool → ℕ → Asked
+simulating dwell pty tp late = record { task = Simulate (record { pty = pty; tp = tp }) late; pi = codes "C201"; dwell = dwell }
+
+abbrev pub auditing : ℕ → ℕ → Asked
+auditing dwell late = record { task = Audit late; pi = codes "C201"; dwell = dwell }

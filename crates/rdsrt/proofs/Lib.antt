@@ -1,2 +1,0 @@
-pub mod ErrorKinds
-pub mod Numbers

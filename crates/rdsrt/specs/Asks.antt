@@ -1,6 +1,0 @@
--- What the program takes from its words.
-use Rattle.rdsrt.specs.CommandLine.{Asked}
-use Rattle.rdsrt.specs.declared.request.Request.{Request}
-
-abbrev pub asked_by : Request → Asked
-asked_by r = record { task = r.task; pi = r.pi.now; dwell = r.dwell }
