@@ -4,7 +4,7 @@ ghost use Rattle.std.specs.Prelude.{◌≡◌, ◌<◌, ◌≤◌, ◌++◌, ◌
 ghost use Rattle.std.specs.Io.KnownBytes.{Appends};
 ghost use Rattle.rdsrt.specs.Gathered.{failures_in, given_to, kept_in, writer_in};
 
-use rds_charset::{Told, TellingWrite, WriteFault, put};
+use rds_charset::{TellingWrite, Told, WriteFault, put};
 use std::cell::RefCell;
 use std::io::{self, ErrorKind, Read, Write};
 use std::marker::Model;
