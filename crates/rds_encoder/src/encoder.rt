@@ -89,6 +89,7 @@ impl Encoder {
     pub fn set_text(&mut self, text: Text) -> Result<(), Refusal>
         ensures reply { WhereItStands self.old
             (λ _ m entries. result ≡ reply_to m (text_moves entries)) }
+        ensures text { IsText text }
         ensures stands { Takes self.old self.new (SetText text) }
         ensures kept { OnErr result (self.new ≡ self.old) }
     {
@@ -106,6 +107,7 @@ impl Encoder {
     pub fn set_name(&mut self, name: Name) -> Result<(), Refusal>
         ensures reply { WhereItStands self.old
             (λ _ m entries. result ≡ reply_to m (name_moves entries)) }
+        ensures name { IsName name }
         ensures stands { Takes self.old self.new (SetName name) }
         ensures kept { OnErr result (self.new ≡ self.old) }
     {

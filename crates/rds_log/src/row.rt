@@ -82,15 +82,22 @@ fn command_of(word: &[u8], argument: &[u8]) -> Option<Command>
     ensures none { IfNone result ((command : Command) → IsUtf8 argument.now
         → SaysCommand word.now argument.now command → ⊥) }
 {
-    let argument = str::from_utf8(argument).ok()?;
     match verb_of(word)? {
         Verb::Nothing if argument.is_empty() => Some(Command::Quiet),
         Verb::Restart if argument.is_empty() => Some(Command::Restart),
         Verb::Nothing | Verb::Restart => None,
-        Verb::Text => Some(Command::SetText(text_of(argument)?)),
-        Verb::Name => Some(Command::SetName(name_of(argument)?)),
-        Verb::Tags => Some(Command::SetTags(pair_of(argument)?)),
+        Verb::Text => Some(Command::SetText(text_of(characters(argument)?)?)),
+        Verb::Name => Some(Command::SetName(name_of(characters(argument)?)?)),
+        Verb::Tags => Some(Command::SetTags(pair_of(characters(argument)?)?)),
     }
+}
+
+/// The characters of an argument, where it is UTF-8.
+fn characters(argument: &[u8]) -> Option<&str>
+    ensures some { IfSome result (λ text. (text.now ≡ argument.now) × IsUtf8 argument.now) }
+    ensures none { IfNone result (IsUtf8 argument.now → ⊥) }
+{
+    str::from_utf8(argument).ok()
 }
 
 /// The verb that the word is.

@@ -9,16 +9,16 @@ use crate::{Command, Config, Reply};
 use rds_encoder::{Encoder, Refusal};
 
 /// Does what the command says.
-pub(crate) fn obey(encoder: &mut Encoder, config: &Config, command: Command) -> Reply
-    ensures value { SetsAValue command }
+pub(crate) fn obey(encoder: &mut Encoder, config: &Config, command: &Command) -> Reply
+    ensures value { SetsAValue command.now }
     ensures reply { (entries : List Entry)
         → StandsAt config.now.head (config.now.dwell + config.now.late) encoder.old entries
-        → result ≡ reply_at (config.now.dwell + config.now.late) command entries }
+        → result ≡ reply_at (config.now.dwell + config.now.late) command.now entries }
     ensures stands { (entries : List Entry)
         → StandsAt config.now.head (config.now.dwell + config.now.late) encoder.old entries
-        → StandsAt config.now.head (config.now.dwell + config.now.late) encoder.new (commanded command entries) }
+        → StandsAt config.now.head (config.now.dwell + config.now.late) encoder.new (commanded command.now entries) }
 {
-    match command {
+    match *command {
         Command::Quiet => Reply::Quiet,
         Command::Restart => {
             *encoder = Encoder::new(config.head, config.dwell, config.late);

@@ -126,7 +126,7 @@ impl World {
             Ok(reaches) => reaches,
             Err(receiver) => return Err(StepRefused::Late(receiver)),
         };
-        let reply = obey(&mut self.encoder, &self.config, event.command);
+        let reply = obey(&mut self.encoder, &self.config, &event.command);
         let sent = self.encoder.tick(event.free);
         // a copy by a name of its own: what is answered may not have been lent
         let handed = sent;
