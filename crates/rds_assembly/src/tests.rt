@@ -1,8 +1,15 @@
 use super::*;
+use std::fmt::Debug;
+use std::process::Abort;
 use std::test::Fail;
 
+/// Ends the test where two values are not the same. An `assert_eq!` in each place would be proved anew there.
+fn same<T: PartialEq + Debug + Drop>(rt: &impl Abort, found: T, wanted: T) {
+    assert_eq!(rt; found, wanted);
+}
+
 /// What is done to the segments held.
-#[derive(Clone, Copy, Debug)]
+#[derive(Clone, Copy)]
 enum Call {
     Put(u8, [u8; 4]),
     Clear,
@@ -23,13 +30,13 @@ fn one_run(rt: HostRuntime) {
         (Call::Put(0, *b"ABBA"), None),
     ];
     let mut text: Assembly<RadioText> = Assembly::new();
-    assert_eq!(rt; text.whole(), None);
+    same(&rt, text.whole(), None);
     for (call, whole) in run {
         match call {
             Call::Put(address, bytes) => assert!(rt; text.put(address, bytes)),
             Call::Clear => text.clear(),
         }
-        assert_eq!(rt; text.whole(), whole, "after {call:?}");
+        same(&rt, text.whole(), whole);
     }
 }
 
@@ -50,7 +57,7 @@ fn each_place(rt: HostRuntime) {
             ];
             assert!(rt; text.put(address, bytes));
         }
-        assert_eq!(rt; text.whole(), Some(&sent[..place]), "at {place}");
+        same(&rt, (place, text.whole()), (place, Some(&sent[..place])));
     }
 }
 
@@ -74,9 +81,9 @@ fn names(rt: HostRuntime) {
     assert!(rt; name.is_empty());
     assert!(rt; name.put(1, *b" FM "));
     assert!(rt; name.has(1) && !name.has(0) && !name.is_empty());
-    assert_eq!(rt; name.whole(), None);
+    same(&rt, name.whole(), None);
     assert!(rt; name.put(0, *b"J\rZZ"));
-    assert_eq!(rt; name.whole(), Some(b"J\rZZ FM ".as_slice()));
+    same(&rt, name.whole(), Some(b"J\rZZ FM ".as_slice()));
     name.clear();
     assert!(rt; name.is_empty() && !name.has(1));
 }
@@ -95,14 +102,14 @@ fn texts_there_and_back(rt: HostRuntime) -> Result<(), Fail> {
     ];
     for (bytes, count, last) in texts {
         let sent = Text::new(bytes)?;
-        assert_eq!(rt; sent.count(), count);
-        assert_eq!(rt; sent.segment(sent.count() - 1), last);
+        same(&rt, sent.count(), count);
+        same(&rt, sent.segment(sent.count() - 1), last);
         let mut held: Assembly<RadioText> = Assembly::new();
         for address in 0..sent.count() {
-            assert_eq!(rt; held.whole(), None);
+            same(&rt, held.whole(), None);
             assert!(rt; held.put(address, sent.segment(address)));
         }
-        assert_eq!(rt; held.whole(), Some(bytes));
+        same(&rt, held.whole(), Some(bytes));
     }
     Ok(())
 }
@@ -111,7 +118,7 @@ fn texts_there_and_back(rt: HostRuntime) -> Result<(), Fail> {
 #[test]
 fn bytes_of_texts(rt: HostRuntime) -> Result<(), Fail> {
     let marked = Text::new(&[0x41, 0x0A, 0x0B, 0x1F])?;
-    assert_eq!(rt; marked.bytes(), [0x41, 0x0A, 0x0B, 0x1F].as_slice());
+    same(&rt, marked.bytes(), [0x41, 0x0A, 0x0B, 0x1F].as_slice());
     Ok(())
 }
 
@@ -119,10 +126,10 @@ fn bytes_of_texts(rt: HostRuntime) -> Result<(), Fail> {
 #[test]
 fn segments_of_names(rt: HostRuntime) -> Result<(), Fail> {
     let name = Name::new(b"JAZZ FM")?;
-    assert_eq!(rt; name.bytes(), b"JAZZ FM ".as_slice());
-    assert_eq!(rt; name.count(), 2);
-    assert_eq!(rt; name.segment(0), *b"JAZZ");
-    assert_eq!(rt; name.segment(1), *b" FM ");
+    same(&rt, name.bytes(), b"JAZZ FM ".as_slice());
+    same(&rt, name.count(), 2);
+    same(&rt, name.segment(0), *b"JAZZ");
+    same(&rt, name.segment(1), *b" FM ");
     Ok(())
 }
 
@@ -134,7 +141,7 @@ fn refused_bytes(rt: HostRuntime) -> Result<(), Fail> {
         (&[0x41, 0x0D], TextRefused::BadByte(1)),
     ];
     for (bytes, refused) in texts {
-        assert_eq!(rt; Text::new(bytes), Err(refused));
+        same(&rt, Text::new(bytes), Err(refused));
     }
     let names: [(&[u8], TextRefused, &str); 2] = [
         (
@@ -149,8 +156,8 @@ fn refused_bytes(rt: HostRuntime) -> Result<(), Fail> {
         ),
     ];
     for (bytes, refused, printed) in names {
-        assert_eq!(rt; Name::new(bytes), Err(refused));
-        assert_eq!(rt; format!(in rt.alloc(); "{refused}")?.as_str(), printed);
+        same(&rt, Name::new(bytes), Err(refused));
+        same(&rt, format!(in rt.alloc(); "{refused}")?.as_str(), printed);
     }
     Ok(())
 }

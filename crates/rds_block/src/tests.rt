@@ -1,5 +1,12 @@
 use super::*;
+use std::fmt::Debug;
+use std::process::Abort;
 use std::test::Fail;
+
+/// Ends the test where two values are not the same. An `assert_eq!` in each place would be proved anew there.
+fn same<T: PartialEq + Debug + Drop>(rt: &impl Abort, found: T, wanted: T) {
+    assert_eq!(rt; found, wanted);
+}
 
 /// The fields of a text segment of PI C201, TP 0, PTY 10, with flag 1 and address 0.
 #[test]
@@ -15,8 +22,8 @@ fn fields_of_a_text_segment(rt: HostRuntime) -> Result<(), Fail> {
         c: 0x594F,
         d: 0x0D20,
     };
-    assert_eq!(rt; Group::from_blocks(words), group);
-    assert_eq!(rt; group.to_blocks(), words);
+    same(&rt, Group::from_blocks(words), group);
+    same(&rt, group.to_blocks(), words);
     Ok(())
 }
 
@@ -24,10 +31,10 @@ fn fields_of_a_text_segment(rt: HostRuntime) -> Result<(), Fail> {
 #[test]
 fn greatest_fields(rt: HostRuntime) {
     let group = Group::from_blocks([0xFFFF, 0xFFFF, 0xFFFF, 0xFFFF]);
-    assert_eq!(rt; group.number.get(), 15);
+    same(&rt, group.number.get(), 15);
     assert!(rt; group.version && group.tp);
-    assert_eq!(rt; (group.pty.get(), group.low.get()), (31, 31));
-    assert_eq!(rt; group.to_blocks(), [0xFFFF, 0xFFFF, 0xFFFF, 0xFFFF]);
-    assert_eq!(rt; Place::<16>::new(16), None);
+    same(&rt, (group.pty.get(), group.low.get()), (31, 31));
+    same(&rt, group.to_blocks(), [0xFFFF, 0xFFFF, 0xFFFF, 0xFFFF]);
+    same(&rt, Place::<16>::new(16), None);
     words_are_one_to_one();
 }

@@ -1,9 +1,16 @@
 //! What no clause says: the characters themselves, and readers and writers that fail.
 
 use crate::{TellingRead, TellingWrite, TextFault, Told, WriteFault, read_text, write_text};
+use std::fmt::Debug;
 use std::io::{self, ErrorKind, Read, Write};
+use std::process::Abort;
 use std::str;
 use std::test::Fail;
+
+/// Ends the test where two values are not the same. An `assert_eq!` in each place would be proved anew there.
+fn same<T: PartialEq + Debug + Drop>(rt: &impl Abort, found: T, wanted: T) {
+    assert_eq!(rt; found, wanted);
+}
 
 /// A writer that takes so many bytes a call at most, and none at one of its calls.
 #[derive(Drop)]
@@ -65,7 +72,7 @@ fn printed(rt: &HostRuntime, bytes: &[u8]) -> Result<Vec<u8>, Fail> {
 #[test]
 fn accents_and_euro(rt: HostRuntime) -> Result<(), Fail> {
     let out = printed(&rt, &[0x43, 0x61, 0x66, 0x82, 0x20, 0xA9])?;
-    assert_eq!(rt; out.as_slice(), "Café €".as_bytes());
+    same(&rt, out.as_slice(), "Café €".as_bytes());
 
     let rows = [
         (0x20, " !"),
@@ -89,7 +96,7 @@ fn accents_and_euro(rt: HostRuntime) -> Result<(), Fail> {
             bytes.push((first + place) as u8)?;
         }
         let out = printed(&rt, bytes.as_slice())?;
-        assert_eq!(rt; out.as_slice(), characters.as_bytes());
+        same(&rt, out.as_slice(), characters.as_bytes());
     }
     Ok(())
 }
@@ -97,46 +104,54 @@ fn accents_and_euro(rt: HostRuntime) -> Result<(), Fail> {
 #[test]
 fn escaped_bytes(rt: HostRuntime) -> Result<(), Fail> {
     let out = printed(&rt, &[0x22, 0x5C, 0x24])?;
-    assert_eq!(rt; out.as_slice(), b"\\x22\\x5C\\x24".as_slice());
+    same(&rt, out.as_slice(), b"\\x22\\x5C\\x24".as_slice());
     let out = printed(&rt, &[0x00, 0x1F, 0x5E, 0x60, 0x7E, 0x7F, 0x8C, 0xAC, 0xFF])?;
     let wanted = b"\\x00\\x1F\\x5E\\x60\\x7E\\x7F\\x8C\\xAC\\xFF";
-    assert_eq!(rt; out.as_slice(), wanted.as_slice());
+    same(&rt, out.as_slice(), wanted.as_slice());
     Ok(())
 }
 
 #[test]
 fn read_back(rt: HostRuntime) {
     let mut into = [0u8; 4];
-    assert_eq!(rt; read_text("Caf\\x82", &mut into), Ok(4));
-    assert_eq!(rt; into, [0x43, 0x61, 0x66, 0x82]);
-    assert_eq!(rt; read_text("$5", &mut into), Ok(2));
-    assert_eq!(rt; into, [0xAB, 0x35, 0x66, 0x82]);
-    assert_eq!(rt; read_text("\"\\xaBé", &mut into), Ok(3));
-    assert_eq!(rt; into, [0x22, 0xAB, 0x82, 0x82]);
-    assert_eq!(rt; read_text("", &mut into), Ok(0));
+    same(&rt, read_text("Caf\\x82", &mut into), Ok(4));
+    same(&rt, into, [0x43, 0x61, 0x66, 0x82]);
+    same(&rt, read_text("$5", &mut into), Ok(2));
+    same(&rt, into, [0xAB, 0x35, 0x66, 0x82]);
+    same(&rt, read_text("\"\\xaBé", &mut into), Ok(3));
+    same(&rt, into, [0x22, 0xAB, 0x82, 0x82]);
+    same(&rt, read_text("", &mut into), Ok(0));
 
-    assert_eq!(rt; read_text("a\\x4", &mut into), Err(TextFault::BadEscape(1)));
-    assert_eq!(rt;
+    same(
+        &rt,
+        read_text("a\\x4", &mut into),
+        Err(TextFault::BadEscape(1)),
+    );
+    same(
+        &rt,
         read_text("éa\\X41", &mut into),
-        Err(TextFault::BadEscape(3))
+        Err(TextFault::BadEscape(3)),
     );
-    assert_eq!(rt;
+    same(
+        &rt,
         read_text("aŽ", &mut into),
-        Err(TextFault::NoSuchCharacter(1))
+        Err(TextFault::NoSuchCharacter(1)),
     );
-    assert_eq!(rt;
+    same(
+        &rt,
         read_text("€ŽŽ\\", &mut into),
-        Err(TextFault::NoSuchCharacter(3))
+        Err(TextFault::NoSuchCharacter(3)),
     );
-    assert_eq!(rt;
+    same(
+        &rt,
         read_text("aaaaaaaa~", &mut into),
-        Err(TextFault::NoSuchCharacter(8))
+        Err(TextFault::NoSuchCharacter(8)),
     );
-    assert_eq!(rt; into, [0x22, 0xAB, 0x82, 0x82]);
+    same(&rt, into, [0x22, 0xAB, 0x82, 0x82]);
 
     let mut short = [7u8; 2];
-    assert_eq!(rt; read_text("abc", &mut short), Err(TextFault::NoRoom));
-    assert_eq!(rt; short, [7, 7]);
+    same(&rt, read_text("abc", &mut short), Err(TextFault::NoRoom));
+    same(&rt, short, [7, 7]);
 }
 
 #[test]
@@ -144,11 +159,12 @@ fn each_byte_read_back(rt: HostRuntime) -> Result<(), Fail> {
     for byte in 0..=255u8 {
         let out = printed(&rt, &[byte])?;
         let mut into = [0u8; 2];
-        assert_eq!(rt;
+        same(
+            &rt,
             read_text(str::from_utf8(out.as_slice())?, &mut into),
-            Ok(1)
+            Ok(1),
         );
-        assert_eq!(rt; into, [byte, 0]);
+        same(&rt, into, [byte, 0]);
     }
     Ok(())
 }
@@ -156,7 +172,7 @@ fn each_byte_read_back(rt: HostRuntime) -> Result<(), Fail> {
 #[test]
 fn long_text_is_whole(rt: HostRuntime) -> Result<(), Fail> {
     let out = printed(&rt, &[0xFF; 130])?;
-    assert_eq!(rt; out.len(), 520);
+    same(&rt, out.len(), 520);
     assert!(rt;
         out.as_slice()
             .chunks(4)
@@ -169,10 +185,10 @@ fn long_text_is_whole(rt: HostRuntime) -> Result<(), Fail> {
 fn slow_writer_gets_all(rt: HostRuntime) {
     let mut slow = Slow::new(&rt, 1, 0);
     let mut told = Told::new(&mut slow);
-    assert_eq!(rt; write_text(&[0x82, 0xA9], &mut told), Ok(()));
-    assert_eq!(rt; told.failures(), 0);
-    assert_eq!(rt; slow.calls, 5);
-    assert_eq!(rt; slow.held.as_slice(), "é€".as_bytes());
+    same(&rt, write_text(&[0x82, 0xA9], &mut told), Ok(()));
+    same(&rt, told.failures(), 0);
+    same(&rt, slow.calls, 5);
+    same(&rt, slow.held.as_slice(), "é€".as_bytes());
 }
 
 #[test]
@@ -181,10 +197,10 @@ fn idle_writer_is_a_fault(rt: HostRuntime) {
     for idle_at in 1..=whole.len() {
         let mut slow = Slow::new(&rt, 1, idle_at);
         let mut told = Told::new(&mut slow);
-        assert_eq!(rt; write_text(&[0x82, 0xA9], &mut told), Err(WriteFault));
-        assert_eq!(rt; told.failures(), 1);
-        assert_eq!(rt; slow.calls, idle_at);
-        assert_eq!(rt; slow.held.as_slice(), &whole[..idle_at - 1]);
+        same(&rt, write_text(&[0x82, 0xA9], &mut told), Err(WriteFault));
+        same(&rt, told.failures(), 1);
+        same(&rt, slow.calls, idle_at);
+        same(&rt, slow.held.as_slice(), &whole[..idle_at - 1]);
     }
 }
 
@@ -193,8 +209,8 @@ fn idle_writer_is_a_fault(rt: HostRuntime) {
 fn empty_piece_is_no_fault(rt: HostRuntime) {
     let mut out = Vec::new(rt.alloc());
     let mut told = Told::new(&mut out);
-    assert_eq!(rt; told.write_one(b""), Some(0));
-    assert_eq!(rt; told.failures(), 0);
+    same(&rt, told.write_one(b""), Some(0));
+    same(&rt, told.failures(), 0);
 }
 
 #[test]
@@ -204,13 +220,13 @@ fn failed_reads_are_counted(rt: HostRuntime) {
         reads: 0,
     });
     let mut buf = [0u8; 2];
-    assert_eq!(rt; told.read_one(&mut buf), Some(2));
-    assert_eq!(rt; told.read_one(&mut buf), None);
-    assert_eq!(rt; told.failures(), 1);
-    assert_eq!(rt; told.read_one(&mut buf), Some(1));
-    assert_eq!(rt; buf, [b'c', b'b']);
-    assert_eq!(rt; told.read_one(&mut buf), Some(0));
-    assert_eq!(rt; told.failures(), 1);
+    same(&rt, told.read_one(&mut buf), Some(2));
+    same(&rt, told.read_one(&mut buf), None);
+    same(&rt, told.failures(), 1);
+    same(&rt, told.read_one(&mut buf), Some(1));
+    same(&rt, buf, [b'c', b'b']);
+    same(&rt, told.read_one(&mut buf), Some(0));
+    same(&rt, told.failures(), 1);
 }
 
 fn one_of<R: TellingRead + Drop>(mut reader: R, buf: &mut [u8]) -> Option<usize> {
@@ -225,9 +241,9 @@ fn lent_reader_counts_too(rt: HostRuntime) {
         reads: 0,
     });
     let mut buf = [0u8; 2];
-    assert_eq!(rt; one_of(&mut told, &mut buf), Some(2));
-    assert_eq!(rt; one_of(&mut told, &mut buf), None);
-    assert_eq!(rt; told.failures(), 1);
-    assert_eq!(rt; one_of(&mut told, &mut buf), Some(1));
-    assert_eq!(rt; one_of(&mut told, &mut buf), Some(0));
+    same(&rt, one_of(&mut told, &mut buf), Some(2));
+    same(&rt, one_of(&mut told, &mut buf), None);
+    same(&rt, told.failures(), 1);
+    same(&rt, one_of(&mut told, &mut buf), Some(1));
+    same(&rt, one_of(&mut told, &mut buf), Some(0));
 }

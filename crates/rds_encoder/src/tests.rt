@@ -4,8 +4,14 @@ use super::*;
 use rds_assembly::{Name, Text};
 use rds_block::Place;
 use rds_fields::{Dwell, Head, Tag, TagPair, Which};
+use std::fmt::Debug;
 use std::process::Abort;
 use std::test::Fail;
+
+/// Ends the test where two values are not the same. An `assert_eq!` in each place would be proved anew there.
+fn same<T: PartialEq + Debug + Drop>(rt: &impl Abort, found: T, wanted: T) {
+    assert_eq!(rt; found, wanted);
+}
 
 /// A text, a name or tags that are set, with the reply; so many free slots, with what each sends; so many that
 /// belong to other services and send nothing of these.
@@ -23,13 +29,13 @@ fn play(rt: &impl Abort, encoder: &mut Encoder, rows: &[Row]) -> Result<(), Fail
     for (place, row) in rows.iter().enumerate() {
         match *row {
             Row::Text(bytes, reply) => {
-                assert_eq!(rt; encoder.set_text(text(bytes)?), reply, "row {place}");
+                same(rt, (place, encoder.set_text(text(bytes)?)), (place, reply));
             }
             Row::Name(bytes, reply) => {
-                assert_eq!(rt; encoder.set_name(name(bytes)?), reply, "row {place}");
+                same(rt, (place, encoder.set_name(name(bytes)?)), (place, reply));
             }
             Row::Tags(pair, reply) => {
-                assert_eq!(rt; encoder.set_tags(pair), reply, "row {place}");
+                same(rt, (place, encoder.set_tags(pair)), (place, reply));
             }
             Row::Free(slots, wanted) => send(rt, encoder, true, slots, wanted),
             Row::Others(slots) => send(rt, encoder, false, slots, None),
@@ -42,7 +48,7 @@ fn play(rt: &impl Abort, encoder: &mut Encoder, rows: &[Row]) -> Result<(), Fail
 fn send(rt: &impl Abort, encoder: &mut Encoder, free: bool, slots: u32, wanted: Option<[u16; 4]>) {
     for slot in 0..slots {
         let sent = encoder.tick(free).map(|group| group.to_blocks());
-        assert_eq!(rt; sent, wanted, "slot {slot}");
+        same(rt, (slot, sent), (slot, wanted));
     }
 }
 
@@ -110,7 +116,7 @@ const TITLE: [u16; 4] = [0xC201, 0xB148, 0x2002, 0x0000];
 #[test]
 fn silence_dwell_and_age(rt: HostRuntime) -> Result<(), Fail> {
     let mut encoder = restarted(4)?;
-    assert_eq!(rt; encoder.text(), None);
+    same(&rt, encoder.text(), None);
     play(
         &rt,
         &mut encoder,
@@ -124,7 +130,7 @@ fn silence_dwell_and_age(rt: HostRuntime) -> Result<(), Fail> {
             Row::Others(4),
         ],
     )?;
-    assert_eq!(rt; encoder.text(), Some(b"HI".as_slice()));
+    same(&rt, encoder.text(), Some(b"HI".as_slice()));
     Ok(())
 }
 
@@ -163,7 +169,7 @@ fn restart_keeps_silence(rt: HostRuntime) -> Result<(), Fail> {
         ],
     )?;
     encoder = restarted(4)?;
-    assert_eq!(rt; encoder.text(), None);
+    same(&rt, encoder.text(), None);
     play(
         &rt,
         &mut encoder,
@@ -204,9 +210,9 @@ fn refused_tags(rt: HostRuntime) -> Result<(), Fail> {
     for (bytes, pair, reply) in rows {
         let mut encoder = restarted(1)?;
         play(&rt, &mut encoder, &[Row::Free(1, None)])?;
-        assert_eq!(rt; encoder.set_text(Text::new(bytes)?), Ok(()));
-        assert_eq!(rt; encoder.set_tags(pair), reply);
-        assert_eq!(rt; encoder.tags().is_some(), reply.is_ok());
+        same(&rt, encoder.set_text(Text::new(bytes)?), Ok(()));
+        same(&rt, encoder.set_tags(pair), reply);
+        same(&rt, encoder.tags().is_some(), reply.is_ok());
     }
     Ok(())
 }
@@ -218,7 +224,7 @@ fn whole_round(rt: HostRuntime) -> Result<(), Fail> {
     let title = pair((1, 0, 1), DUMMY)?;
     let long = pair((1, 0, 2), DUMMY)?;
 
-    assert_eq!(rt; encoder.wait(), wait(1, 0, 0));
+    same(&rt, encoder.wait(), wait(1, 0, 0));
     let silent = Err(Refusal::Silent(1));
     play(
         &rt,
@@ -235,8 +241,8 @@ fn whole_round(rt: HostRuntime) -> Result<(), Fail> {
         ],
     )?;
 
-    assert_eq!(rt; encoder.name(), Some(b"JAZZ FM ".as_slice()));
-    assert_eq!(rt; encoder.wait(), wait(0, 1, 1));
+    same(&rt, encoder.name(), Some(b"JAZZ FM ".as_slice()));
+    same(&rt, encoder.wait(), wait(0, 1, 1));
     let held_back = Err(Refusal::Held(1));
     let out = Err(Refusal::OutOfText(Which::One));
     play(
@@ -257,7 +263,7 @@ fn whole_round(rt: HostRuntime) -> Result<(), Fail> {
             Row::Free(1, Some(TITLE)),
         ],
     )?;
-    assert_eq!(rt; encoder.tags(), Some(title));
+    same(&rt, encoder.tags(), Some(title));
     Ok(())
 }
 
@@ -297,7 +303,7 @@ fn tags_after_the_dwell(rt: HostRuntime) -> Result<(), Fail> {
             Row::Free(1, Some(HI)),
         ],
     )?;
-    assert_eq!(rt; encoder.set_tags(pair((1, 0, 1), DUMMY)?), Ok(()));
+    same(&rt, encoder.set_tags(pair((1, 0, 1), DUMMY)?), Ok(()));
     for slot in 17..39 {
         let number = encoder.tick(true).map(|group| group.number.get());
         assert!(rt; number != Some(11), "slot {slot}");
@@ -309,7 +315,7 @@ fn tags_after_the_dwell(rt: HostRuntime) -> Result<(), Fail> {
 #[test]
 fn longest_dwell(rt: HostRuntime) -> Result<(), Fail> {
     let mut encoder = restarted(65535)?;
-    assert_eq!(rt; encoder.wait(), wait(65535, 0, 0));
+    same(&rt, encoder.wait(), wait(65535, 0, 0));
     play(
         &rt,
         &mut encoder,
@@ -327,7 +333,7 @@ fn longest_dwell(rt: HostRuntime) -> Result<(), Fail> {
             Row::Others(70_001),
         ],
     )?;
-    assert_eq!(rt; encoder.wait(), wait(0, 0, 0));
+    same(&rt, encoder.wait(), wait(0, 0, 0));
     play(
         &rt,
         &mut encoder,
@@ -356,7 +362,7 @@ fn printed_refusals(rt: HostRuntime) -> Result<(), Fail> {
         ),
     ];
     for (refusal, words) in rows {
-        assert_eq!(rt; format!(in rt.alloc(); "{refusal}")?.as_str(), words);
+        same(&rt, format!(in rt.alloc(); "{refusal}")?.as_str(), words);
     }
     Ok(())
 }
@@ -365,10 +371,10 @@ fn printed_refusals(rt: HostRuntime) -> Result<(), Fail> {
 #[test]
 fn latenesses(rt: HostRuntime) -> Result<(), Fail> {
     for slots in [0, 1, 1024] {
-        assert_eq!(rt; Late::new(slots).map(Late::get), Some(slots));
+        same(&rt, Late::new(slots).map(Late::get), Some(slots));
     }
-    assert_eq!(rt; Late::new(1025), None);
-    assert_eq!(rt; Late::new(65535), None);
+    same(&rt, Late::new(1025), None);
+    same(&rt, Late::new(65535), None);
     Ok(())
 }
 
@@ -392,7 +398,7 @@ fn silent_and_held_for_late_groups(rt: HostRuntime) -> Result<(), Fail> {
         ],
     )?;
     let longest = restarted_late(65535, 1024)?;
-    assert_eq!(rt; longest.wait(), wait(66559, 0, 0));
+    same(&rt, longest.wait(), wait(66559, 0, 0));
     Ok(())
 }
 

@@ -1,7 +1,13 @@
 use super::*;
 use rds_block::{Group, Place};
+use std::fmt::Debug;
 use std::process::Abort;
 use std::test::Fail;
+
+/// Ends the test where two values are not the same. An `assert_eq!` in each place would be proved anew there.
+fn same<T: PartialEq + Debug + Drop>(rt: &impl Abort, found: T, wanted: T) {
+    assert_eq!(rt; found, wanted);
+}
 
 /// The head of PI C201, TP 0, PTY 10.
 fn head() -> Result<Head, Fail> {
@@ -47,8 +53,8 @@ fn tags(bits: (bool, bool), one: (u8, u8, u8), two: (u8, u8, u8)) -> Result<Mess
 fn both_ways(rt: &impl Abort, head: &Head, rows: &[(Message, [u16; 4])]) -> Result<(), Fail> {
     for (message, words) in rows {
         let group = message.group(*head).ok_or("no group")?;
-        assert_eq!(rt; group.to_blocks(), *words);
-        assert_eq!(rt; Message::of(&Group::from_blocks(*words)), *message);
+        same(rt, group.to_blocks(), *words);
+        same(rt, Message::of(&Group::from_blocks(*words)), *message);
     }
     Ok(())
 }
@@ -81,10 +87,10 @@ fn extreme_groups(rt: HostRuntime) -> Result<(), Fail> {
 fn waterloo_tags(rt: HostRuntime) -> Result<(), Fail> {
     let one = Tag::new(4, 0, 3)?;
     let two = Tag::new(1, 7, 7)?;
-    assert_eq!(rt; (two.class(), two.start(), two.extra()), (1, 7, 7));
+    same(&rt, (two.class(), two.start(), two.extra()), (1, 7, 7));
     let pair = TagPair::new(true, true, one, two)?;
-    assert_eq!(rt; (pair.toggle(), pair.running()), (true, true));
-    assert_eq!(rt; (pair.one(), pair.two()), (one, two));
+    same(&rt, (pair.toggle(), pair.running()), (true, true));
+    same(&rt, (pair.one(), pair.two()), (one, two));
     let words = [0xC201, 0xB158, 0x8006, 0x08E7];
     both_ways(&rt, &head()?, &[(Message::Tags(pair), words)])
 }
@@ -103,8 +109,8 @@ fn pieces(rt: HostRuntime) -> Result<(), Fail> {
     ];
     for ((class, start, extra), ends, piece) in rows {
         let tag = Tag::new(class, start, extra)?;
-        assert_eq!(rt; tag.ends_in(text.len()), ends, "start {start}");
-        assert_eq!(rt; tag.piece_in(text), piece, "start {start}");
+        same(&rt, (start, tag.ends_in(text.len())), (start, ends));
+        same(&rt, (start, tag.piece_in(text)), (start, piece));
     }
     assert!(rt; Tag::new(0, 0, 0)?.ends_in(0));
     Ok(())
@@ -128,17 +134,18 @@ fn refused_tags(rt: HostRuntime) -> Result<(), Fail> {
         ),
     ];
     for ((class, start, extra), refused, printed) in rows {
-        assert_eq!(rt; Tag::new(class, start, extra), Err(refused));
-        assert_eq!(rt; format!(in rt.alloc(); "{refused}")?.as_str(), printed);
+        same(&rt, Tag::new(class, start, extra), Err(refused));
+        same(&rt, format!(in rt.alloc(); "{refused}")?.as_str(), printed);
     }
     let dummy = Tag::new(0, 0, 0)?;
     let long = Tag::new(1, 0, 32)?;
-    assert_eq!(rt;
+    same(
+        &rt,
         TagPair::new(false, true, dummy, long),
-        Err(TagRefused::Extra)
+        Err(TagRefused::Extra),
     );
-    assert_eq!(rt; Dwell::new(0), None);
-    assert_eq!(rt; Dwell::new(65535).ok_or("dwell")?.get(), 65535);
+    same(&rt, Dwell::new(0), None);
+    same(&rt, Dwell::new(65535).ok_or("dwell")?.get(), 65535);
     assert_ne!(rt; Which::One, Which::Two);
     Ok(())
 }
@@ -153,7 +160,7 @@ fn jazz_name(rt: HostRuntime) -> Result<(), Fail> {
     ];
     both_ways(&rt, &head()?, &rows)?;
     let loose = Group::from_blocks([0xC201, 0xA14E, 0x4A41, 0x5A5A]);
-    assert_eq!(rt; Message::of(&loose), first);
+    same(&rt, Message::of(&loose), first);
     Ok(())
 }
 
@@ -186,11 +193,11 @@ fn vectors(rt: HostRuntime) -> Result<(), Fail> {
 #[test]
 fn lenient_reading(rt: HostRuntime) -> Result<(), Fail> {
     let pair = Message::of(&Group::from_blocks([0xC201, 0xB148, 0x0002, 0x0000]));
-    assert_eq!(rt; pair, tags((false, true), (0, 0, 0), (0, 0, 0))?);
+    same(&rt, pair, tags((false, true), (0, 0, 0), (0, 0, 0))?);
     both_ways(&rt, &head()?, &[(pair, [0xC201, 0xB148, 0x0000, 0x0000])])?;
     let other = Message::of(&Group::from_blocks([0xC201, 0x2940, 0x4849, 0x0D20]));
-    assert_eq!(rt; other, Message::Other);
-    assert_eq!(rt; other.group(head()?), None);
+    same(&rt, other, Message::Other);
+    same(&rt, other.group(head()?), None);
     one_message();
     one_group();
     Ok(())

@@ -1,6 +1,6 @@
 //! `audit` and `audit_within` over readers and writers.
 
-use crate::tests::Endless;
+use crate::tests::{Endless, same};
 use crate::{LogFault, audit, audit_within};
 use rds_charset::Told;
 use rds_encoder::Late;
@@ -42,8 +42,8 @@ fn yes_and_no(rt: HostRuntime) -> Result<(), Fail> {
             dwell,
             on_time()?,
         );
-        assert_eq!(rt; given, answer);
-        assert_eq!(rt; output.as_slice(), line);
+        same(&rt, given, answer);
+        same(&rt, output.as_slice(), line);
     }
     Ok(())
 }
@@ -63,8 +63,8 @@ fn as_many_reads_as_may_be(rt: HostRuntime) -> Result<(), Fail> {
             on_time()?,
             most,
         );
-        assert_eq!(rt; given, Err(LogFault::TooLong));
-        assert_eq!(rt; (reads.get(), output.len()), (most, 0));
+        same(&rt, given, Err(LogFault::TooLong));
+        same(&rt, (reads.get(), output.len()), (most, 0));
     }
     for (most, answer) in [(1, Err(LogFault::TooLong)), (2, Ok(true))] {
         let mut output = Vec::new(rt.alloc());
@@ -76,7 +76,7 @@ fn as_many_reads_as_may_be(rt: HostRuntime) -> Result<(), Fail> {
             on_time()?,
             most,
         );
-        assert_eq!(rt; given, answer);
+        same(&rt, given, answer);
     }
     Ok(())
 }

@@ -1,6 +1,7 @@
 //! Scripts and their output, scripts that are refused, and readers and writers that fail. More worked scripts are
 //! tests of the program, in rdsrt.
 
+use crate::tests::same;
 use crate::{LogFault, encode, encode_within, simulate, simulate_within};
 use arrayvec::ArrayVec;
 use rds_block::Place;
@@ -187,8 +188,12 @@ fn encoded(alloc: Global, dwell: u16, script: &[u8]) -> Result<Played, Fail> {
 fn simulations(rt: HostRuntime) -> Result<(), Fail> {
     for case in &SIMULATED {
         let (done, output) = simulated(rt.alloc(), case.dwell, case.script)?;
-        assert_eq!(rt; output.as_slice(), case.output, "in {}", case.name);
-        assert_eq!(rt; done, case.done, "in {}", case.name);
+        same(
+            &rt,
+            (case.name, output.as_slice()),
+            (case.name, case.output),
+        );
+        same(&rt, (case.name, done), (case.name, case.done));
     }
     Ok(())
 }
@@ -197,8 +202,12 @@ fn simulations(rt: HostRuntime) -> Result<(), Fail> {
 fn encodings(rt: HostRuntime) -> Result<(), Fail> {
     for case in &ENCODED {
         let (done, output) = encoded(rt.alloc(), case.dwell, case.script)?;
-        assert_eq!(rt; output.as_slice(), case.output, "in {}", case.name);
-        assert_eq!(rt; done, case.done, "in {}", case.name);
+        same(
+            &rt,
+            (case.name, output.as_slice()),
+            (case.name, case.output),
+        );
+        same(&rt, (case.name, done), (case.name, case.done));
     }
     Ok(())
 }
@@ -207,8 +216,8 @@ fn encodings(rt: HostRuntime) -> Result<(), Fail> {
 fn refused_rows(rt: HostRuntime) -> Result<(), Fail> {
     for script in REFUSED {
         let (done, output) = simulated(rt.alloc(), 4, script)?;
-        assert_eq!(rt; done, Err(LogFault::BadRow(1)));
-        assert_eq!(rt; output.as_slice(), b"".as_slice());
+        same(&rt, done, Err(LogFault::BadRow(1)));
+        same(&rt, output.as_slice(), b"".as_slice());
     }
     Ok(())
 }
@@ -224,8 +233,8 @@ fn first_bad_row(rt: HostRuntime) -> Result<(), Fail> {
     ];
     for (script, wanted, number) in rows {
         let (done, output) = simulated(rt.alloc(), 4, script)?;
-        assert_eq!(rt; done, Err(LogFault::BadRow(number)));
-        assert_eq!(rt; output.as_slice(), wanted);
+        same(&rt, done, Err(LogFault::BadRow(number)));
+        same(&rt, output.as_slice(), wanted);
     }
     Ok(())
 }
@@ -256,8 +265,8 @@ fn records(rt: HostRuntime) -> Result<(), Fail> {
     ];
     for (script, wanted, wanted_done) in rows {
         let (done, output) = simulated(rt.alloc(), 4, script)?;
-        assert_eq!(rt; output.as_slice(), wanted);
-        assert_eq!(rt; done, wanted_done);
+        same(&rt, output.as_slice(), wanted);
+        same(&rt, done, wanted_done);
     }
     Ok(())
 }
@@ -281,14 +290,15 @@ fn too_long(rt: HostRuntime) -> Result<(), Fail> {
             config(1)?,
             records as u64,
         );
-        assert_eq!(rt; output.as_slice(), *wanted);
-        assert_eq!(rt;
+        same(&rt, output.as_slice(), *wanted);
+        same(
+            &rt,
             done,
             if records == 3 {
                 Ok(())
             } else {
                 Err(LogFault::TooLong)
-            }
+            },
         );
     }
     Ok(())
@@ -339,8 +349,8 @@ fn endless_script(rt: HostRuntime) -> Result<(), Fail> {
         config(1000)?,
         1000,
     );
-    assert_eq!(rt; done, Err(LogFault::TooLong));
-    assert_eq!(rt; output.as_slice(), b"".as_slice());
+    same(&rt, done, Err(LogFault::TooLong));
+    same(&rt, output.as_slice(), b"".as_slice());
     Ok(())
 }
 
@@ -371,11 +381,11 @@ fn reader_fails(rt: HostRuntime) -> Result<(), Fail> {
             );
             assert!(rt; TAGS_OUTPUT.starts_with(output.as_slice()));
             if done == Ok(()) {
-                assert_eq!(rt; output.as_slice(), TAGS_OUTPUT);
+                same(&rt, output.as_slice(), TAGS_OUTPUT);
                 break;
             }
-            assert_eq!(rt; done, Err(fault));
-            assert_eq!(rt; reads.get(), fails_at);
+            same(&rt, done, Err(fault));
+            same(&rt, reads.get(), fails_at);
         }
         assert!(rt; runs > 10);
     }
@@ -443,10 +453,10 @@ fn writer_fails(rt: HostRuntime) -> Result<(), Fail> {
             let done = simulated_to(&mut output, rt.alloc(), fails_at, with_error)?;
             assert!(rt; TAGS_OUTPUT.starts_with(output.as_slice()));
             if done == Ok(()) {
-                assert_eq!(rt; output.as_slice(), TAGS_OUTPUT);
+                same(&rt, output.as_slice(), TAGS_OUTPUT);
                 break;
             }
-            assert_eq!(rt; done, Err(LogFault::Write));
+            same(&rt, done, Err(LogFault::Write));
         }
         assert!(rt; runs > 10);
     }
@@ -491,9 +501,9 @@ fn ends_whole_or_for_memory(
 ) {
     let bytes = page.bytes.as_slice();
     match done {
-        Ok(()) => assert_eq!(rt; bytes, whole),
+        Ok(()) => same(rt, bytes, whole),
         Err(fault) => {
-            assert_eq!(rt; fault, LogFault::Memory);
+            same(rt, fault, LogFault::Memory);
             assert!(rt; whole.starts_with(bytes));
         }
     }
@@ -550,7 +560,7 @@ fn writes_row_by_row(rt: HostRuntime) -> Result<(), Fail> {
         }),
         config(4)?,
     );
-    assert_eq!(rt; done, Err(LogFault::Write));
+    same(&rt, done, Err(LogFault::Write));
     assert!(rt; reads.get() < 10);
     Ok(())
 }

@@ -1,6 +1,7 @@
 //! Where the engines stop: no read is made after the one that brought it, and no engine says that a read failed where
 //! none did.
 
+use crate::tests::same;
 use crate::{LogFault, audit, encode, simulate};
 use rds_block::Place;
 use rds_charset::Told;
@@ -72,7 +73,7 @@ fn no_read_after_a_bad_row(rt: HostRuntime) -> Result<(), Fail> {
             &mut Told::new(&mut output),
             config(0xC201, 4, 0)?,
         );
-        assert_eq!(rt; (done, left.get()), (bad, AFTER_BAD_ROW));
+        same(&rt, (done, left.get()), (bad, AFTER_BAD_ROW));
         let reader = LineByLine {
             bytes: script,
             left: &left,
@@ -83,7 +84,7 @@ fn no_read_after_a_bad_row(rt: HostRuntime) -> Result<(), Fail> {
             &mut Told::new(&mut output),
             config(0xC201, 4, 0)?,
         );
-        assert_eq!(rt; (done, left.get()), (bad, AFTER_BAD_ROW));
+        same(&rt, (done, left.get()), (bad, AFTER_BAD_ROW));
     }
     Ok(())
 }
@@ -109,7 +110,7 @@ fn no_read_after_the_end_of_an_audit(rt: HostRuntime) -> Result<(), Fail> {
             Dwell::new(4).ok_or("dwell")?,
             Late::new(0).ok_or("late")?,
         );
-        assert_eq!(rt; (answer, left.get()), (wanted, 2));
+        same(&rt, (answer, left.get()), (wanted, 2));
     }
     Ok(())
 }
@@ -160,7 +161,7 @@ fn no_read_fails(rt: HostRuntime) -> Result<(), Fail> {
                 &mut Told::new(&mut output),
                 config(pi, dwell, late)?,
             );
-            assert_eq!(rt; done, Ok(()));
+            same(&rt, done, Ok(()));
         }
         let script = script_for(rt.alloc(), b"")?;
         let mut output = Vec::new(rt.alloc());
@@ -170,7 +171,7 @@ fn no_read_fails(rt: HostRuntime) -> Result<(), Fail> {
             &mut Told::new(&mut output),
             config(pi, dwell, late)?,
         );
-        assert_eq!(rt; done, Ok(()));
+        same(&rt, done, Ok(()));
     }
     Ok(())
 }

@@ -9,8 +9,15 @@ use rds_charset::{TellingRead, Told};
 use rds_fields::Dwell;
 use std::alloc::Global;
 use std::cell::Cell;
+use std::fmt::Debug;
 use std::io::{self, ErrorKind, Read, Write};
+use std::process::Abort;
 use std::test::Fail;
+
+/// Ends the test where two values are not the same. An `assert_eq!` in each place would be proved anew there.
+pub(crate) fn same<T: PartialEq + Debug + Drop>(rt: &impl Abort, found: T, wanted: T) {
+    assert_eq!(rt; found, wanted);
+}
 
 /// A log of one station, and what is written for it where the dwell is 128.
 struct Case {
@@ -151,8 +158,12 @@ fn decoded_for(alloc: Global, log: &[u8], pi: u16, dwell: Dwell) -> Result<Decod
 fn logs(rt: HostRuntime) -> Result<(), Fail> {
     for case in &CASES {
         let (done, output) = decoded(rt.alloc(), case.log)?;
-        assert_eq!(rt; output.as_slice(), case.output, "in {}", case.name);
-        assert_eq!(rt; done, Ok(()), "in {}", case.name);
+        same(
+            &rt,
+            (case.name, output.as_slice()),
+            (case.name, case.output),
+        );
+        same(&rt, (case.name, done), (case.name, Ok(())));
     }
     Ok(())
 }
@@ -160,8 +171,8 @@ fn logs(rt: HostRuntime) -> Result<(), Fail> {
 #[test]
 fn accents_and_euro(rt: HostRuntime) -> Result<(), Fail> {
     let (done, output) = decoded(rt.alloc(), b"C201 2140 4361 6682\nC201 2141 20A9 0D20\n")?;
-    assert_eq!(rt; output.as_slice(), "1 text \"Café €\"\n".as_bytes());
-    assert_eq!(rt; done, Ok(()));
+    same(&rt, output.as_slice(), "1 text \"Café €\"\n".as_bytes());
+    same(&rt, done, Ok(()));
     Ok(())
 }
 
@@ -176,8 +187,8 @@ fn classes(rt: HostRuntime) -> Result<(), Fail> {
         )?;
         let wanted = format!(in rt.alloc(); "1 text \"HI\"\n2 item 0 1\n2 tag1 {name} \"HI\"\n")?;
         let (done, output) = decoded(rt.alloc(), log.as_bytes())?;
-        assert_eq!(rt; output.as_slice(), wanted.as_bytes(), "class {class}");
-        assert_eq!(rt; done, Ok(()));
+        same(&rt, (class, output.as_slice()), (class, wanted.as_bytes()));
+        same(&rt, done, Ok(()));
     }
     Ok(())
 }
@@ -193,8 +204,8 @@ fn shown_for_the_dwell(rt: HostRuntime) -> Result<(), Fail> {
         let wanted = format!(in rt.alloc(); "0 text \"HI\"\n{slots} text none\n")?;
         let dwell = Dwell::new(slots).ok_or("dwell")?;
         let (done, output) = decoded_for(rt.alloc(), log.as_slice(), 0xC201, dwell)?;
-        assert_eq!(rt; output.as_slice(), wanted.as_bytes());
-        assert_eq!(rt; done, Ok(()));
+        same(&rt, output.as_slice(), wanted.as_bytes());
+        same(&rt, done, Ok(()));
     }
     Ok(())
 }
@@ -211,8 +222,8 @@ fn another_programme(rt: HostRuntime) -> Result<(), Fail> {
     ];
     for (pi, wanted) in rows {
         let (done, output) = decoded_for(rt.alloc(), log, pi, dwell()?)?;
-        assert_eq!(rt; output.as_slice(), wanted);
-        assert_eq!(rt; done, Ok(()));
+        same(&rt, output.as_slice(), wanted);
+        same(&rt, done, Ok(()));
     }
     Ok(())
 }
@@ -232,8 +243,8 @@ fn bad_lines(rt: HostRuntime) -> Result<(), Fail> {
     ];
     for (log, number, wanted) in rows {
         let (done, output) = decoded(rt.alloc(), log)?;
-        assert_eq!(rt; output.as_slice(), wanted);
-        assert_eq!(rt; done, Err(LogFault::BadLine(number)));
+        same(&rt, output.as_slice(), wanted);
+        same(&rt, done, Err(LogFault::BadLine(number)));
     }
     Ok(())
 }
@@ -249,8 +260,8 @@ fn line_longer_than_a_piece(rt: HostRuntime) -> Result<(), Fail> {
     log.extend_from_slice(b"\nC201 2150 594F 0D20")?;
     log.extend_from_slice(&[b'x'; 70_000])?;
     let (done, output) = decoded(rt.alloc(), log.as_slice())?;
-    assert_eq!(rt; output.as_slice(), b"0 text \"HI\"\n".as_slice());
-    assert_eq!(rt; done, Err(LogFault::BadLine(3)));
+    same(&rt, output.as_slice(), b"0 text \"HI\"\n".as_slice());
+    same(&rt, done, Err(LogFault::BadLine(3)));
     Ok(())
 }
 
@@ -269,8 +280,8 @@ fn output_longer_than_its_room(rt: HostRuntime) -> Result<(), Fail> {
         wanted.push_str(format!(in rt.alloc(); "{slot} text \"{text}\"\n")?.as_str())?;
     }
     let (done, output) = decoded(rt.alloc(), log.as_slice())?;
-    assert_eq!(rt; output.as_slice(), wanted.as_str().as_bytes());
-    assert_eq!(rt; done, Ok(()));
+    same(&rt, output.as_slice(), wanted.as_str().as_bytes());
+    same(&rt, done, Ok(()));
     Ok(())
 }
 
@@ -303,10 +314,10 @@ fn too_long(rt: HostRuntime) -> Result<(), Fail> {
             dwell()?,
             most,
         );
-        assert_eq!(rt; done, Err(LogFault::TooLong));
-        assert_eq!(rt; reads.get(), most);
+        same(&rt, done, Err(LogFault::TooLong));
+        same(&rt, reads.get(), most);
         let wanted: &[u8] = if most == 0 { b"" } else { b"0 text \"HI\"\n" };
-        assert_eq!(rt; output.as_slice(), wanted);
+        same(&rt, output.as_slice(), wanted);
     }
     Ok(())
 }
@@ -414,9 +425,9 @@ fn decoded_watched(
 #[test]
 fn output_before_the_next_read(rt: HostRuntime) -> Result<(), Fail> {
     let seen = decoded_watched(rt.alloc(), 20, 0, 0)?;
-    assert_eq!(rt; seen.done, Ok(()));
-    assert_eq!(rt; seen.at_reads.as_slice(), [0, 12, 24].as_slice());
-    assert_eq!(rt; (seen.reads, seen.writes), (3, 2));
+    same(&rt, seen.done, Ok(()));
+    same(&rt, seen.at_reads.as_slice(), [0, 12, 24].as_slice());
+    same(&rt, (seen.reads, seen.writes), (3, 2));
     Ok(())
 }
 
@@ -424,8 +435,8 @@ fn output_before_the_next_read(rt: HostRuntime) -> Result<(), Fail> {
 #[test]
 fn one_write_for_each_read(rt: HostRuntime) -> Result<(), Fail> {
     let seen = decoded_watched(rt.alloc(), TWO_TEXTS.len(), 0, 0)?;
-    assert_eq!(rt; seen.done, Ok(()));
-    assert_eq!(rt; (seen.taken, seen.writes), (TWO_LINES.len(), 1));
+    same(&rt, seen.done, Ok(()));
+    same(&rt, (seen.taken, seen.writes), (TWO_LINES.len(), 1));
     Ok(())
 }
 
@@ -434,8 +445,8 @@ fn one_write_for_each_read(rt: HostRuntime) -> Result<(), Fail> {
 fn no_read_after_a_failed_write(rt: HostRuntime) -> Result<(), Fail> {
     for fails_at in [1, 2] {
         let seen = decoded_watched(rt.alloc(), 20, 0, fails_at)?;
-        assert_eq!(rt; seen.done, Err(LogFault::Write));
-        assert_eq!(rt; (seen.reads, seen.writes), (fails_at, fails_at));
+        same(&rt, seen.done, Err(LogFault::Write));
+        same(&rt, (seen.reads, seen.writes), (fails_at, fails_at));
     }
     Ok(())
 }
@@ -445,9 +456,9 @@ fn no_read_after_a_failed_write(rt: HostRuntime) -> Result<(), Fail> {
 fn reader_fails(rt: HostRuntime) -> Result<(), Fail> {
     for fails_at in [1, 2, 3] {
         let seen = decoded_watched(rt.alloc(), 20, fails_at, 0)?;
-        assert_eq!(rt; seen.done, Err(LogFault::Read));
-        assert_eq!(rt; seen.failures, (1, 0));
-        assert_eq!(rt; (seen.reads, seen.writes), (fails_at, fails_at - 1));
+        same(&rt, seen.done, Err(LogFault::Read));
+        same(&rt, seen.failures, (1, 0));
+        same(&rt, (seen.reads, seen.writes), (fails_at, fails_at - 1));
     }
     Ok(())
 }

@@ -3,8 +3,14 @@
 use super::*;
 use rds_block::Group;
 use rds_fields::{Dwell, Which};
+use std::fmt::Debug;
 use std::process::Abort;
 use std::test::Fail;
+
+/// Ends the test where two values are not the same. An `assert_eq!` in each place would be proved anew there.
+fn same<T: PartialEq + Debug + Drop>(rt: &impl Abort, found: T, wanted: T) {
+    assert_eq!(rt; found, wanted);
+}
 
 /// The programme that the receivers are of.
 const PI: u16 = 0xC201;
@@ -50,16 +56,16 @@ const fn shows_title(text: &'static [u8], title: Option<&'static [u8]>) -> Shown
 
 fn assert_shown(rt: &impl Abort, receiver: &Receiver, shown: Shown) {
     let view = receiver.view();
-    assert_eq!(rt; view.text, shown.text);
-    assert_eq!(rt; view.name, shown.name);
-    assert_eq!(rt; view.item, shown.item);
-    assert_eq!(rt; view.one, shown.one);
-    assert_eq!(rt; view.two, shown.two);
-    assert_eq!(rt; receiver.text(), shown.text);
-    assert_eq!(rt; receiver.name(), shown.name);
-    assert_eq!(rt; receiver.item(), shown.item);
-    assert_eq!(rt; receiver.tag(Which::One), shown.one);
-    assert_eq!(rt; receiver.tag(Which::Two), shown.two);
+    same(rt, view.text, shown.text);
+    same(rt, view.name, shown.name);
+    same(rt, view.item, shown.item);
+    same(rt, view.one, shown.one);
+    same(rt, view.two, shown.two);
+    same(rt, receiver.text(), shown.text);
+    same(rt, receiver.name(), shown.name);
+    same(rt, receiver.item(), shown.item);
+    same(rt, receiver.tag(Which::One), shown.one);
+    same(rt, receiver.tag(Which::Two), shown.two);
 }
 
 /// Each slot brings these words, or nothing, and this is shown at its end.
@@ -231,9 +237,9 @@ fn told_whether_the_view_stays(rt: HostRuntime) -> Result<(), Fail> {
     ];
     let mut other = Receiver::new(PI, Dwell::new(4).ok_or("dwell")?);
     for (group, may_differ) in rows {
-        assert_eq!(rt; receiver.slot(group), may_differ);
-        assert_eq!(rt; other.slot_message(heard(PI, group)), may_differ);
-        assert_eq!(rt; other.text(), receiver.text());
+        same(&rt, receiver.slot(group), may_differ);
+        same(&rt, other.slot_message(heard(PI, group)), may_differ);
+        same(&rt, other.text(), receiver.text());
     }
     assert!(rt; heard(0xF201, hi).is_none());
     Ok(())
@@ -250,7 +256,11 @@ fn told_that_no_part_is_shown(rt: HostRuntime) -> Result<(), Fail> {
         ([PI, 0x2140, 0x4142, 0x4241], true),
     ];
     for (words, may_differ) in rows {
-        assert_eq!(rt; receiver.slot(Some(Group::from_blocks(words))), may_differ);
+        same(
+            &rt,
+            receiver.slot(Some(Group::from_blocks(words))),
+            may_differ,
+        );
     }
     Ok(())
 }

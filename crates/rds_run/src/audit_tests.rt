@@ -1,6 +1,6 @@
 //! `audit` through `run`: words, log, answer and status.
 
-use crate::tests::{Case, check, each_write_fails, ran_in_pieces};
+use crate::tests::{Case, check, each_write_fails, ran_in_pieces, same};
 use std::test::Fail;
 
 const AUDIT: [&str; 6] = ["rdsrt", "audit", "--pi", "C201", "--m", "4"];
@@ -250,8 +250,8 @@ fn reads_up_to_the_no(rt: HostRuntime) -> Result<(), Fail> {
     log.extend_from_slice(TAGS_ON_AIR)?;
     for (most, last) in [(1, 40), (2, 20), (3, 14), (7, 6), (20, 2), (40, 1)] {
         let (status, output, reads) = ran_in_pieces(rt.alloc(), &AUDIT, log.as_slice(), most, 0);
-        assert_eq!(rt; output.as_slice(), b"no 1 Changed\n".as_slice());
-        assert_eq!(rt; (status, reads), (1, last), "at {most}");
+        same(&rt, output.as_slice(), b"no 1 Changed\n".as_slice());
+        same(&rt, (most, (status, reads)), (most, (1, last)));
     }
     Ok(())
 }
@@ -261,12 +261,12 @@ fn reads_up_to_the_no(rt: HostRuntime) -> Result<(), Fail> {
 fn audit_reader_fails(rt: HostRuntime) -> Result<(), Fail> {
     for fails_at in 1..242 {
         let (status, output, reads) = ran_in_pieces(rt.alloc(), &AUDIT, TAGS_ON_AIR, 1, fails_at);
-        assert_eq!(rt;
-            output.as_slice(),
-            b"fault read\n".as_slice(),
-            "at {fails_at}"
+        same(
+            &rt,
+            (fails_at, output.as_slice()),
+            (fails_at, b"fault read\n".as_slice()),
         );
-        assert_eq!(rt; (status, reads), (1, fails_at));
+        same(&rt, (status, reads), (1, fails_at));
     }
     Ok(())
 }

@@ -4,9 +4,15 @@ use crate::program::run;
 use rds_charset::Told;
 use std::alloc::Global;
 use std::cell::Cell;
+use std::fmt::Debug;
 use std::io::{self, ErrorKind, Read, Write};
 use std::process::Abort;
 use std::test::Fail;
+
+/// Ends the test where two values are not the same. An `assert_eq!` in each place would be proved anew there.
+pub(crate) fn same<T: PartialEq + Debug + Drop>(rt: &impl Abort, found: T, wanted: T) {
+    assert_eq!(rt; found, wanted);
+}
 
 const DECODE: [&str; 4] = ["rdsrt", "decode", "--pi", "C201"];
 
@@ -664,8 +670,8 @@ fn ran(alloc: Global, words: &[&str], input: &[u8]) -> Result<(u8, Vec<u8>), Fai
 pub fn check(rt: &impl Abort, alloc: Global, cases: &[Case]) -> Result<(), Fail> {
     for case in cases {
         let (status, output) = ran(alloc, case.words, case.input)?;
-        assert_eq!(rt; output.as_slice(), case.output, "in {}", case.name);
-        assert_eq!(rt; status, case.status, "in {}", case.name);
+        same(rt, (case.name, output.as_slice()), (case.name, case.output));
+        same(rt, (case.name, status), (case.name, case.status));
     }
     Ok(())
 }
@@ -693,8 +699,8 @@ fn refused_rows(rt: HostRuntime) -> Result<(), Fail> {
             &["rdsrt", "sim", "--pi", "C201", "--pty", "10"],
             script,
         )?;
-        assert_eq!(rt; output.as_slice(), b"fault row 1\n".as_slice());
-        assert_eq!(rt; status, 1);
+        same(&rt, output.as_slice(), b"fault row 1\n".as_slice());
+        same(&rt, status, 1);
     }
     Ok(())
 }
@@ -707,11 +713,12 @@ fn shown_for_the_dwell(rt: HostRuntime) -> Result<(), Fail> {
         input.extend_from_slice(b"---- ---- ---- ----\n")?;
     }
     let (status, output) = ran(rt.alloc(), &DECODE, input.as_slice())?;
-    assert_eq!(rt;
+    same(
+        &rt,
         output.as_slice(),
-        b"0 text \"HI\"\n128 text none\n".as_slice()
+        b"0 text \"HI\"\n128 text none\n".as_slice(),
     );
-    assert_eq!(rt; status, 0);
+    same(&rt, status, 0);
     Ok(())
 }
 
@@ -727,8 +734,8 @@ fn fault_pi(rt: HostRuntime) -> Result<(), Fail> {
     for (task, wanted) in told {
         for given in ["C20", "C2011", "C20G", "", "+201"] {
             let (status, output) = ran(rt.alloc(), &["rdsrt", task, "--pi", given], input)?;
-            assert_eq!(rt; output.as_slice(), wanted, "at {task} {given}");
-            assert_eq!(rt; status, 2);
+            same(&rt, (task, given, output.as_slice()), (task, given, wanted));
+            same(&rt, status, 2);
         }
     }
     Ok(())
@@ -801,8 +808,8 @@ For more information, try '--help'.
 fn refused_words(rt: HostRuntime) -> Result<(), Fail> {
     for (words, wanted) in REFUSED {
         let (status, output) = ran(rt.alloc(), words, b"C201 2140 4849 0D20\n")?;
-        assert_eq!(rt; output.as_slice(), wanted);
-        assert_eq!(rt; status, 2);
+        same(&rt, output.as_slice(), wanted);
+        same(&rt, status, 2);
     }
     Ok(())
 }
@@ -819,7 +826,7 @@ fn refused_with_an_error(rt: HostRuntime) -> Result<(), Fail> {
     for words in refused {
         let (status, output) = ran(rt.alloc(), words, b"C201 2140 4849 0D20\n")?;
         assert!(rt; output.starts_with(b"error: "));
-        assert_eq!(rt; status, 2);
+        same(&rt, status, 2);
     }
     Ok(())
 }
@@ -934,9 +941,9 @@ pub fn each_write_fails(
             let (status, output, writes) = ran_until_a_write(
                 alloc, words, input, fails_at, with_error,
             );
-            assert_eq!(rt; (status, writes), (1, fails_at));
+            same(rt, (status, writes), (1, fails_at));
             assert!(rt; wanted.starts_with(output.as_slice()));
-            assert_eq!(rt; output.len() as u64, fails_at - 1);
+            same(rt, output.len() as u64, fails_at - 1);
         }
     }
     Ok(())
@@ -947,12 +954,12 @@ pub fn each_write_fails(
 fn cut_anywhere(rt: HostRuntime) -> Result<(), Fail> {
     for most in [1, 2, 3, 7] {
         let (status, output, _) = ran_in_pieces(rt.alloc(), &DECODE, MIXED_LOG, most, 0);
-        assert_eq!(rt;
-            output.as_slice(),
-            b"2 text \"HI\"\nfault line 10\n".as_slice(),
-            "at {most}"
+        same(
+            &rt,
+            (most, output.as_slice()),
+            (most, b"2 text \"HI\"\nfault line 10\n".as_slice()),
         );
-        assert_eq!(rt; status, 1);
+        same(&rt, status, 1);
     }
     Ok(())
 }
@@ -962,8 +969,8 @@ fn cut_anywhere(rt: HostRuntime) -> Result<(), Fail> {
 fn stops_at_a_bad_line(rt: HostRuntime) -> Result<(), Fail> {
     let log = b"x\nC201 2140 4849 0D20\n";
     let (status, output, reads) = ran_in_pieces(rt.alloc(), &DECODE, log, 1, 0);
-    assert_eq!(rt; output.as_slice(), b"fault line 1\n".as_slice());
-    assert_eq!(rt; (status, reads), (1, 2));
+    same(&rt, output.as_slice(), b"fault line 1\n".as_slice());
+    same(&rt, (status, reads), (1, 2));
     Ok(())
 }
 
@@ -979,8 +986,8 @@ fn reader_fails(rt: HostRuntime) -> Result<(), Fail> {
         } else {
             b"fault read\n".as_slice()
         };
-        assert_eq!(rt; output.as_slice(), wanted, "at {fails_at}");
-        assert_eq!(rt; (status, reads), (1, fails_at));
+        same(&rt, (fails_at, output.as_slice()), (fails_at, wanted));
+        same(&rt, (status, reads), (1, fails_at));
     }
     Ok(())
 }
@@ -1031,8 +1038,8 @@ fn row_by_row(rt: HostRuntime) -> Result<(), Fail> {
             noted: &mut noted,
             reads: &reads,
         });
-        assert_eq!(rt; run(rt.alloc(), words, reader, &mut writer), 0);
-        assert_eq!(rt; noted.as_slice(), wanted);
+        same(&rt, run(rt.alloc(), words, reader, &mut writer), 0);
+        same(&rt, noted.as_slice(), wanted);
     }
     Ok(())
 }
@@ -1055,10 +1062,10 @@ fn script_reader_fails(rt: HostRuntime) -> Result<(), Fail> {
             last = fails_at;
             let (status, output, reads) = ran_in_pieces(rt.alloc(), words, script, 7, fails_at);
             if status == 0 {
-                assert_eq!(rt; output.as_slice(), wanted);
+                same(&rt, output.as_slice(), wanted);
                 break;
             }
-            assert_eq!(rt; (status, reads), (1, fails_at));
+            same(&rt, (status, reads), (1, fails_at));
             assert!(rt; output.ends_with(fault));
             assert!(rt; wanted.starts_with(&output[..output.len() - fault.len()]));
         }
@@ -1163,8 +1170,8 @@ fn help(rt: HostRuntime) -> Result<(), Fail> {
     let whole: [&[&str]; 3] = [&["rdsrt", "--help"], &["rdsrt", "-h"], &["rdsrt", "help"]];
     for words in whole {
         let (status, output) = ran(rt.alloc(), words, b"x\n")?;
-        assert_eq!(rt; output.as_slice(), HELP);
-        assert_eq!(rt; status, 0);
+        same(&rt, output.as_slice(), HELP);
+        same(&rt, status, 0);
     }
     Ok(())
 }
@@ -1174,8 +1181,8 @@ fn help_of_sim(rt: HostRuntime) -> Result<(), Fail> {
     let sim: [&[&str]; 2] = [&["rdsrt", "sim", "--help"], &["rdsrt", "help", "sim"]];
     for words in sim {
         let (status, output) = ran(rt.alloc(), words, b"x\n")?;
-        assert_eq!(rt; output.as_slice(), HELP_OF_SIM);
-        assert_eq!(rt; status, 0);
+        same(&rt, output.as_slice(), HELP_OF_SIM);
+        same(&rt, status, 0);
     }
     Ok(())
 }
@@ -1197,8 +1204,8 @@ fn help_word(rt: HostRuntime) -> Result<(), Fail> {
     for task in ["decode", "audit", "encode", "sim"] {
         let (status, output) = ran(rt.alloc(), &["rdsrt", "help", task], b"x\n")?;
         let (_, wanted) = ran(rt.alloc(), &["rdsrt", task, "--help"], b"x\n")?;
-        assert_eq!(rt; output.as_slice(), wanted.as_slice(), "of {task}");
-        assert_eq!(rt; status, 0);
+        same(&rt, (task, output.as_slice()), (task, wanted.as_slice()));
+        same(&rt, status, 0);
     }
     Ok(())
 }
@@ -1210,7 +1217,7 @@ fn help_of_no_command(rt: HostRuntime) -> Result<(), Fail> {
     for words in refused {
         let (status, output) = ran(rt.alloc(), words, b"x\n")?;
         assert!(rt; output.starts_with(b"error: "));
-        assert_eq!(rt; status, 2);
+        same(&rt, status, 2);
     }
     Ok(())
 }
@@ -1219,8 +1226,8 @@ fn help_of_no_command(rt: HostRuntime) -> Result<(), Fail> {
 #[test]
 fn short_help(rt: HostRuntime) -> Result<(), Fail> {
     let (status, output) = ran(rt.alloc(), &["rdsrt", "decode", "-h"], b"x\n")?;
-    assert_eq!(rt; output.as_slice(), SHORT_HELP_OF_DECODE);
-    assert_eq!(rt; status, 0);
+    same(&rt, output.as_slice(), SHORT_HELP_OF_DECODE);
+    same(&rt, status, 0);
     for task in ["audit", "encode", "sim"] {
         let (status, output) = ran(rt.alloc(), &["rdsrt", task, "-h"], b"x\n")?;
         let (_, long) = ran(rt.alloc(), &["rdsrt", task, "--help"], b"x\n")?;
@@ -1229,7 +1236,7 @@ fn short_help(rt: HostRuntime) -> Result<(), Fail> {
             "of {task}"
         );
         assert!(rt; output.len() < long.len(), "of {task}");
-        assert_eq!(rt; status, 0);
+        same(&rt, status, 0);
     }
     Ok(())
 }
@@ -1240,7 +1247,7 @@ fn examples_in_help(rt: HostRuntime) -> Result<(), Fail> {
     for (task, wanted) in EXAMPLES {
         let (status, output) = ran(rt.alloc(), &["rdsrt", task, "--help"], b"x\n")?;
         assert!(rt; output.ends_with(wanted), "in {task}");
-        assert_eq!(rt; status, 0);
+        same(&rt, status, 0);
     }
     Ok(())
 }
@@ -1277,7 +1284,7 @@ fn nothing_is_read_for_the_words(rt: HostRuntime) -> Result<(), Fail> {
                 writes: &writes,
             });
             let status = run(rt.alloc(), words, reader, &mut writer);
-            assert_eq!(rt; (status, reads.get()), (wanted, 0));
+            same(&rt, (status, reads.get()), (wanted, 0));
         }
     }
     Ok(())

@@ -5,7 +5,7 @@ use crate::plain_plans::{Mark, SLOTS, has_plan};
 use crate::plain_rules::Rules;
 use crate::plain_tests::Dice;
 use crate::station::obey;
-use crate::tests::config;
+use crate::tests::{config, same};
 use crate::{
     Audit, AuditFault, Config, broadcasts_are_the_reigns, one_fault, passes_by_plans,
     what_passes_is_safe,
@@ -83,8 +83,8 @@ fn audited_late(
             Some((first, fault)) if first <= slot => Err(fault),
             _ => Ok(()),
         };
-        assert_eq!(rt; answer, wanted, "slot {slot}");
-        assert_eq!(rt; audit.passed(), wanted.is_ok(), "slot {slot}");
+        same(rt, (slot, answer), (slot, wanted));
+        same(rt, (slot, audit.passed()), (slot, wanted.is_ok()));
     }
     Ok(audit)
 }
@@ -148,7 +148,7 @@ fn faults_are_kept(rt: HostRuntime) -> Result<(), Fail> {
     let mut audit = audited(&rt, 4, &log, Some((5, AuditFault::EarlyTag)))?;
     for sent in [NOTHING, HI, YO, OTHER_HI, LONG_TAGS] {
         let answer = audit.slot(sent.map(|words| Group::from_blocks(words)));
-        assert_eq!(rt; answer, Err(AuditFault::EarlyTag));
+        same(&rt, answer, Err(AuditFault::EarlyTag));
         assert!(rt; !audit.passed());
     }
     Ok(())
@@ -303,9 +303,9 @@ fn check(rt: &impl Abort, seed: u32, answers: &mut Answers) -> Result<(), Fail> 
         names[slot] = letter.name;
         let answer = audit.slot(letter.sent.map(|words| Group::from_blocks(words)));
         let ruled = judged(rules, slots_of_dwell, slot, letter.sent);
-        assert_eq!(rt; answer, ruled.map(|_| ()), "log {seed}, slot {slot}");
+        same(rt, (seed, slot, answer), (seed, slot, ruled.map(|_| ())));
         let planned = has_plan(slots_of_dwell, &texts) && has_plan(slots_of_dwell, &names);
-        assert_eq!(rt; audit.passed(), planned, "log {seed}, slot {slot}");
+        same(rt, (seed, slot, audit.passed()), (seed, slot, planned));
         match ruled {
             Ok(next) => rules = next,
             Err(fault) => {
@@ -344,7 +344,7 @@ fn sent_by_an_encoder(dice: &mut Dice) -> Result<[Sent; LONG], Fail> {
     let mut encoder = Encoder::new(config.head, config.dwell, config.late);
     let mut log = [NOTHING; LONG];
     for slot in 0..LONG {
-        obey(&mut encoder, &config, dice.told().command()?);
+        obey(&mut encoder, &config, &dice.told().command()?);
         log[slot] = encoder.tick(true).map(|group| group.to_blocks());
     }
     Ok(log)
@@ -392,7 +392,7 @@ fn agrees(rt: &impl Abort, log: &[Sent; LONG]) -> Result<Option<AuditFault>, Fai
                 Err(broken) => fault = Some(broken),
             }
         }
-        assert_eq!(rt; answer.err(), fault, "slot {slot}");
+        same(rt, (slot, answer.err()), (slot, fault));
     }
     Ok(fault)
 }
@@ -404,7 +404,7 @@ fn encoders(rt: HostRuntime) -> Result<(), Fail> {
     for seed in 0..ENCODERS {
         let mut dice = Dice { state: seed };
         let log = sent_by_an_encoder(&mut dice)?;
-        assert_eq!(rt; agrees(&rt, &log)?, None, "encoder {seed}");
+        same(&rt, (seed, agrees(&rt, &log)?), (seed, None));
         for _change in 0..32 {
             match agrees(&rt, &changed(&mut dice, log))? {
                 None => answers.passed = answers.passed.wrapping_add(1),

@@ -3,7 +3,7 @@
 //! slots by clocks of their own.
 
 use crate::station::obey;
-use crate::tests::{config, late_config, slot_event};
+use crate::tests::{config, late_config, same, slot_event};
 use crate::{Command, Config, Reception, Reply, SlotEvent, StepRefused, World};
 use rds_assembly::{Name, Text};
 use rds_block::Group;
@@ -262,7 +262,7 @@ fn step(
     for i in 0..2 {
         let reception = *event.receptions.get(i).ok_or("reception")?;
         if !order.is_due(slot, i, reception) {
-            assert_eq!(rt; world.step(event).err(), Some(StepRefused::Late(i)));
+            same(rt, world.step(event).err(), Some(StepRefused::Late(i)));
             *event.receptions.get_mut(i).ok_or("reception")? = Reception::Lost;
         }
     }
@@ -337,7 +337,7 @@ fn mixes(alloc: Global, seed: u32) -> Result<bool, Fail> {
     let mut right = true;
     for _slot in 0..SLOTS {
         let told = dice.told();
-        let reply = obey(&mut encoder, &config, told.command()?);
+        let reply = obey(&mut encoder, &config, &told.command()?);
         let group = encoder.tick(dice.roll() > 7);
         match dice.reception() {
             Reception::Got(_) => receiver.slot(group),
@@ -421,7 +421,7 @@ fn clocks_are_right(alloc: Global, seed: u32, late: u16, may_lose: usize) -> Res
     let mut right = true;
     for _slot in 0..SLOTS {
         let told = dice.told();
-        let reply = obey(&mut encoder, &config, told.command()?);
+        let reply = obey(&mut encoder, &config, &told.command()?);
         let group = encoder.tick(dice.roll() > 7);
         one.hear(dice.roll(), group)?;
         two.hear(dice.roll(), group)?;

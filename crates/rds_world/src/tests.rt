@@ -7,8 +7,14 @@ use rds_block::Place;
 use rds_encoder::{Late, Refusal};
 use rds_fields::{Dwell, Head, Tag, TagPair, Which};
 use std::alloc::Global;
+use std::fmt::Debug;
 use std::process::Abort;
 use std::test::Fail;
+
+/// Ends the test where two values are not the same. An `assert_eq!` in each place would be proved anew there.
+pub(crate) fn same<T: PartialEq + Debug + Drop>(rt: &impl Abort, found: T, wanted: T) {
+    assert_eq!(rt; found, wanted);
+}
 
 const GOT: Reception = Reception::Got(0);
 
@@ -97,9 +103,9 @@ fn step_rows(
             let receptions = row.receptions.get(..receivers).ok_or("receivers")?;
             let event = slot_event(row.command, row.free, receptions)?;
             let answer = world.step(&event).ok().ok_or("receptions")?;
-            assert_eq!(rt; answer.reply, row.reply, "row {place}, slot {slot}");
+            same(rt, (place, slot, answer.reply), (place, slot, row.reply));
             let sent = answer.sent.map(|group| group.to_blocks());
-            assert_eq!(rt; sent, row.sent, "row {place}, slot {slot}");
+            same(rt, (place, slot, sent), (place, slot, row.sent));
             assert_texts(rt, world, receivers, row)?;
         }
     }
@@ -109,10 +115,10 @@ fn step_rows(
 fn assert_texts(rt: &impl Abort, world: &World, receivers: usize, row: &Row) -> Result<(), Fail> {
     for (i, text) in row.texts.iter().take(receivers).enumerate() {
         let wanted = text.as_ref().map(|text| text.bytes());
-        assert_eq!(rt;
-            world.receiver(i).ok_or("receiver")?.text(),
-            wanted,
-            "receiver {i}"
+        same(
+            rt,
+            (i, world.receiver(i).ok_or("receiver")?.text()),
+            (i, wanted),
         );
     }
     Ok(())
@@ -214,7 +220,7 @@ fn held_for_twice_the_dwell(rt: HostRuntime) -> Result<(), Fail> {
         told(yo, Reply::Done).sends(YO_AGAIN).shows(first(b"YO")?),
     ];
     let world = played(&rt, rt.alloc(), 1, &rows)?;
-    assert_eq!(rt; world.on_air(), (Some(b"YO".as_slice()), None));
+    same(&rt, world.on_air(), (Some(b"YO".as_slice()), None));
 
     let tags = set_tags((4, 0, 3), (1, 7, 7))?;
     let rows = [quiet(4), told(tags, Reply::Refused(Refusal::NoText))];
@@ -238,7 +244,7 @@ fn restart_keeps_silence(rt: HostRuntime) -> Result<(), Fail> {
         told(yo, Reply::Done).sends(YO).shows(first(b"YO")?),
     ];
     let silent = played(&rt, rt.alloc(), 1, &rows[..5])?;
-    assert_eq!(rt; silent.on_air(), (None, None));
+    same(&rt, silent.on_air(), (None, None));
     played(&rt, rt.alloc(), 1, &rows)?;
     Ok(())
 }
@@ -270,13 +276,17 @@ fn tags_on_air(rt: HostRuntime) -> Result<(), Fail> {
     ];
     let world = played(&rt, rt.alloc(), 3, &rows)?;
     let first = world.receiver(0).ok_or("receiver")?;
-    assert_eq!(rt; first.item(), Some((true, true)));
-    assert_eq!(rt; first.tag(Which::One), Some((4, b"ABBA".as_slice())));
-    assert_eq!(rt; first.tag(Which::Two), Some((1, b"WATERLOO".as_slice())));
+    same(&rt, first.item(), Some((true, true)));
+    same(&rt, first.tag(Which::One), Some((4, b"ABBA".as_slice())));
+    same(
+        &rt,
+        first.tag(Which::Two),
+        Some((1, b"WATERLOO".as_slice())),
+    );
     for i in 1..3 {
         let other = world.receiver(i).ok_or("receiver")?;
-        assert_eq!(rt; other.item(), None);
-        assert_eq!(rt; other.tag(Which::One), None);
+        same(&rt, other.item(), None);
+        same(&rt, other.tag(Which::One), None);
     }
     Ok(())
 }
@@ -304,10 +314,10 @@ fn two_skipped_flags(rt: HostRuntime) -> Result<(), Fail> {
                 4 | 12 | 20 => Reply::Done,
                 _ => Reply::Quiet,
             };
-            assert_eq!(rt; reply, wanted, "slot {slot}");
+            same(&rt, (slot, reply), (slot, wanted));
             let shown = world.receiver(0).ok_or("receiver")?.text();
             let wanted = (slot == 24).then_some(third.as_slice());
-            assert_eq!(rt; shown, wanted, "slot {slot}");
+            same(&rt, (slot, shown), (slot, wanted));
         }
     }
     Ok(())
@@ -380,8 +390,8 @@ fn neighbours_played(rt: HostRuntime) -> Result<(), Fail> {
     for (slots, second) in [(13, one), (15, two)] {
         let slots = events.get(..slots).ok_or("slots")?;
         let world = play(rt.alloc(), config()?, 2, slots).ok().ok_or("played")?;
-        assert_eq!(rt; world.receiver(0).ok_or("receiver")?.text(), two);
-        assert_eq!(rt; world.receiver(1).ok_or("receiver")?.text(), second);
+        same(&rt, world.receiver(0).ok_or("receiver")?.text(), two);
+        same(&rt, world.receiver(1).ok_or("receiver")?.text(), second);
     }
     Ok(())
 }
@@ -417,13 +427,13 @@ fn late_group_refused(rt: HostRuntime) -> Result<(), Fail> {
     let mut world = World::new(rt.alloc(), late_config(2)?, 2)
         .ok()
         .ok_or("world")?;
-    assert_eq!(rt; world.step(&event).err(), Some(StepRefused::Late(1)));
+    same(&rt, world.step(&event).err(), Some(StepRefused::Late(1)));
     let quiet = slot_event(Command::Quiet, true, &[GOT, GOT])?;
     let answer = world.step(&quiet).ok().ok_or("first slot")?;
-    assert_eq!(rt; answer.reply, Reply::Quiet);
+    same(&rt, answer.reply, Reply::Quiet);
     let events = [slot_event(Command::Restart, true, &early)?];
     let refused = play(rt.alloc(), late_config(2)?, 2, &events).err();
-    assert_eq!(rt; refused, Some(PlayRefused::Late(0, 1)));
+    same(&rt, refused, Some(PlayRefused::Late(0, 1)));
     Ok(())
 }
 
@@ -447,7 +457,7 @@ fn receptions_in_order(rt: HostRuntime) -> Result<(), Fail> {
     for (receptions, wanted) in cases.iter() {
         let quiet = first_refused(rt.alloc(), Command::Quiet, receptions)?;
         let restarting = first_refused(rt.alloc(), Command::Restart, receptions)?;
-        assert_eq!(rt; (quiet, restarting), (*wanted, *wanted));
+        same(&rt, (quiet, restarting), (*wanted, *wanted));
     }
     Ok(())
 }
@@ -482,8 +492,8 @@ fn jazz_name(rt: HostRuntime) -> Result<(), Fail> {
             quiet(1).sends([0xC201, 0xA141, 0x2046, 0x4D20]),
         ];
         let world = played(&rt, rt.alloc(), 1, &rows)?;
-        assert_eq!(rt; world.receiver(0).ok_or("receiver")?.name(), shown);
-        assert_eq!(rt; world.on_air(), (None, name));
+        same(&rt, world.receiver(0).ok_or("receiver")?.name(), shown);
+        same(&rt, world.on_air(), (None, name));
     }
     Ok(())
 }
@@ -501,7 +511,7 @@ fn stays(rt: HostRuntime) -> Result<(), Fail> {
         };
         let free = slot < 5;
         assert!(rt; world.step(&slot_event(command, free, &[GOT])?).is_ok());
-        assert_eq!(rt; world.stays(0), slot != 4 && slot != 8, "slot {slot}");
+        same(&rt, (slot, world.stays(0)), (slot, slot != 4 && slot != 8));
         assert!(rt; !world.stays(1));
     }
     Ok(())
@@ -511,7 +521,7 @@ fn stays(rt: HostRuntime) -> Result<(), Fail> {
 #[test]
 fn refused_words(rt: HostRuntime) -> Result<(), Fail> {
     let nine = World::new(rt.alloc(), config()?, 9).err();
-    assert_eq!(rt; nine, Some(WorldRefused::TooManyReceivers));
+    same(&rt, nine, Some(WorldRefused::TooManyReceivers));
     let hi = text(b"HI")?;
     let both = [Some(hi), Some(hi), None];
     let rows = [
@@ -523,8 +533,8 @@ fn refused_words(rt: HostRuntime) -> Result<(), Fail> {
     let mut world = played(&rt, rt.alloc(), 2, &rows)?;
     let short = slot_event(Command::Restart, true, &[LOST])?;
     let refused: Result<Answer, StepRefused> = world.step(&short);
-    assert_eq!(rt; refused, Err(StepRefused::ReceiverCount));
-    assert_eq!(rt; world.on_air(), (Some(b"HI".as_slice()), None));
+    same(&rt, refused, Err(StepRefused::ReceiverCount));
+    same(&rt, world.on_air(), (Some(b"HI".as_slice()), None));
     assert!(rt; world.receiver(2).is_none());
     Ok(())
 }
@@ -538,9 +548,17 @@ fn played_slots(rt: HostRuntime) -> Result<(), Fail> {
         slot_event(Command::Quiet, true, &[GOT])?,
     ];
     let nine = PlayRefused::TooManyReceivers;
-    assert_eq!(rt; play(rt.alloc(), config()?, 9, &events).err(), Some(nine));
+    same(
+        &rt,
+        play(rt.alloc(), config()?, 9, &events).err(),
+        Some(nine),
+    );
     let second = PlayRefused::ReceiverCount(1);
-    assert_eq!(rt; play(rt.alloc(), config()?, 2, &events).err(), Some(second));
+    same(
+        &rt,
+        play(rt.alloc(), config()?, 2, &events).err(),
+        Some(second),
+    );
     let hi = set_text(b"HI")?;
     let slots = [
         slot_event(Command::Quiet, true, &both)?,
@@ -550,12 +568,13 @@ fn played_slots(rt: HostRuntime) -> Result<(), Fail> {
         slot_event(hi, true, &both)?,
     ];
     let world = play(rt.alloc(), config()?, 2, &slots).ok().ok_or("played")?;
-    assert_eq!(rt; world.on_air().0, Some(b"HI".as_slice()));
-    assert_eq!(rt;
+    same(&rt, world.on_air().0, Some(b"HI".as_slice()));
+    same(
+        &rt,
         world.receiver(0).ok_or("receiver")?.text(),
-        Some(b"HI".as_slice())
+        Some(b"HI".as_slice()),
     );
-    assert_eq!(rt; world.receiver(1).ok_or("receiver")?.text(), None);
+    same(&rt, world.receiver(1).ok_or("receiver")?.text(), None);
     Ok(())
 }
 
@@ -588,13 +607,13 @@ fn plays_hundreds(
         let event = events.get_mut(299).ok_or("event")?;
         *event.receptions.get_mut(last).ok_or("reception")? = Reception::Got(late.wrapping_add(1));
         let refused = play(alloc, config, receivers, &events).err();
-        assert_eq!(rt; refused, Some(PlayRefused::Late(299, last)));
+        same(rt, refused, Some(PlayRefused::Late(299, last)));
     }
     let other = if receivers == 0 { 1 } else { 0 };
     let each = receptions.get(..other).ok_or("other")?;
     *events.get_mut(257).ok_or("event")? = slot_event(Command::Quiet, false, each)?;
     let refused = play(alloc, config, receivers, &events).err();
-    assert_eq!(rt; refused, Some(PlayRefused::ReceiverCount(257)));
+    same(rt, refused, Some(PlayRefused::ReceiverCount(257)));
     Ok(())
 }
 
