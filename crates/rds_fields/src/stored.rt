@@ -21,10 +21,10 @@ pub struct StoredTag {
 #[repr(C)]
 #[derive(Clone, Copy)]
 pub struct StoredPair {
-    pub one: StoredTag,
-    pub two: StoredTag,
     pub toggle: u8,
     pub running: u8,
+    pub one: StoredTag,
+    pub two: StoredTag,
     pub is_held: u8,
 }
 
