@@ -2,6 +2,7 @@
 ghost use Rattle.std.specs.Prelude.{◌≡◌, ℕ, ◌<◌, ◌≤◌, ◌↔◌, IsFalse, IsTrue, IfSome, IfNone, List, length};
 ghost use Rattle.std.specs.Ordering.{nat_cmp};
 ghost use Rattle.std.specs.FinMap as map;
+ghost use Rattle.rds_assembly.specs.Held.{held_cells};
 
 use crate::Service;
 use std::marker::{Model, PhantomData};
@@ -48,6 +49,27 @@ impl<S: Service> Assembly<S> {
             whole: None,
             service: PhantomData,
         }
+    }
+
+    /// Holds these segments: segment a stands at the places 4 * a to 4 * a + 3 of the bytes, and is
+    /// held where bit a of the mask is 1.
+    pub fn restore(bytes: [u8; 64], mask: u16) -> Self
+        ensures { result ≡ held_cells mask bytes }
+    {
+        let whole = S::length(&bytes, mask);
+        Assembly {
+            bytes,
+            mask,
+            whole,
+            service: PhantomData,
+        }
+    }
+
+    /// The segments held, as `restore` takes them.
+    pub fn store(&self) -> ([u8; 64], u16)
+        ensures { held_cells result.1 result.0 ≡ self.now }
+    {
+        (self.bytes, self.mask)
     }
 
     /// Gives up all segments.

@@ -5,6 +5,7 @@ pub mod Tags
 pub mod Round
 pub mod Sent
 pub mod State
+pub mod Stored
 pub mod Codes
 pub mod Standing
 pub mod Spaced

@@ -34,6 +34,15 @@ impl Distance {
         }
     }
 
+    /// The distance of this many slots, and the greatest where it is above.
+    pub(crate) fn restore(slots: u32) -> Distance
+        ensures { slots ≤ 66559 → result ≡ slots }
+    {
+        Distance {
+            slots: slots.min(66559),
+        }
+    }
+
     /// The number of slots.
     pub(crate) fn get(self) -> u32
         ensures value { result ≡ self }

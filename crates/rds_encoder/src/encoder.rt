@@ -10,18 +10,21 @@ ghost use Rattle.rds_encoder.specs.Round.{turn_in};
 ghost use Rattle.rds_encoder.specs.Sent.{IsSent, is_turn, name_segment, sent_in, tags_due, text_segment};
 ghost use Rattle.rds_encoder.specs.Standing.{StandsAt, Takes, WhereItStands};
 ghost use Rattle.rds_encoder.specs.State.{advanced};
+ghost use Rattle.rds_encoder.specs.Stored.{IsStored, encoder_stored};
 ghost use Rattle.rds_encoder.specs.Tags.{fitting_reply, pair_on_air, tags_reply};
 
 use crate::distance::Distance;
+use crate::hold::Hold;
 use crate::round::Round;
 use crate::silence::Silence;
+use crate::stored::{StoredEncoder, StoredName};
 use crate::text_on_air::TextOnAir;
 use crate::track::Track;
 use crate::turn::Turn;
 use crate::{Late, Refusal, Wait};
 use rds_assembly::{Name, Text};
 use rds_block::{Group, Place};
-use rds_fields::{Dwell, Head, Message, TagPair, Which, rtplus_announcement};
+use rds_fields::{Dwell, Head, Message, StoredPair, TagPair, Which, rtplus_announcement};
 use std::marker::Model;
 
 /// Sends the text, the name and the tags of one station. It keeps counters that stop at their limits, and no
@@ -78,6 +81,52 @@ impl Encoder {
             text: Track::new(),
             name: Track::new(),
             pair: None,
+        }
+    }
+
+    /// The encoder that was stored, where these are numbers that one is stored as; some encoder where they are
+    /// not.
+    pub fn restore(stored: &StoredEncoder) -> Encoder
+        ensures { IsStored stored.now → result ≡ encoder_stored stored.now }
+    {
+        Encoder {
+            head: Head {
+                pi: stored.pi,
+                tp: stored.tp != 0,
+                pty: Place::new(stored.pty).unwrap_or(Place::new(0).unwrap()),
+            },
+            distance: Distance::restore(stored.distance),
+            silence: Silence::restore(stored.silence),
+            round: Round::restore(stored.round),
+            text: Track {
+                hold: Hold::restore(&stored.text_hold),
+                on_air: TextOnAir::restore(&stored.text),
+            },
+            name: Track {
+                hold: Hold::restore(&stored.name_hold),
+                on_air: stored.name.name(),
+            },
+            pair: stored.pair.pair(),
+        }
+    }
+
+    /// The encoder, to be stored.
+    pub fn store(&self) -> StoredEncoder
+        ensures same { encoder_stored result ≡ self.now }
+        ensures good { IsStored result }
+    {
+        StoredEncoder {
+            distance: self.distance.get(),
+            silence: self.silence.left(),
+            text_hold: self.text.hold.store(),
+            name_hold: self.name.hold.store(),
+            pi: self.head.pi,
+            tp: u8::from(self.head.tp),
+            pty: self.head.pty.get(),
+            round: self.round.store(),
+            text: TextOnAir::store(&self.text.on_air),
+            name: StoredName::of(&self.name.on_air),
+            pair: StoredPair::of(self.pair),
         }
     }
 

@@ -4,9 +4,11 @@ ghost use Rattle.rds_encoder.specs.Entries.{Move, Begin, Set, End, slot_of};
 ghost use Rattle.rds_encoder.specs.Plan.{OnAir, on_air};
 ghost use Rattle.rds_encoder.specs.Reply.{held_reply, last_accepted, reply_to};
 ghost use Rattle.rds_encoder.specs.Standing.{HoldsBack};
+ghost use Rattle.rds_encoder.specs.Stored.{hold_stored};
 
 use crate::Refusal;
 use crate::distance::Distance;
+use crate::stored::StoredHold;
 use std::marker::Model;
 
 /// For how many slots more one service holds its next text or name back, and the flag that it will have.
@@ -36,6 +38,26 @@ impl Hold {
         Hold {
             left: 0,
             next_flag: false,
+        }
+    }
+
+    /// The hold that was stored.
+    pub(crate) fn restore(stored: &StoredHold) -> Hold
+        ensures { result ≡ hold_stored stored.now }
+    {
+        Hold {
+            left: stored.left,
+            next_flag: stored.next_flag != 0,
+        }
+    }
+
+    /// The hold, to be stored.
+    pub(crate) fn store(&self) -> StoredHold
+        ensures { hold_stored result ≡ self.now }
+    {
+        StoredHold {
+            left: self.left,
+            next_flag: u8::from(self.next_flag),
         }
     }
 

@@ -20,6 +20,7 @@ mod laws;
 mod refusal;
 mod round;
 mod silence;
+mod stored;
 mod text_on_air;
 mod track;
 mod turn;
@@ -33,7 +34,10 @@ pub use laws::{
     planned_is_what_was_on_air, sent_is_of_what_is_on_air,
 };
 pub use refusal::Refusal;
+pub use stored::{StoredEncoder, StoredHold, StoredName, StoredText};
 pub use wait::Wait;
 
+#[cfg(test)]
+mod stored_tests;
 #[cfg(test)]
 mod tests;

@@ -1,5 +1,5 @@
 //! The round of eight turns.
-ghost use Rattle.std.specs.Prelude.{◌≡◌, ◌+◌, ◌%◌};
+ghost use Rattle.std.specs.Prelude.{◌≡◌, ◌+◌, ◌%◌, ◌<◌};
 ghost use Rattle.rds_encoder.specs.Round.{IsTurn, turn_in};
 
 use crate::turn::Turn;
@@ -39,6 +39,25 @@ impl Round {
         ensures { result ≡ 0 }
     {
         Round { place: 0 }
+    }
+
+    /// The round that was stored, and a new one where that is none.
+    pub(crate) fn restore(place: u8) -> Round
+        ensures { place < 8 → result ≡ place }
+    {
+        if place < 8 {
+            Round { place }
+        } else {
+            Round::new()
+        }
+    }
+
+    /// The round, to be stored.
+    pub(crate) fn store(&self) -> u8
+        ensures same { result ≡ self.now }
+        ensures below { result < 8 }
+    {
+        self.place
     }
 
     /// The turn that is next.

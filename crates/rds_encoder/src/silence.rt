@@ -32,6 +32,13 @@ impl Silence {
         }
     }
 
+    /// The silence that was stored.
+    pub(crate) fn restore(left: u32) -> Silence
+        ensures { result ≡ left }
+    {
+        Silence { left }
+    }
+
     /// Refuses every set while it lasts.
     pub(crate) fn check(&self) -> Result<(), Refusal>
         ensures { (m : ℕ) (moves : List Move) → self.now ≡ silence_left m moves

@@ -1,10 +1,13 @@
 //! The text on air, segment by segment.
-ghost use Rattle.std.specs.Prelude.{◌≡◌, option_map};
+ghost use Rattle.std.specs.Prelude.{◌≡◌, IsTrue, option_map};
 ghost use Rattle.rds_fields.specs.declared.message.Message.{Message};
 ghost use Rattle.rds_assembly.specs.Body.{segment_of, text_body};
 ghost use Rattle.rds_assembly.specs.Value.{IsText};
 ghost use Rattle.rds_encoder.specs.State.{advanced};
+ghost use Rattle.rds_encoder.specs.Stored.{IsTextStored, text_stored};
+ghost use Rattle.rds_fields.specs.Stored.{is_set};
 
+use crate::stored::StoredText;
 use crate::track::Track;
 use rds_assembly::Text;
 use rds_block::Place;
@@ -37,6 +40,49 @@ impl TextOnAir {
         ensures { result ≡ record { bytes = text; next = 0 } }
     {
         TextOnAir { text, next: 0 }
+    }
+
+    /// The text that was stored; `None` where there is none, or the numbers are none.
+    pub(crate) fn restore(stored: &StoredText) -> Option<TextOnAir>
+        ensures { (IsTrue (is_set stored.now.is_on_air) → IsTextStored stored.now)
+            → result ≡ text_stored stored.now }
+    {
+        if stored.is_on_air == 0 {
+            return None;
+        }
+        let bytes = stored.bytes.get(..usize::from(stored.length))?;
+        let text = Text::new(bytes).ok()?;
+        if stored.next >= text.count() {
+            return None;
+        }
+        Some(TextOnAir {
+            text,
+            next: stored.next,
+        })
+    }
+
+    /// The text, where there is one, to be stored.
+    pub(crate) fn store(on_air: &Option<TextOnAir>) -> StoredText
+        ensures same { text_stored result ≡ on_air.now }
+        ensures good { IsTrue (is_set result.is_on_air) → IsTextStored result }
+    {
+        let mut bytes = [0; 64];
+        let Some(text) = on_air else {
+            return StoredText {
+                bytes,
+                length: 0,
+                next: 0,
+                is_on_air: 0,
+            };
+        };
+        let from = text.text.bytes();
+        bytes[..from.len()].copy_from_slice(from);
+        StoredText {
+            bytes,
+            length: from.len() as u8,
+            next: text.next,
+            is_on_air: 1,
+        }
     }
 
     /// The bytes of the text.

@@ -5,3 +5,4 @@ pub mod Canonical
 pub mod RadioTextPlus
 pub mod Codes
 pub mod OneMessage
+pub mod Stored

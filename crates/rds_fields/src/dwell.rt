@@ -31,6 +31,15 @@ impl Dwell {
         Some(Dwell { slots })
     }
 
+    /// The dwell of this many slots, and of one where there is none.
+    pub fn at_least_one(slots: u16) -> Self
+        ensures { 0 < slots → result ≡ slots }
+    {
+        Dwell {
+            slots: slots.max(1),
+        }
+    }
+
     /// The number of slots.
     pub fn get(self) -> u16
         ensures value { result ≡ self }

@@ -17,6 +17,7 @@ mod laws;
 mod message;
 mod pair;
 mod radiotext_plus;
+mod stored;
 mod tag;
 
 pub use dwell::Dwell;
@@ -25,6 +26,7 @@ pub use laws::{one_group, one_message};
 pub use message::Message;
 pub use pair::{TagPair, Which};
 pub use radiotext_plus::{RTPLUS_AID, RTPLUS_CODE, rtplus_announcement};
+pub use stored::{StoredPair, StoredTag};
 pub use tag::{Tag, TagRefused};
 
 #[cfg(test)]

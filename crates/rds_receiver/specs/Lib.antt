@@ -4,6 +4,7 @@ pub mod Chained
 pub mod Tags
 pub mod Shown
 pub mod State
+pub mod Stored
 pub mod Codes
 pub mod Lent
 pub mod Standing

@@ -5,7 +5,9 @@ ghost use Rattle.std.specs.Option.{option_copied};
 ghost use Rattle.rds_receiver.specs.Shown.{IsShown};
 ghost use Rattle.rds_receiver.specs.Standing.{MakeAlike};
 ghost use Rattle.rds_receiver.specs.State.{HeldSegments};
+ghost use Rattle.rds_receiver.specs.Stored.{segments_stored};
 
+use crate::stored::StoredSegments;
 use rds_assembly::{Assembly, Service};
 use std::marker::Model;
 
@@ -39,6 +41,30 @@ impl<S: Service> Held<S> {
             segments: Assembly::new(),
             flag: false,
             age: dwell,
+        }
+    }
+
+    /// The segments that were stored.
+    pub(crate) fn restore(stored: &StoredSegments) -> Self
+        ensures { result ≡ segments_stored stored.now }
+    {
+        Held {
+            segments: Assembly::restore(stored.bytes, stored.mask),
+            flag: stored.flag != 0,
+            age: stored.age,
+        }
+    }
+
+    /// The segments, to be stored.
+    pub(crate) fn store(&self) -> StoredSegments
+        ensures { segments_stored result ≡ self.now }
+    {
+        let (bytes, mask) = self.segments.store();
+        StoredSegments {
+            bytes,
+            mask,
+            age: self.age,
+            flag: u8::from(self.flag),
         }
     }
 

@@ -8,13 +8,15 @@ ghost use Rattle.rds_receiver.specs.Receipts.{Hears};
 ghost use Rattle.rds_receiver.specs.Shown.{IsItemShown, IsNameShown, IsTagShown, IsTextShown, IsView, ShownView};
 ghost use Rattle.rds_receiver.specs.Standing.{HearsMore, HoldsAt, ShowsAlike, StandsAt, WhatItHeard, WhereItStands, newest_slot};
 ghost use Rattle.rds_receiver.specs.State.{ReceiverState};
-ghost use Rattle.rds_receiver.specs.Tags.{or_before, says_of_rtplus, unless_contrary};
+ghost use Rattle.rds_receiver.specs.Stored.{IsStored, receiver_stored};
+ghost use Rattle.rds_receiver.specs.Tags.{or_before, pair_held, says_of_rtplus, unless_contrary};
 
 use crate::View;
 use crate::held::Held;
+use crate::stored::StoredReceiver;
 use rds_assembly::{RadioText, TypeName};
 use rds_block::Group;
-use rds_fields::{Dwell, Message, RTPLUS_AID, RTPLUS_CODE, TagPair, Which};
+use rds_fields::{Dwell, Message, RTPLUS_AID, RTPLUS_CODE, StoredPair, TagPair, Which};
 use std::marker::Model;
 
 /// What a receiver of this programme hears of a slot: nothing where no group came, or another programme's.
@@ -72,6 +74,36 @@ impl Receiver {
             name: Held::new(slots),
             pair: None,
             knows_rtplus: false,
+        }
+    }
+
+    /// The receiver that was stored, where these are numbers that one is stored as; some receiver of the
+    /// programme where they are not.
+    pub fn restore(stored: &StoredReceiver) -> Receiver
+        ensures { IsStored stored.now → result ≡ receiver_stored stored.now }
+    {
+        Receiver {
+            pi: stored.programme,
+            dwell: Dwell::at_least_one(stored.dwell),
+            text: Held::restore(&stored.text),
+            name: Held::restore(&stored.name),
+            pair: stored.pair.pair(),
+            knows_rtplus: stored.is_known != 0,
+        }
+    }
+
+    /// The receiver, to be stored.
+    pub fn store(&self) -> StoredReceiver
+        ensures same { receiver_stored result ≡ self.now }
+        ensures good { IsStored result }
+    {
+        StoredReceiver {
+            programme: self.pi,
+            dwell: self.dwell.get(),
+            text: self.text.store(),
+            name: self.name.store(),
+            pair: StoredPair::of(self.pair),
+            is_known: u8::from(self.knows_rtplus),
         }
     }
 
@@ -160,6 +192,13 @@ impl Receiver {
         };
         let piece = tag.piece_in(text)?;
         Some((tag.class(), piece))
+    }
+
+    /// The pair of tags that is held, of the text that is received; `None` where none is.
+    pub fn pair(&self) -> Option<TagPair>
+        ensures { WhatItHeard self.now (λ m first heard. result ≡ pair_held m first heard) }
+    {
+        self.pair
     }
 
     /// One slot older. The tags go with their text. False where all that is shown stays.

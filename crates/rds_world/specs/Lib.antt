@@ -22,5 +22,6 @@ pub mod Rules
 pub mod Lengths
 pub mod Ages
 pub mod AuditState
+pub mod Stored
 pub mod AuditStanding
 pub mod AuditLaws

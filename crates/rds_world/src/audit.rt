@@ -7,9 +7,11 @@ ghost use Rattle.rds_world.specs.AuditLaws.{IsSafeLog};
 ghost use Rattle.rds_world.specs.AuditStanding.{AuditStandsAt, HoldsLog, HoldsSlot, WhereTheAuditStands};
 ghost use Rattle.rds_world.specs.Dense.{HasPlans};
 ghost use Rattle.rds_world.specs.Rules.{BreaksFirst, IsFaultOf, LogPasses};
+ghost use Rattle.rds_world.specs.Stored.{IsStored, audit_stored};
 
 use crate::audited::{Names, Texts};
 use crate::reigns::Reigns;
+use crate::stored::StoredAudit;
 use crate::{AuditFault, one_fault, passes_by_plans, what_passes_is_safe};
 use rds_block::Group;
 use rds_encoder::Late;
@@ -67,6 +69,34 @@ impl Audit {
             text: Reigns::new(dwell),
             name: Reigns::new(dwell),
             fault: None,
+        }
+    }
+
+    /// The audit that was stored, where these are numbers that one is stored as; some audit of the programme where
+    /// they are not.
+    pub fn restore(stored: &StoredAudit) -> Audit
+        ensures { IsStored stored.now → result ≡ audit_stored stored.now }
+    {
+        Audit {
+            pi: stored.pi,
+            dwell: stored.dwell.clamp(1, 131072),
+            text: Reigns::restore(&stored.text),
+            name: Reigns::restore(&stored.name),
+            fault: AuditFault::numbered(stored.fault),
+        }
+    }
+
+    /// The audit, to be stored.
+    pub fn store(&self) -> StoredAudit
+        ensures same { audit_stored result ≡ self.now }
+        ensures good { IsStored result }
+    {
+        StoredAudit {
+            dwell: self.dwell,
+            text: self.text.store(),
+            name: self.name.store(),
+            pi: self.pi,
+            fault: AuditFault::number(self.fault),
         }
     }
 

@@ -2,10 +2,13 @@
 ghost use Rattle.std.specs.Prelude.{◌≡◌, ◌+◌, ◌<◌, ◌≤◌, ◌↔◌, ℕ, IsOk, IsErr, IfOk, IfErr};
 ghost use Rattle.rds_world.specs.AuditState.{CanTake, CannotTake, HasRoom, HoldsNoOther, no_content, tagged, taken};
 ghost use Rattle.rds_world.specs.Lengths.{narrowed, pair_end, tag_end};
+ghost use Rattle.rds_world.specs.Stored.{ages_stored, content_stored};
 
 use crate::AuditFault;
+use crate::ages::Ages;
 use crate::audited::Audited;
 use crate::lengths::Lengths;
+use crate::stored::{StoredReigns, cells_restored, cells_stored};
 use rds_fields::{Tag, TagPair};
 use std::marker::{Model, PhantomData};
 
@@ -49,6 +52,39 @@ impl<S: Audited> Content<S> {
             },
             tags_end: 0,
             service: PhantomData,
+        }
+    }
+
+    /// What was stored.
+    pub(crate) fn restore(stored: &StoredReigns) -> Self
+        ensures { result ≡ content_stored stored.now }
+    {
+        Content {
+            cells: cells_restored(&stored.cells),
+            lengths: Lengths {
+                least: stored.least,
+                most: stored.most,
+            },
+            tags_end: stored.tags_end,
+            service: PhantomData,
+        }
+    }
+
+    /// All of it and these ages, to be stored.
+    pub(crate) fn store(&self, ages: &Ages) -> StoredReigns
+        ensures content { content_stored result ≡ self.now }
+        ensures ages { ages_stored result ≡ ages.now }
+    {
+        StoredReigns {
+            since_last: ages.since_last,
+            since_before: ages.since_before,
+            since_start: ages.since_start,
+            cells: cells_stored(&self.cells),
+            is_open: u8::from(ages.is_open),
+            flag: u8::from(ages.flag),
+            least: self.lengths.least,
+            most: self.lengths.most,
+            tags_end: self.tags_end,
         }
     }
 

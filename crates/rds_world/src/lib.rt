@@ -25,6 +25,7 @@ mod reply;
 mod slots;
 mod station;
 mod station_laws;
+mod stored;
 mod world;
 
 pub use audit::Audit;
@@ -38,6 +39,7 @@ pub use laws::{
 pub use reply::{Answer, Reply, StepRefused, WorldRefused};
 pub use slots::{PlayRefused, play};
 pub use station_laws::{on_air_is_delivered, only_what_was_on_air_is_shown, the_encoder_is_lawful};
+pub use stored::{StoredAudit, StoredCell, StoredReigns};
 pub use world::{Config, World};
 
 #[cfg(test)]
@@ -48,5 +50,7 @@ mod plain_plans;
 mod plain_rules;
 #[cfg(test)]
 mod plain_tests;
+#[cfg(test)]
+mod stored_tests;
 #[cfg(test)]
 mod tests;

@@ -5,11 +5,13 @@ ghost use Rattle.rds_world.specs.AuditStanding.{HoldsMarks, HoldsNewest};
 ghost use Rattle.rds_world.specs.AuditState.{CanTake, CannotTake, joined_state, no_content, opened_state};
 ghost use Rattle.rds_world.specs.Marks.{Mark, Sends, Tagged};
 ghost use Rattle.rds_world.specs.Rules.{IsBrokenBy};
+ghost use Rattle.rds_world.specs.Stored.{reigns_stored};
 
 use crate::AuditFault;
 use crate::ages::Ages;
 use crate::audited::Audited;
 use crate::content::Content;
+use crate::stored::StoredReigns;
 use rds_fields::TagPair;
 use std::marker::Model;
 
@@ -40,6 +42,29 @@ impl<S: Audited> Reigns<S> {
             ages: Ages::new(dwell),
             content: Content::new(),
         }
+    }
+
+    /// What was stored.
+    pub(crate) fn restore(stored: &StoredReigns) -> Self
+        ensures { result ≡ reigns_stored stored.now }
+    {
+        Reigns {
+            ages: Ages {
+                is_open: stored.is_open != 0,
+                flag: stored.flag != 0,
+                since_last: stored.since_last,
+                since_before: stored.since_before,
+                since_start: stored.since_start,
+            },
+            content: Content::restore(stored),
+        }
+    }
+
+    /// All of it, to be stored.
+    pub(crate) fn store(&self) -> StoredReigns
+        ensures { reigns_stored result ≡ self.now }
+    {
+        self.content.store(&self.ages)
     }
 
     /// Takes a segment that is sent in this slot: it joins the current reign, or opens one.

@@ -1,0 +1,52 @@
+-- An encoder that is stored as plain numbers (this project's own).
+use Rattle.std.specs.Prelude.{ℕ, ◌<◌, ◌≤◌, IsTrue, List, Option, Some, None, if◌then◌else◌, take}
+use Rattle.rds_fields.specs.declared.head.Head.{Head}
+use Rattle.rds_fields.specs.Stored.{IsStoredPair, is_set, pair_stored}
+use Rattle.rds_assembly.specs.Value.{IsName, IsText}
+use Rattle.rds_encoder.specs.State.{EncoderState, HoldState, IsTextState, TextState}
+use Rattle.rds_encoder.specs.declared.stored.StoredHold.{StoredHold}
+use Rattle.rds_encoder.specs.declared.stored.StoredText.{StoredText}
+use Rattle.rds_encoder.specs.declared.stored.StoredName.{StoredName}
+use Rattle.rds_encoder.specs.declared.stored.StoredEncoder.{StoredEncoder}
+
+abbrev pub head_stored : StoredEncoder → Head
+head_stored e = record { pi = e.pi; tp = is_set e.tp; pty = e.pty }
+
+abbrev pub hold_stored : StoredHold → HoldState
+hold_stored h = record { left = h.left; next_flag = is_set h.next_flag }
+
+abbrev pub state_stored : StoredText → TextState
+state_stored t = record { bytes = take t.length t.bytes; next = t.next }
+
+-- the text on air, where there is one
+abbrev pub text_stored : StoredText → Option TextState
+text_stored t = if is_set t.is_on_air then Some (state_stored t) else None
+
+abbrev pub name_stored : StoredName → Option (List ℕ)
+name_stored n = if is_set n.is_on_air then Some n.bytes else None
+
+abbrev pub encoder_stored : StoredEncoder → EncoderState
+encoder_stored e = record {
+  head = head_stored e;
+  dwell = e.distance;
+  silence = e.silence;
+  round = e.round;
+  text = record { hold = hold_stored e.text_hold; on_air = text_stored e.text };
+  name = record { hold = hold_stored e.name_hold; on_air = name_stored e.name };
+  pair = pair_stored e.pair;
+}
+
+-- what is on air is a text, and its next segment one of it
+pub record IsTextStored (t : StoredText) : Type 0 where
+  pub fits : t.length ≤ 64
+  pub text : IsText (take t.length t.bytes)
+  pub state : IsTextState (state_stored t)
+
+-- the numbers are ones that an encoder is stored as
+pub record IsStored (e : StoredEncoder) : Type 0 where
+  pub pty : e.pty < 32
+  pub distance : e.distance ≤ 66559
+  pub round : e.round < 8
+  pub text : IsTrue (is_set e.text.is_on_air) → IsTextStored e.text
+  pub name : IsTrue (is_set e.name.is_on_air) → IsName e.name.bytes
+  pub pair : IsStoredPair e.pair

@@ -1,0 +1,33 @@
+-- From the audit that lies in the caller's memory to what it stands for, and back.
+use Rattle.std.proofs.Common.{◌≡◌, ℕ, List, Option, sym, subst}
+use Rattle.std.specs.Prelude.{Result, Ok, Err, MatchOption, MatchResult}
+use Rattle.rds_block.specs.declared.group.Group.{Group}
+use Rattle.rds_fields.specs.declared.message.Message.{Message}
+use Rattle.rds_world.specs.AuditStanding.{AuditStandsAt, WhereTheAuditStands}
+use Rattle.rds_world.specs.AuditState.{AuditState}
+use Rattle.rds_world.specs.Rules.{IsFaultOf, LogPasses}
+use Rattle.rds_world.specs.Stored.{IsStored, audit_stored}
+use Rattle.rds_world.specs.declared.audit_fault.AuditFault.{AuditFault}
+use Rattle.rds_world.specs.declared.stored.StoredAudit.{StoredAudit}
+use Rattle.rds_ffi.specs.AuditLies.{AuditLies, Tells, WhereItHeard, fault_in}
+use Rattle.rds_ffi.specs.Codes.{code_of}
+
+pub there : (pi d : ℕ) (s : StoredAudit) (log : List (Option Group)) (a : AuditState) → (IsStored s → a ≡ audit_stored s) → AuditLies pi d s log → AuditStandsAt pi d a log
+there pi d s log a restored lies = subst (λ (x : AuditState). AuditStandsAt pi d x log) (sym (restored lies.good)) lies.at
+
+pub back : (pi d : ℕ) (s : StoredAudit) (log : List (Option Group)) (a : AuditState) → audit_stored s ≡ a → IsStored s → AuditStandsAt pi d a log → AuditLies pi d s log
+back pi d s log a same good stands = record {
+  good = good;
+  at = subst (λ (x : AuditState). AuditStandsAt pi d x log) (sym same) stands;
+}
+
+-- what holds of what it heard wherever the audit stands holds wherever the one that stands for it lies
+pub lying : (s : StoredAudit) (a : AuditState) (Holds : ℕ → List (Option Message) → Type 0) → (IsStored s → a ≡ audit_stored s) → WhereTheAuditStands a Holds → WhereItHeard s Holds
+lying s a Holds same holds pi d log lies = subst (λ (x : AuditState). (stands : AuditStandsAt pi d x log) → Holds d stands.heard) (same lies.good) (holds pi d log) lies.at
+
+found : (P : Type 0) (Q : AuditFault → Type 0) (r : Result (Unit {0}) AuditFault) → MatchResult r (λ _. P) Q → MatchOption (fault_in r) P Q
+found P Q (Ok done) m = m
+found P Q (Err fault) m = m
+
+pub tells : (code d : ℕ) (heard : List (Option Message)) (r : Result (Unit {0}) AuditFault) → code ≡ code_of (fault_in r) → MatchResult r (λ _. LogPasses d heard) (λ fault. IsFaultOf d heard fault) → Tells code d heard
+tells code d heard r told m = (fault_in r, told, found (LogPasses d heard) (λ fault. IsFaultOf d heard fault) r m)

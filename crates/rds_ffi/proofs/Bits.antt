@@ -1,0 +1,11 @@
+-- A bit that is given as a number.
+use Rattle.std.proofs.Common.{◌≡◌, Bool, true, false, refl, arith}
+use Rattle.std.specs.Int.{from_bool}
+
+pub set : (b : Bool) → from_bool b ≡ 1 → b ≡ true
+set true e = refl
+set false e = absurd (omega arith)
+
+pub one : (b : Bool) → b ≡ true → from_bool b ≡ 1
+one true e = refl
+one false e = (cc)

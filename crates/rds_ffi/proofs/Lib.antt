@@ -1,0 +1,3 @@
+pub mod Bits
+pub mod Lying
+pub mod Audits

@@ -1,0 +1,22 @@
+use Rattle.std.proofs.Common.{◌≡◌, ◌<◌, ◌+◌, ◌↔◌, ◌∙◌, ℕ, IsTrue, sym}
+use Rattle.rds_world.specs.AuditLaws.{IsSafeLog}
+use Rattle.rds_world.specs.Dense.{HasPlans}
+use Rattle.rds_world.specs.Rules.{LogPasses}
+use Rattle.rds_ffi.proofs.Audits.{lying}
+use Rattle.rds_ffi.proofs.Bits.{one, set}
+use Rattle.rds_ffi.proofs.audit.rdsrt_audit_passed.Goals as goal
+
+pub returns-clause-passes : goal.returns-clause-passes
+returns-clause-passes c pi d log lies =
+    let is = lying _ _ (λ d heard. IsTrue c.passed.result ↔ LogPasses d heard) c.restore.ensures c.passed.ensures.passes pi d log lies in
+    ((λ e. is.0 (set _ (sym c.from.ensures ∙ e))), (λ h. c.from.ensures ∙ one _ (is.1 h)))
+
+pub returns-clause-plans : goal.returns-clause-plans
+returns-clause-plans c pi d log lies =
+    let is = lying _ _ (λ d heard. IsTrue c.passed.result ↔ HasPlans d heard) c.restore.ensures c.passed.ensures.plans pi d log lies in
+    ((λ e. is.0 (set _ (sym c.from.ensures ∙ e))), (λ h. c.from.ensures ∙ one _ (is.1 h)))
+
+pub returns-clause-safe : goal.returns-clause-safe
+returns-clause-safe c pi d log lies m k some sum e =
+    lying _ _ (λ d heard. (m k : ℕ) → 0 < m → m + k ≡ d → IsTrue c.passed.result → IsSafeLog m k heard) c.restore.ensures c.passed.ensures.safe pi d log lies m k some sum
+    (set _ (sym c.from.ensures ∙ e))

@@ -1,0 +1,7 @@
+use Rattle.std.proofs.Common.{sym, subst}
+use Rattle.rds_receiver.specs.Standing.{StandsAt}
+use Rattle.rds_ffi.proofs.receiver.rdsrt_receiver_view.Goals as goal
+
+pub returns-clause-shown : goal.returns-clause-shown
+returns-clause-shown c t input s =
+    c.seen.ensures.shown t input (subst (λ r. StandsAt t r input) (sym (c.restore.ensures s.good)) s.at)

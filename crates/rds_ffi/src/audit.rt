@@ -1,0 +1,88 @@
+//! An audit in the caller's memory.
+ghost use Rattle.std.specs.Prelude.{◌≡◌, ◌≢◌, ◌+◌, ◌<◌, ◌≤◌, ◌↔◌, ℕ, [], ◌∷◌, Option};
+ghost use Rattle.rds_block.specs.declared.group.Group.{Group};
+ghost use Rattle.rds_world.specs.AuditLaws.{IsSafeLog};
+ghost use Rattle.rds_world.specs.Dense.{HasPlans};
+ghost use Rattle.rds_world.specs.Rules.{LogPasses};
+ghost use Rattle.rds_ffi.specs.AuditLies.{AuditLies, IsAnswer, Tells, WhereItHeard, WhereItLies, fault_in};
+ghost use Rattle.rds_ffi.specs.Codes.{RDSRT_BAD_ARGUMENT, RDSRT_OK, code_of};
+ghost use Rattle.rds_ffi.specs.Slots.{Bring, IsCount};
+
+use crate::codes;
+use crate::slots::brought;
+use rds_encoder::Late;
+use rds_fields::Dwell;
+use rds_world::{Audit, AuditFault, StoredAudit};
+
+/// Makes an audit of this programme before the first slot. The dwell and the lateness are in slots.
+///
+/// # Errors
+///
+/// `RDSRT_BAD_ARGUMENT` and no change where the dwell is 0 or the lateness over 1024.
+#[unsafe(no_mangle)]
+pub extern "C" fn rdsrt_audit_init(audit: &mut StoredAudit, pi: u16, dwell: u16, late: u16) -> u32
+    ensures code { result ≡ RDSRT_OK ↔ ((0 < dwell) × (late ≤ 1024)) }
+    ensures stands { result ≡ RDSRT_OK → AuditLies pi (dwell + late) audit.new [] }
+    ensures bad { result ≢ RDSRT_OK → result ≡ RDSRT_BAD_ARGUMENT }
+    ensures kept { result ≢ RDSRT_OK → audit.new ≡ audit.old }
+{
+    let Some(dwell) = Dwell::new(dwell) else {
+        return codes::BAD_ARGUMENT;
+    };
+    let Some(late) = Late::new(late) else {
+        return codes::BAD_ARGUMENT;
+    };
+    *audit = Audit::new(pi, dwell, late).store();
+    codes::DONE
+}
+
+/// Takes the next slot: the four blocks of the group that was sent in it, or no blocks. `RDSRT_OK` where the log passes
+/// so far, and the code of its fault where it does not.
+///
+/// # Errors
+///
+/// `RDSRT_BAD_ARGUMENT` and no change where the blocks are neither four nor none.
+#[unsafe(no_mangle)]
+pub extern "C" fn rdsrt_audit_slot(audit: &mut StoredAudit, blocks: &[u16]) -> u32
+    ensures code { result ≢ RDSRT_BAD_ARGUMENT ↔ IsCount blocks.now }
+    ensures stands { result ≢ RDSRT_BAD_ARGUMENT → WhereItLies audit.old (λ pi d log.
+        (slot : Option Group) × Bring blocks.now slot × AuditLies pi d audit.new (slot ∷ log)) }
+    ensures which { result ≢ RDSRT_BAD_ARGUMENT → WhereItHeard audit.new (Tells result) }
+    ensures codes { result ≢ RDSRT_BAD_ARGUMENT → IsAnswer result }
+    ensures kept { result ≡ RDSRT_BAD_ARGUMENT → audit.new ≡ audit.old }
+{
+    let Ok(slot) = brought(blocks) else {
+        return codes::BAD_ARGUMENT;
+    };
+    let mut inner = Audit::restore(audit);
+    let found = inner.slot(slot);
+    *audit = inner.store();
+    told(found)
+}
+
+/// Whether the log passes so far: 1 or 0.
+#[unsafe(no_mangle)]
+pub extern "C" fn rdsrt_audit_passed(audit: &StoredAudit) -> u32
+    ensures few { result ≤ 1 }
+    ensures passes { WhereItHeard audit.now (λ d heard. result ≡ 1 ↔ LogPasses d heard) }
+    ensures plans { WhereItHeard audit.now (λ d heard. result ≡ 1 ↔ HasPlans d heard) }
+    ensures safe { WhereItHeard audit.now (λ d heard. (m k : ℕ) → 0 < m → m + k ≡ d
+        → result ≡ 1 → IsSafeLog m k heard) }
+{
+    u32::from(Audit::restore(audit).passed())
+}
+
+/// The code of what was found.
+fn told(found: Result<(), AuditFault>) -> u32
+    ensures told { result ≡ code_of (fault_in found) }
+    ensures answer { result ≢ RDSRT_BAD_ARGUMENT }
+{
+    match found {
+        Ok(()) => codes::DONE,
+        Err(AuditFault::Changed) => codes::FAULT_CHANGED,
+        Err(AuditFault::NotOneText) => codes::FAULT_NOT_ONE_TEXT,
+        Err(AuditFault::EarlyFlag) => codes::FAULT_EARLY_FLAG,
+        Err(AuditFault::EarlyTag) => codes::FAULT_EARLY_TAG,
+        Err(AuditFault::TagOutside) => codes::FAULT_TAG_OUTSIDE,
+    }
+}

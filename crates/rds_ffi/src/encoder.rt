@@ -1,0 +1,238 @@
+//! An encoder in the caller's memory.
+ghost use Rattle.std.specs.Prelude.{◌≡◌, ◌≢◌, ◌+◌, ◌<◌, ◌≤◌, ◌↔◌, ℕ, List, [], ◌∷◌, OnErr, Option, option_map};
+ghost use Rattle.rds_block.specs.declared.group.Group.{Group};
+ghost use Rattle.rds_fields.specs.declared.head.Head.{Head};
+ghost use Rattle.rds_fields.specs.Stored.{is_set};
+ghost use Rattle.rds_assembly.specs.declared.refused.TextRefused.{TextRefused};
+ghost use Rattle.rds_assembly.specs.Body.{name_body};
+ghost use Rattle.rds_assembly.specs.Value.{IsGivenName, IsRefusedFor, IsText, is_name_byte, is_text_byte};
+ghost use Rattle.rds_encoder.specs.Entries.{Entry, Restart, SetName, SetTags, SetText, Tick, name_moves, text_moves};
+ghost use Rattle.rds_encoder.specs.Plan.{bytes_of, on_air};
+ghost use Rattle.rds_encoder.specs.Reply.{held_for, reply_to, silent_for};
+ghost use Rattle.rds_encoder.specs.Sent.{IsSent, sent_in};
+ghost use Rattle.rds_encoder.specs.Stored.{IsStored, encoder_stored};
+ghost use Rattle.rds_encoder.specs.Tags.{tags_reply};
+ghost use Rattle.rds_ffi.specs.Codes.{RDSRT_BAD_ARGUMENT, RDSRT_BAD_TAGS, RDSRT_OK, IsReply, refusal_of, reply_of};
+ghost use Rattle.rds_ffi.specs.EncoderLies.{EncoderLies, Takes, WhereItLies};
+ghost use Rattle.rds_ffi.specs.Sent.{IsOut};
+ghost use Rattle.rds_ffi.specs.Tagged.{AreGiven, pair_of};
+ghost use Rattle.rds_ffi.specs.Viewed.{name_of, text_of};
+
+use crate::codes;
+use crate::reply::{RdsrtReply, plain_refusal, plain_reply};
+use crate::tags::{RdsrtTags, pair_given};
+use crate::view::{RdsrtName, RdsrtText, plain_name, plain_text};
+use rds_assembly::{Name, Text};
+use rds_block::Place;
+use rds_encoder::{Encoder, Late, Refusal, StoredEncoder};
+use rds_fields::{Dwell, Head};
+
+/// The text and the name on air.
+#[repr(C)]
+#[derive(Clone, Copy)]
+pub struct RdsrtOnAir {
+    pub text: RdsrtText,
+    pub name: RdsrtName,
+}
+
+/// For how many slots more a set would be refused; 0 where it would not.
+#[repr(C)]
+#[derive(Clone, Copy)]
+pub struct RdsrtWait {
+    pub silent: u32,
+    pub text: u32,
+    pub name: u32,
+}
+
+/// Makes an encoder at a restart, silent for the dwell and the lateness, in slots, from this slot on.
+///
+/// # Errors
+///
+/// `RDSRT_BAD_ARGUMENT` and no change where the programme type is over 31, the dwell 0 or the lateness over 1024.
+#[unsafe(no_mangle)]
+pub extern "C" fn rdsrt_encoder_init(
+    encoder: &mut StoredEncoder,
+    pi: u16,
+    tp: u8,
+    pty: u8,
+    dwell: u16,
+    late: u16,
+) -> u32
+    ensures code { result ≡ RDSRT_OK ↔ ((pty < 32) × (0 < dwell) × (late ≤ 1024)) }
+    ensures first { result ≡ RDSRT_OK → EncoderLies record { pi = pi; tp = is_set tp; pty = pty } (dwell + late)
+        encoder.new [] }
+    ensures again { result ≡ RDSRT_OK → (entries : List Entry)
+        → EncoderLies record { pi = pi; tp = is_set tp; pty = pty } (dwell + late)
+        encoder.new (Restart ∷ entries) }
+    ensures bad { result ≢ RDSRT_OK → result ≡ RDSRT_BAD_ARGUMENT }
+    ensures kept { result ≢ RDSRT_OK → encoder.new ≡ encoder.old }
+{
+    let Some(pty) = Place::new(pty) else {
+        return codes::BAD_ARGUMENT;
+    };
+    let Some(dwell) = Dwell::new(dwell) else {
+        return codes::BAD_ARGUMENT;
+    };
+    let Some(late) = Late::new(late) else {
+        return codes::BAD_ARGUMENT;
+    };
+    let head = Head {
+        pi,
+        tp: tp != 0,
+        pty,
+    };
+    *encoder = Encoder::new(head, dwell, late).store();
+    codes::DONE
+}
+
+/// Puts the text of these bytes on air from this slot on.
+///
+/// # Errors
+///
+/// `RDSRT_TOO_LONG` over 64 bytes, `RDSRT_BAD_BYTE` with the place of the first byte that no text has, and then
+/// `RDSRT_SILENT` or `RDSRT_HELD` with the slots to wait. Nothing changes.
+#[unsafe(no_mangle)]
+pub extern "C" fn rdsrt_encoder_set_text(encoder: &mut StoredEncoder, text: &[u8]) -> RdsrtReply
+    ensures reply { IsText text.now → WhereItLies encoder.old
+        (λ _ m entries. result ≡ reply_of (reply_to m (text_moves entries))) }
+    ensures stands { IsText text.now → Takes encoder.old encoder.new (SetText text.now) }
+    ensures refused { (IsText text.now → ⊥) → (refused : TextRefused)
+        × IsRefusedFor 64 is_text_byte text.now refused × (result ≡ refusal_of refused) }
+    ensures codes { IsText text.now → IsReply result }
+    ensures kept { result.code ≢ RDSRT_OK → encoder.new ≡ encoder.old }
+{
+    let text = match Text::new(text) {
+        Ok(text) => text,
+        Err(refused) => return plain_refusal(refused),
+    };
+    let mut inner = Encoder::restore(encoder);
+    let reply = inner.set_text(text);
+    answered(encoder, &inner, reply)
+}
+
+/// Puts the name of these bytes on air from this slot on, with spaces up to eight.
+///
+/// # Errors
+///
+/// `RDSRT_TOO_LONG` over 8 bytes, `RDSRT_BAD_BYTE` with the place of the first byte that no name has, and then
+/// `RDSRT_SILENT` or `RDSRT_HELD` with the slots to wait. Nothing changes.
+#[unsafe(no_mangle)]
+pub extern "C" fn rdsrt_encoder_set_name(encoder: &mut StoredEncoder, name: &[u8]) -> RdsrtReply
+    ensures reply { IsGivenName name.now → WhereItLies encoder.old
+        (λ _ m entries. result ≡ reply_of (reply_to m (name_moves entries))) }
+    ensures stands { IsGivenName name.now
+        → Takes encoder.old encoder.new (SetName (name_body name.now)) }
+    ensures refused { (IsGivenName name.now → ⊥) → (refused : TextRefused)
+        × IsRefusedFor 8 is_name_byte name.now refused × (result ≡ refusal_of refused) }
+    ensures codes { IsGivenName name.now → IsReply result }
+    ensures kept { result.code ≢ RDSRT_OK → encoder.new ≡ encoder.old }
+{
+    let name = match Name::new(name) {
+        Ok(name) => name,
+        Err(refused) => return plain_refusal(refused),
+    };
+    let mut inner = Encoder::restore(encoder);
+    let reply = inner.set_name(name);
+    answered(encoder, &inner, reply)
+}
+
+/// Gives the text on air these tags.
+///
+/// # Errors
+///
+/// `RDSRT_BAD_TAGS` where the numbers are no pair of tags, and then `RDSRT_SILENT` with the slots to wait,
+/// `RDSRT_NO_TEXT`, or `RDSRT_OUT_OF_TEXT_1` or `_2` for the first tag that does not end in the text. Nothing changes.
+#[unsafe(no_mangle)]
+pub extern "C" fn rdsrt_encoder_set_tags(
+    encoder: &mut StoredEncoder,
+    tags: &RdsrtTags,
+) -> RdsrtReply
+    ensures reply { AreGiven tags.now → WhereItLies encoder.old
+        (λ _ m entries. result ≡ reply_of (tags_reply m (pair_of tags.now) entries)) }
+    ensures stands { AreGiven tags.now → Takes encoder.old encoder.new (SetTags (pair_of tags.now)) }
+    ensures refused { (AreGiven tags.now → ⊥) → result ≡ record { code = RDSRT_BAD_TAGS; number = 0 } }
+    ensures codes { AreGiven tags.now → IsReply result }
+    ensures kept { result.code ≢ RDSRT_OK → encoder.new ≡ encoder.old }
+{
+    let Some(pair) = pair_given(tags) else {
+        return RdsrtReply {
+            code: codes::BAD_TAGS,
+            number: 0,
+        };
+    };
+    let mut inner = Encoder::restore(encoder);
+    let reply = inner.set_tags(pair);
+    answered(encoder, &inner, reply)
+}
+
+/// Ends the slot, and gives the four blocks of the group that is sent in it: `RDSRT_SENT`, or `RDSRT_OK` and the blocks
+/// as they were where nothing is sent. A slot that is not free belongs to other services.
+#[unsafe(no_mangle)]
+pub extern "C" fn rdsrt_encoder_tick(
+    encoder: &mut StoredEncoder,
+    free: u8,
+    blocks: &mut [u16; 4],
+) -> u32
+    ensures sent { WhereItLies encoder.old (λ station m entries. (group : Option Group)
+        × IsSent station (sent_in m (is_set free) entries) group × IsOut result blocks.new group) }
+    ensures stands { Takes encoder.old encoder.new (Tick (is_set free)) }
+    ensures few { result ≤ 1 }
+    ensures kept { result ≡ RDSRT_OK → blocks.new ≡ blocks.old }
+{
+    let mut inner = Encoder::restore(encoder);
+    let sent = inner.tick(free != 0);
+    *encoder = inner.store();
+    let Some(group) = sent else {
+        return codes::DONE;
+    };
+    *blocks = group.to_blocks();
+    codes::SENT
+}
+
+/// The text and the name on air.
+#[unsafe(no_mangle)]
+pub extern "C" fn rdsrt_encoder_on_air(encoder: &StoredEncoder, air: &mut RdsrtOnAir)
+    ensures text { WhereItLies encoder.now (λ _ m entries.
+        text_of air.new.text ≡ option_map bytes_of (on_air m (text_moves entries))) }
+    ensures name { WhereItLies encoder.now (λ _ m entries.
+        name_of air.new.name ≡ option_map bytes_of (on_air m (name_moves entries))) }
+    ensures within { air.new.text.length ≤ 64 }
+{
+    let inner = Encoder::restore(encoder);
+    *air = RdsrtOnAir {
+        text: plain_text(inner.text()),
+        name: plain_name(inner.name()),
+    };
+}
+
+/// For how many slots more a set would be refused, this one included.
+#[unsafe(no_mangle)]
+pub extern "C" fn rdsrt_encoder_wait(encoder: &StoredEncoder, wait: &mut RdsrtWait)
+    ensures silent { WhereItLies encoder.now
+        (λ _ m entries. wait.new.silent ≡ silent_for (reply_to m (text_moves entries))) }
+    ensures text { WhereItLies encoder.now
+        (λ _ m entries. wait.new.text ≡ held_for (reply_to m (text_moves entries))) }
+    ensures name { WhereItLies encoder.now
+        (λ _ m entries. wait.new.name ≡ held_for (reply_to m (name_moves entries))) }
+{
+    let left = Encoder::restore(encoder).wait();
+    *wait = RdsrtWait {
+        silent: left.silent,
+        text: left.text,
+        name: left.name,
+    };
+}
+
+/// The reply, and the encoder stored where the set was taken.
+fn answered(encoder: &mut StoredEncoder, inner: &Encoder, reply: Result<(), Refusal>) -> RdsrtReply
+    ensures reply { result ≡ reply_of reply }
+    ensures same { OnErr reply (inner.now ≡ encoder_stored encoder.old)
+        → encoder_stored encoder.new ≡ inner.now }
+    ensures good { IsStored encoder.old → IsStored encoder.new }
+    ensures kept { result.code ≢ RDSRT_OK → encoder.new ≡ encoder.old }
+{
+    if reply.is_ok() {
+        *encoder = inner.store();
+    }
+    plain_reply(reply)
+}

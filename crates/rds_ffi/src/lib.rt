@@ -1,0 +1,31 @@
+//! Receivers, encoders and audits for C programs: plain structs in the caller's memory, and functions over them.
+//!
+//! Each call takes any numbers in a struct: they are safe numbers, whoever wrote them. Where only these functions
+//! wrote them, what a call answers is what the definitions say of all slots since the struct was made.
+#![tactic(auto)]
+
+mod audit;
+mod codes;
+mod encoder;
+mod receiver;
+mod reply;
+mod slots;
+mod tags;
+#[cfg(test)]
+mod tests;
+mod text;
+mod version;
+mod view;
+
+// The sizes that the C header states.
+const _: () = prove!(size_of::<rds_receiver::StoredReceiver>() == 154);
+
+const _: () = prove!(size_of::<rds_encoder::StoredEncoder>() == 116);
+
+const _: () = prove!(size_of::<rds_world::StoredAudit>() == 208);
+
+const _: () = prove!(size_of::<view::RdsrtView>() == 84);
+
+const _: () = prove!(size_of::<encoder::RdsrtOnAir>() == 75);
+
+const _: () = prove!(size_of::<tags::RdsrtTags>() == 8);

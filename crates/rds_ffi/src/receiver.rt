@@ -1,0 +1,76 @@
+//! A receiver in the caller's memory.
+ghost use Rattle.std.specs.Prelude.{◌≡◌, ◌≢◌, ◌<◌, ◌≤◌, ◌↔◌, ◌⊎◌, ℕ, IsFalse, List, [], ◌∷◌, Option};
+ghost use Rattle.rds_block.specs.declared.group.Group.{Group};
+ghost use Rattle.rds_receiver.specs.Shown.{IsView, ShownView};
+ghost use Rattle.rds_ffi.specs.Codes.{RDSRT_BAD_ARGUMENT, RDSRT_CHANGED, RDSRT_OK};
+ghost use Rattle.rds_ffi.specs.Lies.{ReceiverLies, WhereItLies};
+ghost use Rattle.rds_ffi.specs.Slots.{Bring, IsCount};
+ghost use Rattle.rds_ffi.specs.Viewed.{IsWithin, view_of};
+
+use crate::codes;
+use crate::slots::brought;
+use crate::view::{RdsrtView, seen};
+use rds_fields::Dwell;
+use rds_receiver::{Receiver, StoredReceiver};
+
+/// Makes a receiver of this programme that heard nothing yet; the dwell is in slots.
+///
+/// # Errors
+///
+/// `RDSRT_BAD_ARGUMENT` and no change where the dwell is 0.
+#[unsafe(no_mangle)]
+pub extern "C" fn rdsrt_receiver_init(receiver: &mut StoredReceiver, pi: u16, dwell: u16) -> u32
+    ensures code { result ≡ RDSRT_OK ↔ 0 < dwell }
+    ensures bad { result ≢ RDSRT_OK → result ≡ RDSRT_BAD_ARGUMENT }
+    ensures stands { result ≡ RDSRT_OK → (first : ℕ)
+        → ReceiverLies record { programme = pi; dwell = dwell; first = first } receiver.new [] }
+    ensures kept { result ≢ RDSRT_OK → receiver.new ≡ receiver.old }
+{
+    let Some(dwell) = Dwell::new(dwell) else {
+        return codes::BAD_ARGUMENT;
+    };
+    *receiver = Receiver::new(pi, dwell).store();
+    codes::DONE
+}
+
+/// Handles what one slot brought: the four blocks of a group, or no blocks for nothing. `RDSRT_OK` where the view is
+/// what it was, and `RDSRT_CHANGED` where it may have changed.
+///
+/// # Errors
+///
+/// `RDSRT_BAD_ARGUMENT` and no change where the blocks are neither four nor none.
+#[unsafe(no_mangle)]
+pub extern "C" fn rdsrt_receiver_slot(receiver: &mut StoredReceiver, blocks: &[u16]) -> u32
+    ensures code { result ≢ RDSRT_BAD_ARGUMENT ↔ IsCount blocks.now }
+    ensures few { result ≢ RDSRT_BAD_ARGUMENT → (result ≡ RDSRT_OK) ⊎ (result ≡ RDSRT_CHANGED) }
+    ensures stands { result ≢ RDSRT_BAD_ARGUMENT → WhereItLies receiver.old (λ t input.
+        (slot : Option Group) × Bring blocks.now slot × ReceiverLies t receiver.new (slot ∷ input)) }
+    ensures same { result ≡ RDSRT_OK → (view : ShownView) → WhereItLies receiver.old (λ t input.
+        IsView t input view → (slot : Option Group) × Bring blocks.now slot × IsView t (slot ∷ input) view) }
+    ensures kept { result ≡ RDSRT_BAD_ARGUMENT → receiver.new ≡ receiver.old }
+{
+    let Ok(slot) = brought(blocks) else {
+        return codes::BAD_ARGUMENT;
+    };
+    let mut inner = Receiver::restore(receiver);
+    let changed = inner.slot(slot);
+    *receiver = inner.store();
+    told(changed)
+}
+
+/// What the receiver shows.
+#[unsafe(no_mangle)]
+pub extern "C" fn rdsrt_receiver_view(receiver: &StoredReceiver, view: &mut RdsrtView)
+    ensures shown { WhereItLies receiver.now (λ t input. IsView t input (view_of view.new)) }
+    ensures within { IsWithin view.new }
+{
+    *view = seen(&Receiver::restore(receiver));
+}
+
+/// The code of a slot in which the view may have changed, or has not.
+fn told(changed: bool) -> u32
+    ensures same { result ≡ RDSRT_OK → IsFalse changed }
+    ensures few { (result ≡ RDSRT_OK) ⊎ (result ≡ RDSRT_CHANGED) }
+{
+    if changed { codes::CHANGED } else { codes::DONE }
+}

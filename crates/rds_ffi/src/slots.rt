@@ -1,0 +1,24 @@
+//! What one slot brought, as blocks.
+ghost use Rattle.std.specs.Prelude.{◌↔◌, IfOk, IsOk};
+ghost use Rattle.rds_ffi.specs.Slots.{Bring, IsCount};
+
+use rds_block::Group;
+
+/// The blocks of a slot are neither none nor four.
+#[derive(Clone, Copy)]
+pub(crate) struct BadCount;
+
+/// What the blocks bring.
+pub(crate) fn brought(blocks: &[u16]) -> Result<Option<Group>, BadCount>
+    ensures count { IsOk result ↔ IsCount blocks.now }
+    ensures value { IfOk result (Bring blocks.now) }
+{
+    if blocks.is_empty() {
+        return Ok(None);
+    }
+    if blocks.len() != 4 {
+        return Err(BadCount);
+    }
+    let four = [blocks[0], blocks[1], blocks[2], blocks[3]];
+    Ok(Some(Group::from_blocks(four)))
+}

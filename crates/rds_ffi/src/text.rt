@@ -1,0 +1,89 @@
+//! Texts as people read them.
+ghost use Rattle.std.specs.Prelude.{◌≡◌, ◌≢◌, ◌<◌, ◌≤◌, ◌↔◌, ◌⊎◌, ℕ, List, IsUtf8, length, take, drop};
+ghost use Rattle.rds_charset.specs.Printed.{printed};
+ghost use Rattle.rds_charset.specs.ReadAs.{HasBadEscape, HasNoRoom, HasUnknownCharacter, IsReadAs};
+ghost use Rattle.rds_ffi.specs.Codes.{RDSRT_BAD_ESCAPE, RDSRT_NOT_UTF8, RDSRT_NO_CHARACTER, RDSRT_NO_ROOM, RDSRT_OK};
+ghost use Rattle.rds_ffi.specs.Codes.{RDSRT_TOO_LONG};
+
+use crate::codes;
+use arrayvec::ArrayVec;
+use rds_charset::{TextFault, push_text, read_text};
+use std::str;
+
+/// The most bytes of a text.
+const LONGEST: usize = 64;
+
+/// The most bytes of a text in its printed form.
+const ROOM: usize = 4 * LONGEST;
+
+/// Writes a text of up to 64 bytes in its printed form, which is UTF-8, and gives the number of its bytes.
+///
+/// # Errors
+///
+/// `RDSRT_TOO_LONG` where the text has more than 64 bytes; `RDSRT_NO_ROOM` where the printed form does not fit, and the
+/// number is then the room that is needed. Nothing is written into the slice.
+#[unsafe(no_mangle)]
+pub extern "C" fn rdsrt_text_to_utf8(text: &[u8], into: &mut [u8], count: &mut usize) -> u32
+    ensures printed { result ≡ RDSRT_OK → take count.new into.new ≡ printed text.now }
+    ensures count { result ≢ RDSRT_TOO_LONG → count.new ≡ length (printed text.now) }
+    ensures rest { result ≡ RDSRT_OK → drop count.new into.new ≡ drop count.new into.old }
+    ensures done { result ≡ RDSRT_OK ↔ ((length text.now ≤ 64)
+        × (length (printed text.now) ≤ length into.old)) }
+    ensures long { result ≡ RDSRT_TOO_LONG ↔ 64 < length text.now }
+    ensures room { result ≡ RDSRT_NO_ROOM
+        ↔ ((length text.now ≤ 64) × (length into.old < length (printed text.now))) }
+    ensures kept { result ≢ RDSRT_OK → into.new ≡ into.old }
+    ensures uncounted { result ≡ RDSRT_TOO_LONG → count.new ≡ count.old }
+{
+    if text.len() > LONGEST {
+        return codes::TOO_LONG;
+    }
+    let mut line = ArrayVec::<u8, ROOM>::new();
+    push_text(text, &mut line);
+    let needed = line.len();
+    *count = needed;
+    if into.len() < needed {
+        return codes::NO_ROOM;
+    }
+    into[..needed].copy_from_slice(line.as_slice());
+    codes::DONE
+}
+
+/// Reads a text in its printed form into the front of the slice, and gives the number of its bytes.
+///
+/// # Errors
+///
+/// `RDSRT_NOT_UTF8`; then `RDSRT_BAD_ESCAPE` or `RDSRT_NO_CHARACTER`, whichever stands first, and the number is then its
+/// place in bytes; then `RDSRT_NO_ROOM`. Nothing is written into the slice.
+#[unsafe(no_mangle)]
+pub extern "C" fn rdsrt_text_from_utf8(utf8: &[u8], into: &mut [u8], count: &mut usize) -> u32
+    ensures read { result ≡ RDSRT_OK → IsReadAs utf8.now (take count.new into.new) }
+    ensures rest { result ≡ RDSRT_OK → drop count.new into.new ≡ drop count.new into.old }
+    ensures within { result ≡ RDSRT_OK → count.new ≤ length into.new }
+    ensures whole { IsUtf8 utf8.now → (bytes : List ℕ) → IsReadAs utf8.now bytes
+        → length bytes ≤ length into.old → result ≡ RDSRT_OK }
+    ensures not_utf8 { result ≡ RDSRT_NOT_UTF8 ↔ (IsUtf8 utf8.now → ⊥) }
+    ensures codes { (result ≡ RDSRT_OK) ⊎ ((RDSRT_NOT_UTF8 ≤ result) × (result ≤ RDSRT_NO_ROOM)) }
+    ensures bad_escape { result ≡ RDSRT_BAD_ESCAPE → HasBadEscape utf8.now count.new }
+    ensures each_escape { IsUtf8 utf8.now → (place : ℕ) → HasBadEscape utf8.now place
+        → result ≡ RDSRT_BAD_ESCAPE }
+    ensures no_character { result ≡ RDSRT_NO_CHARACTER → HasUnknownCharacter utf8.now count.new }
+    ensures each_character { IsUtf8 utf8.now → (place : ℕ) → HasUnknownCharacter utf8.now place
+        → result ≡ RDSRT_NO_CHARACTER }
+    ensures no_room { result ≡ RDSRT_NO_ROOM → HasNoRoom utf8.now (length into.old) }
+    ensures each_room { IsUtf8 utf8.now → HasNoRoom utf8.now (length into.old) → result ≡ RDSRT_NO_ROOM }
+    ensures kept { result ≢ RDSRT_OK → into.new ≡ into.old }
+    ensures uncounted { (result ≡ RDSRT_NOT_UTF8) ⊎ (result ≡ RDSRT_NO_ROOM) → count.new ≡ count.old }
+{
+    let Ok(text) = str::from_utf8(utf8) else {
+        return codes::NOT_UTF8;
+    };
+    let (code, number) = match read_text(text, into) {
+        Ok(read) => (codes::DONE, read),
+        Err(TextFault::BadEscape(place)) => (codes::BAD_ESCAPE, place),
+        Err(TextFault::NoSuchCharacter(place)) => (codes::NO_CHARACTER, place),
+        Err(TextFault::NoRoom) => return codes::NO_ROOM,
+    };
+    *count = number;
+    code
+}

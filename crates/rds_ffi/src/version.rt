@@ -1,0 +1,28 @@
+//! Which library this is.
+ghost use Rattle.std.specs.Prelude.{◌≡◌};
+ghost use Rattle.rds_ffi.specs.Codes.{RDSRT_ABI};
+
+use crate::codes;
+
+/// The number of the interface that a library was built with, and the version of the project.
+#[repr(C)]
+#[derive(Clone, Copy)]
+pub struct RdsrtVersion {
+    pub abi: u32,
+    pub major: u32,
+    pub minor: u32,
+    pub patch: u32,
+}
+
+/// The number of this interface and the version, 0.1.0, as the program tells it.
+#[unsafe(no_mangle)]
+pub extern "C" fn rdsrt_version() -> RdsrtVersion
+    ensures { result ≡ record { abi = RDSRT_ABI; major = 0; minor = 1; patch = 0 } }
+{
+    RdsrtVersion {
+        abi: codes::ABI,
+        major: 0,
+        minor: 1,
+        patch: 0,
+    }
+}

@@ -1,0 +1,172 @@
+//! What a receiver shows, as a plain struct.
+ghost use Rattle.std.specs.Prelude.{◌≡◌, ◌+◌, ◌≤◌, ℕ, List, Some, length};
+ghost use Rattle.std.specs.Option.{ForSome, option_copied};
+ghost use Rattle.rds_receiver.specs.Shown.{IsView};
+ghost use Rattle.rds_receiver.specs.Standing.{WhereItStands};
+ghost use Rattle.rds_receiver.specs.Tags.{cut_by, tag_of};
+ghost use Rattle.rds_ffi.specs.Viewed.{IsWithin, count_of, item_of, name_of, piece_of, text_of, view_of};
+
+use rds_fields::{Tag, TagPair, Which};
+use rds_receiver::Receiver;
+
+/// A text, its first `length` bytes. Where `is_shown` is 0 there is none.
+#[repr(C)]
+#[derive(Clone, Copy)]
+pub struct RdsrtText {
+    pub bytes: [u8; 64],
+    pub length: u8,
+    pub is_shown: u8,
+}
+
+/// A name. Where `is_shown` is 0 there is none.
+#[repr(C)]
+#[derive(Clone, Copy)]
+pub struct RdsrtName {
+    pub bytes: [u8; 8],
+    pub is_shown: u8,
+}
+
+/// The two bits of the item. Where `is_shown` is 0 there are none.
+#[repr(C)]
+#[derive(Clone, Copy)]
+pub struct RdsrtItem {
+    pub is_shown: u8,
+    pub toggle: u8,
+    pub running: u8,
+}
+
+/// A class of RadioText Plus, and where its piece stands in the text. Class 0 is no tag.
+#[repr(C)]
+#[derive(Clone, Copy)]
+pub struct RdsrtTag {
+    pub content_type: u8,
+    pub start: u8,
+    pub length: u8,
+}
+
+/// All that a receiver shows.
+#[repr(C)]
+#[derive(Clone, Copy)]
+pub struct RdsrtView {
+    pub text: RdsrtText,
+    pub name: RdsrtName,
+    pub item: RdsrtItem,
+    pub one: RdsrtTag,
+    pub two: RdsrtTag,
+}
+
+/// What the receiver shows.
+pub(crate) fn seen(receiver: &Receiver) -> RdsrtView
+    ensures shown { WhereItStands receiver.now (λ t input. IsView t input (view_of result)) }
+    ensures within { IsWithin result }
+{
+    let text = receiver.text();
+    RdsrtView {
+        text: plain_text(text),
+        name: plain_name(receiver.name()),
+        item: plain_item(receiver.item()),
+        one: plain_tag(text, Which::One, receiver.pair()),
+        two: plain_tag(text, Which::Two, receiver.pair()),
+    }
+}
+
+/// The text.
+pub(crate) fn plain_text(text: Option<&[u8]>) -> RdsrtText
+    requires { ForSome text (λ x. length x.now ≤ 64) }
+    ensures same { text_of result ≡ option_copied text.entry }
+    ensures count { result.length ≡ count_of text.entry }
+    ensures within { result.length ≤ 64 }
+{
+    let mut bytes = [0; 64];
+    let Some(text) = text else {
+        return RdsrtText {
+            bytes,
+            length: 0,
+            is_shown: 0,
+        };
+    };
+    bytes[..text.len()].copy_from_slice(text);
+    RdsrtText {
+        bytes,
+        length: text.len() as u8,
+        is_shown: 1,
+    }
+}
+
+/// The name.
+pub(crate) fn plain_name(name: Option<&[u8]>) -> RdsrtName
+    requires { ForSome name (λ x. length x.now ≡ 8) }
+    ensures { name_of result ≡ option_copied name.entry }
+{
+    let mut bytes = [0; 8];
+    let Some(name) = name else {
+        return RdsrtName { bytes, is_shown: 0 };
+    };
+    bytes.copy_from_slice(name);
+    RdsrtName { bytes, is_shown: 1 }
+}
+
+/// The bits of the item.
+fn plain_item(item: Option<(bool, bool)>) -> RdsrtItem
+    ensures { item_of result ≡ item }
+{
+    match item {
+        None => RdsrtItem {
+            is_shown: 0,
+            toggle: 0,
+            running: 0,
+        },
+        Some((toggle, running)) => RdsrtItem {
+            is_shown: 1,
+            toggle: u8::from(toggle),
+            running: u8::from(running),
+        },
+    }
+}
+
+/// A tag of the pair, where it is shown beside the text.
+fn plain_tag(text: Option<&[u8]>, which: Which, pair: Option<TagPair>) -> RdsrtTag
+    requires { ForSome text (λ x. length x.now ≤ 64) }
+    ensures same { piece_of result (option_copied text.entry)
+        ≡ tag_of which (option_copied text.entry) pair }
+    ensures within { result.start + result.length ≤ count_of text.entry }
+{
+    let Some(text) = text else {
+        return no_tag();
+    };
+    let Some(pair) = pair else {
+        return no_tag();
+    };
+    let tag = match which {
+        Which::One => pair.one(),
+        Which::Two => pair.two(),
+    };
+    cut(tag, text.len())
+}
+
+/// No tag.
+fn no_tag() -> RdsrtTag
+    ensures { result ≡ record { content_type = 0; start = 0; length = 0 } }
+{
+    RdsrtTag {
+        content_type: 0,
+        start: 0,
+        length: 0,
+    }
+}
+
+/// The tag, where it is none of the dummies and ends in a text of so many bytes.
+fn cut(tag: Tag, count: usize) -> RdsrtTag
+    requires { count ≤ 64 }
+    ensures same { (x : List ℕ) → length x ≡ count → piece_of result (Some x) ≡ cut_by tag x }
+    ensures within { result.start + result.length ≤ count }
+{
+    if tag.class() == 0 || !tag.ends_in(count) {
+        return no_tag();
+    }
+    RdsrtTag {
+        content_type: tag.class(),
+        start: tag.start(),
+        length: tag.extra() + 1,
+    }
+}

@@ -1,0 +1,98 @@
+//! Tags as plain numbers, which another program can hold.
+ghost use Rattle.std.specs.Prelude.{◌≡◌, Option};
+ghost use Rattle.rds_fields.specs.Stored.{IsStoredPair, fields_stored, pair_stored, tag_stored};
+ghost use Rattle.rds_fields.specs.Tag.{IsPair, IsTag};
+
+use crate::pair::TagPair;
+use crate::tag::Tag;
+
+/// A tag by its three numbers, as RadioText Plus (IEC 62106-6) has them.
+#[repr(C)]
+#[derive(Clone, Copy)]
+pub struct StoredTag {
+    pub class: u8,
+    /// The place of its first character, from 0 on.
+    pub start: u8,
+    /// How many characters follow the first.
+    pub extra: u8,
+}
+
+/// A pair of tags, or none where `is_held` is 0. A bit is 0, or any other number.
+#[repr(C)]
+#[derive(Clone, Copy)]
+pub struct StoredPair {
+    pub toggle: u8,
+    pub running: u8,
+    pub one: StoredTag,
+    pub two: StoredTag,
+    pub is_held: u8,
+}
+
+impl StoredPair {
+    /// No pair.
+    pub fn none() -> StoredPair
+        ensures same { pair_stored result ≡ Option.None }
+        ensures good { IsStoredPair result }
+    {
+        let dummy = StoredTag {
+            class: 0,
+            start: 0,
+            extra: 0,
+        };
+        StoredPair {
+            one: dummy,
+            two: dummy,
+            toggle: 0,
+            running: 0,
+            is_held: 0,
+        }
+    }
+
+    /// The pair, where there is one.
+    pub fn of(pair: Option<TagPair>) -> StoredPair
+        ensures same { pair_stored result ≡ pair }
+        ensures good { IsStoredPair result }
+    {
+        let Some(pair) = pair else {
+            return StoredPair::none();
+        };
+        StoredPair {
+            one: stored_tag(pair.one()),
+            two: stored_tag(pair.two()),
+            toggle: u8::from(pair.toggle()),
+            running: u8::from(pair.running()),
+            is_held: 1,
+        }
+    }
+
+    /// The pair that was stored; `None` also where the numbers are no pair.
+    pub fn pair(&self) -> Option<TagPair>
+        ensures { IsStoredPair self.now → result ≡ pair_stored self.now }
+    {
+        if self.is_held == 0 {
+            return None;
+        }
+        let Ok(one) = Tag::new(self.one.class, self.one.start, self.one.extra) else {
+            return None;
+        };
+        let Ok(two) = Tag::new(self.two.class, self.two.start, self.two.extra) else {
+            return None;
+        };
+        let Ok(pair) = TagPair::new(self.toggle != 0, self.running != 0, one, two) else {
+            return None;
+        };
+        Some(pair)
+    }
+}
+
+/// The tag by its three numbers.
+fn stored_tag(tag: Tag) -> StoredTag
+    ensures same { tag_stored result ≡ tag }
+    ensures good { IsTag (tag_stored result) }
+{
+    StoredTag {
+        class: tag.class(),
+        start: tag.start(),
+        extra: tag.extra(),
+    }
+}

@@ -1,0 +1,25 @@
+-- A receiver that is stored as plain numbers (this project's own).
+use Rattle.std.specs.Prelude.{◌<◌}
+use Rattle.rds_fields.specs.Stored.{IsStoredPair, is_set, pair_stored}
+use Rattle.rds_assembly.specs.Held.{held_cells}
+use Rattle.rds_receiver.specs.State.{HeldSegments, ReceiverState}
+use Rattle.rds_receiver.specs.declared.stored.StoredSegments.{StoredSegments}
+use Rattle.rds_receiver.specs.declared.stored.StoredReceiver.{StoredReceiver}
+
+abbrev pub segments_stored : StoredSegments → HeldSegments
+segments_stored s = record { cells = held_cells s.mask s.bytes; flag = is_set s.flag; age = s.age }
+
+abbrev pub receiver_stored : StoredReceiver → ReceiverState
+receiver_stored s = record {
+  programme = s.programme;
+  dwell = s.dwell;
+  text = segments_stored s.text;
+  name = segments_stored s.name;
+  pair = pair_stored s.pair;
+  is_known = is_set s.is_known;
+}
+
+-- the numbers are ones that a receiver is stored as
+pub record IsStored (s : StoredReceiver) : Type 0 where
+  pub lasts : 0 < s.dwell
+  pub pair : IsStoredPair s.pair

@@ -1,0 +1,45 @@
+//! A receiver that is stored and restored.
+
+use crate::{Receiver, StoredReceiver, StoredSegments};
+use rds_block::Group;
+use rds_fields::{Dwell, StoredPair};
+use std::test::Fail;
+
+/// What is restored goes on where what was stored stood.
+#[test]
+fn goes_on_from_what_is_stored(rt: HostRuntime) -> Result<(), Fail> {
+    let mut receiver = Receiver::new(0xC201, Dwell::new(2).ok_or("dwell")?);
+    let group = Group::from_blocks([0xC201, 0x2140, 0x4849, 0x0D20]);
+    assert_eq!(rt; receiver.slot(Some(group)), true);
+    let mut again = Receiver::restore(&receiver.store());
+    assert_eq!(rt; again.text(), Some(b"HI".as_slice()));
+    assert_eq!(rt; again.slot(None), false);
+    assert_eq!(rt; Receiver::restore(&again.store()).slot(None), true);
+    Ok(())
+}
+
+/// Numbers that no receiver is stored as are restored too: a dwell of 0 is one slot.
+#[test]
+fn restores_any_numbers(rt: HostRuntime) -> Result<(), Fail> {
+    let segments = StoredSegments {
+        bytes: [b'A'; 64],
+        mask: 0xFFFF,
+        age: 0xFFFF,
+        flag: 7,
+    };
+    let mut pair = StoredPair::none();
+    pair.is_held = 9;
+    pair.one.class = 255;
+    let receiver = Receiver::restore(&StoredReceiver {
+        programme: 1,
+        dwell: 0,
+        text: segments,
+        name: segments,
+        pair,
+        is_known: 3,
+    });
+    assert_eq!(rt; receiver.text(), Some([b'A'; 64].as_slice()));
+    assert_eq!(rt; receiver.pair(), None);
+    assert_eq!(rt; receiver.store().dwell, 1);
+    Ok(())
+}
