@@ -19,7 +19,7 @@ WARNINGS = ["-O1", "-Wall", "-Wextra", "-pedantic", "-Werror", "-pthread"]
 SANITIZED = ["-g", "-fsanitize=address,undefined", "-fno-sanitize-recover=all"]
 WAYS = [("cc", ["-std=c11"]), ("c++", ["-std=c++17", "-x", "c++"]), ("clang", ["-std=c11"]), ("cc", ["-std=c11", *SANITIZED])]
 PROGRAMS = ["examples/c/decode.c", "examples/c/encode.c", "examples/c/audit.c", "examples/c/receive.c",
-            "tests/c/any_bytes.c", "tests/c/threads.c"]
+            "tests/c/calls.c", "tests/c/any_bytes.c", "tests/c/threads.c"]
 LIBC = {"memcpy", "memset", "memmove", "memcmp"}
 INSTALLED = {"bin/rdsrt", "include/rdsrt.h", "lib/librdsrt.a", "lib/librdsrt.so", "lib/librdsrt.so.1",
              "lib/pkgconfig/rdsrt.pc", "share/man/man1/rdsrt.1"}
@@ -170,10 +170,11 @@ def built(check, how, compiler, language, folder):
 
 
 def run_all(check, how, folder, given):
-    """The programs do what rdsrt does, and any bytes and eight threads do no harm."""
+    """The programs do what rdsrt does, each call answers what it should, and any bytes and eight threads do no harm."""
     for number, (name, words, text, wanted) in enumerate(given):
         got = output([os.path.join(folder, name), *words], text)
         check(f"{how}: {name}, input {number}", got == wanted, True)
+    check(f"{how}: each call", output([os.path.join(folder, "calls")]), (0, b"ok\n"))
     check(f"{how}: any bytes", output([os.path.join(folder, "any_bytes"), str(ROUNDS)]), (0, b"ok\n"))
     check(f"{how}: eight threads", output([os.path.join(folder, "threads"), "50000"]), (0, b"ok\n"))
 
