@@ -11,8 +11,6 @@ mod receiver;
 mod reply;
 mod slots;
 mod tags;
-#[cfg(test)]
-mod tests;
 mod text;
 mod version;
 mod view;
@@ -29,3 +27,5 @@ const _: () = prove!(size_of::<view::RdsrtView>() == 84);
 const _: () = prove!(size_of::<encoder::RdsrtOnAir>() == 75);
 
 const _: () = prove!(size_of::<tags::RdsrtTags>() == 8);
+
+const _: () = prove!(size_of::<version::RdsrtVersion>() == 16);

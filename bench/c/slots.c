@@ -1,0 +1,43 @@
+/* Hands a log of received groups to a receiver of the C library, or to libv4l2rds where V4L2RDS is defined, one slot a
+ * line. What is counted is the call of a slot alone.   ./slots < log */
+#include <inttypes.h>
+#include <stdio.h>
+
+#ifdef V4L2RDS
+#include <libv4l2rds.h>
+#else
+#include <rdsrt.h>
+#endif
+
+/* The next slot of the log: false at its end; whether a group was received in it. */
+static int next_slot(uint16_t blocks[4], int *is_received) {
+    char line[128];
+    if (!fgets(line, sizeof line, stdin)) return 0;
+    *is_received = sscanf(line, "%" SCNx16 " %" SCNx16 " %" SCNx16 " %" SCNx16, blocks, blocks + 1, blocks + 2, blocks + 3) == 4;
+    return 1;
+}
+
+int main(void) {
+    uint16_t blocks[4] = {0, 0, 0, 0};
+    unsigned long slots = 0, changes = 0;
+    int is_received = 0;
+#ifdef V4L2RDS
+    struct v4l2_rds *rds = v4l2_rds_create(0);
+    for (; next_slot(blocks, &is_received); slots++) {
+        for (int at = 0; is_received && at < 4; at++) {
+            struct v4l2_rds_data data = {(__u8)(blocks[at] & 255), (__u8)(blocks[at] >> 8), (__u8)at};
+            changes += v4l2_rds_add(rds, &data) != 0;
+        }
+    }
+    printf("%lu slots, %lu changes, %zu bytes of heap\n", slots, changes, sizeof *rds);
+    v4l2_rds_destroy(rds);
+#else
+    struct rdsrt_receiver receiver;
+    rdsrt_receiver_init(&receiver, 0xC201, 128);
+    for (; next_slot(blocks, &is_received); slots++) {
+        changes += rdsrt_receiver_slot(&receiver, blocks, is_received ? 4 : 0) == RDSRT_CHANGED;
+    }
+    printf("%lu slots, %lu changes, %zu bytes of the caller's\n", slots, changes, sizeof receiver);
+#endif
+    return 0;
+}

@@ -1,0 +1,53 @@
+/* Does what `rdsrt audit` does: reads a log of all groups that some encoder sent, and tells whether they keep texts and
+ * names apart, or the first slot that breaks a rule.
+ *
+ *     cc audit.c $(pkg-config --cflags --libs rdsrt) -o audit
+ *     ./audit C201 [DWELL [LATE]] < log */
+#include <rdsrt.h>
+
+#include "log.h"
+
+#include <stdlib.h>
+
+static const char *fault_name(uint32_t code) {
+    switch (code) {
+    case RDSRT_FAULT_CHANGED: return "Changed";
+    case RDSRT_FAULT_NOT_ONE_TEXT: return "NotOneText";
+    case RDSRT_FAULT_EARLY_FLAG: return "EarlyFlag";
+    case RDSRT_FAULT_EARLY_TAG: return "EarlyTag";
+    default: return "TagOutside";
+    }
+}
+
+int main(int count, char **words) {
+    struct rdsrt_audit audit;
+    struct line line;
+    uint16_t blocks[4];
+    unsigned long slot = 0, number = 0;
+    unsigned long pi = count > 1 ? strtoul(words[1], NULL, 16) : 0x10000;
+    unsigned long dwell = count > 2 ? strtoul(words[2], NULL, 10) : 128;
+    unsigned long late = count > 3 ? strtoul(words[3], NULL, 10) : 0;
+
+    if (pi > 0xFFFF || dwell > 0xFFFF || late > 0xFFFF
+        || rdsrt_audit_init(&audit, (uint16_t)pi, (uint16_t)dwell, (uint16_t)late) != RDSRT_OK) {
+        fputs("usage: audit PI [DWELL [LATE]] < log\n", stderr);
+        return 2;
+    }
+    while (next_line(&line)) {
+        enum said said = read_line(&line, blocks);
+        number++;
+        if (said == SKIP) continue;
+        if (said == BAD) {
+            printf("fault line %lu\n", number);
+            return 1;
+        }
+        uint32_t code = rdsrt_audit_slot(&audit, blocks, said == GROUP ? 4 : 0);
+        if (code != RDSRT_OK) {
+            printf("no %lu %s\n", slot, fault_name(code));
+            return 1;
+        }
+        slot++;
+    }
+    printf("yes %lu\n", slot);
+    return 0;
+}

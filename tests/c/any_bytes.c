@@ -1,0 +1,186 @@
+/* Random bytes in every struct and array, wrong counts, and NULL where the number beside it is 0: each call keeps to what
+ * it is given, answers its codes and lengths that lead nowhere else, and changes nothing where it answers an error. Each
+ * block is of just its size, so that sanitizers and valgrind see a step outside.   ./any_bytes ROUNDS */
+#include <rdsrt.h>
+
+#include <stdbool.h>
+#include <stdio.h>
+#include <stdlib.h>
+#include <string.h>
+
+static uint64_t state = 88172645463325252u;
+
+static unsigned roll(unsigned sides) {
+    state ^= state << 13;
+    state ^= state >> 7;
+    state ^= state << 17;
+    return (unsigned)(state >> 33) % sides;
+}
+
+#define CHECK(fact) do { if (!(fact)) { fprintf(stderr, "line %d: %s\n", __LINE__, #fact); exit(1); } } while (0)
+
+/* So many random bytes: of all values, small ones, or printable ones. */
+static void *any(size_t size) {
+    uint8_t *at = (uint8_t *)malloc(size ? size : 1);
+    unsigned kind = roll(3);
+    if (!at) exit(2);
+    for (size_t i = 0; i < size; i++) at[i] = (uint8_t)(kind == 0 ? roll(256) : kind == 1 ? roll(4) : 32 + roll(90));
+    return at;
+}
+
+static void *copy(const void *of, size_t size) {
+    void *at = malloc(size ? size : 1);
+    if (!at) exit(2);
+    memcpy(at, of, size);
+    return at;
+}
+
+/* Random blocks, often with the programme that stands first in a receiver, and of a group that texts are made of. */
+static uint16_t *any_blocks(size_t count, const void *with_programme) {
+    static const unsigned kinds[4] = {0x2000, 0xA000, 0x3016, 0xB000};
+    uint16_t *blocks = (uint16_t *)any(2 * count);
+    if (count == 4 && roll(8)) {
+        memcpy(blocks, with_programme, 2);
+        blocks[1] = (uint16_t)(kinds[roll(4)] | roll(32));
+    }
+    return blocks;
+}
+
+static bool is_within(const struct rdsrt_text *text) { return text->length <= 64 && text->is_shown <= 1; }
+
+static bool is_cut(const struct rdsrt_tag *tag, const struct rdsrt_text *text) {
+    return tag->start + tag->length <= text->length;
+}
+
+static void view(const struct rdsrt_receiver *receiver) {
+    struct rdsrt_view *v = (struct rdsrt_view *)any(sizeof *v);
+    rdsrt_receiver_view(receiver, v);
+    CHECK(is_within(&v->text) && is_cut(&v->tag1, &v->text) && is_cut(&v->tag2, &v->text));
+    CHECK(v->name.is_shown <= 1 && v->item.is_shown <= 1 && v->item.toggle <= 1 && v->item.running <= 1);
+    free(v);
+}
+
+static void receiver(void) {
+    struct rdsrt_receiver *r = (struct rdsrt_receiver *)any(sizeof *r);
+    uint16_t dwell = (uint16_t)roll(3);
+    if (roll(4) == 0) CHECK(rdsrt_receiver_init(r, 0xC201, dwell) == (dwell ? RDSRT_OK : RDSRT_BAD_ARGUMENT));
+    for (int i = 0; i < 8; i++) {
+        size_t count = roll(3) ? 4 : roll(7);
+        uint16_t *blocks = any_blocks(count, r);
+        void *before = copy(r, sizeof *r);
+        uint32_t code = rdsrt_receiver_slot(r, count ? blocks : NULL, count);
+        CHECK((code == RDSRT_BAD_ARGUMENT) == (count != 0 && count != 4) && code <= RDSRT_BAD_ARGUMENT);
+        CHECK(code != RDSRT_BAD_ARGUMENT || memcmp(r, before, sizeof *r) == 0);
+        view(r);
+        free(before);
+        free(blocks);
+    }
+    free(r);
+}
+
+/* A set that was refused has changed nothing, and its code is not above `last`. */
+static void refused(const struct rdsrt_encoder *e, const void *before, struct rdsrt_reply reply, uint32_t last) {
+    CHECK(reply.code <= last && reply.code != RDSRT_SENT && reply.code != RDSRT_BAD_ARGUMENT);
+    CHECK(reply.code == RDSRT_OK || memcmp(e, before, sizeof *e) == 0);
+}
+
+static void sets(struct rdsrt_encoder *e) {
+    size_t length = roll(80), short_length = roll(12);
+    uint8_t *text = (uint8_t *)any(length), *name = (uint8_t *)any(short_length);
+    struct rdsrt_tags *tags = (struct rdsrt_tags *)any(sizeof *tags);
+    void *before = copy(e, sizeof *e);
+    struct rdsrt_reply reply = rdsrt_encoder_set_text(e, length ? text : NULL, length);
+    CHECK((reply.code == RDSRT_TOO_LONG) == (length > 64));
+    CHECK(reply.code != RDSRT_BAD_BYTE || reply.number < length);
+    refused(e, before, reply, RDSRT_BAD_BYTE);
+    memcpy(before, e, sizeof *e);
+    reply = rdsrt_encoder_set_name(e, short_length ? name : NULL, short_length);
+    CHECK((reply.code == RDSRT_TOO_LONG) == (short_length > 8));
+    refused(e, before, reply, RDSRT_BAD_BYTE);
+    memcpy(before, e, sizeof *e);
+    refused(e, before, rdsrt_encoder_set_tags(e, tags), RDSRT_BAD_TAGS);
+    free(text);
+    free(name);
+    free(tags);
+    free(before);
+}
+
+static void encoder(void) {
+    struct rdsrt_encoder *e = (struct rdsrt_encoder *)any(sizeof *e);
+    unsigned pty = roll(40), dwell = roll(4), late = roll(1200);
+    if (roll(4) == 0) {
+        uint32_t code = rdsrt_encoder_init(e, 0xC201, (uint8_t)roll(256), (uint8_t)pty, (uint16_t)dwell, (uint16_t)late);
+        CHECK(code == (pty < 32 && dwell && late <= 1024 ? RDSRT_OK : RDSRT_BAD_ARGUMENT));
+    }
+    for (int i = 0; i < 8; i++) {
+        struct rdsrt_on_air *air = (struct rdsrt_on_air *)any(sizeof *air);
+        struct rdsrt_wait *wait = (struct rdsrt_wait *)any(sizeof *wait);
+        uint16_t *blocks = (uint16_t *)any(8), *before = (uint16_t *)copy(blocks, 8);
+        sets(e);
+        uint32_t code = rdsrt_encoder_tick(e, (uint8_t)roll(3), blocks);
+        CHECK(code == RDSRT_SENT || (code == RDSRT_OK && memcmp(blocks, before, 8) == 0));
+        rdsrt_encoder_on_air(e, air);
+        CHECK(is_within(&air->text) && air->name.is_shown <= 1);
+        rdsrt_encoder_wait(e, wait);
+        free(air);
+        free(wait);
+        free(blocks);
+        free(before);
+    }
+    free(e);
+}
+
+static void audit(void) {
+    struct rdsrt_audit *a = (struct rdsrt_audit *)any(sizeof *a);
+    unsigned dwell = roll(3), late = roll(1200);
+    if (roll(4) == 0) {
+        uint32_t code = rdsrt_audit_init(a, 0xC201, (uint16_t)dwell, (uint16_t)late);
+        CHECK(code == (dwell && late <= 1024 ? RDSRT_OK : RDSRT_BAD_ARGUMENT));
+    }
+    for (int i = 0; i < 8; i++) {
+        size_t count = roll(3) ? 4 : roll(7);
+        uint16_t *blocks = any_blocks(count, (const uint8_t *)a + 204);
+        void *before = copy(a, sizeof *a);
+        uint32_t code = rdsrt_audit_slot(a, count ? blocks : NULL, count);
+        CHECK((code == RDSRT_BAD_ARGUMENT) == (count != 0 && count != 4));
+        CHECK(code != RDSRT_BAD_ARGUMENT || memcmp(a, before, sizeof *a) == 0);
+        CHECK(code == RDSRT_OK || code == RDSRT_BAD_ARGUMENT
+              || (code >= RDSRT_FAULT_CHANGED && code <= RDSRT_FAULT_TAG_OUTSIDE));
+        CHECK(rdsrt_audit_passed(a) <= 1);
+        free(before);
+        free(blocks);
+    }
+    free(a);
+}
+
+/* What was written as UTF-8 is read back, and fits in no less. */
+static void texts(void) {
+    size_t length = roll(70), room = roll(300), count = 999, again = 999;
+    uint8_t *bytes = (uint8_t *)any(length), *utf8 = (uint8_t *)any(room), *back = (uint8_t *)any(length);
+    uint32_t code = rdsrt_text_to_utf8(length ? bytes : NULL, length, room ? utf8 : NULL, room, &count);
+    CHECK((code == RDSRT_TOO_LONG) == (length > 64) && (code != RDSRT_TOO_LONG || count == 999));
+    if (code == RDSRT_NO_ROOM) CHECK(count > room && count <= 256);
+    if (code == RDSRT_OK) {
+        CHECK(count <= room);
+        CHECK(rdsrt_text_from_utf8(count ? utf8 : NULL, count, length ? back : NULL, length, &again) == RDSRT_OK);
+        CHECK(again == length && (length == 0 || memcmp(bytes, back, length) == 0));
+        if (length) CHECK(rdsrt_text_from_utf8(utf8, count, back, length - 1, &again) == RDSRT_NO_ROOM);
+    }
+    code = rdsrt_text_from_utf8(bytes, length, back, length, &again);
+    CHECK(code == RDSRT_OK ? again <= length : code >= RDSRT_NOT_UTF8 && code <= RDSRT_NO_ROOM);
+    free(bytes);
+    free(utf8);
+    free(back);
+}
+
+int main(int count, char **words) {
+    long rounds = count > 1 ? atol(words[1]) : 10000;
+    for (long i = 0; i < rounds; i++) {
+        receiver();
+        encoder();
+        audit();
+        texts();
+    }
+    puts("ok");
+    return 0;
+}

@@ -1,0 +1,162 @@
+/* Each call once as a user makes it, and each code that it can answer; what is expected is taken from docs/FORMATS.md and
+ * the header, not from the library. */
+#include <rdsrt.h>
+
+#include <stdio.h>
+#include <stdlib.h>
+#include <string.h>
+
+#define CHECK(fact) do { if (!(fact)) { fprintf(stderr, "line %d: %s\n", __LINE__, #fact); exit(1); } } while (0)
+
+static const uint16_t hi[4] = {0xC201, 0x2140, 0x4849, 0x0D20};
+static const uint16_t yo[4] = {0xC201, 0x2150, 0x594F, 0x0D20};
+static const uint16_t changed_hi[4] = {0xC201, 0x2140, 0x594F, 0x0D20};
+static const uint16_t announcement[4] = {0xC201, 0x3156, 0x0000, 0x4BD7};
+/* the tag that names both characters the artist, and no second one */
+static const uint16_t tags_of_hi[4] = {0xC201, 0xB158, 0x8002, 0x0000};
+
+static const uint8_t *bytes(const char *text) { return (const uint8_t *)text; }
+
+static void version(void) {
+    struct rdsrt_version it = rdsrt_version();
+    CHECK(it.abi == RDSRT_ABI && it.major == 0 && it.minor == 1 && it.patch == 0);
+}
+
+/* One group makes a text whole, and a dwell of slots in which nothing came ends it. */
+static void receiver(void) {
+    struct rdsrt_receiver it;
+    struct rdsrt_view view;
+    CHECK(rdsrt_receiver_init(&it, 0xC201, 0) == RDSRT_BAD_ARGUMENT);
+    CHECK(rdsrt_receiver_init(&it, 0xC201, 2) == RDSRT_OK);
+    CHECK(rdsrt_receiver_slot(&it, hi, 3) == RDSRT_BAD_ARGUMENT);
+    CHECK(rdsrt_receiver_slot(&it, hi, 4) == RDSRT_CHANGED);
+    rdsrt_receiver_view(&it, &view);
+    CHECK(view.text.is_shown == 1 && view.text.length == 2 && memcmp(view.text.bytes, "HI", 2) == 0);
+    CHECK(!view.name.is_shown && !view.item.is_shown && !view.tag1.content_type && !view.tag2.content_type);
+    CHECK(rdsrt_receiver_slot(&it, hi, 4) == RDSRT_OK);
+    CHECK(rdsrt_receiver_slot(&it, NULL, 0) == RDSRT_OK);
+    CHECK(rdsrt_receiver_slot(&it, NULL, 0) == RDSRT_CHANGED);
+    rdsrt_receiver_view(&it, &view);
+    CHECK(view.text.is_shown == 0);
+}
+
+/* Tags are shown once RadioText Plus was announced, as places of the text. */
+static void tags_shown(void) {
+    struct rdsrt_receiver it;
+    struct rdsrt_view view;
+    CHECK(rdsrt_receiver_init(&it, 0xC201, 128) == RDSRT_OK);
+    rdsrt_receiver_slot(&it, hi, 4);
+    rdsrt_receiver_slot(&it, announcement, 4);
+    CHECK(rdsrt_receiver_slot(&it, tags_of_hi, 4) == RDSRT_CHANGED);
+    rdsrt_receiver_view(&it, &view);
+    CHECK(view.item.is_shown == 1 && view.item.toggle == 1 && view.item.running == 1);
+    CHECK(view.tag1.content_type == 4 && view.tag1.start == 0 && view.tag1.length == 2);
+    CHECK(view.tag2.content_type == 0 && view.tag2.start == 0 && view.tag2.length == 0);
+}
+
+/* An encoder of dwell 1 that has had its one slot of silence. */
+static struct rdsrt_encoder station(void) {
+    struct rdsrt_encoder it;
+    uint16_t blocks[4] = {9, 9, 9, 9};
+    CHECK(rdsrt_encoder_init(&it, 0xC201, 0, 32, 1, 0) == RDSRT_BAD_ARGUMENT);
+    CHECK(rdsrt_encoder_init(&it, 0xC201, 0, 10, 0, 0) == RDSRT_BAD_ARGUMENT);
+    CHECK(rdsrt_encoder_init(&it, 0xC201, 0, 10, 1, 1025) == RDSRT_BAD_ARGUMENT);
+    CHECK(rdsrt_encoder_init(&it, 0xC201, 0, 10, 1, 0) == RDSRT_OK);
+    struct rdsrt_reply early = rdsrt_encoder_set_text(&it, bytes("HI"), 2);
+    CHECK(early.code == RDSRT_SILENT && early.number == 1);
+    CHECK(rdsrt_encoder_tick(&it, 1, blocks) == RDSRT_OK && blocks[0] == 9);
+    return it;
+}
+
+static void encoder(void) {
+    struct rdsrt_encoder it = station();
+    struct rdsrt_on_air air;
+    struct rdsrt_wait wait;
+    uint16_t blocks[4];
+    CHECK(rdsrt_encoder_set_text(&it, bytes("HI"), 2).code == RDSRT_OK);
+    CHECK(rdsrt_encoder_set_name(&it, bytes("POP"), 3).code == RDSRT_OK);
+    struct rdsrt_reply held = rdsrt_encoder_set_text(&it, bytes("YO"), 2);
+    CHECK(held.code == RDSRT_HELD && held.number == 2);
+    struct rdsrt_reply bad = rdsrt_encoder_set_name(&it, bytes("POP\x01"), 4);
+    CHECK(bad.code == RDSRT_BAD_BYTE && bad.number == 3);
+    CHECK(rdsrt_encoder_set_name(&it, bytes("NINE BYTE"), 9).code == RDSRT_TOO_LONG);
+    rdsrt_encoder_on_air(&it, &air);
+    CHECK(air.text.is_shown && air.text.length == 2 && memcmp(air.text.bytes, "HI", 2) == 0);
+    CHECK(air.name.is_shown && memcmp(air.name.bytes, "POP     ", 8) == 0);
+    rdsrt_encoder_wait(&it, &wait);
+    CHECK(wait.silent == 0 && wait.text == 2 && wait.name == 2);
+    CHECK(rdsrt_encoder_tick(&it, 1, blocks) == RDSRT_SENT && memcmp(blocks, hi, sizeof hi) == 0);
+}
+
+static void tags_set(void) {
+    struct rdsrt_encoder it = station();
+    struct rdsrt_tags tags = {{4, 0, 3}, {0, 0, 0}, 1, 1};
+    CHECK(rdsrt_encoder_set_tags(&it, &tags).code == RDSRT_NO_TEXT);
+    CHECK(rdsrt_encoder_set_text(&it, bytes("HI"), 2).code == RDSRT_OK);
+    CHECK(rdsrt_encoder_set_tags(&it, &tags).code == RDSRT_OUT_OF_TEXT_1);
+    tags.tag1.length = 2;
+    CHECK(rdsrt_encoder_set_tags(&it, &tags).code == RDSRT_OK);
+    tags.tag2.content_type = 1;
+    CHECK(rdsrt_encoder_set_tags(&it, &tags).code == RDSRT_BAD_TAGS);
+    tags.tag2.length = 32;
+    CHECK(rdsrt_encoder_set_tags(&it, &tags).code == RDSRT_OUT_OF_TEXT_2);
+    tags.tag2.length = 33;
+    CHECK(rdsrt_encoder_set_tags(&it, &tags).code == RDSRT_BAD_TAGS);
+}
+
+/* What an audit of so many slots answers to the last of these groups; in one slot before it nothing was sent. */
+static uint32_t audited(uint16_t dwell, const uint16_t *first, const uint16_t *second, const uint16_t *third) {
+    struct rdsrt_audit it;
+    CHECK(rdsrt_audit_init(&it, 0xC201, dwell, 0) == RDSRT_OK);
+    CHECK(rdsrt_audit_slot(&it, first, 2) == RDSRT_BAD_ARGUMENT);
+    CHECK(rdsrt_audit_slot(&it, first, 4) == RDSRT_OK);
+    if (second) CHECK(rdsrt_audit_slot(&it, second, 4) == RDSRT_OK);
+    CHECK(rdsrt_audit_slot(&it, NULL, 0) == RDSRT_OK && rdsrt_audit_passed(&it) == 1);
+    uint32_t code = rdsrt_audit_slot(&it, third, 4);
+    CHECK(rdsrt_audit_slot(&it, NULL, 0) == code && rdsrt_audit_passed(&it) == (code == RDSRT_OK));
+    return code;
+}
+
+static void audit(void) {
+    static const uint16_t ended[4] = {0xC201, 0x2141, 0x4142, 0x0D20};
+    static const uint16_t long_tag[4] = {0xC201, 0xB158, 0x8012, 0x0000};
+    struct rdsrt_audit it;
+    CHECK(rdsrt_audit_init(&it, 0xC201, 0, 0) == RDSRT_BAD_ARGUMENT);
+    CHECK(rdsrt_audit_init(&it, 0xC201, 8, 1025) == RDSRT_BAD_ARGUMENT);
+    CHECK(audited(8, hi, yo, yo) == RDSRT_OK);
+    CHECK(audited(8, hi, NULL, changed_hi) == RDSRT_FAULT_CHANGED);
+    CHECK(audited(8, hi, NULL, ended) == RDSRT_FAULT_NOT_ONE_TEXT);
+    CHECK(audited(8, hi, yo, hi) == RDSRT_FAULT_EARLY_FLAG);
+    CHECK(audited(8, hi, yo, tags_of_hi) == RDSRT_FAULT_EARLY_TAG);
+    CHECK(audited(2, hi, NULL, long_tag) == RDSRT_FAULT_TAG_OUTSIDE);
+}
+
+static void texts(void) {
+    uint8_t utf8[8], text[4];
+    size_t count = 77;
+    CHECK(rdsrt_text_to_utf8(bytes("Caf\x82"), 4, utf8, sizeof utf8, &count) == RDSRT_OK);
+    CHECK(count == 5 && memcmp(utf8, "Caf\xC3\xA9", 5) == 0);
+    CHECK(rdsrt_text_from_utf8(utf8, 5, text, sizeof text, &count) == RDSRT_OK);
+    CHECK(count == 4 && memcmp(text, "Caf\x82", 4) == 0);
+    CHECK(rdsrt_text_to_utf8(bytes("\x01\x02\x03"), 3, utf8, sizeof utf8, &count) == RDSRT_NO_ROOM && count == 12);
+    count = 77;
+    uint8_t spaces[65];
+    memset(spaces, ' ', sizeof spaces);
+    CHECK(rdsrt_text_to_utf8(spaces, sizeof spaces, utf8, sizeof utf8, &count) == RDSRT_TOO_LONG && count == 77);
+    CHECK(rdsrt_text_from_utf8(bytes("\xFF"), 1, text, sizeof text, &count) == RDSRT_NOT_UTF8 && count == 77);
+    CHECK(rdsrt_text_from_utf8(bytes("abcde"), 5, text, sizeof text, &count) == RDSRT_NO_ROOM && count == 77);
+    CHECK(rdsrt_text_from_utf8(bytes("ab\\y"), 4, text, sizeof text, &count) == RDSRT_BAD_ESCAPE && count == 2);
+    CHECK(rdsrt_text_from_utf8(bytes("a~"), 2, text, sizeof text, &count) == RDSRT_NO_CHARACTER && count == 1);
+}
+
+int main(void) {
+    version();
+    receiver();
+    tags_shown();
+    encoder();
+    tags_set();
+    audit();
+    texts();
+    puts("ok");
+    return 0;
+}

@@ -1,0 +1,253 @@
+"""The C library as C programs use it: the archive, the examples of users as each compiler builds them, and an install.
+
+Builds nothing of Rattle: the archive is the one that tests/archive leaves. What is not installed here is told, and its
+cases are left out.
+"""
+import os
+import random
+import re
+import shutil
+import subprocess
+import sys
+import tempfile
+
+ROOT = os.path.dirname(os.path.dirname(os.path.abspath(__file__)))
+ARCHIVE = os.path.join(ROOT, "crates/rds_ffi/out/librds_ffi.a")
+HEADER = os.path.join(ROOT, "include/rdsrt.h")
+CODES = os.path.join(ROOT, "crates/rds_ffi/specs/Codes.antt")
+WARNINGS = ["-O1", "-Wall", "-Wextra", "-pedantic", "-Werror", "-pthread"]
+SANITIZED = ["-g", "-fsanitize=address,undefined", "-fno-sanitize-recover=all"]
+WAYS = [("cc", ["-std=c11"]), ("c++", ["-std=c++17", "-x", "c++"]), ("clang", ["-std=c11"]), ("cc", ["-std=c11", *SANITIZED])]
+PROGRAMS = ["examples/c/decode.c", "examples/c/encode.c", "examples/c/audit.c", "examples/c/receive.c",
+            "tests/c/calls.c", "tests/c/any_bytes.c", "tests/c/threads.c"]
+LIBC = {"memcpy", "memset", "memmove", "memcmp"}
+INSTALLED = {"bin/rdsrt", "include/rdsrt.h", "lib/librdsrt.a", "lib/librdsrt.so", "lib/librdsrt.so.1",
+             "lib/pkgconfig/rdsrt.pc", "share/man/man1/rdsrt.1"}
+ROWS, PIECES, ROUNDS = 100_000, 60, 3000
+DWELL, LATE = "16", "3"
+SECONDS = 300
+
+
+def text_of(path):
+    with open(path, encoding="utf-8") as file:
+        return file.read()
+
+
+def output(words, given=b"", **more):
+    """Status and standard output of these words over this input; what they have to say besides goes with it."""
+    done = subprocess.run(words, input=given, stdout=subprocess.PIPE, stderr=subprocess.STDOUT, timeout=SECONDS, **more)
+    return done.returncode, done.stdout
+
+
+def is_there(*tools):
+    """Whether the tools are installed; the first that is not is told."""
+    for tool in tools:
+        if shutil.which(tool) is None:
+            print(f"skipped: no {tool} here")
+            return False
+    return True
+
+
+# ---- what is written down
+
+def names(check):
+    """The header has the codes of the definitions, and declares what the archive exports."""
+    defined = {name: int(number) for name, number in re.findall(r"^(RDSRT_\w+) = (\d+)$", text_of(CODES), re.M)}
+    declared = {name: int(number) for name, number in re.findall(r"\b(RDSRT_[A-Z0-9_]+) = (\d+)", text_of(HEADER))}
+    declared["RDSRT_ABI"] = int(re.search(r"#define RDSRT_ABI (\d+)", text_of(HEADER)).group(1))
+    check("codes of the header", declared, defined)
+
+
+def archive(check):
+    """What the archive exports, needs and holds."""
+    if not is_there("nm", "readelf"):
+        return
+    exported = set(re.findall(rb" T (\w+)$", output(["nm", ARCHIVE])[1], re.M))
+    declared = set(re.findall(rb"\b(rdsrt_\w+)\(", re.sub(rb"/\*.*?\*/", b"", text_of(HEADER).encode(), flags=re.S)))
+    check("calls of the header", declared, exported)
+    needed = set(re.findall(r" U (\w+)$", output(["nm", ARCHIVE])[1].decode(), re.M))
+    check("what the archive needs", needed - LIBC, set())
+    # name, flags and the rest; tables of pointers are read-only once they are loaded
+    sections = re.findall(r"\] (\S+) +\w+ +\w+ \w+ (\w+) \w+ +(\w*W\w*) ", output(["readelf", "-SW", ARCHIVE])[1].decode())
+    writable = [name for name, size, _ in sections if int(size, 16) and not name.startswith(".data.rel.ro")]
+    check("writable data of the archive", writable, [])
+
+
+# ---- scripts and logs
+
+def field(text):
+    return '"' + text.replace('"', '""') + '"' if set(text) & set(',"') else text
+
+
+def script(seed, rows):
+    """Rows of a script with texts, names, tags and restarts."""
+    roll = random.Random(seed)
+    for _ in range(rows):
+        command = "-", ""
+        kind = roll.random()
+        if kind < 0.02:
+            command = "text", f"TRACK {roll.randrange(999)}, Beyoncé {'x' * roll.randrange(40)}"
+        elif kind < 0.03:
+            command = "name", roll.choice(["POP", "NEWS", "JAZZ FM", ""])
+        elif kind < 0.06:
+            command = "tags", f"{roll.randrange(2)} 1 1 0 {roll.randrange(9)} 4 8 {roll.randrange(32)}"
+        elif kind < 0.0605:
+            command = "restart", ""
+        yield f"{command[0]},{field(command[1])},{int(roll.random() < 0.7)},\n"
+
+
+def heard(seed, sent):
+    """The log with some of its slots lost, of another programme, or written in another way."""
+    roll = random.Random(seed)
+    for line in sent.splitlines(True):
+        kind = roll.random()
+        if line.startswith(b"#") or kind > 0.3:
+            yield line
+        elif kind < 0.2:
+            yield b"---- ---- ---- ----\n"
+        elif kind < 0.22:
+            yield line[:5] + b"----" + line[9:]
+        elif kind < 0.24:
+            yield line[:-1].lower() + b" @12:00\r\n"
+        elif not line.startswith(b"-"):
+            yield b"D" + line[1:]
+
+
+def hostile(seed, log):
+    """A piece of the log with a few of its bytes changed to others that matter."""
+    roll = random.Random(seed)
+    start = roll.randrange(len(log))
+    piece = bytearray(log[start:start + roll.randrange(4000)])
+    for _ in range(roll.randrange(4) if piece else 0):
+        piece[roll.randrange(len(piece))] = roll.choice(b"\r\n\x00 -#<%0aFg\xff")
+    return bytes(piece)
+
+
+def timed(seed, log):
+    """The received groups of a log with their times in microseconds, and the time of its end; and the slots that they
+    came in, as a log."""
+    roll = random.Random(seed)
+    groups, slots = b"", b""
+    lines = [it for it in log.splitlines() if not it.startswith(b"#")]
+    for slot, line in enumerate(lines):
+        if b"----" in line or roll.random() < 0.1:
+            slots += b"---- ---- ---- ----\n"
+            continue
+        # just after the slot has begun, or just before it ends
+        time = slot * 1_040_000_000 // 11_875 + roll.randrange(5, 80_000)
+        groups += b"%d %s\n" % (time, line[:19])
+        slots += line[:19] + b"\n"
+    return groups + b"%d\n" % (len(lines) * 1_040_000_000 // 11_875 + 5), slots
+
+
+def inputs(ran):
+    """What each program is given, and what the program rdsrt answers: words, input, status and output."""
+    rows = "".join(script(1, ROWS)).encode()
+    options = ["--pi", "C201", "--m", DWELL]
+    station = [*options, "--pty", "10", "--k", LATE]
+    sent = ran(["encode", *station], rows)
+    log = b"".join(heard(2, sent[1]))
+    groups, slots = timed(3, sent[1][:200_000])
+    shown = ran(["decode", *options], slots)[1]
+    given = [("encode", ["C201", "10", DWELL, LATE], rows, sent),
+             ("receive", ["C201", DWELL], groups, (0, b"".join(re.findall(rb"^\d+ text .*\n", shown, re.M))))]
+    for one in [log, *(hostile(seed, log) for seed in range(PIECES))]:
+        given.append(("decode", ["C201", DWELL], one, ran(["decode", *options], one)))
+    for one in [sent[1], log, *(hostile(seed, sent[1]) for seed in range(PIECES))]:
+        given.append(("audit", ["C201", DWELL, LATE], one, ran(["audit", *options, "--k", LATE], one)))
+    return given
+
+
+# ---- programs
+
+def built(check, how, compiler, language, folder):
+    """The programs as this compiler builds them."""
+    for source in PROGRAMS:
+        program = os.path.join(folder, os.path.basename(source)[:-2])
+        words = [compiler, *language, *WARNINGS, "-I", os.path.dirname(HEADER), os.path.join(ROOT, source), "-x", "none",
+                 ARCHIVE, "-o", program]
+        check(f"{how}: {source} is built", output(words), (0, b""))
+
+
+def run_all(check, how, folder, given):
+    """The programs do what rdsrt does, each call answers what it should, and any bytes and eight threads do no harm."""
+    for number, (name, words, text, wanted) in enumerate(given):
+        got = output([os.path.join(folder, name), *words], text)
+        check(f"{how}: {name}, input {number}", got == wanted, True)
+    check(f"{how}: each call", output([os.path.join(folder, "calls")]), (0, b"ok\n"))
+    check(f"{how}: any bytes", output([os.path.join(folder, "any_bytes"), str(ROUNDS)]), (0, b"ok\n"))
+    check(f"{how}: eight threads", output([os.path.join(folder, "threads"), "50000"]), (0, b"ok\n"))
+
+
+def compilers(check, ran):
+    """Each compiler that is there, and one with sanitizers."""
+    given = inputs(ran)
+    for compiler, language in WAYS:
+        if not is_there(compiler):
+            continue
+        how = " ".join([compiler, *language])
+        with tempfile.TemporaryDirectory() as folder:
+            if SANITIZED[1] in language and not sanitizes(compiler, folder):
+                print(f"skipped: no sanitizers of {compiler} here")
+                continue
+            built(check, how, compiler, language, folder)
+            run_all(check, how, folder, given)
+
+
+def sanitizes(compiler, folder):
+    """Whether the compiler has its sanitizers."""
+    words = [compiler, *SANITIZED, "-x", "c", "-", "-o", os.path.join(folder, "empty")]
+    return output(words, b"int main(void) { return 0; }")[0] == 0
+
+
+# ---- an install
+
+def install(check):
+    """A fresh prefix has all of it, and a program finds the library there by pkg-config."""
+    if not is_there("cc", "pkg-config"):
+        return
+    with tempfile.TemporaryDirectory() as folder:
+        prefix = os.path.join(folder, "prefix")
+        check("./install", output([os.path.join(ROOT, "install"), prefix])[0], 0)
+        files = {os.path.relpath(os.path.join(at, it), prefix) for at, _, its in os.walk(prefix) for it in its}
+        check("what is installed", files, INSTALLED)
+        check("what lies beside the prefix", os.listdir(folder), ["prefix"])
+        hi = text_of(os.path.join(ROOT, "examples/hi.log")).encode()
+        check("installed program", output([os.path.join(prefix, "bin/rdsrt"), "decode", "--pi", "C201"], hi),
+              (0, b'0 text "HI"\n'))
+        readme(check, folder, prefix)
+        python(check, os.path.join(prefix, "lib/librdsrt.so"))
+
+
+def readme(check, folder, prefix):
+    """README's lines of C, built by pkg-config, show HI."""
+    found = re.search(r"```c\n(.*?)```", text_of(os.path.join(ROOT, "README.md")), re.S)
+    check("README has lines of C", bool(found), True)
+    if not found:
+        return
+    source, program = os.path.join(folder, "hi.c"), os.path.join(folder, "hi")
+    with open(source, "w", encoding="utf-8") as file:
+        file.write(found.group(1))
+    paths = dict(os.environ, PKG_CONFIG_PATH=os.path.join(prefix, "lib/pkgconfig"))
+    call = f"cc -std=c11 -Wall -Wextra -pedantic -Werror {source} $(pkg-config --cflags --libs rdsrt) -o {program}"
+    check("README's lines of C are built", output(["sh", "-c", call], env=paths), (0, b""))
+    paths["LD_LIBRARY_PATH"] = os.path.join(prefix, "lib")
+    check("README's lines of C", output([program], env=paths), (0, b"HI\n"))
+
+
+def python(check, library):
+    """The example in Python shows the text of the log."""
+    example = os.path.join(ROOT, "examples/python/rdsrt_text.py")
+    hi = text_of(os.path.join(ROOT, "examples/hi.log")).encode() + b"---- ---- ---- ----\n" * 128
+    check("example in Python", output([sys.executable, example, library, "C201"], hi), (0, b'0 text "HI"\n128 text none\n'))
+
+
+def cases(check, ran):
+    """Notes each case by check(name, got, wanted); ran(words, input) is the program rdsrt's status and output."""
+    names(check)
+    if not os.path.isfile(ARCHIVE):
+        check(f"there is no {ARCHIVE}: tests/archive builds it", False, True)
+        return
+    archive(check)
+    compilers(check, ran)
+    install(check)
