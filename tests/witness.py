@@ -201,6 +201,12 @@ def worked(check):
     check("witness: in the depth of a log", (status, re.sub(r"\d+", "N", lines[0])), (1, "no N EarlyFlag"))
     check("witness: there is one", len(lines), 2)
     confirm(check, "witness: in the depth of a log", lawful + slots, 8, lines[1])
+    # a first no without a mix: one text of one segment, with a flag that turns each time
+    harmless = [line(2, at % 2, 0, b"HI\r ") for at in range(3)] + [LOST] * 60 + slots
+    status, output, told = ran([WITNESS, "--pi", "C201", "--m", "8"], logged(harmless) + b"x\n")
+    wanted = 'no 2 EarlyFlag\nlose 65-66: 67 text "POP  FM"\n'
+    note = "witness: line 70 is no line of a log: nothing behind it was looked at\n"
+    check("witness: behind the first no", (status, output, told), (1, wanted, note))
     check("witness: a lawful log", ran([WITNESS, "--pi", "C201", "--m", "8"], logged(lawful)), (0, "yes 20016\n", ""))
     check("witness: a bad line", ran([WITNESS, "--pi", "C201"], b"x\n"), (2, "", "witness: fault line 1\n"))
     for words in ([], ["--pi", "C20"], ["--pi", "C201", "--m", "0"], ["--pi", "C201", "--k", "1025"]):
