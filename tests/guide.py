@@ -52,7 +52,14 @@ def live(check, text):
     check("guide: its first group", [at for at, line in enumerate(slots) if line[0] != "-"][0], 128)
 
 
+def helps(check, text):
+    """Each program says with --help what it takes; those of GNU Radio are asked in radio.py."""
+    for name in ("many-logs", "slots", "station", "witness"):
+        done = subprocess.run([os.path.join(ROOT, "examples", name), "--help"], capture_output=True, timeout=SECONDS)
+        check(f"guide: {name} --help", (done.returncode, name.encode() in done.stdout, done.stderr), (0, True, b""))
+
+
 def run(check):
     text = page()
-    for part in (tables, commands, other_application, live):
+    for part in (tables, commands, other_application, live, helps):
         part(check, text)
