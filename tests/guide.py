@@ -1,0 +1,93 @@
+"""docs/GUIDE.md beside what it rests on: its tables are what the scripts print, its commands give what it shows."""
+import os
+import re
+import subprocess
+
+ROOT = os.path.dirname(os.path.dirname(os.path.abspath(__file__)))
+PROGRAM = os.path.join(ROOT, "crates/rdsrt/out/rdsrt")
+SECONDS = 60
+# a station whose 11A is another application's: a text, that application announced, and its groups
+OTHER = "C201 2140 4849 0D20\nC201 3156 1234 ABCD\nC201 B140 2008 1234\n---- ---- ---- ----\n"
+
+LOST = "---- ---- ---- ----"
+HI, YO, HA = "C201 2140 4849 0D20", "C201 2150 594F 0D20", "C201 2140 4841 0D20"
+# the tag of the two characters from 0 on, and of three
+TWO, THREE = "C201 B148 2002 0000", "C201 B148 2004 0000"
+# what the guide says that an encoder did, for a dwell of 4: the log, the answer, and the log after the change
+FAULTS = [
+    ("the flag comes back", [HI, YO, HA], "no 2 EarlyFlag", [HI, *[LOST] * 7, YO, *[LOST] * 7, HA]),
+    ("the flag turns at each repetition", [HI, HI.replace("2140", "2150"), HI], "no 2 EarlyFlag", [HI, HI, HI]),
+    ("other bytes at an address", [HI, HA], "no 1 Changed", [HI, HA.replace("2140", "2150")]),
+    ("a name with other bytes", ["C201 A140 4A41 5A5A", "C201 A140 4E45 5753"], "no 1 Changed",
+     ["C201 A140 4A41 5A5A", "C201 A150 4E45 5753"]),
+    ("behind the return", ["C201 2140 4849 0D58"], "no 0 NotOneText", [HI]),
+    ("a segment past the return", [HI, "C201 2141 4142 4344"], "no 1 NotOneText", [HI, HI]),
+    ("a control character", ["C201 2140 4802 0D20"], "no 0 NotOneText", [HI]),
+    ("tags at once", [HI, TWO], "no 1 EarlyTag", [HI, *[LOST] * 3, TWO]),
+    ("tags without a text", [TWO], "no 0 EarlyTag", [LOST]),
+    ("a tag that is too long", [HI, *[LOST] * 3, THREE], "no 4 TagOutside", [HI, *[LOST] * 3, TWO]),
+]
+
+
+def page():
+    with open(os.path.join(ROOT, "docs/GUIDE.md"), encoding="utf-8") as file:
+        return file.read()
+
+
+def ran(call, given=b""):
+    environment = {**os.environ, "RDSRT": PROGRAM}
+    call = call.replace("./rdsrt", '"$RDSRT"')
+    return subprocess.run(["bash", "-c", call], cwd=ROOT, input=given, stdout=subprocess.PIPE, timeout=SECONDS, env=environment).stdout.decode()
+
+
+def tables(check, text):
+    rows = {line.strip() for line in text.splitlines() if line.strip().startswith("|")}
+    for script in ("bench/guide", "bench/corrected"):
+        printed = {line for line in ran(script).splitlines() if line}
+        check(f"guide: {script} prints a table", len(printed) > 5, True)
+        check(f"guide: the tables of {script}", printed - rows, set())
+
+
+def commands(check, text):
+    shown = [it for block in re.findall(r"```sh\n(.*?)```", text, re.S) for it in re.split(r"^\$ ", block, flags=re.M)[1:]]
+    check("guide: commands", len(shown), 2)
+    for command, _, output in (it.partition("\n") for it in shown):
+        check(f"guide: {command}", ran(command), output)
+
+
+def other_application(check, text):
+    """The line that empties the groups 11A, over such a log."""
+    call = re.search(r"^    (sed .*)station\.log (\| .*)$", text, re.M)
+    check("guide: 11A of another application", ran('./rdsrt audit --pi C201', OTHER.encode()), "no 2 EarlyTag\n")
+    check("guide: and emptied", ran(call[1] + call[2], OTHER.encode()), "yes 4\n")
+
+
+def faults(check, text):
+    """Each fault, by what the guide says that the encoder did, and a yes after what it says is to be changed."""
+    named = set(re.findall(r"^\| `(\w+)` \|", text, re.M))
+    check("guide: each fault is there", {answer.split()[2] for _, _, answer, _ in FAULTS}, named)
+    for name, log, answer, changed in FAULTS:
+        got = [ran("./rdsrt audit --pi C201 --m 4", "".join(f"{it}\n" for it in lines).encode()) for lines in (log, changed)]
+        check(f"guide: {name}", got, [f"{answer}\n", f"yes {len(changed)}\n"])
+
+
+def live(check, text):
+    """The pipe of the station, for some slots, with transmit's place taken by the end of the log."""
+    call = re.search(r"^    (examples/station .*) \| modulator$", text, re.M)[1]
+    log = ran(call.replace("now.txt", "--at-once --slots 400 <(echo HI)")).splitlines()
+    slots = [line for line in log if line[0] != "#"]
+    check("guide: rows of a station", (len(slots), [line for line in log if line[0] == "#"]), (400, ["# 128 text ok"]))
+    check("guide: its first group", [at for at, line in enumerate(slots) if line[0] != "-"][0], 128)
+
+
+def helps(check, text):
+    """Each program says with --help what it takes; those of GNU Radio are asked in radio.py."""
+    for name in ("many-logs", "slots", "station", "witness"):
+        done = subprocess.run([os.path.join(ROOT, "examples", name), "--help"], capture_output=True, timeout=SECONDS)
+        check(f"guide: {name} --help", (done.returncode, name.encode() in done.stdout, done.stderr), (0, True, b""))
+
+
+def run(check):
+    text = page()
+    for part in (tables, commands, other_application, faults, live, helps):
+        part(check, text)
