@@ -532,8 +532,8 @@ fn refused_words(rt: HostRuntime) -> Result<(), Fail> {
     ];
     let mut world = played(&rt, rt.alloc(), 2, &rows)?;
     let short = slot_event(Command::Restart, true, &[LOST])?;
-    let refused: Result<Answer, StepRefused> = world.step(&short);
-    same(&rt, refused, Err(StepRefused::ReceiverCount));
+    let refused = world.step(&short).err();
+    same(&rt, refused, Some(StepRefused::ReceiverCount));
     same(&rt, world.on_air(), (Some(b"HI".as_slice()), None));
     assert!(rt; world.receiver(2).is_none());
     Ok(())
