@@ -36,8 +36,9 @@ def page():
 
 def ran(call, given=b""):
     environment = {**os.environ, "RDSRT": PROGRAM}
-    call = call.replace("./rdsrt", '"$RDSRT"')
-    return subprocess.run(["bash", "-c", call], cwd=ROOT, input=given, stdout=subprocess.PIPE, timeout=SECONDS, env=environment).stdout.decode()
+    words = ["bash", "-c", call.replace("./rdsrt", '"$RDSRT"')]
+    done = subprocess.run(words, cwd=ROOT, input=given, stdout=subprocess.PIPE, timeout=SECONDS, env=environment)
+    return done.stdout.decode()
 
 
 def tables(check, text):
@@ -67,7 +68,8 @@ def faults(check, text):
     named = set(re.findall(r"^\| `(\w+)` \|", text, re.M))
     check("guide: each fault is there", {answer.split()[2] for _, _, answer, _ in FAULTS}, named)
     for name, log, answer, changed in FAULTS:
-        got = [ran("./rdsrt audit --pi C201 --m 4", "".join(f"{it}\n" for it in lines).encode()) for lines in (log, changed)]
+        logs = ["".join(f"{it}\n" for it in lines).encode() for lines in (log, changed)]
+        got = [ran("./rdsrt audit --pi C201 --m 4", it) for it in logs]
         check(f"guide: {name}", got, [f"{answer}\n", f"yes {len(changed)}\n"])
 
 

@@ -10,7 +10,8 @@ SECONDS = 60
 HI = "C201 2140 4849 0D20\n"
 LOGS = {"hi": HI, "a name with spaces": HI * 2, "changed": HI + "C201 2140 594F 0D20\n", "bad": HI + "x\n", "empty": ""}
 OUTPUTS = {
-    "audit": {"hi": "yes 1\n", "a name with spaces": "yes 2\n", "changed": "no 1 Changed\n", "bad": "fault line 2\n", "empty": "yes 0\n"},
+    "audit": {"hi": "yes 1\n", "a name with spaces": "yes 2\n", "changed": "no 1 Changed\n", "bad": "fault line 2\n",
+              "empty": "yes 0\n"},
     "decode": {"hi": '0 text "HI"\n', "a name with spaces": '0 text "HI"\n', "changed": '0 text "HI"\n1 text "YO"\n',
                "bad": '0 text "HI"\nfault line 2\n', "empty": ""},
 }
@@ -46,7 +47,7 @@ def run(check):
         check("many-logs: all done", ran(folder, outputs, "audit", "--pi", "C201")[0], 0)
         empty = os.path.join(place, "none")
         os.mkdir(empty)
-        for words in ([], ["--jobs"], ["--jobs", "0", folder, outputs, "audit"], [folder, outputs], [empty, outputs, "audit"],
-                      [os.path.join(place, "nowhere"), outputs, "audit"], [folder, outputs, "audit"]):
+        for words in ([], ["--jobs"], ["--jobs", "0", folder, outputs, "audit"], [folder, outputs],
+                      [empty, outputs, "audit"], [os.path.join(place, "nowhere"), outputs, "audit"], [folder, outputs, "audit"]):
             check(f"many-logs: refused {[os.path.basename(it) for it in words]}", ran(*words), (2, ""))
         check("many-logs: help", ran("--help")[0], 0)

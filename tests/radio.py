@@ -113,7 +113,7 @@ def loop(check, case, folder):
     skipped = [at for at in range(4) if all(map(is_of, got.lines, got.sent[at:]))]
     check(f"radio: {case.name}: each slot has its line", len(skipped), 1)
     check(f"radio: {case.name}: no line too many, or too few", case.slots - 4 <= len(got.lines) <= case.slots, True)
-    check(f"radio: {case.name}: most that could be heard", len(groups) > 0.9 * (case.slots - away), True)
+    check(f"radio: {case.name}: most that could be heard", len(groups) > 0.8 * (case.slots - away), True)
     check(f"radio: {case.name}: texts are shown", len(shown(got.lines, case.dwell)) > 5, True)
     check(f"radio: {case.name}: none that was never set", never_set(got.lines, case, got.texts), [])
     if case.fades:
@@ -144,8 +144,9 @@ def live(check):
 
 def refusals(check):
     """Words that are refused, lines that are none, and output that fails."""
-    rows = [([TRANSMIT], b"", 2), ([TRANSMIT, "--pi", "C20"], b"", 2), ([RECEIVE], b"", 2), ([RECEIVE, "--pi", "x"], b"", 2),
-            ([TRANSMIT, "--pi", "C201"], b"C201 2140 4849\n", 1), ([TRANSMIT, "--pi", "C201", "--name", "NINE CHAR"], b"", 2),
+    rows = [([TRANSMIT], b"", 2), ([TRANSMIT, "--pi", "C20"], b"", 2), ([RECEIVE], b"", 2),
+            ([RECEIVE, "--pi", "x"], b"", 2), ([TRANSMIT, "--pi", "C201"], b"C201 2140 4849\n", 1),
+            ([TRANSMIT, "--pi", "C201", "--name", "NINE CHAR"], b"", 2),
             ([RECEIVE, "--pi", "C201"], b"", 0), ([TRANSMIT, "--help"], b"", 0), ([RECEIVE, "--help"], b"", 0)]
     for words, given, status in rows:
         done = subprocess.run(words, input=given, capture_output=True, timeout=SECONDS)

@@ -42,7 +42,8 @@ ODD = [
     ("", ""), ("# note", ""), ('<recorder="balcony">', ""), ("% end", ""),
     ("C201 2140 4849 0D2 1", "no group"), ("C201  2140 4849 0D20 1", "no group"), ("hello", "no group"),
     (HI, "a group without a time"), (HI + " soon", "a group without a time"), (HI + "5", "no group"),
-    (HI + " @2024/13/01 00:00:00.00", "a group without a time"), (HI + " @2024/06/01 24:00:00.00", "a group without a time"),
+    (HI + " @2024/13/01 00:00:00.00", "a group without a time"),
+    (HI + " @2024/06/01 24:00:00.00", "a group without a time"),
     (HI + " @2024/02/30 00:00:00.00", "a group without a time"), (HI + " -1", "a group without a time"),
 ]
 
@@ -57,7 +58,8 @@ def worked(check):
         lines = [f"{HI} {time}" for time in times]
         wanted = [it for count, line in zip(before, lines) for it in [LOST] * count + [line]]
         check(f"slots: {name}", ran("\n".join(lines)), (0, wanted, told))
-    check("slots: a dwell of 3", ran(f"{HI} 2\n{HI} 1\n", "--m", "3"), (0, [f"{HI} 2"] + [LOST] * 3 + [f"{HI} 1"], BACK(3)))
+    wanted = [f"{HI} 2", LOST, LOST, LOST, f"{HI} 1"]
+    check("slots: a dwell of 3", ran(f"{HI} 2\n{HI} 1\n", "--m", "3"), (0, wanted, BACK(3)))
     lines = [f"{HI} {time}" for time in ("0", "0.08", "0.1")]
     check("slots: no grain", ran("\n".join(lines), "--grain", "0"), (0, lines, ""))
     for words in (["--grain", "0.09"], ["--m", "0"], ["--m", "x"], ["log"]):
@@ -85,7 +87,8 @@ def each_slot_has_its_line(check):
             times = [max(times[:at + 1]) for at in range(len(times))]
         status, lines, told = ran("".join(f"C201 0000 0000 {slot:04X} {time:.4f}\n" for slot, time in zip(slots, times)))
         places = [at for at, line in enumerate(lines) if line != LOST]
-        check(f"slots: each group once, {spread}", ([int(lines[at][15:19], 16) for at in places], status, told), (slots, 0, ""))
+        written = [int(lines[at][15:19], 16) for at in places]
+        check(f"slots: each group once, {spread}", (written, status, told), (slots, 0, ""))
         gaps = [b - a - (d - c) for a, b, c, d in zip(places, places[1:], slots, slots[1:])]
         check(f"slots: no slot too few, {spread}", min(gaps), 0)
         check(f"slots: and none too many, {spread}", max(gaps) == 0, is_exact)

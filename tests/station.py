@@ -24,6 +24,11 @@ def rows_of(text, *words):
         return done.returncode, done.stdout.decode(), done.stderr.decode().replace(file.name, "FILE")
 
 
+def encoded(rows, dwell):
+    words = [PROGRAM, "encode", "--pi", "C201", "--m", str(dwell)]
+    return subprocess.run(words, input=rows.encode(), stdout=subprocess.PIPE, timeout=SECONDS)
+
+
 def at_once(check):
     trial = ["--at-once", "--slots", "5", "--m", "2", "--k", "1", "--one-in", "2"]
     empty = ["-,,1,\n", "-,,0,\n", "-,,1,\n", "-,,0,\n", "-,,1,\n"]
@@ -31,9 +36,11 @@ def at_once(check):
                         (r"a\x0Ab\xFF", r"a\x0Ab\xFF"), ("24 €\r\n", "24 €")):
         wanted = "".join(empty[:3]) + f'text,"{field}",0,\n' + empty[4]
         check(f"station: {text[:20]!r}", rows_of(text.encode(), *trial), (0, wanted, ""))
-    for text, told in ((b"x" * 65, "65 characters, and 64 at most"), ("文".encode(), "no character of RadioText at place 0: '文'"),
-                       (rb"a\x0D", r"no byte of a text at place 1: \x0D"), (b"ab\\", "no character of RadioText at place 2: '\\\\'"),
-                       (b"\xff", "no UTF-8")):
+    refused = [(b"x" * 65, "65 characters, and 64 at most"), (b"\xff", "no UTF-8"),
+               ("文".encode(), "no character of RadioText at place 0: '文'"),
+               (rb"a\x0D", r"no byte of a text at place 1: \x0D"),
+               (b"ab\\", r"no character of RadioText at place 2: '\\'")]
+    for text, told in refused:
         check(f"station: {text[:20]!r}", rows_of(text, *trial), (0, "".join(empty), f"station: FILE: {told}\n"))
     check("station: no text", rows_of(b"\n", *trial), (0, "".join(empty), ""))
     for words in ([], ["--m", "0", "file"], ["--k", "1025", "file"], ["--one-in", "0", "file"]):
@@ -44,8 +51,9 @@ def each_byte(check):
     """What the station takes as a character, the encoder takes too, and what it refuses is refused."""
     rng = random.Random(20261125)
     characters = [chr(it) for it in range(0x20, 0x180)] + [f"\\x{it:02X}" for it in range(256)] + ["€", "文"]
+    texts = [rng.choice(characters) + "x" for _ in range(40)]
     with tempfile.NamedTemporaryFile() as file:
-        for text in [rng.choice(characters) + "x" for _ in range(40)] + ["ÁÀÉÈÍÌÓÒÚÙÂÄÊËÎÏÔÖÛÜ$£€", "áàéèíìóòúùÑÇâäêëîïôöûüñç"]:
+        for text in [*texts, "ÁÀÉÈÍÌÓÒÚÙÂÄÊËÎÏÔÖÛÜ$£€", "áàéèíìóòúùÑÇâäêëîïôöûüñç"]:
             file.seek(0)
             file.truncate()
             file.write(text.encode())
@@ -53,8 +61,7 @@ def each_byte(check):
             words = [STATION, "--at-once", "--slots", "2", "--m", "1", file.name]
             rows = subprocess.run(words, capture_output=True, timeout=SECONDS).stdout.decode()
             plain = f'-,,1,\ntext,"{text.replace(chr(34), chr(34) * 2)}",0,\n'
-            done = subprocess.run([PROGRAM, "encode", "--pi", "C201", "--m", "1"], input=plain.encode(), stdout=subprocess.PIPE)
-            check(f"station: {text!r} beside encode", rows == plain, done.returncode == 0)
+            check(f"station: {text!r} beside encode", rows == plain, encoded(plain, 1).returncode == 0)
 
 
 def live(check):
@@ -74,8 +81,7 @@ def live(check):
         took = time.monotonic() - begins
         check("station: status", station.returncode, 0)
         check("station: 40 rows take 39 slots at least", took >= 39 * SLOT, True)
-        done = subprocess.run([PROGRAM, "encode", "--pi", "C201", "--m", "4"], input="".join(rows).encode(), stdout=subprocess.PIPE)
-        told = [line for line in done.stdout.decode().splitlines() if line[0] == "#"]
+        told = [line for line in encoded("".join(rows), 4).stdout.decode().splitlines() if line[0] == "#"]
         check("station: texts on air", (told, [row for row in rows if "text" in row]),
               (["# 4 text ok", "# 12 text ok"], ['text,"ONE",1,\n', 'text,"THREE",1,\n']))
 

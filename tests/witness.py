@@ -51,7 +51,7 @@ def tags_of(heard_tags, run, announced, slot):
 
 def pieces(text, bits):
     tags = [(bits >> 29 & 63, bits >> 23 & 63, bits >> 17 & 63), (bits >> 11 & 63, bits >> 5 & 63, bits & 31)]
-    return {(kind, text[start:start + extra + 1]) for kind, start, extra in tags if kind and start + extra + 1 <= len(text)}
+    return {(kind, text[start:start + extra + 1]) for kind, start, extra in tags if kind and start + extra < len(text)}
 
 
 def views(slots, dwell):
@@ -154,8 +154,9 @@ def search_beside(check):
     for number in range(700):
         dwell, slots = rng.choice((2, 3, 4, 6)), random_log(rng)
         texts, names = program.events_of([it.encode() for it in slots], b"C201")
-        kinds = (texts, program.Receiver(dwell, 16, program.whole_text)), (names, program.Receiver(dwell, 2, program.whole_name))
-        found = [program.Search(receiver, events, 100_000).found(0, len(slots)) for events, receiver in kinds]
+        receivers = program.Receiver(dwell, 16, program.whole_text), program.Receiver(dwell, 2, program.whole_name)
+        searches = [program.Search(*it, 100_000) for it in zip(receivers, (texts, names))]
+        found = [search.found(0, len(slots)) for search in searches]
         best = first_mix(slots, dwell, 0)
         check(f"witness: search of log {number}, dwell {dwell}", min((it[0] for it in found if it), default=None), best)
         counts[best is not None] += 1
@@ -190,8 +191,8 @@ def worked(check):
     status, output, _ = ran([WITNESS, "--pi", "C201", "--m", "8", FLAGS], b"")
     check("witness: flags.log", (status, output), (1, 'no 4 EarlyFlag\nlose 2-3: 4 text "POP  FM"\n'))
     confirm(check, "witness: flags.log", slots, 8, output.splitlines()[1])
-    rows = "".join(f"text,{'NEWS AT TEN' if at % 32 else 'JAZZ AND SOUL'},1,\n" if at % 16 == 0 else "-,,1,\n" for at in range(20_000))
-    _, log, _ = ran([PROGRAM, "encode", "--pi", "C201", "--m", "8"], rows.encode())
+    rows = [f"text,{'NEWS AT TEN' if at % 32 else 'JAZZ AND SOUL'},1,\n" if at % 16 == 0 else "-,,1,\n" for at in range(20_000)]
+    _, log, _ = ran([PROGRAM, "encode", "--pi", "C201", "--m", "8"], "".join(rows).encode())
     lawful = [it for it in log.splitlines() if it[0] != "#"] + [LOST] * 16
     with tempfile.NamedTemporaryFile() as file:
         file.write(logged(lawful + slots))
