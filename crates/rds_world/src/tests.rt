@@ -517,11 +517,12 @@ fn stays(rt: HostRuntime) -> Result<(), Fail> {
     Ok(())
 }
 
-/// A ninth receiver, and a slot with one reception in a world of two, which leaves the world as it was.
+/// A ninth receiver, and a slot with one reception in a world of two, which leaves the world as it was. (Each comparison
+/// stands here: by `same` the kit's borrow checker has no proof of this test.)
 #[test]
 fn refused_words(rt: HostRuntime) -> Result<(), Fail> {
     let nine = World::new(rt.alloc(), config()?, 9).err();
-    same(&rt, nine, Some(WorldRefused::TooManyReceivers));
+    assert_eq!(rt; nine, Some(WorldRefused::TooManyReceivers));
     let hi = text(b"HI")?;
     let both = [Some(hi), Some(hi), None];
     let rows = [
@@ -532,9 +533,9 @@ fn refused_words(rt: HostRuntime) -> Result<(), Fail> {
     ];
     let mut world = played(&rt, rt.alloc(), 2, &rows)?;
     let short = slot_event(Command::Restart, true, &[LOST])?;
-    let refused = world.step(&short).err();
-    same(&rt, refused, Some(StepRefused::ReceiverCount));
-    same(&rt, world.on_air(), (Some(b"HI".as_slice()), None));
+    let refused: Result<Answer, StepRefused> = world.step(&short);
+    assert_eq!(rt; refused, Err(StepRefused::ReceiverCount));
+    assert_eq!(rt; world.on_air(), (Some(b"HI".as_slice()), None));
     assert!(rt; world.receiver(2).is_none());
     Ok(())
 }
