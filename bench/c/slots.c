@@ -5,6 +5,7 @@
 
 #ifdef V4L2RDS
 #include <libv4l2rds.h>
+#include <malloc.h>
 #else
 #include <rdsrt.h>
 #endif
@@ -29,7 +30,7 @@ int main(void) {
             changes += v4l2_rds_add(rds, &data) != 0;
         }
     }
-    printf("%lu slots, %lu changes, %zu bytes of heap\n", slots, changes, sizeof *rds);
+    printf("%lu slots, %lu changes, %zu bytes of heap\n", slots, changes, malloc_usable_size(rds));
     v4l2_rds_destroy(rds);
 #else
     struct rdsrt_receiver receiver;

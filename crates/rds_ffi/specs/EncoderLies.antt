@@ -13,7 +13,8 @@ pub record EncoderLies (station : Head) (m : ℕ) (s : StoredEncoder) (entries :
 
 -- wherever an encoder that lies there stands, this holds of its station, of its dwell and of what it was told
 abbrev pub WhereItLies : StoredEncoder → (Head → ℕ → List Entry → Type 0) → Type 0
-WhereItLies s Holds = (station : Head) (m : ℕ) (entries : List Entry) → EncoderLies station m s entries → Holds station m entries
+WhereItLies s Holds = (station : Head) (m : ℕ) (entries : List Entry) → EncoderLies station m s entries
+    → Holds station m entries
 
 -- the call was taken: what lies there stands at what it was told before, and then the entry
 abbrev pub Takes : StoredEncoder → StoredEncoder → Entry → Type 0

@@ -4,5 +4,6 @@ pub mod Viewed
 pub mod Lies
 pub mod EncoderLies
 pub mod Sent
+pub mod Texts
 pub mod Tagged
 pub mod AuditLies

@@ -9,7 +9,12 @@ abbrev pub fields_of : RdsrtTag → TagFields
 fields_of t = record { class = t.content_type; start = t.start; extra = t.length - 1 }
 
 abbrev pub pair_of : RdsrtTags → PairFields
-pair_of p = record { toggle = is_set p.toggle; running = is_set p.running; one = fields_of p.one; two = fields_of p.two }
+pair_of p = record {
+  toggle = is_set p.toggle;
+  running = is_set p.running;
+  one = fields_of p.one;
+  two = fields_of p.two;
+}
 
 -- it is a tag, and only the dummy, of class 0, names no bytes
 pub record IsGiven (t : RdsrtTag) : Type 0 where

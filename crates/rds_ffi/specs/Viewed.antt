@@ -28,7 +28,8 @@ item_of i = if is_set i.is_shown then Some (is_set i.toggle, is_set i.running) e
 -- the class, and the bytes of the text from the start on; no tag is shown where the class is 0
 abbrev pub piece_of : RdsrtTag → Option (List ℕ) → Option (ℕ × List ℕ)
 piece_of tag None = None
-piece_of tag (Some x) = if is_set tag.content_type then Some (tag.content_type, take tag.length (drop tag.start x)) else None
+piece_of tag (Some x) =
+    if is_set tag.content_type then Some (tag.content_type, take tag.length (drop tag.start x)) else None
 
 abbrev pub view_of : RdsrtView → ShownView
 view_of v = record {

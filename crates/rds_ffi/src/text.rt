@@ -4,6 +4,7 @@ ghost use Rattle.rds_charset.specs.Printed.{printed};
 ghost use Rattle.rds_charset.specs.ReadAs.{HasBadEscape, HasNoRoom, HasUnknownCharacter, IsReadAs};
 ghost use Rattle.rds_ffi.specs.Codes.{RDSRT_BAD_ESCAPE, RDSRT_NOT_UTF8, RDSRT_NO_CHARACTER, RDSRT_NO_ROOM, RDSRT_OK};
 ghost use Rattle.rds_ffi.specs.Codes.{RDSRT_TOO_LONG};
+ghost use Rattle.rds_ffi.specs.Texts.{IsToldBy};
 
 use crate::codes;
 use arrayvec::ArrayVec;
@@ -64,14 +65,9 @@ pub extern "C" fn rdsrt_text_from_utf8(utf8: &[u8], into: &mut [u8], count: &mut
         → length bytes ≤ length into.old → result ≡ RDSRT_OK }
     ensures not_utf8 { result ≡ RDSRT_NOT_UTF8 ↔ (IsUtf8 utf8.now → ⊥) }
     ensures codes { (result ≡ RDSRT_OK) ⊎ ((RDSRT_NOT_UTF8 ≤ result) × (result ≤ RDSRT_NO_ROOM)) }
-    ensures bad_escape { result ≡ RDSRT_BAD_ESCAPE → HasBadEscape utf8.now count.new }
-    ensures each_escape { IsUtf8 utf8.now → (place : ℕ) → HasBadEscape utf8.now place
-        → result ≡ RDSRT_BAD_ESCAPE }
-    ensures no_character { result ≡ RDSRT_NO_CHARACTER → HasUnknownCharacter utf8.now count.new }
-    ensures each_character { IsUtf8 utf8.now → (place : ℕ) → HasUnknownCharacter utf8.now place
-        → result ≡ RDSRT_NO_CHARACTER }
-    ensures no_room { result ≡ RDSRT_NO_ROOM → HasNoRoom utf8.now (length into.old) }
-    ensures each_room { IsUtf8 utf8.now → HasNoRoom utf8.now (length into.old) → result ≡ RDSRT_NO_ROOM }
+    ensures bad_escape { IsToldBy result RDSRT_BAD_ESCAPE utf8.now count.new HasBadEscape }
+    ensures no_character { IsToldBy result RDSRT_NO_CHARACTER utf8.now count.new HasUnknownCharacter }
+    ensures no_room { IsUtf8 utf8.now → (result ≡ RDSRT_NO_ROOM) ↔ HasNoRoom utf8.now (length into.old) }
     ensures kept { result ≢ RDSRT_OK → into.new ≡ into.old }
     ensures uncounted { (result ≡ RDSRT_NOT_UTF8) ⊎ (result ≡ RDSRT_NO_ROOM) → count.new ≡ count.old }
 {

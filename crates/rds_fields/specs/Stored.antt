@@ -13,7 +13,12 @@ abbrev pub tag_stored : StoredTag → TagFields
 tag_stored t = record { class = t.class; start = t.start; extra = t.extra }
 
 abbrev pub fields_stored : StoredPair → PairFields
-fields_stored p = record { toggle = is_set p.toggle; running = is_set p.running; one = tag_stored p.one; two = tag_stored p.two }
+fields_stored p = record {
+  toggle = is_set p.toggle;
+  running = is_set p.running;
+  one = tag_stored p.one;
+  two = tag_stored p.two;
+}
 
 -- the pair that is stored, where there is one
 abbrev pub pair_stored : StoredPair → Option PairFields

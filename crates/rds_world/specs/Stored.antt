@@ -4,7 +4,8 @@ use Rattle.rds_fields.specs.Stored.{is_set}
 use Rattle.rds_world.specs.AuditState.{AuditState, ContentState, ReignsState}
 use Rattle.rds_world.specs.declared.ages.Ages.{Ages}
 use Rattle.rds_world.specs.declared.audit_fault.AuditFault.{AuditFault}
-use Rattle.rds_world.specs.declared.audit_fault.AuditFault.TheVariants.{Changed, NotOneText, EarlyFlag, EarlyTag, TagOutside}
+use Rattle.rds_world.specs.declared.audit_fault.AuditFault.TheVariants.{Changed, NotOneText, EarlyFlag}
+use Rattle.rds_world.specs.declared.audit_fault.AuditFault.TheVariants.{EarlyTag, TagOutside}
 use Rattle.rds_world.specs.declared.stored.StoredCell.{StoredCell}
 use Rattle.rds_world.specs.declared.stored.StoredReigns.{StoredReigns}
 use Rattle.rds_world.specs.declared.stored.StoredAudit.{StoredAudit}
@@ -22,7 +23,11 @@ ages_stored s = record {
 }
 
 abbrev pub content_stored : StoredReigns → ContentState
-content_stored s = record { cells = map cell_stored s.cells; lengths = record { least = s.least; most = s.most }; tags_end = s.tags_end }
+content_stored s = record {
+  cells = map cell_stored s.cells;
+  lengths = record { least = s.least; most = s.most };
+  tags_end = s.tags_end;
+}
 
 abbrev pub reigns_stored : StoredReigns → ReignsState
 reigns_stored s = record { ages = ages_stored s; content = content_stored s }
