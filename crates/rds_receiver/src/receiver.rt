@@ -115,14 +115,8 @@ impl Receiver {
         ensures same { IsFalse result → (view : ShownView)
             → WhereItStands self.old (λ t input. IsView t input view → IsView t (group ∷ input) view) }
     {
-        let pi = self.pi;
-        let gave_up = self.grow_older();
-        // read here and not before, so that the message is taken as it is found
-        let Some(message) = heard(pi, group) else {
-            return gave_up;
-        };
-        let heard = self.hear(message);
-        heard || gave_up
+        let message = heard(self.pi, group);
+        self.slot_message(message)
     }
 
     /// [`slot`](Self::slot) of a group that was read before: the message that is heard of it.

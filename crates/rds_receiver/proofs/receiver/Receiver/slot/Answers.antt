@@ -1,32 +1,13 @@
-use Rattle.std.proofs.Common.{◌≡◌, ◌∙◌, None, Some, ap}
+use Rattle.std.proofs.Common.{◌≡◌, ◌∙◌, ap}
 use Rattle.rds_receiver.specs.State.{ReceiverState}
-use Rattle.rds_receiver.proofs.Alike.{alike_by, view_stays}
-use Rattle.rds_receiver.proofs.Steps.{nothing_heard, slot_stands}
 use Rattle.rds_receiver.proofs.receiver.Receiver.slot.Goals as goal
 
-pub returns-in_default-clause-stands : goal.returns-in_default-clause-stands
-returns-in_default-clause-stands c t input st =
+pub returns-clause-stands : goal.returns-clause-stands
+returns-clause-stands c t input st =
     let here : c.self.inside.pi ≡ t.programme = ap (λ (r : ReceiverState). r.programme) c.self.view_is ∙ st.tuned in
-    slot_stands t _ _ input c.args.group None st (rw c.in_default.is at (rw here at c.heard.ensures)) c.grow_older-gave_up.ensures.programme
-    (nothing_heard t.dwell t.first _ st.heard (c.grow_older-gave_up.ensures.holds t.dwell t.first st.heard st.holds))
+    c.slot_message.ensures.stands t input st c.args.group (rw here at c.heard-message.ensures)
 
-pub returns-in_default-clause-same : goal.returns-in_default-clause-same
-returns-in_default-clause-same c calm view t input st shown =
-    view_stays t _ _ input _ view st (returns-in_default-clause-stands c t input st) (c.grow_older-gave_up.ensures.same calm) shown
-
-pub returns-then-heard-clause-stands : goal.returns-then-heard-clause-stands
-returns-then-heard-clause-stands c t input st =
+pub returns-clause-same : goal.returns-clause-same
+returns-clause-same c calm view t input st shown =
     let here : c.self.inside.pi ≡ t.programme = ap (λ (r : ReceiverState). r.programme) c.self.view_is ∙ st.tuned in
-    slot_stands t _ _ input c.args.group (Some c.in-Some.message) st (rw c.in-Some.is at (rw here at c.heard.ensures))
-    (c.hear-heard.ensures.programme ∙ c.grow_older-gave_up.ensures.programme) (c.hear-heard.ensures.holds t.dwell t.first st.heard (c.grow_older-gave_up.ensures.holds t.dwell t.first st.heard st.holds))
-
-pub returns-else-heard-clause-stands : goal.returns-else-heard-clause-stands
-returns-else-heard-clause-stands c t input st =
-    let here : c.self.inside.pi ≡ t.programme = ap (λ (r : ReceiverState). r.programme) c.self.view_is ∙ st.tuned in
-    slot_stands t _ _ input c.args.group (Some c.in-Some.message) st (rw c.in-Some.is at (rw here at c.heard.ensures))
-    (c.hear-heard.ensures.programme ∙ c.grow_older-gave_up.ensures.programme) (c.hear-heard.ensures.holds t.dwell t.first st.heard (c.grow_older-gave_up.ensures.holds t.dwell t.first st.heard st.holds))
-
-pub returns-else-heard-clause-same : goal.returns-else-heard-clause-same
-returns-else-heard-clause-same c calm view t input st shown =
-    let alike = alike_by _ _ _ (c.grow_older-gave_up.ensures.same calm) (c.hear-heard.ensures.same c.if-heard.false) in
-    view_stays t _ _ input _ view st (returns-else-heard-clause-stands c t input st) alike shown
+    c.slot_message.ensures.same calm view t input st c.args.group (rw here at c.heard-message.ensures) shown
