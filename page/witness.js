@@ -1,0 +1,238 @@
+"use strict";
+/* After a no: the slots that a receiver has to lose to show what nobody sent. The search is that of examples/witness, over
+   a model of receivers; what is told of a witness is what the program decodes of the log without those slots. */
+const witness = (() => {
+  const LOST = "---- ---- ---- ----", RETURN = 0x0D, SEGMENT = 0, TAGS = 1, ANNOUNCED = 2;
+  /* Around a no, in dwells: from how long before it slots may be lost, and how long behind it a mix is looked for. */
+  const BEFORE = 4, BEHIND = 3;
+  const STEPS = 1500000, AT_ONCE = 4000;
+
+  /* What texts and names hear: slot, kind, and what came. */
+  function events_of(groups, pi) {
+    const texts = [], names = [];
+    groups.forEach((group, slot) => {
+      if (!group || group[0] !== pi) return;
+      const kind = group[1] >> 11, flag = (group[1] >> 4) & 1, data = group[2] * 65536 + group[3];
+      if (kind === 4) texts.push({ slot, kind: SEGMENT, flag, address: group[1] & 15, data });
+      else if (kind === 20) names.push({ slot, kind: SEGMENT, flag, address: group[1] & 1, data });
+      else if (kind === 22) texts.push({ slot, kind: TAGS, pair: (group[1] & 31) * 2 ** 32 + data });
+      else if (kind === 6) {
+        const by = (group[1] & 31) === 22, plus = group[3] === 0x4BD7;
+        if (by || plus) texts.push({ slot, kind: ANNOUNCED, known: by && plus });
+      }
+    });
+    return { texts, names };
+  }
+
+  const bits = (pair, shift, width) => Math.floor(pair / 2 ** shift) % 2 ** width;
+  const tags_in = (pair) => [[bits(pair, 29, 6), bits(pair, 23, 6), bits(pair, 17, 6)], [bits(pair, 11, 6), bits(pair, 5, 6), bits(pair, 0, 5)]];
+  const bytes_in = (data) => [Math.floor(data / 2 ** 24), Math.floor(data / 65536) % 256, Math.floor(data / 256) % 256, data % 256];
+
+  /* Class and piece of each tag of a pair that ends in the text. */
+  const pieces = (text, pair) => pair === null ? [] : tags_in(pair)
+    .filter(([kind, start, extra]) => kind > 0 && start + extra < text.length)
+    .map(([kind, start, extra]) => `${kind}:${text.slice(start, start + extra + 1)}`);
+
+  /* What the cells make whole: up to the first return that is held, or all of them. */
+  function whole_of(cells, ends) {
+    const gap = cells.indexOf(null), held = (gap < 0 ? cells : cells.slice(0, gap)).flatMap(bytes_in);
+    const end = ends ? held.indexOf(RETURN) : -1;
+    if (end < 0 && gap >= 0) return null;
+    return String.fromCharCode(...(end < 0 ? held : held.slice(0, end)));
+  }
+
+  /* A model of receivers of texts, or of names, all of one dwell. A state is the flag of the segments that are held, their
+     number in `cells` (0: none), the slot of the last one, the pair of tags held, and whether RadioText Plus is known. */
+  class Receivers {
+    constructor(dwell, segments, ends) {
+      Object.assign(this, { dwell, ends, cells: [Array(segments).fill(null)], numbers: new Map(), puts: new Map(), views: new Map(), part: new Map() });
+    }
+
+    put(cells, { address, data }) {
+      const key = `${cells} ${address} ${data}`, known = this.puts.get(key);
+      if (known !== undefined) return known;
+      const held = this.cells[cells].with(address, data), name = held.join();
+      if (!this.numbers.has(name)) { this.numbers.set(name, this.cells.length); this.cells.push(held); }
+      const number = this.numbers.get(name);
+      this.puts.set(key, number);
+      return number;
+    }
+
+    after(state, event) {
+      let { flag, cells, last, pair, known } = state;
+      if (cells && event.slot - last >= this.dwell) { cells = 0; pair = null; }
+      if (event.kind === SEGMENT) {
+        if (cells && flag !== event.flag) { cells = 0; pair = null; }
+        return { flag: event.flag, cells: this.put(cells, event), last: event.slot, pair, known };
+      }
+      if (event.kind === TAGS) return { flag, cells, last, pair: known && cells ? event.pair : pair, known };
+      return { flag, cells, last, pair: event.known ? pair : null, known: event.known };
+    }
+
+    /* Whether a state holds a part of what the other holds, heard no later. */
+    is_part(state, other) {
+      if (state.known && !other.known) return false;
+      if (!state.cells) return true;
+      if (state.flag !== other.flag || state.last > other.last || (state.pair !== null && state.pair !== other.pair)) return false;
+      const key = `${state.cells} ${other.cells}`;
+      if (!this.part.has(key)) this.part.set(key, this.cells[state.cells].every((data, i) => data === null || data === this.cells[other.cells][i]));
+      return this.part.get(key);
+    }
+
+    /* What a state shows: its value, and of each tag its class and piece. */
+    view(state) {
+      const key = `${state.cells} ${state.pair}`;
+      if (!this.views.has(key)) {
+        const value = whole_of(this.cells[state.cells], this.ends);
+        this.views.set(key, value === null ? [] : [`=${value}`, ...pieces(value, state.pair)]);
+      }
+      return this.views.get(key);
+    }
+  }
+
+  const START = { flag: 0, cells: 0, last: -1, pair: null, known: false };
+  const held_in = (s) => `${s.flag} ${s.cells} ${s.pair} ${s.known}`;
+  const all_of = (s) => `${held_in(s)} ${s.last}`;
+
+  /* For each thing that the receiver shows which loses nothing, the first slot. With a text that is shown all pairs of tags
+     count that came in its run of segments. */
+  function first_shown(receivers, events) {
+    const first = new Map(), note = (thing, slot) => { if (!first.has(thing)) first.set(thing, slot); };
+    let state = START, pairs = new Set();
+    for (const event of events) {
+      const before = state;
+      state = receivers.after(before, event);
+      if (event.kind === SEGMENT && (before.flag !== state.flag || event.slot - before.last >= receivers.dwell)) pairs = new Set();
+      pairs.add(state.pair);
+      const [value] = receivers.view(state);
+      if (value === undefined) continue;
+      note(value, event.slot);
+      for (const pair of pairs) for (const piece of pieces(value.slice(1), pair)) note(piece, event.slot);
+    }
+    return first;
+  }
+
+  /* A search for a burst of lost slots: the state of the receiver that loses nothing, those of receivers that are losing
+     now, and those of receivers that hear again, each with what it lost. Equal states are one, and one that holds a part of
+     what the receiver holds that loses nothing is dropped. */
+  class Search {
+    constructor(receivers, events, steps) {
+      Object.assign(this, { receivers, events, steps, stopped: null, first: first_shown(receivers, events), at: 0, state: START, newest: new Map() });
+      this.forget();
+    }
+
+    forget() {
+      this.hearing = new Map();
+      this.losing = new Map();
+      this.order = [];
+      this.deaf = this.at ? null : { state: START, lost: 0 };
+    }
+
+    /* When the receiver that loses nothing has shown all that the state shows. */
+    newest_shown(state) {
+      const key = `${state.cells} ${state.pair}`;
+      if (!this.newest.has(key)) this.newest.set(key, Math.max(-1, ...this.receivers.view(state).map((thing) => this.first.get(thing) ?? Infinity)));
+      return this.newest.get(key);
+    }
+
+    /* The states that may hear the event in this slot, each with the first event that it lost, and the one from which it
+       heard again where that was before. */
+    *who_hear(slot) {
+      const { dwell } = this.receivers;
+      while (this.order.length && slot - this.order[0].state.last >= dwell) this.deaf = this.order.shift();
+      if (this.deaf) yield { state: { ...START, known: this.deaf.state.known }, lost: this.deaf.lost, again: null };
+      for (const [key, { state, lost }] of this.losing) {
+        if (slot - state.last >= dwell) this.losing.delete(key);
+        else yield { state, lost, again: null };
+      }
+      yield* this.hearing.values();
+    }
+
+    /* Lets the receivers hear the event. Of one that shows a mix then, the first and the last slot lost. */
+    heard(event) {
+      const hearing = new Map();
+      for (const { state: held, lost, again } of this.who_hear(event.slot)) {
+        this.steps--;
+        const state = this.receivers.after(held, event), key = all_of(state);
+        if (hearing.has(key) || this.receivers.is_part(state, this.state)) continue;
+        const from = again ?? this.at;
+        hearing.set(key, { state, lost, again: from });
+        if (this.newest_shown(state) >= event.slot + this.receivers.dwell) return [this.events[lost].slot, this.events[from - 1].slot];
+      }
+      this.hearing = hearing;
+      return null;
+    }
+
+    /* One event: what was found by it, if anything. */
+    step(begins) {
+      const event = this.events[this.at];
+      this.state = this.receivers.after(this.state, event);
+      if (event.slot < begins) this.deaf = null;
+      else {
+        const lost = this.heard(event);
+        if (lost) return { slot: event.slot, lost };
+        this.losing.set(held_in(this.state), { state: this.state, lost: this.at + 1 });
+        this.order.push({ state: this.state, lost: this.at + 1 });
+      }
+      this.at++;
+      if (this.steps <= 0) this.stopped = event.slot;
+      return null;
+    }
+
+    /* The first mix below `ends` of a receiver that lost slots from `begins` on; the next call goes on behind. */
+    async found(begins, ends, turn) {
+      if (this.at < this.events.length && this.events[this.at].slot < begins) this.forget();
+      for (let since = this.steps; this.at < this.events.length && this.events[this.at].slot < ends && this.stopped === null;) {
+        const found = this.step(begins);
+        if (found) return found;
+        if (since - this.steps < AT_ONCE) continue;
+        since = this.steps;
+        await turn();
+      }
+      return null;
+    }
+  }
+
+  /* The lines of `decode` that show something; tags without their numbers. */
+  function shown_lines(logged, words) {
+    const { output } = rdsrt.run(["decode", ...words], logged.map((line) => `${line}\n`).join(""));
+    return output.split("\n").filter((line) => line && !line.endsWith(" none") && !/^\d+ item/.test(line) && !line.startsWith("fault"))
+      .map((line) => ({ slot: Number(line.split(" ", 1)[0]), rest: line.replace(/^\d+ /, "").replace(/^tag[12]/, "tag"), line }));
+  }
+
+  /* What `decode` shows in the slot of the log without the lost slots, and of the log as it is nowhere up to a dwell later. */
+  function confirmed(logged, words, dwell, { slot, lost: [first, last] }) {
+    const known = new Set(shown_lines(logged.slice(0, slot + dwell), words).map((it) => it.rest));
+    const emptied = logged.slice(0, slot + 1).map((line, s) => s >= first && s <= last ? LOST : line);
+    return shown_lines(emptied, words).filter((it) => it.slot === slot && !known.has(it.rest)).map((it) => it.line);
+  }
+
+  /* The slots of the noes: this one, and what an audit says that begins so far behind the one before. */
+  function* noes(logged, words, late, no, beyond) {
+    for (let at = no; at !== null;) {
+      yield at;
+      const begins = at + beyond;
+      const answer = begins < logged.length ? rdsrt.run(["audit", ...words, "--k", late], logged.slice(begins).map((line) => `${line}\n`).join("")).output : "";
+      const later = /^no (\d+)/.exec(answer);
+      at = later ? begins + Number(later[1]) : null;
+    }
+  }
+
+  /* Looks for a witness after a no in this slot: the slots to lose and the lines of `decode`; or up to which slot it looked.
+     `turn` gives way to the page now and then, and throws where nobody waits any longer. */
+  async function find({ groups, logged, pi, m, k, no }, turn) {
+    const words = ["--pi", parts.hex(pi), "--m", String(m)], { texts, names } = events_of(groups, pi);
+    const searches = [new Search(new Receivers(m, 16, true), texts, STEPS), new Search(new Receivers(m, 2, false), names, STEPS / 4)];
+    for (const at of noes(logged, words, String(k), no, BEHIND * m)) {
+      const found = [];
+      for (const search of searches) found.push(await search.found(at - BEFORE * m, at + BEHIND * m, turn));
+      const [first] = found.filter((it) => it).sort((a, b) => a.slot - b.slot);
+      if (first) return { ...first, shown: confirmed(logged, words, m, first), upto: null };
+      const stopped = searches.map((search) => search.stopped).filter((slot) => slot !== null);
+      if (stopped.length) return { lost: null, shown: [], upto: Math.min(...stopped) };
+    }
+    return { lost: null, shown: [], upto: null };
+  }
+
+  return { find };
+})();
