@@ -41,9 +41,9 @@ const page = (() => {
     const all = RDSRT_EXAMPLES[what], select = $(`${what}-example`);
     const use = () => {
       const it = all[select.value];
-      open(it.from ? rdsrt.run(it.from, it.text).output : it.text, it);
+      if (it) open(it.from ? rdsrt.run(it.from, it.text).output : it.text, { ...it, example: select.value });
     };
-    select.replaceChildren(...all.map((it, i) => new Option(it.name, i)));
+    select.replaceChildren(...all.map((it, i) => new Option(it.name, i)), new Option("your own", ""));
     select.onchange = use;
     $(`${what}-file`).onchange = (e) => { if (e.target.files[0]) open_file(e.target.files[0]); };
     use();

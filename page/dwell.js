@@ -27,7 +27,7 @@ const dwell_tab = (() => {
     const rows = [
       [[0, 2, "--c0", "Text one"], [2, 4, "--c3", "Text two"]],
       [[1, 2, "--c2", "its tags may be sent"], [3, 4, "--c2", "its tags may be sent"]],
-      [[0, 1, "--c7", "the text before may show"], [2, 3, "--c7", "text one may still show"]],
+      [[0, 1, "--c7", "the last may still show"], [2, 3, "--c7", "one may still show"]],
     ];
     const bars = rows.map((row, i) => row.map(([from, to, ink, said]) => bar(from * d, to * d, 20 + 42 * i, `var(${ink})`, said)).join("")).join("");
     const ends = { 0: "start", 4: "end" };

@@ -3,6 +3,8 @@
 const log_tab = (() => {
   const { $, make } = parts;
   const PI = "C201", MOST_PROGRAMMES = 12, LOST = "---- ---- ---- ----";
+  /* Milliseconds of a search between two turns of the page. */
+  const AT_ONCE = 12;
   const PARTS = [["text", "text"], ["name", "name"], ["tag1", "first tag"], ["tag2", "second tag"]];
   const KINDS = ["nothing", "text", "name", "tags", "other"];
   const state = { text: "", lost: new Set(), slots: [], at: [], heard: [], view: new lines.View(), naive: new lines.View(), mixed: () => false, turn: 0, witness: null };
@@ -33,8 +35,9 @@ const log_tab = (() => {
     return all.length ? all : [[parseInt(PI, 16), 0]];
   }
 
-  function open(text, { pi, m, k, lost = [] } = {}) {
+  function open(text, { pi, m, k, lost = [], example = "" } = {}) {
     Object.assign(state, { text, lost: new Set(lost) });
+    $("log-example").value = example;
     const all = programmes(lines.slots_of(text).slots);
     $("log-pi").replaceChildren(...all.map(([p, n]) => new Option(`${parts.hex(p)} (${parts.counted(n, "group")})`, parts.hex(p))));
     if (all.some(([p]) => parts.hex(p) === pi)) $("log-pi").value = pi;
@@ -168,9 +171,13 @@ const log_tab = (() => {
     ];
   }
 
-  /* Gives way to the page, and stops where the log was changed meanwhile. */
+  /* Gives way to the page where a piece of work has taken its time, and stops where the log was changed meanwhile. */
   function give_way(turn) {
-    return () => new Promise((go, stop) => setTimeout(() => state.turn === turn ? go() : stop(new Error("the log was changed"))));
+    let since = -Infinity;
+    return () => performance.now() - since < AT_ONCE ? undefined : new Promise((go, stop) => setTimeout(() => {
+      since = performance.now();
+      if (state.turn === turn) go(); else stop(new Error("the log was changed"));
+    }));
   }
 
   async function look_for_witness(about, no, m, k) {

@@ -95,6 +95,7 @@ const parts = (() => {
   }
   function fill(id, text) {
     const element = $(id), details = element.closest("details");
+    if (text.length > MOST) details.open = false;
     details.ontoggle = () => lay_out(details);
     later.set(element, text);
     if (text.length < SHORT) { put(element, text); later.delete(element); } else lay_out(details);

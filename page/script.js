@@ -98,8 +98,9 @@ const script_tab = (() => {
     state.chosen = Math.max(0, Math.min(state.chosen, receivers() - 1));
   }
 
-  function open(text, { m, k, pty = "10", is_edit = false } = {}) {
+  function open(text, { m, k, pty = "10", is_edit = false, example = "" } = {}) {
     state.pty = pty;
+    if (!is_edit) $("script-example").value = example;
     if (m) $("script-m").value = m;
     if (k !== undefined) $("script-k").value = k;
     take(text);
@@ -129,7 +130,7 @@ const script_tab = (() => {
     parts.fill("script-lines", got.output);
     $("script-command").textContent = `rdsrt ${words.join(" ")}`;
     tell_mixes();
-    tell_fault();
+    tell_fault(text);
   }
 
   /* The characters of a printed text: an escape is one. */
@@ -225,7 +226,14 @@ const script_tab = (() => {
   // ---- what it comes to
 
   function mixes_of(view) {
-    return ["text", "name", "tag1", "tag2"].flatMap((part) => (view?.parts[part] ?? []).filter((run) => run.value !== null && state.mixed(part, run.value)));
+    return ["text", "name", "tag1", "tag2"].flatMap((part) => (view?.parts[part] ?? [])
+      .filter((run) => run.value !== null && state.mixed(part, run.value)).map((run) => ({ ...run, part: part.replace(/[12]$/, "") })));
+  }
+
+  /* How many texts, names and tags these are. */
+  function in_kinds(all) {
+    const each = ["text", "name", "tag"].map((part) => [part, all.filter((run) => run.part === part).length]).filter(([, n]) => n > 0);
+    return each.map(([part, n]) => n === 1 ? `a ${part}` : parts.counted(n, part)).join(" and ");
   }
 
   function tell_mixes() {
@@ -233,23 +241,21 @@ const script_tab = (() => {
     const all = wrong.flat().length, at = wrong.findIndex((it) => it.length);
     state.first_mix = at < 0 ? null : { receiver: at, slot: Math.min(...wrong[at].map((run) => run.from)) };
     $("script-count").textContent = n === 0 || state.said.fault ? "" : all
-      ? `With the flag bit alone, receivers show ${all === 1 ? "one text, name or tag" : `${all} texts, names or tags`} that nobody sent. With the dwell ${ours === 0 ? "none does" : `${ours} do`}.`
+      ? `With the flag bit alone, receivers show ${in_kinds(wrong.flat())} that nobody sent. With the dwell ${ours === 0 ? "none does" : `${ours} do`}.`
       : "No receiver shows a mix here. Lose more: a whole text and its change back.";
   }
 
-  function tell_fault() {
+  /* A fault of the script, by the line of the text that was played. */
+  function tell_fault(text) {
     const { fault } = state.said, root = $("script-fault"), row = /^fault row (\d+)/.exec(fault ?? "");
     root.hidden = !fault;
     if (!fault) return;
-    const number = row && Number(row[1]), bad = row && state.rows[number - 1];
+    const bad = row && records.read(text)[Number(row[1]) - 1];
     if (!bad) { root.textContent = fault; return; }
-    const line = bad.line ?? number, go = parts.make("button", { type: "button", textContent: "Show the line" });
-    go.onclick = () => parts.go_to_line("script-text", line);
-    root.replaceChildren(`Line ${line.toLocaleString("en")} is no row of a script: ${records.why_no_row(fields_of(bad), receivers())}. What stands behind it isn't played. `, go);
+    const go = parts.make("button", { type: "button", textContent: "Show the line" });
+    go.onclick = () => parts.go_to_line("script-text", bad.line);
+    root.replaceChildren(`Line ${bad.line.toLocaleString("en")} is no row of a script: ${records.why_no_row(bad, receivers())}. What stands behind it isn't played. `, go);
   }
-
-  /* A row that was edited has no fields of its own. */
-  const fields_of = (row) => ({ ...row, fields: row.line && row.fields.length !== 4 ? row.fields : [row.command, row.argument, row.free, row.receptions.join("")] });
 
   // ---- a slot
 

@@ -5,7 +5,9 @@ const witness = (() => {
   const LOST = "---- ---- ---- ----", RETURN = 0x0D, SEGMENT = 0, TAGS = 1, ANNOUNCED = 2;
   /* Around a no, in dwells: from how long before it slots may be lost, and how long behind it a mix is looked for. */
   const BEFORE = 4, BEHIND = 3;
-  const STEPS = 1500000, AT_ONCE = 4000;
+  const STEPS = 1500000;
+  /* How many lines the next no is looked for in at first. */
+  const WINDOW = 4096;
 
   /* What texts and names hear: slot, kind, and what came. */
   function events_of(groups, pi) {
@@ -96,10 +98,11 @@ const witness = (() => {
 
   /* For each thing that the receiver shows which loses nothing, the first slot. With a text that is shown all pairs of tags
      count that came in its run of segments. */
-  function first_shown(receivers, events) {
+  async function first_shown(receivers, events, turn) {
     const first = new Map(), note = (thing, slot) => { if (!first.has(thing)) first.set(thing, slot); };
     let state = START, pairs = new Set();
     for (const event of events) {
+      await turn();
       const before = state;
       state = receivers.after(before, event);
       if (event.kind === SEGMENT && (before.flag !== state.flag || event.slot - before.last >= receivers.dwell)) pairs = new Set();
@@ -116,8 +119,8 @@ const witness = (() => {
      now, and those of receivers that hear again, each with what it lost. Equal states are one, and one that holds a part of
      what the receiver holds that loses nothing is dropped. */
   class Search {
-    constructor(receivers, events, steps) {
-      Object.assign(this, { receivers, events, steps, stopped: null, first: first_shown(receivers, events), at: 0, state: START, newest: new Map() });
+    constructor(receivers, events, first, steps) {
+      Object.assign(this, { receivers, events, first, steps, stopped: null, at: 0, state: START, newest: new Map() });
       this.forget();
     }
 
@@ -182,11 +185,9 @@ const witness = (() => {
     /* The first mix below `ends` of a receiver that lost slots from `begins` on; the next call goes on behind. */
     async found(begins, ends, turn) {
       if (this.at < this.events.length && this.events[this.at].slot < begins) this.forget();
-      for (let since = this.steps; this.at < this.events.length && this.events[this.at].slot < ends && this.stopped === null;) {
+      while (this.at < this.events.length && this.events[this.at].slot < ends && this.stopped === null) {
         const found = this.step(begins);
         if (found) return found;
-        if (since - this.steps < AT_ONCE) continue;
-        since = this.steps;
         await turn();
       }
       return null;
@@ -207,23 +208,29 @@ const witness = (() => {
     return shown_lines(emptied, words).filter((it) => it.slot === slot && !known.has(it.rest)).map((it) => it.line);
   }
 
-  /* The slots of the noes: this one, and what an audit says that begins so far behind the one before. */
-  function* noes(logged, words, late, no, beyond) {
-    for (let at = no; at !== null;) {
-      yield at;
-      const begins = at + beyond;
-      const answer = begins < logged.length ? rdsrt.run(["audit", ...words, "--k", late], logged.slice(begins).map((line) => `${line}\n`).join("")).output : "";
-      const later = /^no (\d+)/.exec(answer);
-      at = later ? begins + Number(later[1]) : null;
+  /* The slot of the first no of an audit that begins in this slot; null where there is none. A few lines are tried first. */
+  function next_no(logged, words, begins) {
+    for (const ends of [begins + WINDOW, logged.length]) {
+      const some = logged.slice(begins, ends), answer = rdsrt.run(["audit", ...words], some.map((line) => `${line}\n`).join("")).output;
+      const no = /^no (\d+)/.exec(answer);
+      if (no) return begins + Number(no[1]);
+      if (ends >= logged.length) return null;
     }
+    return null;
+  }
+
+  /* The slots of the noes: this one, and what an audit says that begins so far behind the one before. */
+  function* noes(logged, words, no, beyond) {
+    for (let at = no; at !== null; at = at + beyond < logged.length ? next_no(logged, words, at + beyond) : null) yield at;
   }
 
   /* Looks for a witness after a no in this slot: the slots to lose and the lines of `decode`; or up to which slot it looked.
-     `turn` gives way to the page now and then, and throws where nobody waits any longer. */
+     `turn` gives way to the page where it is time, and throws where nobody waits any longer. */
   async function find({ groups, logged, pi, m, k, no }, turn) {
-    const words = ["--pi", parts.hex(pi), "--m", String(m)], { texts, names } = events_of(groups, pi);
-    const searches = [new Search(new Receivers(m, 16, true), texts, STEPS), new Search(new Receivers(m, 2, false), names, STEPS / 4)];
-    for (const at of noes(logged, words, String(k), no, BEHIND * m)) {
+    const words = ["--pi", parts.hex(pi), "--m", String(m)], { texts, names } = events_of(groups, pi), searches = [];
+    for (const [receivers, events, steps] of [[new Receivers(m, 16, true), texts, STEPS], [new Receivers(m, 2, false), names, STEPS / 4]])
+      searches.push(new Search(receivers, events, await first_shown(receivers, events, turn), steps));
+    for (const at of noes(logged, [...words, "--k", String(k)], no, BEHIND * m)) {
       const found = [];
       for (const search of searches) found.push(await search.found(at - BEFORE * m, at + BEHIND * m, turn));
       const [first] = found.filter((it) => it).sort((a, b) => a.slot - b.slot);
