@@ -62,7 +62,8 @@ const page = (() => {
 
   function no_engine(error) {
     $("no-engine").hidden = false;
-    $("no-engine").textContent = `This browser can’t run the program: it needs WebAssembly with a memory of 64 bits, which Chrome and Edge have from 133 on and Firefox from 134 on. (${error.message})`;
+    $("no-engine").textContent = "This browser can’t run the program: it needs WebAssembly with a memory of 64 bits, which Chrome and Edge "
+      + `have from 133 on and Firefox from 134 on. (${error.message})`;
     for (const it of TABS) $(it).inert = true;
   }
 
@@ -83,7 +84,8 @@ const page = (() => {
     examples("log", log_tab.open);
     examples("script", script_tab.open);
     for (const it of [log_tab, script_tab, dwell_tab]) it.begin();
-    for (const form of document.forms) form.onsubmit = (e) => { e.preventDefault(); if (form.id === "command-form") script_tab.command_changed(); };
+    for (const form of document.forms) form.onsubmit = (e) => e.preventDefault();
+    $("command-form").addEventListener("submit", script_tab.command_changed);
     drops();
     tab(await open_address());
     window.onhashchange = async () => { if (location.hash.includes("script=")) tab(await open_address()); };

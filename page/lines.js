@@ -95,13 +95,14 @@ const lines = (() => {
 
   /* Bytes as the program prints them. */
   const table = new Map();
-  const stretches = [[0x80, "áàéèíìóòúùÑÇ"], [0x90, "âäêëîïôöûüñç"], [0xA9, "€£$"], [0xC0, "ÁÀÉÈÍÌÓÒÚÙ"], [0xD0, "ÂÄÊËÎÏÔÖÛÜ"]];
-  for (const [from, all] of stretches) [...all].forEach((c, i) => table.set(from + i, c));
+  const STRETCHES = { 0x80: "áàéèíìóòúùÑÇ", 0x90: "âäêëîïôöûüñç", 0xA9: "€£$", 0xC0: "ÁÀÉÈÍÌÓÒÚÙ", 0xD0: "ÂÄÊËÎÏÔÖÛÜ" };
+  for (const [from, all] of Object.entries(STRETCHES)) [...all].forEach((c, i) => table.set(Number(from) + i, c));
   for (let b = 0x20; b <= 0x7D; b++) if (![0x22, 0x24, 0x5C, 0x5E, 0x60].includes(b)) table.set(b, String.fromCharCode(b));
   const escaped = (byte) => `\\x${byte.toString(16).toUpperCase().padStart(2, "0")}`;
   const printed = (bytes) => bytes.map((byte) => table.get(byte) ?? escaped(byte)).join("");
 
-  const CLASSES = ["", "TITLE", "ALBUM", "TRACKNUMBER", "ARTIST", "COMPOSITION", "MOVEMENT", "CONDUCTOR", "COMPOSER", "BAND", "COMMENT", "GENRE"];
+  const CLASSES = ["", "TITLE", "ALBUM", "TRACKNUMBER", "ARTIST", "COMPOSITION", "MOVEMENT", "CONDUCTOR", "COMPOSER", "BAND", "COMMENT",
+    "GENRE"];
   const class_of = (number) => number < CLASSES.length ? `ITEM.${CLASSES[number]}` : String(number);
 
   /* The two tags of a group 11A: class, start and extra of each. */
@@ -111,5 +112,6 @@ const lines = (() => {
   }
   const bytes_of = (group) => [group[2] >> 8, group[2] & 255, group[3] >> 8, group[3] & 255];
 
-  return { NOTHING, TEXT, NAME, TAGS, OTHER, View, bytes_of, class_of, code_of, codes_of, printed, read, seconds, slots_of, tags_of, time };
+  const CODES = { NOTHING, TEXT, NAME, TAGS, OTHER };
+  return { ...CODES, View, bytes_of, class_of, code_of, codes_of, printed, read, seconds, slots_of, tags_of, time };
 })();

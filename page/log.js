@@ -3,11 +3,17 @@
 const log_tab = (() => {
   const { $, make } = parts;
   const PI = "C201", MOST_PROGRAMMES = 12, LOST = "---- ---- ---- ----";
+  const LINE = "A line has four blocks of four hexadecimal digits, or ---- for each that was not received, with one space between them. "
+    + "What stands behind it isn't shown.";
+  const NO_RECEIVER = " that loses slots in one place and shows what nobody sent. A no says that a rule was broken, not that a mix can be seen.";
   /* Milliseconds of a search between two turns of the page. */
   const AT_ONCE = 12;
-  const PARTS = [["text", "text"], ["name", "name"], ["tag1", "first tag"], ["tag2", "second tag"]];
+  const PARTS = [["name", "name"], ["tag1", "first tag"], ["tag2", "second tag"]];
   const KINDS = ["nothing", "text", "name", "tags", "other"];
-  const state = { text: "", lost: new Set(), slots: [], at: [], heard: [], view: new lines.View(), naive: new lines.View(), mixed: () => false, turn: 0, witness: null };
+  const state = {
+    text: "", lost: new Set(), slots: [], at: [], heard: [], view: new lines.View(), naive: new lines.View(), mixed: () => false,
+    turn: 0, witness: null,
+  };
   const timeline = new Timeline($("log-time"), {
     label: "Slot of the log",
     on_move: show_slot,
@@ -39,7 +45,8 @@ const log_tab = (() => {
     Object.assign(state, { text, lost: new Set(lost) });
     $("log-example").value = example;
     const all = programmes(lines.slots_of(text).slots);
-    $("log-pi").replaceChildren(...all.map(([p, n]) => new Option(`${parts.hex(p)} (${parts.counted(n, "group")})`, parts.hex(p))));
+    const options = all.map(([p, n]) => new Option(`${parts.hex(p)} (${parts.counted(n, "group")})`, parts.hex(p)));
+    $("log-pi").replaceChildren(...options);
     if (all.some(([p]) => parts.hex(p) === pi)) $("log-pi").value = pi;
     if (m) $("log-m").value = m;
     if (k !== undefined) $("log-k").value = k;
@@ -92,11 +99,14 @@ const log_tab = (() => {
     }
   }
 
+  /* Why the text or the name that was shown before this slot is shown no longer. */
+  const why_gone = (part, slot) => parts.why_gone(part, state.heard[slot], state.number);
+
   function events(no) {
     const marks = [];
     for (const part of ["text", "name"]) {
       state.view.parts[part].forEach((run, i, all) => {
-        if (run.value === null && i && all[i - 1].value !== null) marks.push(parts.mark(run.from, `${part}: ${parts.why_gone(part, state.heard[run.from], state.number)}`));
+        if (run.value === null && i && all[i - 1].value !== null) marks.push(parts.mark(run.from, `${part}: ${why_gone(part, run.from)}`));
       });
     }
     if (no) marks.push(parts.mark(Number(no[1]), no[2], true));
@@ -105,7 +115,7 @@ const log_tab = (() => {
 
   /* Bars of the receiver with the flag bit alone, pale from where the other forgot the text that it shows. */
   function aged(runs) {
-    const gone = state.view.parts.text.filter((run) => run.value === null && parts.why_gone("text", state.heard[run.from], state.number) === "forgotten");
+    const gone = state.view.parts.text.filter((run) => run.value === null && why_gone("text", run.from) === "forgotten");
     let next = 0;
     return runs.flatMap((run) => {
       while (next < gone.length && gone[next].from <= run.from) next++;
@@ -116,17 +126,17 @@ const log_tab = (() => {
   }
 
   function lanes(no, count) {
-    const tint = parts.tinter(), { view, naive: other, mixed } = state;
-    const present = PARTS.filter(([part]) => parts.shows(view, part));
+    const tint = parts.tinter(), { view, naive: other, mixed } = state, codes = lines.codes_of(state.heard, count, state.number);
+    const bars = (it, part) => parts.bars(it, part, tint, mixed), lane = (name, short, runs, more) => ({ name, short, kind: "bars", runs, gap: 3, ...more });
     const all = [
-      { name: "received", kind: "ticks", codes: lines.codes_of(state.heard, count, state.number), losses: true, lost: state.lost },
+      { name: "received", kind: "ticks", codes, losses: true, lost: state.lost },
       { name: "events", kind: "marks", marks: events(no) },
-      { name: "text", kind: "bars", runs: parts.bars(view, "text", tint, mixed), strong: true, gap: 10 },
-      ...present.slice(present[0]?.[0] === "text" ? 1 : 0).map(([part, name]) => ({ name, kind: "bars", runs: parts.bars(view, part, tint, mixed), gap: 3 })),
-      { name: "flag bit alone", short: "flag bit", kind: "bars", runs: aged(parts.bars(other, "text", tint, mixed)), gap: 12 },
+      lane("text", "text", bars(view, "text"), { strong: true, gap: 10 }),
     ];
-    if (parts.shows(other, "name")) all.push({ name: "  its name", short: " name", kind: "bars", runs: parts.bars(other, "name", tint, mixed), gap: 3 });
-    if (parts.shows_tags(other)) all.push({ name: "  its tags", short: " tags", kind: "bars", runs: parts.tag_bars(other, tint, mixed), gap: 3 });
+    for (const [part, name] of PARTS) if (parts.shows(view, part)) all.push(lane(name, name, bars(view, part)));
+    all.push(lane("flag bit alone", "flag bit", aged(bars(other, "text")), { gap: 12 }));
+    if (parts.shows(other, "name")) all.push(lane("  its name", " name", bars(other, "name")));
+    if (parts.shows_tags(other)) all.push(lane("  its tags", " tags", parts.tag_bars(other, tint, mixed)));
     return all;
   }
 
@@ -140,11 +150,16 @@ const log_tab = (() => {
     const root = $("verdict"), yes = /^yes (\d+)/.exec(audit.output), told = [];
     root.className = `verdict${no ? " no" : yes ? "" : " fault"}`;
     state.turn++;
-    if (yes) told.push(make("h2", { textContent: "✓ Passes the audit" }), make("p", { textContent: `All ${parts.counted(Number(yes[1]), "slot")}: whatever a receiver of this dwell loses, it never shows a mix of two texts.` }));
+    if (yes) told.push(...passed(Number(yes[1])));
     else if (no) told.push(...refused(no, m, k));
     else told.push(...faulty(audit, bad));
-    told.push(make("p", { className: "small", textContent: `The audit reads the log as sent, with M + K = ${m + k} slots (${lines.time(m + k)}).` }));
-    root.replaceChildren(...told);
+    const about = `The audit reads the log as sent, with M + K = ${m + k} slots (${lines.time(m + k)}).`;
+    root.replaceChildren(...told, make("p", { className: "small", textContent: about }));
+  }
+
+  function passed(count) {
+    const what = `All ${parts.counted(count, "slot")}: whatever a receiver of this dwell loses, it never shows a mix of two texts.`;
+    return [make("h2", { textContent: "✓ Passes the audit" }), make("p", { textContent: what })];
   }
 
   function refused(no, m, k) {
@@ -166,7 +181,7 @@ const log_tab = (() => {
     return [
       make("h2", { textContent: `Line ${number.toLocaleString("en")} is no line of a log` }),
       make("p", {}, make("code", { textContent: text.length > 60 ? `${text.slice(0, 60)}…` : text || "(empty)" })),
-      make("p", { textContent: "A line has four blocks of four hexadecimal digits, or ---- for each that was not received, with one space between them. What stands behind it isn't shown." }),
+      make("p", { textContent: LINE }),
       make("p", {}, button("Show the line", () => parts.go_to_line("log-text", number))),
     ];
   }
@@ -196,25 +211,32 @@ const log_tab = (() => {
   function witness_words({ slot, lost, shown, upto }) {
     if (!lost || !shown.length) {
       const where = upto === null || upto === undefined ? "" : ` up to slot ${upto.toLocaleString("en")}`;
-      return [make("b", { textContent: "Receivers:" }), ` none was found${where} that loses slots in one place and shows what nobody sent. A no says that a rule was broken, not that a mix can be seen.`];
+      return [make("b", { textContent: "Receivers:" }), ` none was found${where}${NO_RECEIVER}`];
     }
-    const [first, last] = lost, slots = first === last ? `slot ${first}` : `slots ${first} to ${last}`, all = [];
-    for (let s = first; s <= last; s++) all.push(s);
-    const do_so = button(`Lose ${slots}`, () => { state.lost = new Set(all); look({ fit: false }); timeline.move(slot); timeline.canvas.focus(); });
-    return [make("b", { textContent: "A receiver that pays for it" }), ` loses ${slots}, and then shows what nobody sent: `, make("code", { textContent: shown.join("; ") }), ". ", do_so];
+    const [first, last] = lost, slots = first === last ? `slot ${first}` : `slots ${first} to ${last}`;
+    const what = make("code", { textContent: shown.join("; ") }), do_so = button(`Lose ${slots}`, () => be_witness(slot, first, last));
+    return [make("b", { textContent: "A receiver that pays for it" }), ` loses ${slots}, and then shows what nobody sent: `, what, ". ", do_so];
+  }
+
+  /* Loses these slots alone, and goes to the one in which the mix is shown. */
+  function be_witness(slot, first, last) {
+    state.lost = new Set(Array.from({ length: last - first + 1 }, (_, i) => first + i));
+    look({ fit: false });
+    timeline.move(slot);
+    timeline.canvas.focus();
   }
 
   // ---- a slot
 
   function show_slot(slot) {
-    const group = state.slots[slot], what = state.lost.has(slot) ? "lost" : group ? `${KINDS[lines.code_of(group, state.number)]} group` : "nothing received";
-    const run = state.view.at("text", slot), other = state.naive.at("text", slot);
-    const none = run && run.value === null && run.from > 0 ? parts.why_gone("text", state.heard[run.from], state.number) : "no text";
-    const bad = (it) => !!it && it.value !== null && state.mixed("text", it.value);
-    parts.radio($("log-radio"), "The receiver, with the dwell", state.view, slot, { led: bad(run) ? "nobody sent this" : what, bad: bad(run), none });
-    parts.radio($("log-naive"), "Flag bit alone (the page's own)", state.naive, slot, { led: bad(other) ? "nobody sent this" : "", bad: bad(other) });
-    const mix = (it) => bad(it) ? ", which nobody sent" : "";
-    return `${what}. The receiver shows ${parts.in_words(state.view, slot)}${mix(run)}. With the flag bit alone: ${parts.in_words(state.naive, slot)}${mix(other)}.`;
+    const group = state.slots[slot], sent = group ? `${KINDS[lines.code_of(group, state.number)]} group` : "nothing received";
+    const what = state.lost.has(slot) ? "lost" : sent, run = state.view.at("text", slot), other = state.naive.at("text", slot);
+    const none = run && run.value === null && run.from > 0 ? why_gone("text", run.from) : "no text";
+    const is_mix = (it) => !!it && it.value !== null && state.mixed("text", it.value), led = (it, or) => is_mix(it) ? "nobody sent this" : or;
+    parts.radio($("log-radio"), "The receiver, with the dwell", state.view, slot, { led: led(run, what), bad: is_mix(run), none });
+    parts.radio($("log-naive"), "Flag bit alone (the page's own)", state.naive, slot, { led: led(other, ""), bad: is_mix(other) });
+    const words = (view, it) => parts.in_words(view, slot) + (is_mix(it) ? ", which nobody sent" : "");
+    return `${what}. The receiver shows ${words(state.view, run)}. With the flag bit alone: ${words(state.naive, other)}.`;
   }
 
   function begin() {

@@ -84,8 +84,8 @@ const naive = (() => {
     show_tags(slot) {
       ["tag1", "tag2"].forEach((part, i) => {
         const [kind, start, extra] = this.tags?.[i] ?? [0, 0, 0];
-        const fits = kind > 0 && this.whole && start + extra < this.whole.length;
-        this.show(part, slot, fits ? { kind: lines.class_of(kind), text: lines.printed(this.whole.slice(start, start + extra + 1)) } : null);
+        const fits = kind > 0 && this.whole && start + extra < this.whole.length, piece = this.whole?.slice(start, start + extra + 1);
+        this.show(part, slot, fits ? { kind: lines.class_of(kind), text: lines.printed(piece) } : null);
       });
     }
   }

@@ -3,13 +3,14 @@
    what its slots do. A lane is { name, short, kind: "ticks" | "bars" | "marks", codes | runs | marks, group, gap, strong }. */
 const painter = (() => {
   const AXIS = 24, TICKS = 18, BARS = 24, FONT = "system-ui, 'Noto Sans', 'DejaVu Sans', sans-serif";
+  const INKS = ["card", "text", "dim", "line", "lane", "chosen", "accent", "bad", "wrong", "cursor", "stale", "stale-text"];
   const STEPS = [1, 2, 5, 10, 20, 50, 100, 200, 500, 1000, 2000, 5000, 10000, 20000, 50000, 100000];
 
   /* The colours of the page, as its style has them now. */
   function inks(root) {
     const style = getComputedStyle(root), ink = (name) => style.getPropertyValue(`--${name}`).trim();
     const all = {};
-    for (const name of ["card", "text", "dim", "line", "lane", "chosen", "accent", "bad", "wrong", "cursor", "stale", "stale-text"]) all[name] = ink(name);
+    for (const name of INKS) all[name] = ink(name);
     all.tints = [0, 1, 2, 3, 4, 5, 6, 7].map((i) => ink(`c${i}`));
     all.codes = ["transparent", ink("t1"), ink("t2"), ink("t3"), ink("t4")];
     return all;

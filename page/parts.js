@@ -26,12 +26,12 @@ const parts = (() => {
   function radio(root, caption, view, slot, { led = "", bad = false, none = "no text" } = {}) {
     const at = (part) => view?.at(part, slot)?.value ?? null, text = at("text");
     const tags = [at("tag1"), at("tag2")].filter((tag) => tag !== null);
+    const said = (className, textContent) => make("div", { className, textContent });
+    const pieces = tags.map((tag) => make("span", {}, make("b", { textContent: kind_of(tag) }), tag.text));
     root.replaceChildren(
-      make("figcaption", {}, make("span", { textContent: caption }), make("span", { className: `led${bad ? " bad" : ""}`, textContent: led })),
-      make("div", { className: "lcd" },
-        make("div", { className: "name", textContent: at("name") ?? " " }),
-        make("div", { className: `text${text === null ? " none" : ""}`, textContent: text ?? `— ${none} —` }),
-        make("div", { className: "tags" }, ...tags.map((tag) => make("span", {}, make("b", { textContent: kind_of(tag) }), tag.text)))));
+      make("figcaption", {}, make("span", { textContent: caption }), make("span", { className: bad ? "led bad" : "led", textContent: led })),
+      make("div", { className: "lcd" }, said("name", at("name") ?? " "), said(text === null ? "text none" : "text", text ?? `— ${none} —`),
+        make("div", { className: "tags" }, ...pieces)));
     root.classList.toggle("mixed", bad);
   }
 
@@ -53,7 +53,7 @@ const parts = (() => {
 
   /* The bars of a part of a view; `mixed` says which values nobody sent. */
   const bars = (view, part, tint, mixed = () => false) => (view?.parts[part] ?? []).map(({ from, to, value }) => ({
-    from, to, value, label: label_of(value), tint: value === null ? 0 : tint(typeof value === "string" ? value : value.text), mix: value !== null && mixed(part, value),
+    from, to, value, label: label_of(value), tint: value === null ? 0 : tint(value.text ?? value), mix: value !== null && mixed(part, value),
   }));
 
   /* The bars of both tags as one lane. */
@@ -76,13 +76,13 @@ const parts = (() => {
 
   /* All that a view ever shows, each as a key. */
   function all_shown(...views) {
-    const all = new Set();
-    for (const view of views) for (const part of ["text", "name", "tag1", "tag2"]) for (const run of view?.parts[part] ?? []) if (run.value !== null) all.add(key_of(part, run.value));
-    return all;
+    const runs = (part) => views.flatMap((view) => view?.parts[part] ?? []).filter((run) => run.value !== null);
+    return new Set(["text", "name", "tag1", "tag2"].flatMap((part) => runs(part).map((run) => key_of(part, run.value))));
   }
 
   /* Why a text or a name is shown no longer: the next has begun, or nothing of it came for the dwell. */
-  const why_gone = (part, group, pi) => lines.code_of(group, pi) === (part === "text" ? lines.TEXT : lines.NAME) ? "the next begins" : "forgotten";
+  const OF = { text: lines.TEXT, name: lines.NAME };
+  const why_gone = (part, group, pi) => lines.code_of(group, pi) === OF[part] ? "the next begins" : "forgotten";
 
   const later = new Map();
   function put(element, text) {
@@ -112,5 +112,6 @@ const parts = (() => {
     area.scrollTop = Math.max(0, (number - 4) * parseFloat(getComputedStyle(area).lineHeight));
   }
 
-  return { $, all_shown, bars, counted, fill, go_to_line, hex, in_words, key_of, make, mark, radio, shows, shows_tags, soon, tag_bars, tinter, why_gone };
+  const lanes = { all_shown, bars, mark, shows, shows_tags, tag_bars, tinter };
+  return { $, ...lanes, counted, fill, go_to_line, hex, in_words, key_of, make, radio, soon, why_gone };
 })();

@@ -26,12 +26,16 @@ const records = (() => {
   }
 
   const letters = (receptions) => receptions.match(/G\d*|L|R/g) ?? [];
-  const row_of = ({ fields, line }) => ({ command: fields[0] ?? "", argument: fields[1] ?? "", free: fields[2] ?? "", receptions: letters(fields[3] ?? ""), line, fields });
+  function row_of({ fields, line }) {
+    const [command = "", argument = "", free = "", receptions = ""] = fields;
+    return { command, argument, free, receptions: letters(receptions), line, fields };
+  }
   const read = (text) => split(text).map(row_of);
   const empty = (receivers) => ({ command: "-", argument: "", free: "1", receptions: Array(receivers).fill("G") });
 
   const field = (s) => /[",\n\r]/.test(s) ? `"${s.replaceAll('"', '""')}"` : s;
-  const write = (rows) => rows.map((r) => `${field(r.command)},${field(r.argument)},${r.free},${r.receptions.join("")}\n`).join("");
+  const write_row = (r) => `${field(r.command)},${field(r.argument)},${r.free},${r.receptions.join("")}\n`;
+  const write = (rows) => rows.map(write_row).join("");
 
   /* Why a record is no row, as far as it can be told from its fields alone. */
   function why_no_row(row, receivers) {
@@ -48,7 +52,10 @@ const records = (() => {
 
   /* A script as letters of a link, and back. */
   const MOST = 8000;
-  const squeezed = async (bytes, by) => new Uint8Array(await new Response(new Blob([bytes]).stream().pipeThrough(by)).arrayBuffer());
+  async function squeezed(bytes, by) {
+    const stream = new Blob([bytes]).stream().pipeThrough(by);
+    return new Uint8Array(await new Response(stream).arrayBuffer());
+  }
   async function pack(text) {
     const bytes = await squeezed(new TextEncoder().encode(text), new CompressionStream("deflate-raw"));
     if (bytes.length > MOST) return null;

@@ -59,6 +59,7 @@ const rules = (() => {
     }
   }
 
+  const characters = (address) => `characters ${4 * address + 1} to ${4 * address + 4}`;
   const place_of = (group) => [(group[1] >> 4) & 1, lines.code_of(group, null) === lines.TEXT ? group[1] & 15 : group[1] & 1];
   const is_tags = (group) => group[1] >> 11 === 22;
 
@@ -78,18 +79,22 @@ const rules = (() => {
     const [before, last] = [reigns.all.at(-2), reigns.all.at(-1)], reign = new Reign(0, slot, 0), [, address] = place_of(group);
     if (!before || !last) return null;
     reign.cells.set(address, { bytes: lines.bytes_of(group), slot });
+    const gap = `${parts.counted(slot - before.last, "slot")} before, and ${spaced} are wanted`, kept = 2 * spaced;
     return [
-      `In ${slot_of(slot)} the ${what} ${quoted(reign.text)} opens with the flag of ${quoted(before.text)}, whose last group was in ${slot_of(before.last)}: ${parts.counted(slot - before.last, "slot")} before, and ${spaced} are wanted. A receiver that misses ${quoted(last.text)} (slots ${last.first} to ${last.last}) joins the two.`,
-      `Keep each ${what} on air for 2 (M + K) = ${2 * spaced} slots (${lines.time(2 * spaced)}), and turn the flag for a new ${what} alone, never to repeat one.`,
+      `In ${slot_of(slot)} the ${what} ${quoted(reign.text)} opens with the flag of ${quoted(before.text)}, whose last group was in `
+        + `${slot_of(before.last)}: ${gap}. A receiver that misses ${quoted(last.text)} (slots ${last.first} to ${last.last}) joins the two.`,
+      `Keep each ${what} on air for 2 (M + K) = ${kept} slots (${lines.time(kept)}), and turn the flag for a new ${what} alone, never to `
+        + "repeat one.",
     ];
   }
 
   function changed({ what, reigns, slot, group }) {
     const reign = reigns.all.at(-1), [, address] = place_of(group), was = reign?.cells.get(address);
     if (!was) return null;
-    const from = 4 * address + 1;
+    const [old, now] = [was.bytes, lines.bytes_of(group)].map((bytes) => quoted(lines.printed(bytes)));
     return [
-      `The ${what} ${quoted(reign.text)} had ${quoted(lines.printed(was.bytes))} for characters ${from} to ${from + 3} (${slot_of(was.slot)}), and in ${slot_of(slot)} has ${quoted(lines.printed(lines.bytes_of(group)))} there with the flag as it was. A receiver can show a piece of each.`,
+      `The ${what} ${quoted(reign.text)} had ${old} for ${characters(address)} (${slot_of(was.slot)}), and in ${slot_of(slot)} has ${now} `
+        + "there with the flag as it was. A receiver can show a piece of each.",
       "Turn the flag with every change, also of one word, and keep what is new for 2 (M + K) slots before the next change.",
     ];
   }
@@ -106,26 +111,35 @@ const rules = (() => {
     const bytes = lines.bytes_of(group), [flag, address] = place_of(group), current = reigns.all.at(-1);
     const reign = current?.flag === flag && slot - current.last < reigns.spaced ? current : null;
     const why = what === "name" ? "has a control character, and no name has one" : why_no_text(bytes, address, reign);
+    const segment = `${quoted(lines.printed(bytes))} (${characters(address)})${reign ? ` of the ${what} ${quoted(reign.text)}` : ""}`;
     return [
-      `In ${slot_of(slot)} the segment ${quoted(lines.printed(bytes))} (characters ${4 * address + 1} to ${4 * address + 4})${reign ? ` of the ${what} ${quoted(reign.text)}` : ""} ${why}. So no one ${what} has all that was sent.`,
-      what === "name" ? "Send eight printed characters, filled with spaces." : "End a text with one carriage return, fill its segment with spaces, and send nothing behind it.",
+      `In ${slot_of(slot)} the segment ${segment} ${why}. So no one ${what} has all that was sent.`,
+      what === "name" ? "Send eight printed characters, filled with spaces."
+        : "End a text with one carriage return, fill its segment with spaces, and send nothing behind it.",
     ];
   }
 
   function early_tag({ reigns, slot, spaced }) {
-    const reign = reigns.all.at(-1), wait = reign ? `It could have had tags from ${slot_of(reign.start + spaced)} on.` : "";
-    const what = reign ? `The tags in ${slot_of(slot)} come with the text ${quoted(reign.text)}, whose first group was in ${slot_of(reign.first)}. ${wait} A receiver that missed the change still holds the text before, and cuts that one by them.` : `The tags in ${slot_of(slot)} come before any text was sent.`;
-    return [what, `Begin with the tags of a text M + K = ${spaced} slots (${lines.time(spaced)}) after it. If this 11A is no RadioText Plus, empty its lines before the audit.`];
+    const reign = reigns.all.at(-1), tags = `The tags in ${slot_of(slot)} come`;
+    const what = !reign ? `${tags} before any text was sent.`
+      : `${tags} with the text ${quoted(reign.text)}, whose first group was in ${slot_of(reign.first)}. It could have had tags from `
+        + `${slot_of(reign.start + spaced)} on. A receiver that missed the change still holds the text before, and cuts that one by them.`;
+    return [
+      what,
+      `Begin with the tags of a text M + K = ${spaced} slots (${lines.time(spaced)}) after it. If this 11A is no RadioText Plus, empty its `
+        + "lines before the audit.",
+    ];
   }
 
   function tag_outside({ reigns, slot, group }) {
     const reign = reigns.all.at(-1);
     if (!reign) return null;
     const should = "Count the start from 0, write the number of characters less one as the length, and set tags after their text.";
-    if (!is_tags(group)) return [`In ${slot_of(slot)} the text ${quoted(reign.text)} turns out shorter than tags that were sent for it.`, should];
+    const text = `the text ${quoted(reign.text)}`;
+    if (!is_tags(group)) return [`In ${slot_of(slot)} ${text} turns out shorter than tags that were sent for it.`, should];
     const ends = lines.tags_of(group).filter(([kind]) => kind > 0).map(([, start, extra]) => start + extra + 1), end = reign.end ?? MOST;
-    const over = ends.find((it) => it > end) ?? Math.max(...ends);
-    return [`A tag in ${slot_of(slot)} ends at character ${over}, and the text ${quoted(reign.text)} has ${reign.end === null ? `${MOST} at most` : end}.`, should];
+    const over = ends.find((it) => it > end) ?? Math.max(...ends), has = reign.end === null ? `${MOST} at most` : end;
+    return [`A tag in ${slot_of(slot)} ends at character ${over}, and ${text} has ${has}.`, should];
   }
 
   const RULES = { EarlyFlag: early_flag, Changed: changed, NotOneText: not_one_text, EarlyTag: early_tag, TagOutside: tag_outside };

@@ -4,7 +4,10 @@ const script_tab = (() => {
   const { $ } = parts;
   const COMMANDS = ["-", "text", "name", "tags", "restart"], PI = "C201";
   const HINTS = { text: "the text", name: "the name", tags: "1 1 4 0 3 1 7 7" };
-  const state = { rows: [], chosen: 0, pty: "10", air: new lines.View(), said: { views: [], sent: [] }, naives: [], heard: [], replies: new Map(), mixed: () => false };
+  const state = {
+    rows: [], chosen: 0, pty: "10", air: new lines.View(), said: { views: [], sent: [] }, naives: [], heard: [], replies: new Map(),
+    spans: new Map(), mixed: () => false,
+  };
   const timeline = new Timeline($("script-time"), {
     label: "Slot of the script",
     on_move: show_slot,
@@ -71,7 +74,8 @@ const script_tab = (() => {
     const row = state.rows[timeline.cursor], takes = ["text", "name", "tags"].includes($("command").value);
     $("argument").hidden = !takes;
     if (!row) return;
-    Object.assign(row, { command: $("command").value, argument: takes ? $("argument").value : "", free: $("free").checked ? "1" : "0" });
+    const free = $("free").checked ? "1" : "0";
+    Object.assign(row, { command: $("command").value, argument: takes ? $("argument").value : "", free });
     edited();
   }
 
@@ -118,7 +122,8 @@ const script_tab = (() => {
     const m = $("script-m").value, k = $("script-k").value, count = state.rows.length;
     const words = ["sim", "--pi", PI, "--pty", state.pty, "--m", m, "--k", k], got = rdsrt.run(words, text);
     const said = lines.read(got.output, count), tint = parts.tinter(), broadcast = on_air(said.replies, count, tint);
-    Object.assign(state, { said, air: broadcast.air, result: got, spaced: Number(m) + Number(k), replies: new Map(said.replies.map((it) => [it.slot, it])) });
+    const replies = new Map(said.replies.map((it) => [it.slot, it]));
+    Object.assign(state, { said, replies, air: broadcast.air, result: got, spaced: Number(m) + Number(k) });
     const sent = parts.all_shown(state.air);
     state.mixed = (part, value) => !sent.has(parts.key_of(part, value));
     state.spans = spans(state.air.parts.text);
@@ -140,20 +145,23 @@ const script_tab = (() => {
   /* The tags of a row as they cut the text: class and piece, or nothing. */
   function pieces_of(argument, text) {
     const numbers = argument.split(" ").map(Number), chars = characters(text);
-    return [numbers.slice(2, 5), numbers.slice(5, 8)].map(([kind, start, extra]) =>
-      kind > 0 && start + extra < chars.length ? { kind: lines.class_of(kind), text: chars.slice(start, start + extra + 1).join("") } : null);
+    return [numbers.slice(2, 5), numbers.slice(5, 8)].map(([kind, start, extra]) => {
+      const text = chars.slice(start, start + extra + 1).join("");
+      return kind > 0 && start + extra < chars.length ? { kind: lines.class_of(kind), text } : null;
+    });
   }
 
   /* What is on air, by the replies and the rows: the program doesn't print it. And the marks of what was commanded. */
   function on_air(replies, count, tint) {
     const air = new lines.View(), marks = [];
     const clear = (slot, ...all) => { for (const part of all) if (air.at(part, slot)?.value) air.change(part, slot, null); };
+    const set_tags = (slot, tags) => tags.forEach((tag, i) => air.change(`tag${i + 1}`, slot, tag));
     for (const { slot, what, reply } of replies) {
       const { argument = "" } = state.rows[slot] ?? {}, is_done = what === "restart" || reply === "ok";
-      if (what === "restart" || what === "tags" || !is_done) marks.push(parts.mark(slot, what === "restart" ? what : is_done ? what : `${what} ${reply}`, !is_done));
-      if (!is_done) continue;
+      if (!is_done) { marks.push(parts.mark(slot, `${what} ${reply}`, true)); continue; }
+      if (what === "restart" || what === "tags") marks.push(parts.mark(slot, what));
       if (what === "restart") clear(slot, "text", "name", "tag1", "tag2");
-      else if (what === "tags") pieces_of(argument, air.at("text", slot)?.value ?? "").forEach((tag, i) => air.change(`tag${i + 1}`, slot, tag));
+      else if (what === "tags") set_tags(slot, pieces_of(argument, air.at("text", slot)?.value ?? ""));
       else {
         const value = printed_form(what === "name" ? as_name(argument) : argument);
         if (what === "text") { clear(slot, "tag1", "tag2"); tint(value); }
@@ -164,7 +172,8 @@ const script_tab = (() => {
   }
 
   /* A row's argument as the program prints it: escapes in capitals, and the quotation mark as one. */
-  const printed_form = (text) => text.replace(/\\x([0-9A-Fa-f]{2})/g, (all, digits) => `\\x${digits.toUpperCase()}`).replaceAll('"', "\\x22");
+  const in_capitals = (all, digits) => `\\x${digits.toUpperCase()}`;
+  const printed_form = (text) => text.replace(/\\x([0-9A-Fa-f]{2})/g, in_capitals).replaceAll('"', "\\x22");
 
   /* For each text the spans in which it was on air. */
   function spans(runs) {
@@ -194,55 +203,60 @@ const script_tab = (() => {
     return runs.flatMap((run) => {
       const all = run.label === null || run.mix ? undefined : state.spans.get(run.value);
       if (!all) return [run];
-      const last = Math.max(...all.filter((span) => span.from <= run.from + state.spaced).map((span) => span.to + state.spaced));
-      const at = Math.max(run.from, last);
+      const spans = all.filter((span) => span.from <= run.from + state.spaced), at = Math.max(run.from, ...spans.map((span) => span.to + state.spaced));
       return at >= run.to ? [run] : [{ ...run, to: at }, { ...run, from: at, old: true }].filter((it) => it.to > it.from);
     });
   }
+
+  const lane = (name, short, runs, more) => ({ name, short, kind: "bars", runs, gap: 2, ...more });
 
   function lanes(marks, count, tint) {
     const { air, said } = state, all = [
       { name: "sent", kind: "ticks", codes: lines.codes_of(said.sent, count, null) },
       { name: "station", kind: "marks", marks },
-      { name: "on air", kind: "bars", runs: parts.bars(air, "text", tint), strong: true, gap: 8 },
+      lane("on air", "on air", parts.bars(air, "text", tint), { strong: true, gap: 8 }),
     ];
-    if (parts.shows(air, "name")) all.push({ name: "  its name", short: " name", kind: "bars", runs: parts.bars(air, "name", tint), gap: 2 });
-    if (parts.shows_tags(air)) all.push({ name: "  its tags", short: " tags", kind: "bars", runs: parts.tag_bars(air, tint), gap: 2 });
+    if (parts.shows(air, "name")) all.push(lane("  its name", " name", parts.bars(air, "name", tint)));
+    if (parts.shows_tags(air)) all.push(lane("  its tags", " tags", parts.tag_bars(air, tint)));
     for (let i = 0; i < receivers(); i++) all.push(...receiver_lanes(i, count, tint));
     return all;
   }
 
   function receiver_lanes(i, count, tint) {
     const all = [{ name: `receiver ${i}`, kind: "ticks", codes: codes_heard(i, count), losses: true, group: i, gap: 14 }];
-    const add = (name, short, runs) => all.push({ name: `  ${name}`, short: ` ${short}`, kind: "bars", runs, group: i, gap: 2 });
-    for (const [name, short, view, old] of [["with the dwell", "dwell", state.said.views[i], (runs) => runs], ["flag bit alone", "flag bit", state.naives[i], aged]]) {
+    const add = (name, short, runs) => all.push(lane(`  ${name}`, ` ${short}`, runs, { group: i }));
+    const add_view = (name, short, view, old) => {
       add(name, short, old(parts.bars(view, "text", tint, state.mixed)));
       if (parts.shows(view, "name")) add("  its name", "  name", parts.bars(view, "name", tint, state.mixed));
       if (parts.shows_tags(view)) add("  its tags", "  tags", parts.tag_bars(view, tint, state.mixed));
-    }
+    };
+    add_view("with the dwell", "dwell", state.said.views[i], (runs) => runs);
+    add_view("flag bit alone", "flag bit", state.naives[i], aged);
     return all;
   }
 
   // ---- what it comes to
 
   function mixes_of(view) {
-    return ["text", "name", "tag1", "tag2"].flatMap((part) => (view?.parts[part] ?? [])
-      .filter((run) => run.value !== null && state.mixed(part, run.value)).map((run) => ({ ...run, part: part.replace(/[12]$/, "") })));
+    const mixes = (part) => (view?.parts[part] ?? []).filter((run) => run.value !== null && state.mixed(part, run.value));
+    return ["text", "name", "tag1", "tag2"].flatMap((part) => mixes(part).map((run) => ({ ...run, part: part.replace(/[12]$/, "") })));
   }
 
   /* How many texts, names and tags these are. */
   function in_kinds(all) {
-    const each = ["text", "name", "tag"].map((part) => [part, all.filter((run) => run.part === part).length]).filter(([, n]) => n > 0);
-    return each.map(([part, n]) => n === 1 ? `a ${part}` : parts.counted(n, part)).join(" and ");
+    const number = (part) => all.filter((run) => run.part === part).length;
+    const each = ["text", "name", "tag"].filter((part) => number(part) > 0);
+    return each.map((part) => number(part) === 1 ? `a ${part}` : parts.counted(number(part), part)).join(" and ");
   }
 
   function tell_mixes() {
     const n = receivers(), wrong = state.naives.map(mixes_of), ours = state.said.views.slice(0, n).flatMap(mixes_of).length;
     const all = wrong.flat().length, at = wrong.findIndex((it) => it.length);
     state.first_mix = at < 0 ? null : { receiver: at, slot: Math.min(...wrong[at].map((run) => run.from)) };
-    $("script-count").textContent = n === 0 || state.said.fault ? "" : all
-      ? `With the flag bit alone, receivers show ${in_kinds(wrong.flat())} that nobody sent. With the dwell ${ours === 0 ? "none does" : `${ours} do`}.`
-      : "No receiver shows a mix here. Lose more: a whole text and its change back.";
+    const mixed = `With the flag bit alone, receivers show ${in_kinds(wrong.flat())} that nobody sent. `
+      + `With the dwell ${ours === 0 ? "none does" : `${ours} do`}.`;
+    const told = all ? mixed : "No receiver shows a mix here. Lose more: a whole text and its change back.";
+    $("script-count").textContent = n === 0 || state.said.fault ? "" : told;
   }
 
   /* A fault of the script, by the line of the text that was played. */
@@ -254,25 +268,35 @@ const script_tab = (() => {
     if (!bad) { root.textContent = fault; return; }
     const go = parts.make("button", { type: "button", textContent: "Show the line" });
     go.onclick = () => parts.go_to_line("script-text", bad.line);
-    root.replaceChildren(`Line ${bad.line.toLocaleString("en")} is no row of a script: ${records.why_no_row(bad, receivers())}. What stands behind it isn't played. `, go);
+    const why = records.why_no_row(bad, receivers());
+    root.replaceChildren(`Line ${bad.line.toLocaleString("en")} is no row of a script: ${why}. What stands behind it isn't played. `, go);
   }
 
   // ---- a slot
 
-  const is_old = (value, slot) => typeof value === "string" && state.spans.has(value) && !state.spans.get(value).some((span) => span.from <= slot && span.to > slot - state.spaced);
+  function is_old(value, slot) {
+    const spans = state.spans.get(value);
+    return spans !== undefined && !spans.some((span) => span.from <= slot && span.to > slot - state.spaced);
+  }
+
+  /* What the receiver does in the slot. */
+  function does(letter, slot) {
+    if (letter[0] !== "G") return { L: "loses", R: "restarts" }[letter[0]] ?? "";
+    return letter.length > 1 ? `gets slot ${slot - Number(letter.slice(1))}` : "gets";
+  }
 
   function show_slot(slot) {
-    const i = state.chosen, row = state.rows[slot], n = receivers(), letter = row?.receptions[i] ?? "", reply = state.replies.get(slot);
-    const got = { G: letter.length > 1 ? `gets slot ${slot - Number(letter.slice(1))}` : "gets", L: "loses", R: "restarts" }[letter[0]] ?? "";
-    const view = state.said.views[i], run = view?.at("text", slot), other = state.naives[i]?.at("text", slot);
+    const i = state.chosen, row = state.rows[slot], n = receivers(), reply = state.replies.get(slot), got = does(row?.receptions[i] ?? "", slot);
+    const view = state.said.views[i], run = view?.at("text", slot), simple = state.naives[i], other = simple?.at("text", slot);
     const mix = !!other && other.value !== null && state.mixed("text", other.value), old = !!other && is_old(other.value, slot);
     const none = run ? parts.why_gone("text", state.heard[i]?.[run.from], parseInt(PI, 16)) : "no text";
-    parts.radio($("script-air"), "On air", state.air, slot, { led: reply ? `${reply.what} ${reply.reply}` : state.said.sent[slot] ? "sends" : "", none: "silence" });
-    parts.radio($("script-radio"), n ? `Receiver ${i}, with the dwell` : "No receiver", view, slot, { led: got, none });
-    parts.radio($("script-naive"), n ? `Receiver ${i}, flag bit alone` : "No receiver", state.naives[i], slot, { led: mix ? "nobody sent this" : old ? "long over" : "", bad: mix });
+    const sent = state.said.sent[slot] ? "sends" : "", named = (what) => n ? `Receiver ${i}, ${what}` : "No receiver", stale = old ? "long over" : "";
+    parts.radio($("script-air"), "On air", state.air, slot, { led: reply ? `${reply.what} ${reply.reply}` : sent, none: "silence" });
+    parts.radio($("script-radio"), named("with the dwell"), view, slot, { led: got, none });
+    parts.radio($("script-naive"), named("flag bit alone"), simple, slot, { led: mix ? "nobody sent this" : stale, bad: mix });
     show_command(slot, row);
-    const of = n ? ` Receiver ${i} ${got}: ${parts.in_words(view, slot)}. With the flag bit alone: ${parts.in_words(state.naives[i], slot)}${mix ? ", which nobody sent" : ""}.` : "";
-    return `On air ${parts.in_words(state.air, slot)}.${of}`;
+    const air = `On air ${parts.in_words(state.air, slot)}.`, its = `${parts.in_words(simple, slot)}${mix ? ", which nobody sent" : ""}`;
+    return n ? `${air} Receiver ${i} ${got}: ${parts.in_words(view, slot)}. With the flag bit alone: ${its}.` : air;
   }
 
   function show_command(slot, row) {
@@ -294,18 +318,27 @@ const script_tab = (() => {
     const packed = await records.pack(records.write(state.rows)), root = $("script-link");
     root.hidden = packed === null;
     if (packed === null) { tell_saved("This script is too long for a link: save it as a file."); return; }
-    root.value = `${location.href.split("#")[0]}#script=${packed}&m=${$("script-m").value}&k=${$("script-k").value}&pty=${state.pty}`;
+    const [here] = location.href.split("#"), options = `m=${$("script-m").value}&k=${$("script-k").value}&pty=${state.pty}`;
+    root.value = `${here}#script=${packed}&${options}`;
     root.focus();
     root.select();
-    try { await navigator.clipboard.writeText(root.value); tell_saved("The link was copied."); } catch { tell_saved("This is the link: copy it."); }
+    try {
+      await navigator.clipboard.writeText(root.value);
+      tell_saved("The link was copied.");
+    } catch { tell_saved("This is the link: copy it."); }
   }
   const tell_saved = (text) => { $("script-saved").textContent = text; };
 
   /* Opens the script that the address holds, if it holds one. */
   async function open_link(hash) {
-    const given = new URLSearchParams(hash), within = (name, low, high) => /^\d{1,5}$/.test(given.get(name) ?? "") && Number(given.get(name)) >= low && Number(given.get(name)) <= high ? given.get(name) : undefined;
+    const given = new URLSearchParams(hash);
+    const within = (name, low, high) => {
+      const number = /^\d{1,5}$/.test(given.get(name) ?? "") ? Number(given.get(name)) : NaN;
+      return number >= low && number <= high ? String(number) : undefined;
+    };
     if (!given.has("script")) return false;
-    open(await records.unpack(given.get("script")), { m: within("m", 1, 65535), k: within("k", 0, 1024), pty: within("pty", 0, 31) });
+    const text = await records.unpack(given.get("script"));
+    open(text, { m: within("m", 1, 65535), k: within("k", 0, 1024), pty: within("pty", 0, 31) });
     return true;
   }
 

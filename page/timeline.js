@@ -77,8 +77,8 @@ class Timeline {
     if (what === "out") this.zoom(2);
     if (what === "fit") { this.fit(); this.draw(); }
     if (what === "save") picture.save(this);
-    const to = what === "next" ? this.changes.find((c) => c > this.cursor) : what === "prev" ? this.changes.findLast((c) => c < this.cursor) : undefined;
-    if (to !== undefined) this.move(to);
+    if (what === "next") this.move(this.changes.find((c) => c > this.cursor) ?? this.cursor);
+    if (what === "prev") this.move(this.changes.findLast((c) => c < this.cursor) ?? this.cursor);
   }
 
   move(slot, { keep = false } = {}) {
@@ -127,12 +127,13 @@ class Timeline {
       }
     };
     const end = (ev) => {
-      for (const [kind, what] of [["pointermove", go], ["pointerup", end], ["pointercancel", end]]) this.canvas.removeEventListener(kind, what);
+      for (const [kind, what] of hears) this.canvas.removeEventListener(kind, what);
       if (!moved || brush) this.move(slot(ev), { keep: true });
       if (brush) this.on_paint(null);
     };
+    const hears = [["pointermove", go], ["pointerup", end], ["pointercancel", end]];
     this.canvas.setPointerCapture(e.pointerId);
-    for (const [kind, what] of [["pointermove", go], ["pointerup", end], ["pointercancel", end]]) this.canvas.addEventListener(kind, what);
+    for (const [kind, what] of hears) this.canvas.addEventListener(kind, what);
   }
 
   wheel(e) {
@@ -149,7 +150,8 @@ class Timeline {
 
   key(e) {
     if (e.altKey) return;
-    const steps = { ArrowRight: 1, ArrowLeft: -1, PageDown: 16, PageUp: -16 }, acts = { "+": "in", "=": "in", "-": "out", n: "next", p: "prev" };
+    const steps = { ArrowRight: 1, ArrowLeft: -1, PageDown: 16, PageUp: -16 };
+    const acts = { "+": "in", "=": "in", "-": "out", n: "next", p: "prev" };
     const key = e.key.length === 1 ? e.key.toLowerCase() : e.key, plain = !e.ctrlKey && !e.metaKey;
     if (plain && key in steps) this.move(this.cursor + steps[key]);
     else if (plain && key === "Home") this.move(0);

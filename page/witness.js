@@ -27,8 +27,9 @@ const witness = (() => {
   }
 
   const bits = (pair, shift, width) => Math.floor(pair / 2 ** shift) % 2 ** width;
-  const tags_in = (pair) => [[bits(pair, 29, 6), bits(pair, 23, 6), bits(pair, 17, 6)], [bits(pair, 11, 6), bits(pair, 5, 6), bits(pair, 0, 5)]];
-  const bytes_in = (data) => [Math.floor(data / 2 ** 24), Math.floor(data / 65536) % 256, Math.floor(data / 256) % 256, data % 256];
+  const TAG_BITS = [[[29, 6], [23, 6], [17, 6]], [[11, 6], [5, 6], [0, 5]]];
+  const tags_in = (pair) => TAG_BITS.map((tag) => tag.map(([shift, width]) => bits(pair, shift, width)));
+  const bytes_in = (data) => [24, 16, 8, 0].map((shift) => bits(data, shift, 8));
 
   /* Class and piece of each tag of a pair that ends in the text. */
   const pieces = (text, pair) => pair === null ? [] : tags_in(pair)
@@ -47,7 +48,8 @@ const witness = (() => {
      number in `cells` (0: none), the slot of the last one, the pair of tags held, and whether RadioText Plus is known. */
   class Receivers {
     constructor(dwell, segments, ends) {
-      Object.assign(this, { dwell, ends, cells: [Array(segments).fill(null)], numbers: new Map(), puts: new Map(), views: new Map(), part: new Map() });
+      Object.assign(this, { dwell, ends, cells: [Array(segments).fill(null)] });
+      Object.assign(this, { numbers: new Map(), puts: new Map(), views: new Map(), inside: new Map() });
     }
 
     put(cells, { address, data }) {
@@ -75,10 +77,11 @@ const witness = (() => {
     is_part(state, other) {
       if (state.known && !other.known) return false;
       if (!state.cells) return true;
-      if (state.flag !== other.flag || state.last > other.last || (state.pair !== null && state.pair !== other.pair)) return false;
-      const key = `${state.cells} ${other.cells}`;
-      if (!this.part.has(key)) this.part.set(key, this.cells[state.cells].every((data, i) => data === null || data === this.cells[other.cells][i]));
-      return this.part.get(key);
+      if (state.flag !== other.flag || state.last > other.last) return false;
+      if (state.pair !== null && state.pair !== other.pair) return false;
+      const key = `${state.cells} ${other.cells}`, [mine, its] = [this.cells[state.cells], this.cells[other.cells]];
+      if (!this.inside.has(key)) this.inside.set(key, mine.every((data, i) => data === null || data === its[i]));
+      return this.inside.get(key);
     }
 
     /* What a state shows: its value, and of each tag its class and piece. */
@@ -105,7 +108,8 @@ const witness = (() => {
       await turn();
       const before = state;
       state = receivers.after(before, event);
-      if (event.kind === SEGMENT && (before.flag !== state.flag || event.slot - before.last >= receivers.dwell)) pairs = new Set();
+      const is_new = before.flag !== state.flag || event.slot - before.last >= receivers.dwell;
+      if (event.kind === SEGMENT && is_new) pairs = new Set();
       pairs.add(state.pair);
       const [value] = receivers.view(state);
       if (value === undefined) continue;
@@ -133,8 +137,8 @@ const witness = (() => {
 
     /* When the receiver that loses nothing has shown all that the state shows. */
     newest_shown(state) {
-      const key = `${state.cells} ${state.pair}`;
-      if (!this.newest.has(key)) this.newest.set(key, Math.max(-1, ...this.receivers.view(state).map((thing) => this.first.get(thing) ?? Infinity)));
+      const key = `${state.cells} ${state.pair}`, when = (thing) => this.first.get(thing) ?? Infinity;
+      if (!this.newest.has(key)) this.newest.set(key, Math.max(-1, ...this.receivers.view(state).map(when)));
       return this.newest.get(key);
     }
 
@@ -158,9 +162,9 @@ const witness = (() => {
         this.steps--;
         const state = this.receivers.after(held, event), key = all_of(state);
         if (hearing.has(key) || this.receivers.is_part(state, this.state)) continue;
-        const from = again ?? this.at;
+        const from = again ?? this.at, is_mix = this.newest_shown(state) >= event.slot + this.receivers.dwell;
         hearing.set(key, { state, lost, again: from });
-        if (this.newest_shown(state) >= event.slot + this.receivers.dwell) return [this.events[lost].slot, this.events[from - 1].slot];
+        if (is_mix) return [this.events[lost].slot, this.events[from - 1].slot];
       }
       this.hearing = hearing;
       return null;
@@ -197,8 +201,8 @@ const witness = (() => {
   /* The lines of `decode` that show something; tags without their numbers. */
   function shown_lines(logged, words) {
     const { output } = rdsrt.run(["decode", ...words], logged.map((line) => `${line}\n`).join(""));
-    return output.split("\n").filter((line) => line && !line.endsWith(" none") && !/^\d+ item/.test(line) && !line.startsWith("fault"))
-      .map((line) => ({ slot: Number(line.split(" ", 1)[0]), rest: line.replace(/^\d+ /, "").replace(/^tag[12]/, "tag"), line }));
+    const shows = output.split("\n").filter((line) => /^\d+ (?:text|name|tag[12]) (?!none$)/.test(line));
+    return shows.map((line) => ({ slot: parseInt(line, 10), rest: line.replace(/^\d+ /, "").replace(/^tag[12]/, "tag"), line }));
   }
 
   /* What `decode` shows in the slot of the log without the lost slots, and of the log as it is nowhere up to a dwell later. */
@@ -211,7 +215,7 @@ const witness = (() => {
   /* The slot of the first no of an audit that begins in this slot; null where there is none. A few lines are tried first. */
   function next_no(logged, words, begins) {
     for (const ends of [begins + WINDOW, logged.length]) {
-      const some = logged.slice(begins, ends), answer = rdsrt.run(["audit", ...words], some.map((line) => `${line}\n`).join("")).output;
+      const some = logged.slice(begins, ends).map((line) => `${line}\n`).join(""), answer = rdsrt.run(["audit", ...words], some).output;
       const no = /^no (\d+)/.exec(answer);
       if (no) return begins + Number(no[1]);
       if (ends >= logged.length) return null;
@@ -227,15 +231,15 @@ const witness = (() => {
   /* Looks for a witness after a no in this slot: the slots to lose and the lines of `decode`; or up to which slot it looked.
      `turn` gives way to the page where it is time, and throws where nobody waits any longer. */
   async function find({ groups, logged, pi, m, k, no }, turn) {
-    const words = ["--pi", parts.hex(pi), "--m", String(m)], { texts, names } = events_of(groups, pi), searches = [];
-    for (const [receivers, events, steps] of [[new Receivers(m, 16, true), texts, STEPS], [new Receivers(m, 2, false), names, STEPS / 4]])
-      searches.push(new Search(receivers, events, await first_shown(receivers, events, turn), steps));
+    const words = ["--pi", parts.hex(pi), "--m", String(m)], { texts, names } = events_of(groups, pi);
+    const search = async (receivers, events, steps) => new Search(receivers, events, await first_shown(receivers, events, turn), steps);
+    const searches = [await search(new Receivers(m, 16, true), texts, STEPS), await search(new Receivers(m, 2, false), names, STEPS / 4)];
     for (const at of noes(logged, [...words, "--k", String(k)], no, BEHIND * m)) {
       const found = [];
-      for (const search of searches) found.push(await search.found(at - BEFORE * m, at + BEHIND * m, turn));
+      for (const it of searches) found.push(await it.found(at - BEFORE * m, at + BEHIND * m, turn));
       const [first] = found.filter((it) => it).sort((a, b) => a.slot - b.slot);
       if (first) return { ...first, shown: confirmed(logged, words, m, first), upto: null };
-      const stopped = searches.map((search) => search.stopped).filter((slot) => slot !== null);
+      const stopped = searches.map((it) => it.stopped).filter((slot) => slot !== null);
       if (stopped.length) return { lost: null, shown: [], upto: Math.min(...stopped) };
     }
     return { lost: null, shown: [], upto: null };
