@@ -15,7 +15,7 @@ abbrev pub writing : List ℕ → ℕ → Traffic
 writing printed failures =
     record { before = Some []; after = Some printed; failures_before = 0; failures_after = failures }
 
--- what the program prints over these words and this input, and its status: as `run` says, and no read of the input fails
+-- what the program prints over these words and this input, and its status: as `run` says, where no read fails
 pub record Prints (words : List (List ℕ)) (input : List ℕ) (w : Traffic) (status : ℕ) : Type 0 where
   pub runs : (asked : Asked) (pi : ℕ) → AskFor words asked → IsPi asked.pi pi → (r : Traffic)
       × Begins r (Some input) 0 × (NoMemory w status ⊎ TaskRuns asked.task pi asked.dwell r ⊥ w status)
