@@ -88,8 +88,16 @@ const probe = (() => {
     return performance.now() - from;
   }
 
-  /* The longest of 40 frames that show more and fewer slots, the last all of them. Of three tries the best: a machine may
-     have other work. */
+  /* Of three tries the best: a machine may have other work. */
+  const best = (what) => Math.min(what(), what(), what());
+
+  /* How long it takes to open a text and to draw it. */
+  const opening = (tab, text) => best(() => timed(() => {
+    tab.open(text, { m: 128, k: 0 });
+    tab.timeline.paint();
+  }));
+
+  /* The longest of 40 frames that show more and fewer slots, the last all of them. */
   function frame(timeline) {
     const longest = () => {
       const all = Array.from({ length: 40 }, (_, i) => {
@@ -99,7 +107,7 @@ const probe = (() => {
       timeline.fit();
       return Math.max(...all, timed(() => timeline.paint()));
     };
-    return Math.min(longest(), longest(), longest());
+    return best(longest);
   }
 
   function script_of(count) {
@@ -115,10 +123,10 @@ const probe = (() => {
     const audit = rdsrt.run(["audit", "--pi", "C201"], many.log), decode = rdsrt.run(["decode", "--pi", "C201"], many.log);
     const told = { encode: encoded.ms, audit: audit.ms, decode: decode.ms, heap: decode.heap, verdict: audit.output };
     page.tab("log");
-    told.open_log = timed(() => { log_tab.open(many.log, { m: 128, k: 0 }); log_tab.timeline.paint(); });
+    told.open_log = opening(log_tab, many.log);
     told.log_frame = frame(log_tab.timeline);
     page.tab("script");
-    told.open_script = timed(() => { script_tab.open(many.script, { m: 128, k: 0 }); script_tab.timeline.paint(); });
+    told.open_script = opening(script_tab, many.script);
     told.script_frame = frame(script_tab.timeline);
     return told;
   }

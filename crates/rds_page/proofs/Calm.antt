@@ -1,5 +1,5 @@
 -- A reader of bytes in memory, none of whose reads fails.
-use Rattle.std.proofs.Common.{◌^◌, ◌≡◌, ◌⊎◌, ℕ, arith, inl, inr}
+use Rattle.std.proofs.Common.{◌^◌, ℕ, arith, inl, inr}
 use Rattle.std.proofs.Math.Logic.{∥∥₁_elim}
 use Rattle.rds_charset.specs.Told.{Failed, Traffic}
 use Rattle.rds_log.specs.Failing.{SomeReadFailed}
