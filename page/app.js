@@ -62,8 +62,8 @@ const page = (() => {
 
   function no_engine(error) {
     $("no-engine").hidden = false;
-    $("no-engine").textContent = "This browser can’t run the program: it needs WebAssembly with a memory of 64 bits, which Chrome and Edge "
-      + `have from 133 on and Firefox from 134 on. (${error.message})`;
+    $("no-engine").textContent = "This browser can’t run the program: it needs WebAssembly with a memory of 64 bits, which Chrome "
+      + `and Edge have from 133 on and Firefox from 134 on. (${error.message})`;
     for (const it of TABS) $(it).inert = true;
   }
 

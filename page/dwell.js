@@ -36,8 +36,9 @@ const dwell_tab = (() => {
     const bars = rows.flatMap((row, i) => row.map(([from, to, ink, said]) => bar(from * d, to * d, 20 + 42 * i, `var(${ink})`, said)));
     const ends = { 0: "start", 4: "end" };
     const times = [0, 1, 2, 3, 4].map((i) => `<line x1="${x(i * d)}" x2="${x(i * d)}" y1="14" y2="152" stroke="var(--line)"/>`
-      + `<text x="${x(i * d)}" y="172" fill="var(--dim)" font-size="14" text-anchor="${ends[i] ?? "middle"}">${i ? lines.time(i * d) : "0"}</text>`);
-    const said = "Two texts in turn, each on air for two dwells: its tags come in its second, and in its first the text before may still show";
+      + `<text x="${x(i * d)}" y="172" fill="var(--dim)" font-size="14" text-anchor="${ends[i] ?? "middle"}">`
+      + `${i ? lines.time(i * d) : "0"}</text>`);
+    const said = "Two texts in turn, each on air for two dwells: its tags come in its second, and in its first the one before may show";
     return `<svg viewBox="0 0 ${WIDTH} 190" role="img" aria-label="${said}">${bars.join("")}${times.join("")}</svg>`;
   }
 

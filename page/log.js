@@ -3,9 +3,10 @@
 const log_tab = (() => {
   const { $, make } = parts;
   const PI = "C201", MOST_PROGRAMMES = 12, LOST = "---- ---- ---- ----";
-  const LINE = "A line has four blocks of four hexadecimal digits, or ---- for each that was not received, with one space between them. "
-    + "What stands behind it isn't shown.";
-  const NO_RECEIVER = " that loses slots in one place and shows what nobody sent. A no says that a rule was broken, not that a mix can be seen.";
+  const LINE = "A line has four blocks of four hexadecimal digits, or ---- for each that was not received, with one space between "
+    + "them. What stands behind it isn't shown.";
+  const NO_RECEIVER = " that loses slots in one place and shows what nobody sent. A no says that a rule was broken, not that a mix "
+    + "can be seen.";
   /* Milliseconds of a search between two turns of the page. */
   const AT_ONCE = 12;
   const PARTS = [["name", "name"], ["tag1", "first tag"], ["tag2", "second tag"]];
@@ -127,7 +128,8 @@ const log_tab = (() => {
 
   function lanes(no, count) {
     const tint = parts.tinter(), { view, naive: other, mixed } = state, codes = lines.codes_of(state.heard, count, state.number);
-    const bars = (it, part) => parts.bars(it, part, tint, mixed), lane = (name, short, runs, more) => ({ name, short, kind: "bars", runs, gap: 3, ...more });
+    const bars = (it, part) => parts.bars(it, part, tint, mixed);
+    const lane = (name, short, runs, more) => ({ name, short, kind: "bars", runs, gap: 3, ...more });
     const all = [
       { name: "received", kind: "ticks", codes, losses: true, lost: state.lost },
       { name: "events", kind: "marks", marks: events(no) },
@@ -232,7 +234,8 @@ const log_tab = (() => {
     const group = state.slots[slot], sent = group ? `${KINDS[lines.code_of(group, state.number)]} group` : "nothing received";
     const what = state.lost.has(slot) ? "lost" : sent, run = state.view.at("text", slot), other = state.naive.at("text", slot);
     const none = run && run.value === null && run.from > 0 ? why_gone("text", run.from) : "no text";
-    const is_mix = (it) => !!it && it.value !== null && state.mixed("text", it.value), led = (it, or) => is_mix(it) ? "nobody sent this" : or;
+    const is_mix = (it) => !!it && it.value !== null && state.mixed("text", it.value);
+    const led = (it, or) => is_mix(it) ? "nobody sent this" : or;
     parts.radio($("log-radio"), "The receiver, with the dwell", state.view, slot, { led: led(run, what), bad: is_mix(run), none });
     parts.radio($("log-naive"), "Flag bit alone (the page's own)", state.naive, slot, { led: led(other, ""), bad: is_mix(other) });
     const words = (view, it) => parts.in_words(view, slot) + (is_mix(it) ? ", which nobody sent" : "");

@@ -203,7 +203,8 @@ const script_tab = (() => {
     return runs.flatMap((run) => {
       const all = run.label === null || run.mix ? undefined : state.spans.get(run.value);
       if (!all) return [run];
-      const spans = all.filter((span) => span.from <= run.from + state.spaced), at = Math.max(run.from, ...spans.map((span) => span.to + state.spaced));
+      const spans = all.filter((span) => span.from <= run.from + state.spaced);
+      const at = Math.max(run.from, ...spans.map((span) => span.to + state.spaced));
       return at >= run.to ? [run] : [{ ...run, to: at }, { ...run, from: at, old: true }].filter((it) => it.to > it.from);
     });
   }
@@ -286,11 +287,13 @@ const script_tab = (() => {
   }
 
   function show_slot(slot) {
-    const i = state.chosen, row = state.rows[slot], n = receivers(), reply = state.replies.get(slot), got = does(row?.receptions[i] ?? "", slot);
+    const i = state.chosen, row = state.rows[slot], n = receivers(), reply = state.replies.get(slot);
+    const got = does(row?.receptions[i] ?? "", slot);
     const view = state.said.views[i], run = view?.at("text", slot), simple = state.naives[i], other = simple?.at("text", slot);
     const mix = !!other && other.value !== null && state.mixed("text", other.value), old = !!other && is_old(other.value, slot);
     const none = run ? parts.why_gone("text", state.heard[i]?.[run.from], parseInt(PI, 16)) : "no text";
-    const sent = state.said.sent[slot] ? "sends" : "", named = (what) => n ? `Receiver ${i}, ${what}` : "No receiver", stale = old ? "long over" : "";
+    const sent = state.said.sent[slot] ? "sends" : "", stale = old ? "long over" : "";
+    const named = (what) => n ? `Receiver ${i}, ${what}` : "No receiver";
     parts.radio($("script-air"), "On air", state.air, slot, { led: reply ? `${reply.what} ${reply.reply}` : sent, none: "silence" });
     parts.radio($("script-radio"), named("with the dwell"), view, slot, { led: got, none });
     parts.radio($("script-naive"), named("flag bit alone"), simple, slot, { led: mix ? "nobody sent this" : stale, bad: mix });

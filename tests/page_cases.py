@@ -219,7 +219,8 @@ def printed(b):
 
 def the_first_script(b):
     click(b, "#tab-script")
-    check("one with the flag bit alone shows a mix", (shown(b, "script-naive"), shown(b, "script-radio")), ("A1: closed today", "— no text —"))
+    both = shown(b, "script-naive"), shown(b, "script-radio")
+    check("one with the flag bit alone shows a mix", both, ("A1: closed today", "— no text —"))
     check("the mix is counted", text_of(b, "#script-count"),
           "With the flag bit alone, receivers show a text that nobody sent. With the dwell none does.")
     check("it is the example", of(b, "#script-text", "value"), example("mix.csv").decode())
@@ -255,8 +256,8 @@ def names_and_tags(b):
     open_script(b, "".join(f"{line}GG\n" for line in example("chanson.csv").decode().splitlines()), m=8, k=0)
     names = b.run("script_tab.timeline.lanes.map(lane => lane.name.trim())")
     check("names and tags have lanes", (names.count("its name"), names.count("its tags")), (5, 5))
-    last = "view => view.parts.tag1.at(-1).value.text"
-    check("tags of both kinds of receivers", b.run(f"[...script_tab.state.naives, ...script_tab.state.said.views].map({last})"), ["Édith Piaf"] * 4)
+    last = b.run("[...script_tab.state.naives, ...script_tab.state.said.views].map(view => view.parts.tag1.at(-1).value.text)")
+    check("tags of both kinds of receivers", last, ["Édith Piaf"] * 4)
     check("nothing is taken for a mix", "No receiver shows a mix" in text_of(b, "#script-count"), True)
 
 
@@ -265,7 +266,8 @@ def the_dwell(b):
     check("how often a text may change", text_of(b, ".card strong"), "22.4 s")
     call(b, "probe.choose", "k-range", 128)
     check("with late groups", text_of(b, ".card strong"), "44.8 s")
-    check("the chosen tab is told", b.run("[...document.querySelectorAll('[role=tab]')].map(tab => tab.ariaSelected)"), ["false", "false", "true"])
+    told = b.run("[...document.querySelectorAll('[role=tab]')].map(tab => tab.ariaSelected)")
+    check("the chosen tab is told", told, ["false", "false", "true"])
 
 
 # ---- files, links, faults

@@ -65,14 +65,16 @@ const probe = (() => {
 
   /* Pairs of colours that the canvas draws on each other. */
   const PAIRS = [
-    ...[0, 1, 2, 3, 4, 5, 6, 7].map((i) => ["white", `c${i}`]), ["white", "wrong"], ["stale-text", "stale"], ["dim", "card"], ["dim", "lane"],
+    ...[0, 1, 2, 3, 4, 5, 6, 7].map((i) => ["white", `c${i}`]), ["white", "wrong"], ["stale-text", "stale"],
+    ["dim", "card"], ["dim", "lane"],
     ...["lane", "chosen", "card"].flatMap((on) => [["text", on], ["bad", on]]),
   ];
 
   /* How many texts are in sight, and those whose contrast is too low. */
   function contrasts(least) {
     const root = getComputedStyle(document.documentElement), ink = (name) => root.getPropertyValue(`--${name}`).trim() || name;
-    const all = [...document.querySelectorAll("body *")].filter(has_text).map((e) => [e.textContent.slice(0, 40) || e.id, getComputedStyle(e).color, ground(e)]);
+    const told = (e) => [e.textContent.slice(0, 40) || e.id, getComputedStyle(e).color, ground(e)];
+    const all = [...document.querySelectorAll("body *")].filter(has_text).map(told);
     const drawn = PAIRS.map(([a, b]) => [`${a} on ${b}`, ink(a), ink(b)]);
     const low = [...all, ...drawn].filter(([, a, b]) => ratio(a, b) < least).map(([what, a, b]) => `${what} ${ratio(a, b).toFixed(2)}`);
     return [all.length, low];
