@@ -339,7 +339,8 @@ const script_tab = (() => {
       const number = /^\d{1,5}$/.test(given.get(name) ?? "") ? Number(given.get(name)) : NaN;
       return number >= low && number <= high ? String(number) : undefined;
     };
-    if (!given.has("script")) return false;
+    // the name of the tab alone, as it stands in the address after a look at it, is no link
+    if (!given.get("script")) return false;
     const text = await records.unpack(given.get("script"));
     open(text, { m: within("m", 1, 65535), k: within("k", 0, 1024), pty: within("pty", 0, 31) });
     return true;

@@ -317,6 +317,8 @@ def links(b, url):
     check("a link opens its script", (printed(b), hidden(b), len(link) < 2000), (before, ["log", "dwell"], True))
     visit(b, f"{url}#script=nonsense")
     check("a link that holds none", text_of(b, "#script-saved"), "The link holds no script.")
+    visit(b, f"{url}#script")
+    check("a tab by its name", (text_of(b, "#script-saved"), hidden(b)), ("", ["log", "dwell"]))
     dice = random.Random(SEED)
     open_script(b, "".join(f"text,{dice.random()},1,\n" for _ in range(20_000)))
     click(b, "#script-share")
