@@ -25,7 +25,8 @@ one_byte cells i b c p q =
 
 -- values of one length that are spelled are one
 same_spelled : (cells : Cells) (x y : List ℕ) → IsSpelled cells x → IsSpelled cells y → length x ≡ length y → x ≡ y
-same_spelled cells x y p q e = same_number_lists x y e (λ k h. one_byte cells k _ _ (p.bytes k h) (q.bytes k (omega arith)))
+same_spelled cells x y p q e =
+    same_number_lists x y e (λ k h. one_byte cells k _ _ (p.bytes k h) (q.bytes k (omega arith)))
 
 no_shorter : (cells : Cells) (x y : List ℕ) → IsWholeText cells x → IsWholeText cells y → length x < length y → ⊥
 no_shorter cells x y p q h =
@@ -52,7 +53,10 @@ nothing_held i b h =
     cc
 
 pub no_text_of_none : (x : List ℕ) → IsWholeText empty x → ⊥
-no_text_of_none x w = elim w.ends [ inl e ↦ nothing_held 0 _ (w.spelled.bytes 0 (omega arith)) | inr e ↦ nothing_held (length x) 13 e.1 ]
+no_text_of_none x w = elim w.ends [
+  | inl e ↦ nothing_held 0 _ (w.spelled.bytes 0 (omega arith))
+  | inr e ↦ nothing_held (length x) 13 e.1
+]
 
 pub no_name_of_none : (x : List ℕ) → IsWholeName empty x → ⊥
 no_name_of_none x w = let eight = w.eight in nothing_held 0 _ (w.spelled.bytes 0 (omega arith))

@@ -30,7 +30,8 @@ sum_of_parts n h = omega arith
 
 -- block 2 read by shifts and masks
 pub second_word_read : (n : ℕ) → n < 65536 →
-    n ≡ 4096 * (n / 4096) + 2048 * from_bool (not (nat_eq (bit_and n 2048) 0)) + 1024 * from_bool (not (nat_eq (bit_and n 1024) 0)) + 32 * bit_and (n / 32) 31 + bit_and n 31
+    n ≡ 4096 * (n / 4096) + 2048 * from_bool (not (nat_eq (bit_and n 2048) 0))
+    + 1024 * from_bool (not (nat_eq (bit_and n 1024) 0)) + 32 * bit_and (n / 32) 31 + bit_and n 31
 second_word_read n h =
     sym (rw (bit_of_test n 11, bit_of_test n 10, and_mask (n / 32) 5, and_mask n 5) (sum_of_parts n h))
 
@@ -50,7 +51,8 @@ second_word_joined n v t p l hn hv ht hp hl =
     let e1 = or_above 12 n (v * 2048) (n * 4096) refl (omega arith) in
     let e2 = or_above 11 (2 * n + v) (t * 1024) (n * 4096 + v * 2048) (omega arith) (omega arith) in
     let e3 = or_above 10 (4 * n + 2 * v + t) (p * 32) (n * 4096 + v * 2048 + t * 1024) (omega arith) (omega arith) in
-    let e4 = or_above 5 (128 * n + 64 * v + 32 * t + p) l (n * 4096 + v * 2048 + t * 1024 + p * 32) (omega arith) (omega arith) in
+    let e4 = or_above 5 (128 * n + 64 * v + 32 * t + p) l (n * 4096 + v * 2048 + t * 1024 + p * 32) (omega arith)
+    (omega arith) in
     rw (en, ev, et, ep, e1, e2, e3, e4) (omega arith)
 
 -- a list of four is its four elements
@@ -73,7 +75,8 @@ same_bool true false e = absurd (omega arith)
 same_bool false true e = absurd (omega arith)
 
 -- groups with equal fields are equal
-pub equal_fields : (g h : Group) → g.pi ≡ h.pi → g.number ≡ h.number → g.version ≡ h.version → g.tp ≡ h.tp → g.pty ≡ h.pty → g.low ≡ h.low → g.c ≡ h.c → g.d ≡ h.d → g ≡ h
+pub equal_fields : (g h : Group) → g.pi ≡ h.pi → g.number ≡ h.number → g.version ≡ h.version → g.tp ≡ h.tp
+    → g.pty ≡ h.pty → g.low ≡ h.low → g.c ≡ h.c → g.d ≡ h.d → g ≡ h
 equal_fields g h pi number version tp pty low c d =
     λ i. record {
       pi = pi i;

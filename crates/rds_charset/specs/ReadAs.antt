@@ -65,7 +65,8 @@ HasNoRoom text room = (bytes : List ℕ) × IsReadAs text bytes × (room < lengt
 
 -- the text begins with a hexadecimal digit of that value, and the rest follows it
 abbrev pub BeginsDigit : List ℕ → ℕ → List ℕ → Type 0
-BeginsDigit text value rest = (digit : ℕ) × (text ≡ digit ∷ rest) × (digit_value digit < 16) × (value ≡ digit_value digit)
+BeginsDigit text value rest =
+    (digit : ℕ) × (text ≡ digit ∷ rest) × (digit_value digit < 16) × (value ≡ digit_value digit)
 
 -- no hexadecimal digit begins the text
 abbrev pub BeginsNoDigit : List ℕ → Type 0

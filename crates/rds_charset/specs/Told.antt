@@ -83,7 +83,8 @@ pub count_none : (before : ℕ) → before ≡ count_after before 0
 unfolding count_after
 count_none before = refl
 
-pub count_next : (before n now after : ℕ) → now ≡ count_after before n → after ≡ next_count now → after ≡ count_after before (n + 1)
+pub count_next : (before n now after : ℕ) → now ≡ count_after before n → after ≡ next_count now
+    → after ≡ count_after before (n + 1)
 unfolding count_after
 count_next before n now after had more = more ∙ ap next_count had ∙ sym (ap (count_after before) (add-one n))
 

@@ -20,7 +20,8 @@ free_in (Tick free ∷ before) = one_if free + free_in before
 -- this was on air before the later entries and after each of them
 abbrev pub IsOnThroughout : (List Entry → List Move) → ℕ → OnAir → List Entry → List Entry → Type 0
 IsOnThroughout moves m air [] earlier = on_air m (moves earlier) ≡ Some air
-IsOnThroughout moves m air (entry ∷ later) earlier = (on_air m (moves (entry ∷ later ++ earlier)) ≡ Some air) × IsOnThroughout moves m air later earlier
+IsOnThroughout moves m air (entry ∷ later) earlier =
+    (on_air m (moves (entry ∷ later ++ earlier)) ≡ Some air) × IsOnThroughout moves m air later earlier
 
 -- one of the later slots sent the message
 abbrev pub IsSentAmong : ℕ → List Entry → List Entry → Message → Type 0
@@ -29,15 +30,18 @@ IsSentAmong m (Restart ∷ later) earlier message = IsSentAmong m later earlier 
 IsSentAmong m (SetText x ∷ later) earlier message = IsSentAmong m later earlier message
 IsSentAmong m (SetName x ∷ later) earlier message = IsSentAmong m later earlier message
 IsSentAmong m (SetTags pair ∷ later) earlier message = IsSentAmong m later earlier message
-IsSentAmong m (Tick free ∷ later) earlier message = (sent_in m free (later ++ earlier) ≡ Some message) ⊎ IsSentAmong m later earlier message
+IsSentAmong m (Tick free ∷ later) earlier message =
+    (sent_in m free (later ++ earlier) ≡ Some message) ⊎ IsSentAmong m later earlier message
 
 -- each segment of a text is sent
 abbrev pub ATextIsSentWhole : Type 0
 ATextIsSentWhole = (m : ℕ) (later earlier : List Entry) (air : OnAir) → IsOnThroughout text_moves m air later earlier
     → 2 * segment_count (text_body air.bytes) ≤ free_in later
-    → (a : ℕ) → a < segment_count (text_body air.bytes) → IsSentAmong m later earlier (Text air.flag a (segment_of (text_body air.bytes) a))
+    → (a : ℕ) → a < segment_count (text_body air.bytes)
+    → IsSentAmong m later earlier (Text air.flag a (segment_of (text_body air.bytes) a))
 
 -- each segment of a name is sent
 abbrev pub ANameIsSentWhole : Type 0
-ANameIsSentWhole = (m : ℕ) (later earlier : List Entry) (air : OnAir) → IsOnThroughout name_moves m air later earlier → 8 ≤ free_in later
+ANameIsSentWhole = (m : ℕ) (later earlier : List Entry) (air : OnAir) → IsOnThroughout name_moves m air later earlier
+    → 8 ≤ free_in later
     → (a : ℕ) → a < 2 → IsSentAmong m later earlier (Name air.flag a (segment_of (name_body air.bytes) a))

@@ -33,7 +33,8 @@ turn_is_known : (m : ℕ) (t : Turn) (before : List Entry) → sent_at_turn m t 
 turn_is_known m turn.Text before = text_is_known m (text_moves before) (on_air m (text_moves before))
 turn_is_known m (turn.Name a) before = name_is_known a (on_air m (name_moves before))
 turn_is_known m turn.Announcement before = λ e. cc
-turn_is_known m turn.Tags before = tags_are_known m (slot_of (text_moves before)) (on_air m (text_moves before)) (pair_on_air m before)
+turn_is_known m turn.Tags before =
+    tags_are_known m (slot_of (text_moves before)) (on_air m (text_moves before)) (pair_on_air m before)
 
 pub sent_is_known : (m : ℕ) (free : Bool) (before : List Entry) → sent_in m free before ≢ Some Other
 sent_is_known m free before =

@@ -15,15 +15,18 @@ use Rattle.rds_encoder.specs.Tags.{pair_on_air}
 
 -- what is on air is planned, in a broadcast that as yet ends in the slot that is reached
 abbrev pub WhatIsOnAirIsPlanned : Type 0
-WhatIsOnAirIsPlanned = (m : ℕ) (moves : List Move) (air : OnAir) → on_air m moves ≡ Some air → (k : ℕ) × HasNumber (plan_of m (slot_of moves) moves) k (ending_in (slot_of moves) air)
+WhatIsOnAirIsPlanned = (m : ℕ) (moves : List Move) (air : OnAir) → on_air m moves ≡ Some air
+    → (k : ℕ) × HasNumber (plan_of m (slot_of moves) moves) k (ending_in (slot_of moves) air)
 
 -- and that broadcast covers the slot
 abbrev pub WhatIsOnAirCoversTheSlot : Type 0
-WhatIsOnAirCoversTheSlot = (m : ℕ) (moves : List Move) (air : OnAir) → on_air m moves ≡ Some air → Covers (ending_in (slot_of moves) air) (slot_of moves)
+WhatIsOnAirCoversTheSlot = (m : ℕ) (moves : List Move) (air : OnAir) → on_air m moves ≡ Some air
+    → Covers (ending_in (slot_of moves) air) (slot_of moves)
 
 -- no other broadcast covers the slot that is reached
 abbrev pub OnlyWhatIsOnAirCoversTheSlot : Type 0
-OnlyWhatIsOnAirCoversTheSlot = (m : ℕ) (moves : List Move) (k : ℕ) (b : Broadcast) → 0 < m → HasNumber (plan_of m (slot_of moves) moves) k b → Covers b (slot_of moves)
+OnlyWhatIsOnAirCoversTheSlot = (m : ℕ) (moves : List Move) (k : ℕ) (b : Broadcast) → 0 < m
+    → HasNumber (plan_of m (slot_of moves) moves) k b → Covers b (slot_of moves)
     → on_air m moves ≡ Some (endless b)
 
 -- the plan has this that was on air, with its start, flag and bytes, in a broadcast that covers the slot
@@ -37,31 +40,37 @@ pub record HasOnAir (plan : List Broadcast) (air : OnAir) (slot : ℕ) : Type 0 
 -- what is on air in a slot that ends stays planned whatever comes later
 abbrev pub WhatWasOnAirStaysPlanned : Type 0
 WhatWasOnAirStaysPlanned = (m end : ℕ) (later : List Move) (free : Bool) (earlier : List Move) (air : OnAir)
-    → on_air m earlier ≡ Some air → slot_of earlier ≤ end → HasOnAir (plan_of m end (later ++ End free ∷ earlier)) air (slot_of earlier)
+    → on_air m earlier ≡ Some air → slot_of earlier ≤ end
+    → HasOnAir (plan_of m end (later ++ End free ∷ earlier)) air (slot_of earlier)
 
 -- what is on air began after the silence, and by the slot that is reached
 abbrev pub WhatIsOnAirBegan : Type 0
-WhatIsOnAirBegan = (m : ℕ) (moves : List Move) (air : OnAir) → on_air m moves ≡ Some air → (restart_before moves + m ≤ air.start) × (air.start ≤ slot_of moves)
+WhatIsOnAirBegan = (m : ℕ) (moves : List Move) (air : OnAir) → on_air m moves ≡ Some air
+    → (restart_before moves + m ≤ air.start) × (air.start ≤ slot_of moves)
 
 -- what is on air was on air in each slot after its first
 abbrev pub WhatIsOnAirWasOnAir : Type 0
-WhatIsOnAirWasOnAir = (m : ℕ) (later earlier : List Move) (air : OnAir) → on_air m (later ++ earlier) ≡ Some air → air.start < slot_of earlier → on_air m earlier ≡ Some air
+WhatIsOnAirWasOnAir = (m : ℕ) (later earlier : List Move) (air : OnAir) → on_air m (later ++ earlier) ≡ Some air
+    → air.start < slot_of earlier → on_air m earlier ≡ Some air
 
 -- these bytes were set in this slot, and accepted
 abbrev pub WasAccepted : ℕ → ℕ → List ℕ → List Move → Type 0
 WasAccepted m slot x [] = ⊥
 WasAccepted m slot x (Begin ∷ before) = WasAccepted m slot x before
-WasAccepted m slot x (Set y ∷ before) = ((slot_of before ≡ slot) × (y ≡ x) × (is_ok (reply_to m before) ≡ true)) ⊎ WasAccepted m slot x before
+WasAccepted m slot x (Set y ∷ before) =
+    ((slot_of before ≡ slot) × (y ≡ x) × (is_ok (reply_to m before) ≡ true)) ⊎ WasAccepted m slot x before
 WasAccepted m slot x (End free ∷ before) = WasAccepted m slot x before
 
 -- what is planned was accepted in its first slot
 abbrev pub WhatIsPlannedWasAccepted : Type 0
-WhatIsPlannedWasAccepted = (m end : ℕ) (moves : List Move) (k : ℕ) (b : Broadcast) → HasNumber (plan_of m end moves) k b → WasAccepted m b.start b.bytes moves
+WhatIsPlannedWasAccepted = (m end : ℕ) (moves : List Move) (k : ℕ) (b : Broadcast) → HasNumber (plan_of m end moves) k b
+    → WasAccepted m b.start b.bytes moves
 
 -- the plan is spaced by the dwell, where at most one restart or set came in each slot, and what is on air ends
 -- no earlier than it began
 abbrev pub ThePlanIsSpaced : Type 0
-ThePlanIsSpaced = (m end : ℕ) (moves : List Move) → 0 < m → IsOnePerSlot moves → IfSome (on_air m moves) (λ air. air.start ≤ end) → IsSpaced m (plan_of m end moves)
+ThePlanIsSpaced = (m end : ℕ) (moves : List Move) → 0 < m → IsOnePerSlot moves
+    → IfSome (on_air m moves) (λ air. air.start ≤ end) → IsSpaced m (plan_of m end moves)
 
 -- a number names at most one broadcast
 abbrev pub ANumberNamesOne : Type 0
@@ -77,15 +86,18 @@ EachNumberNamesOne = (plan : List Broadcast) (k : ℕ) → k < length plan → (
 
 -- of spaced broadcasts the one with the lower number ends before the other starts
 abbrev pub SpacedAreInOrder : Type 0
-SpacedAreInOrder = (d : ℕ) (plan : List Broadcast) (k l : ℕ) (a b : Broadcast) → IsSpaced d plan → HasNumber plan k a → HasNumber plan l b → k < l → a.end < b.start
+SpacedAreInOrder = (d : ℕ) (plan : List Broadcast) (k l : ℕ) (a b : Broadcast) → IsSpaced d plan → HasNumber plan k a
+    → HasNumber plan l b → k < l → a.end < b.start
 
 -- those with another one between them are d slots apart
 abbrev pub SpacedAreFarApart : Type 0
-SpacedAreFarApart = (d : ℕ) (plan : List Broadcast) (k l : ℕ) (a b : Broadcast) → IsSpaced d plan → HasNumber plan k a → HasNumber plan l b → k + 2 ≤ l → a.end + d ≤ b.start
+SpacedAreFarApart = (d : ℕ) (plan : List Broadcast) (k l : ℕ) (a b : Broadcast) → IsSpaced d plan → HasNumber plan k a
+    → HasNumber plan l b → k + 2 ≤ l → a.end + d ≤ b.start
 
 -- those of one flag are d slots apart
 abbrev pub SpacedOfOneFlagAreFarApart : Type 0
-SpacedOfOneFlagAreFarApart = (d : ℕ) (plan : List Broadcast) (k l : ℕ) (a b : Broadcast) → IsSpaced d plan → HasNumber plan k a → HasNumber plan l b → k < l → a.flag ≡ b.flag → a.end + d ≤ b.start
+SpacedOfOneFlagAreFarApart = (d : ℕ) (plan : List Broadcast) (k l : ℕ) (a b : Broadcast) → IsSpaced d plan
+    → HasNumber plan k a → HasNumber plan l b → k < l → a.flag ≡ b.flag → a.end + d ≤ b.start
 
 -- a segment that is sent with this flag f, address a and bytes x is one of what is on air
 pub record IsSegmentOf (body : List ℕ → List ℕ) (f : Bool) (a : ℕ) (x : List ℕ) (air : OnAir) : Type 0 where
@@ -107,8 +119,10 @@ ANameSegmentIsOfTheNameOnAir = (m : ℕ) (free : Bool) (entries : List Entry) (f
 
 -- tags that are sent are those of the text on air, which has been on air for the dwell
 abbrev pub TagsAreOfTheTextOnAir : Type 0
-TagsAreOfTheTextOnAir = (m : ℕ) (free : Bool) (entries : List Entry) (pair : PairFields) → sent_in m free entries ≡ Some (Tags pair)
-    → (air : OnAir) × (on_air m (text_moves entries) ≡ Some air) × (pair_on_air m entries ≡ Some pair) × (air.start + m ≤ slot_of (text_moves entries))
+TagsAreOfTheTextOnAir = (m : ℕ) (free : Bool) (entries : List Entry) (pair : PairFields)
+    → sent_in m free entries ≡ Some (Tags pair)
+    → (air : OnAir) × (on_air m (text_moves entries) ≡ Some air) × (pair_on_air m entries ≡ Some pair)
+    × (air.start + m ≤ slot_of (text_moves entries))
 
 -- the pair on air ends in the text on air
 abbrev pub ThePairEndsInTheText : Type 0

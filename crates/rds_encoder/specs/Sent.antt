@@ -25,7 +25,8 @@ abbrev pub count_from : (Bool → List Move → Bool) → ℕ → List Move → 
 count_from test a [] = 0
 count_from test a (Begin ∷ before) = count_from test a before
 count_from test a (Set x ∷ before) = count_from test a before
-count_from test a (End free ∷ before) = one_if (test free before && nat_le a (slot_of before)) + count_from test a before
+count_from test a (End free ∷ before) =
+    one_if (test free before && nat_le a (slot_of before)) + count_from test a before
 
 -- the slot that is reached, free or not, has a turn
 abbrev pub is_turn : ℕ → Bool → List Move → Bool
@@ -69,7 +70,8 @@ abbrev pub sent_at_turn : ℕ → Turn → List Entry → Option Message
 sent_at_turn m turn.Text before = text_segment m (text_moves before) (on_air m (text_moves before))
 sent_at_turn m (turn.Name a) before = name_segment a (on_air m (name_moves before))
 sent_at_turn m turn.Announcement before = Some announcement
-sent_at_turn m turn.Tags before = tags_due m (slot_of (text_moves before)) (on_air m (text_moves before)) (pair_on_air m before)
+sent_at_turn m turn.Tags before =
+    tags_due m (slot_of (text_moves before)) (on_air m (text_moves before)) (pair_on_air m before)
 
 -- what is sent in the slot that is reached
 abbrev pub sent_in : ℕ → Bool → List Entry → Option Message

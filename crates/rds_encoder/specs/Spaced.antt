@@ -24,5 +24,6 @@ IsOnePerSlot (End free ∷ before) = IsOnePerSlot before
 pub record IsSpaced (d : ℕ) (plan : List Broadcast) : Type 0 where
   pub lasts : (k : ℕ) (b : Broadcast) → HasNumber plan k b → b.start ≤ b.end
   pub order : (k : ℕ) (a b : Broadcast) → HasNumber plan k a → HasNumber plan (k + 1) b → a.end < b.start
-  pub apart : (k : ℕ) (a b : Broadcast) → HasNumber plan k a → HasNumber plan (k + 1) b → (a.flag ≢ b.flag) ⊎ (a.end + d ≤ b.start)
+  pub apart : (k : ℕ) (a b : Broadcast) → HasNumber plan k a → HasNumber plan (k + 1) b
+      → (a.flag ≢ b.flag) ⊎ (a.end + d ≤ b.start)
   pub far : (k : ℕ) (a b : Broadcast) → HasNumber plan k a → HasNumber plan (k + 2) b → a.end + d ≤ b.start

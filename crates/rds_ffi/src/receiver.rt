@@ -11,7 +11,7 @@ use crate::codes;
 use crate::slots::brought;
 use crate::view::{RdsrtView, seen};
 use rds_fields::Dwell;
-use rds_receiver::{Receiver, StoredReceiver};
+use rds_receiver::{Receiver, StoredReceiver, heard};
 
 /// Makes a receiver of this programme that heard nothing yet; the dwell is in slots.
 ///
@@ -52,6 +52,13 @@ pub extern "C" fn rdsrt_receiver_slot(receiver: &mut StoredReceiver, blocks: &[u
     let Ok(slot) = brought(blocks) else {
         return codes::BAD_ARGUMENT;
     };
+    // copies by names of their own: what is passed on below may not have been lent
+    let programme = receiver.programme;
+    let group = slot;
+    let message = heard(programme, group);
+    if receiver.rest(message) {
+        return codes::DONE;
+    }
     let mut inner = Receiver::restore(receiver);
     let changed = inner.slot(slot);
     *receiver = inner.store();

@@ -132,9 +132,12 @@ pub record PassesSoFar (pi d : ℕ) (r : Traffic) (least : ℕ) : Type 0 where
 
 -- what was read: to the reader's end where all slots pass, and else up to where the audit stopped
 abbrev pub Judges : ℕ → ℕ → ℕ → Traffic → Result Verdict LogFault → Type 0
-Judges pi d reads r (Ok (Yes n)) = (text : List ℕ) × Consumes r.before r.after text × IsAtEnd r.after × WholePasses pi d n text × IsCalm r
-Judges pi d reads r (Ok (No t fault)) = (text : List ℕ) × Consumes r.before r.after text × StopsAtSlot pi d t fault text r.after × IsCalm r
-Judges pi d reads r (Err (BadLine n)) = (text : List ℕ) × Consumes r.before r.after text × StopsAtBadLine pi d n text r.after × IsCalm r
+Judges pi d reads r (Ok (Yes n)) =
+    (text : List ℕ) × Consumes r.before r.after text × IsAtEnd r.after × WholePasses pi d n text × IsCalm r
+Judges pi d reads r (Ok (No t fault)) =
+    (text : List ℕ) × Consumes r.before r.after text × StopsAtSlot pi d t fault text r.after × IsCalm r
+Judges pi d reads r (Err (BadLine n)) =
+    (text : List ℕ) × Consumes r.before r.after text × StopsAtBadLine pi d n text r.after × IsCalm r
 Judges pi d reads r (Err Read) = PassesSoFar pi d r 0 × HasFailed r
 Judges pi d reads r (Err TooLong) = PassesSoFar pi d r reads × IsCalm r
 Judges pi d reads r (Err (BadRow n)) = ⊥

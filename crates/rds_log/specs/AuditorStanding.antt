@@ -23,7 +23,8 @@ pub record AuditorStandsAt (pi d : ℕ) (a : Auditor) (closed : List Line) (begu
 
 -- wherever the auditor stands, this holds of what it took
 abbrev pub WhereItAudits : Auditor → (ℕ → ℕ → List Line → Line → Type 0) → Type 0
-WhereItAudits a Holds = (pi d : ℕ) (closed : List Line) (begun : Line) → AuditorStandsAt pi d a closed begun → Holds pi d closed begun
+WhereItAudits a Holds = (pi d : ℕ) (closed : List Line) (begun : Line) → AuditorStandsAt pi d a closed begun
+    → Holds pi d closed begun
 
 -- the line is a slot up to which the slots do not pass
 pub record FailsAtLine (pi d t : ℕ) (fault : AuditFault) (closed : List Line) (line : Line) : Type 0 where

@@ -17,7 +17,8 @@ tuned pi m = record { programme = pi; dwell = m; first = 0 }
 abbrev pub AreSlots : List Line → List (Option Group) → Type 0
 AreSlots [] slots = slots ≡ []
 AreSlots (line ∷ before) slots = (LineSays line Skip × AreSlots before slots)
-    ⊎ ((slot : Option Group) × (older : List (Option Group)) × LineSays line (Slot slot) × (slots ≡ slot ∷ older) × AreSlots before older)
+    ⊎ ((slot : Option Group) × (older : List (Option Group)) × LineSays line (Slot slot) × (slots ≡ slot ∷ older)
+    × AreSlots before older)
 
 -- these are the views at the ends of the slots
 abbrev pub AreViews : Tuning → List (Option Group) → List ShownView → Type 0

@@ -30,4 +30,5 @@ pub record HasWord (text : List ℕ) (at w : ℕ) : Type 0 where
 
 -- the four digits of a word, with A to F for 10 to 15
 abbrev pub word_digits : ℕ → List ℕ
-word_digits w = upper_digit (w / 4096) ∷ upper_digit (w / 256 % 16) ∷ upper_digit (w / 16 % 16) ∷ upper_digit (w % 16) ∷ []
+word_digits w = upper_digit (w / 4096) ∷ upper_digit (w / 256 % 16) ∷ upper_digit (w / 16 % 16) ∷ upper_digit
+    (w % 16) ∷ []

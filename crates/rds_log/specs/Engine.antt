@@ -17,7 +17,8 @@ EndsLine [] left = IsAtEnd left
 EndsLine (b ∷ rest) left = b ≡ line_feed
 
 -- a line of the text is bad, none before it is, and the output of those before it was written
-pub record StopsAtBadLine (t : Tuning) (n : ℕ) (text : List ℕ) (left : Option (List ℕ)) (w : Traffic) (written : List ℕ) : Type 0 where
+pub record StopsAtBadLine (t : Tuning) (n : ℕ) (text : List ℕ) (left : Option (List ℕ)) (w : Traffic)
+    (written : List ℕ) : Type 0 where
   pub lines : List Line
   pub line : Line
   pub rest : List ℕ
@@ -35,7 +36,8 @@ BeginsWith text left lines =
     ⊎ (IsAtEnd left × AreLines text lines)
 
 -- the writer failed: a first part of the output of the lines that the text begins with was written
-pub record StopsAtWrite (t : Tuning) (text : List ℕ) (left : Option (List ℕ)) (w : Traffic) (written : List ℕ) : Type 0 where
+pub record StopsAtWrite (t : Tuning) (text : List ℕ) (left : Option (List ℕ)) (w : Traffic)
+    (written : List ℕ) : Type 0 where
   pub lines : List Line
   pub added : List ℕ
   pub begins : BeginsWith text left lines
@@ -69,8 +71,10 @@ pub record DecodesAll (t : Tuning) (r w : Traffic) : Type 0 where
 -- what `decode` did, with at most so many reads: each fault comes only for its cause
 abbrev pub Decodes : Tuning → ℕ → Traffic → Traffic → Result (Unit {0}) LogFault → Type 0
 Decodes t reads r w (Ok done) = DecodesAll t r w
-Decodes t reads r w (Err (BadLine n)) = (text : List ℕ) × Consumes r.before r.after text × StopsAtBadLine t n text r.after w [] × IsCalm r
-Decodes t reads r w (Err Write) = (text : List ℕ) × Consumes r.before r.after text × StopsAtWrite t text r.after w [] × IsCalm r
+Decodes t reads r w (Err (BadLine n)) =
+    (text : List ℕ) × Consumes r.before r.after text × StopsAtBadLine t n text r.after w [] × IsCalm r
+Decodes t reads r w (Err Write) =
+    (text : List ℕ) × Consumes r.before r.after text × StopsAtWrite t text r.after w [] × IsCalm r
 Decodes t reads r w (Err Read) = StopsBetween t r w 0 × HasFailed r × IsCalm w
 Decodes t reads r w (Err TooLong) = StopsBetween t r w reads × IsCalm r × IsCalm w
 Decodes t reads r w (Err (BadRow n)) = ⊥
@@ -113,7 +117,8 @@ pub record Finishes (t : Tuning) (text : List ℕ) (w : Traffic) (written : List
 -- what the end of the text did
 abbrev pub EndsWith : Tuning → List ℕ → Traffic → List ℕ → Result (Unit {0}) LogFault → Type 0
 EndsWith t text w written (Ok done) = Finishes t text w written
-EndsWith t text w written (Err (BadLine n)) = (left : Option (List ℕ)) → IsAtEnd left → StopsAtBadLine t n text left w written
+EndsWith t text w written (Err (BadLine n)) =
+    (left : Option (List ℕ)) → IsAtEnd left → StopsAtBadLine t n text left w written
 EndsWith t text w written (Err Write) = (left : Option (List ℕ)) → IsAtEnd left → StopsAtWrite t text left w written
 EndsWith t text w written (Err Read) = ⊥
 EndsWith t text w written (Err TooLong) = ⊥

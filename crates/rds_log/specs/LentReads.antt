@@ -10,17 +10,22 @@ use Rattle.rds_log.specs.declared.fault.LogFault.TheVariants.{BadLine, BadRow, R
 use Rattle.rds_log.specs.declared.form.Form.{Form}
 
 -- a read that failed behind the view
-pub failed_behind : {A B : Type 0} (view : A → B) (failures : B → ℕ) → SomeReadFailed (λ (a : A). failures (view a)) → SomeReadFailed failures
+pub failed_behind : {A B : Type 0} (view : A → B) (failures : B → ℕ) → SomeReadFailed (λ (a : A). failures (view a))
+    → SomeReadFailed failures
 failed_behind {A} {B} view failures some =
-    ∥∥₁_map some (λ (f : (before : A) × (after : A) × Failed (failures (view before)) (failures (view after))). (view f.0, view f.1, f.2))
+    ∥∥₁_map some (λ (f : (before : A) × (after : A) × Failed (failures (view before)) (failures (view after))).
+    (view f.0, view f.1, f.2))
 
 -- a script that was played, where what was told of its reads says something else
-pub plays_by : {P Q : Type 0} → (P → Q) → (form : Form) (station : Head) (m k most : ℕ) (known : Option (List ℕ)) (w : Traffic) (result : Result (Unit {0}) LogFault)
+pub plays_by : {P Q : Type 0} → (P → Q)
+    → (form : Form) (station : Head) (m k most : ℕ) (known : Option (List ℕ)) (w : Traffic)
+    (result : Result (Unit {0}) LogFault)
     → Plays form station m k most known P w result → Plays form station m k most known Q w result
 plays_by says form station m k most known w (Ok done) p = p
 plays_by says form station m k most known w (Err (BadLine n)) p = p
 plays_by says form station m k most known w (Err (BadRow n)) p = p
-plays_by says form station m k most known w (Err Read) (records, wrote, fewer, failed) = (records, wrote, fewer, says failed)
+plays_by says form station m k most known w (Err Read) (records, wrote, fewer, failed) =
+    (records, wrote, fewer, says failed)
 plays_by says form station m k most known w (Err Write) p = p
 plays_by says form station m k most known w (Err TooLong) p = p
 plays_by says form station m k most known w (Err Memory) p = p

@@ -28,7 +28,8 @@ text_of (line ∷ before) begun = text_of before line ++ line_feed ∷ begun
 
 -- these are the lines of the text: those that are closed, and the one that is begun where it is not empty
 abbrev pub AreLines : List ℕ → List Line → Type 0
-AreLines text lines = (closed : List Line) × (begun : Line) × (text ≡ text_of closed begun) × All IsLine closed × IsLine begun
+AreLines text lines = (closed : List Line) × (begun : Line) × (text ≡ text_of closed begun) × All IsLine closed
+    × IsLine begun
     × (((begun ≡ []) × (lines ≡ closed)) ⊎ ((begun ≢ []) × (lines ≡ begun ∷ closed)))
 
 -- whether a carriage return ends the line

@@ -43,14 +43,16 @@ pub record IsOutcome (station : Head) (m k : ℕ) (e : Event) (before : List Eve
   pub reply : o.reply ≡ reply_at (m + k) e.command (entries before)
   pub sent : IsSent station (sent_at (m + k) e before) o.sent
   pub receivers : length o.views ≡ length e.receptions
-  pub views : (i : ℕ) → i < length o.views → IsViewOfInput station m (input_of (m + k) i (e ∷ before)) (view_at o.views i)
+  pub views : (i : ℕ) → i < length o.views
+      → IsViewOfInput station m (input_of (m + k) i (e ∷ before)) (view_at o.views i)
 
 -- these are the outcomes of the slots
 abbrev pub AreOutcomes : Head → ℕ → ℕ → List Event → List Outcome → Type 0
 AreOutcomes station m k [] [] = Unit {0}
 AreOutcomes station m k [] (o ∷ older) = ⊥
 AreOutcomes station m k (e ∷ before) [] = ⊥
-AreOutcomes station m k (e ∷ before) (o ∷ older) = IsOutcome station m k e before o × AreOutcomes station m k before older
+AreOutcomes station m k (e ∷ before) (o ∷ older) =
+    IsOutcome station m k e before o × AreOutcomes station m k before older
 
 -- what a reply line says of a text, a name or tags
 abbrev pub thing_set : Command → List ℕ
@@ -86,7 +88,8 @@ reply_content (Refused refusal) = refusal_content refusal
 -- the line of a reply, behind this mark; where there was no command there is none
 abbrev pub reply_line : List ℕ → ℕ → Command → Reply → List ℕ
 reply_line mark slot command reply.Quiet = []
-reply_line mark slot command Restarted = mark ++ line_of (slot_stamp slot) (reply_thing command Restarted) (reply_content Restarted)
+reply_line mark slot command Restarted =
+    mark ++ line_of (slot_stamp slot) (reply_thing command Restarted) (reply_content Restarted)
 reply_line mark slot command Done = mark ++ line_of (slot_stamp slot) (reply_thing command Done) (reply_content Done)
 reply_line mark slot command (Refused refusal) =
     mark ++ line_of (slot_stamp slot) (reply_thing command (Refused refusal)) (reply_content (Refused refusal))
@@ -112,7 +115,8 @@ log_line (Some g) = block_digits g ++ codes "\n"
 -- the changes of the first n receivers, by their numbers
 unfoldable pub receiver_changes : ℕ → ℕ → List ShownView → List ShownView → List ℕ
 receiver_changes slot zero before now = []
-receiver_changes slot (suc i) before now = receiver_changes slot i before now ++ change (receiver_stamp slot i) (view_at before i) (view_at now i)
+receiver_changes slot (suc i) before now =
+    receiver_changes slot i before now ++ change (receiver_stamp slot i) (view_at before i) (view_at now i)
 
 -- the lines of the reply and of the group
 abbrev pub answer_lines : Form → ℕ → Command → Reply → Option Group → List ℕ
@@ -121,7 +125,8 @@ answer_lines Log slot command reply sent = reply_line (codes "# ") slot command 
 
 -- the lines of a slot, where the receivers showed this before; a log has no receivers
 abbrev pub slot_lines : Form → ℕ → List ShownView → Outcome → List ℕ
-slot_lines form slot before o = answer_lines form slot o.command o.reply o.sent ++ receiver_changes slot (length o.views) before o.views
+slot_lines form slot before o =
+    answer_lines form slot o.command o.reply o.sent ++ receiver_changes slot (length o.views) before o.views
 
 -- what the receivers show at the end
 abbrev pub newest_views : List Outcome → List ShownView

@@ -11,8 +11,11 @@ use Rattle.rds_receiver.specs.Shown.{ShownView}
 
 -- the names of the classes from 1 on (IEC 62106-6, content types of RadioText Plus)
 abbrev pub class_names : List (List ℕ)
-class_names = codes "ITEM.TITLE" ∷ codes "ITEM.ALBUM" ∷ codes "ITEM.TRACKNUMBER" ∷ codes "ITEM.ARTIST" ∷ codes "ITEM.COMPOSITION"
-    ∷ codes "ITEM.MOVEMENT" ∷ codes "ITEM.CONDUCTOR" ∷ codes "ITEM.COMPOSER" ∷ codes "ITEM.BAND" ∷ codes "ITEM.COMMENT" ∷ codes "ITEM.GENRE" ∷ []
+class_names =
+    codes "ITEM.TITLE" ∷ codes "ITEM.ALBUM" ∷ codes "ITEM.TRACKNUMBER"
+    ∷ codes "ITEM.ARTIST" ∷ codes "ITEM.COMPOSITION" ∷ codes "ITEM.MOVEMENT"
+    ∷ codes "ITEM.CONDUCTOR" ∷ codes "ITEM.COMPOSER" ∷ codes "ITEM.BAND"
+    ∷ codes "ITEM.COMMENT" ∷ codes "ITEM.GENRE" ∷ []
 
 abbrev pub class_name : ℕ → Option (List ℕ)
 class_name class = if class == 0 then None else slice_get class_names (class - 1)
@@ -80,8 +83,10 @@ tag_change stamp part before now = unless_same (is_same_tag before now) (line_of
 
 -- the lines of a slot
 abbrev pub change : List ℕ → ShownView → ShownView → List ℕ
-change stamp before now = text_change stamp (codes "text") before.text now.text ++ text_change stamp (codes "name") before.name now.name
-    ++ item_change stamp (codes "item") before.item now.item ++ tag_change stamp (codes "tag1") before.one now.one ++ tag_change stamp (codes "tag2") before.two now.two
+change stamp before now =
+    text_change stamp (codes "text") before.text now.text ++ text_change stamp (codes "name") before.name now.name
+    ++ item_change stamp (codes "item") before.item now.item ++ tag_change stamp (codes "tag1") before.one now.one
+    ++ tag_change stamp (codes "tag2") before.two now.two
 
 abbrev pub nothing_shown : ShownView
 nothing_shown = record { text = None; name = None; item = None; one = None; two = None }

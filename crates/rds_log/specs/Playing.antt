@@ -26,12 +26,15 @@ use Rattle.rds_log.specs.declared.player.RowRefused.TheVariants as refused
 use Rattle.rds_log.specs.declared.script.Script.{Script}
 
 -- the reader of a script gave these records
-pub record ScriptStandsAt {R : Type 0} {g h : _} (remaining : R → Option (List ℕ)) (known : Option (List ℕ)) (s : Script R g h) (records : List Record) : Type 0 where
+pub record ScriptStandsAt {R : Type 0} {g h : _} (remaining : R → Option (List ℕ)) (known : Option (List ℕ))
+    (s : Script R g h) (records : List Record) : Type 0 where
   pub plain : reader_trim s.reader ≡ untrimmed
   pub flexible : is_flexible s.reader ≡ true
   pub ready : Ready s.reader
   pub config : reader_config s.reader ≡ default_config
-  pub gave : (script : List ℕ) → known ≡ Some script → (rest : List ℕ) × (source_of (bytes_of remaining) s.reader ≡ Some rest) × RecordsUpTo script records (reader_state s.reader) rest
+  pub gave : (script : List ℕ) → known ≡ Some script
+      → (rest : List ℕ) × (source_of (bytes_of remaining) s.reader ≡ Some rest)
+      × RecordsUpTo script records (reader_state s.reader) rest
 
 -- a read of a record fails for want of memory, or where a read of the reader failed
 abbrev pub IsReadFault : Type 0 → LogFault → Type 0
@@ -44,7 +47,8 @@ AreKept kept views = (i : ℕ) → view_at kept i ≡ view_at views i
 -- the views are those of the first n receivers before the newest of these slots; the encoder's dwell is d
 abbrev pub WereShown : Head → ℕ → ℕ → ℕ → List Event → List ShownView → Type 0
 WereShown station m d n [] views = ⊥
-WereShown station m d n (e ∷ before) views = (i : ℕ) → i < n → world.IsViewOfInput station m (input_of d i before) (view_at views i)
+WereShown station m d n (e ∷ before) views =
+    (i : ℕ) → i < n → world.IsViewOfInput station m (input_of d i before) (view_at views i)
 
 -- the world of these slots, with so many receivers; before the first slot there may be none
 abbrev pub HasWorld : Head → ℕ → ℕ → ℕ → Option WorldState → List Event → Type 0
@@ -52,7 +56,8 @@ HasWorld station m k receivers None events = events ≡ []
 HasWorld station m k receivers (Some w) events = world.StandsAt station m k w events × (length w.receivers ≡ receivers)
 
 -- the station played these rows, each with so many receivers, and gave the lines of their slots
-pub record PlayerStandsAt (form : Form) (station : Head) (m k receivers : ℕ) (p : Player) (records : List Record) (written : List ℕ) : Type 0 where
+pub record PlayerStandsAt (form : Form) (station : Head) (m k receivers : ℕ) (p : Player) (records : List Record)
+    (written : List ℕ) : Type 0 where
   pub form_is : p.form ≡ form
   pub head : p.config.head ≡ station
   pub dwell : p.config.dwell ≡ m
@@ -70,25 +75,31 @@ pub record PlayerStandsAt (form : Form) (station : Head) (m k receivers : ℕ) (
 
 -- wherever the player stands, this holds of what it played
 abbrev pub WherePlayerStands : Player → (Form → Head → ℕ → ℕ → ℕ → List Record → List ℕ → Type 0) → Type 0
-WherePlayerStands p Holds = (form : Form) (station : Head) (m k receivers : ℕ) (records : List Record) (written : List ℕ)
+WherePlayerStands p Holds =
+    (form : Form) (station : Head) (m k receivers : ℕ) (records : List Record) (written : List ℕ)
     → PlayerStandsAt form station m k receivers p records written → Holds form station m k receivers records written
 
 -- the player goes on by a row
 abbrev pub PlaysRow : Form → Head → ℕ → ℕ → Player → List Record → List ℕ → Type 0
-PlaysRow form station m k p records written = (receivers : ℕ) × PlayerStandsAt form station m k receivers p records written
+PlaysRow form station m k p records written =
+    (receivers : ℕ) × PlayerStandsAt form station m k receivers p records written
 
--- the player is to play a row with so many receivers: it has a world, and so many, but where it has played rows with others
+-- the player is to play a row with so many receivers: it has a world, and so many, but where it has played rows with
+-- others
 abbrev pub BeginsRow : Form → Head → ℕ → ℕ → ℕ → Player → List Record → List ℕ → Type 0
 BeginsRow form station m k asked p records written =
-    (receivers : ℕ) × PlayerStandsAt form station m k receivers p records written × ((0 < length records) ⊎ (receivers ≡ asked)) × IsSome p.world
+    (receivers : ℕ) × PlayerStandsAt form station m k receivers p records written
+    × ((0 < length records) ⊎ (receivers ≡ asked)) × IsSome p.world
 
--- why the newest of these records is not played: not all are rows, or it is the first and there is no memory for a world
+-- why the newest of these records is not played: not all are rows, or it is the first and there is no memory for a
+-- world
 abbrev pub IsRowRefused : ℕ → Form → List Record → RowRefused → Type 0
 IsRowRefused k form records NoRow = AreNoRows k form records
 IsRowRefused k form records refused.Memory = length records ≡ 1
 
 -- the station played these records, and their output was written
-pub record PlayedSoFar (form : Form) (station : Head) (m k : ℕ) (p : Player) (records : List Record) (w : Traffic) : Type 0 where
+pub record PlayedSoFar (form : Form) (station : Head) (m k : ℕ) (p : Player) (records : List Record)
+    (w : Traffic) : Type 0 where
   pub receivers : ℕ
   pub written : List ℕ
   pub player : PlayerStandsAt form station m k receivers p records written

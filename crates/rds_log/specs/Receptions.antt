@@ -1,6 +1,6 @@
--- What each receiver gets of a slot, as the last field of a row spells it: a letter for each receiver, in order. `G`: it
--- gets what was sent. `L`: it loses the slot. `R`: it restarts. After a `G` stand up to four decimal digits, the number of
--- slots that the group comes late; no digit says 0. This is the project's own format.
+-- What each receiver gets of a slot, as the last field of a row spells it: a letter for each receiver, in order. `G`:
+-- it gets what was sent. `L`: it loses the slot. `R`: it restarts. After a `G` stand up to four decimal digits, the
+-- number of slots that the group comes late; no digit says 0. This is the project's own format.
 use Rattle.std.specs.Prelude.{◌≡◌, ◌≤◌, ◌++◌, ℕ, List, [], ◌∷◌, length}
 use Rattle.std.specs.Str.Parse.{AllDigits, digits_value}
 use Rattle.rds_world.specs.declared.event.Reception.{Reception}
@@ -27,4 +27,6 @@ HasDigits Restart digits = digits ≡ []
 -- the text spells what each receiver gets: a letter and its digits, and then the same for the others
 unfoldable pub AreReceptions : List ℕ → List Reception → Type 0
 AreReceptions text [] = text ≡ []
-AreReceptions text (first ∷ others) = (digits : List ℕ) × (rest : List ℕ) × (text ≡ letter first ∷ digits ++ rest) × HasDigits first digits × AreReceptions rest others
+AreReceptions text (first ∷ others) =
+    (digits : List ℕ) × (rest : List ℕ) × (text ≡ letter first ∷ digits ++ rest) × HasDigits first digits
+    × AreReceptions rest others

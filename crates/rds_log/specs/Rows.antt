@@ -42,14 +42,16 @@ pub record IsCut (text first rest : List ℕ) : Type 0 where
 unfoldable pub AreNumbers : List ℕ → List ℕ → Type 0
 AreNumbers text [] = ⊥
 AreNumbers text (n ∷ []) = IsNumber text n
-AreNumbers text (n ∷ m ∷ more) = (first : List ℕ) × (rest : List ℕ) × IsCut text first rest × IsNumber first n × AreNumbers rest (m ∷ more)
+AreNumbers text (n ∷ m ∷ more) =
+    (first : List ℕ) × (rest : List ℕ) × IsCut text first rest × IsNumber first n × AreNumbers rest (m ∷ more)
 
 abbrev pub numbers_of_tag : TagFields → List ℕ
 numbers_of_tag tag = tag.class ∷ tag.start ∷ tag.extra ∷ []
 
 -- toggle and running bit, then the first tag, then the second
 abbrev pub numbers_of_pair : PairFields → List ℕ
-numbers_of_pair pair = from_bool pair.toggle ∷ from_bool pair.running ∷ numbers_of_tag pair.one ++ numbers_of_tag pair.two
+numbers_of_pair pair = from_bool pair.toggle ∷ from_bool pair.running ∷ numbers_of_tag pair.one
+    ++ numbers_of_tag pair.two
 
 -- the argument is read as a name, which is padded to its eight bytes
 pub record IsNameArgument (argument name : List ℕ) : Type 0 where
@@ -64,7 +66,8 @@ SaysCommand word argument Quiet = (word ≡ word_of Nothing) × (argument ≡ []
 SaysCommand word argument Restart = (word ≡ word_of verb.Restart) × (argument ≡ [])
 SaysCommand word argument (SetText x) = (word ≡ word_of Text) × IsReadAs argument x × IsText x
 SaysCommand word argument (SetName x) = (word ≡ word_of Name) × IsNameArgument argument x
-SaysCommand word argument (SetTags pair) = (word ≡ word_of Tags) × AreNumbers argument (numbers_of_pair pair) × IsPair pair
+SaysCommand word argument (SetTags pair) =
+    (word ≡ word_of Tags) × AreNumbers argument (numbers_of_pair pair) × IsPair pair
 
 -- whether the slot is free
 abbrev pub free_field : Bool → List ℕ
@@ -92,7 +95,8 @@ abbrev pub AreRows : ℕ → ℕ → List Record → List Event → Type 0
 AreRows k receivers [] [] = Unit {0}
 AreRows k receivers [] (e ∷ older) = ⊥
 AreRows k receivers (row ∷ before) [] = ⊥
-AreRows k receivers (row ∷ before) (e ∷ older) = SaysEvent row e × CanBeTaken k receivers e older × AreRows k receivers before older
+AreRows k receivers (row ∷ before) (e ∷ older) =
+    SaysEvent row e × CanBeTaken k receivers e older × AreRows k receivers before older
 
 -- the records are rows: the first of them fixes the number of receivers
 pub record RowsSay (k : ℕ) (form : Form) (records : List Record) (events : List Event) : Type 0 where

@@ -22,12 +22,14 @@ pub record RecordsUpTo (script : List ℕ) (records : List Record) (state : Stat
 
 -- the script begins with these records
 abbrev pub HasRecords : Option (List ℕ) → List Record → Type 0
-HasRecords known records = (script : List ℕ) → known ≡ Some script → (state : State) × (rest : List ℕ) × RecordsUpTo script records state rest
+HasRecords known records =
+    (script : List ℕ) → known ≡ Some script → (state : State) × (rest : List ℕ) × RecordsUpTo script records state rest
 
 -- and it has no others
 abbrev pub HasAllRecords : Option (List ℕ) → List Record → Type 0
 HasAllRecords known records = (script : List ℕ) → known ≡ Some script
-    → (state : State) × (rest : List ℕ) × RecordsUpTo script records state rest × (next_record default_config state [] [] rest ≡ None)
+    → (state : State) × (rest : List ℕ) × RecordsUpTo script records state rest
+    × (next_record default_config state [] [] rest ≡ None)
 
 -- the records are rows, and write this
 pub record RowsWrite (form : Form) (station : Head) (m k : ℕ) (records : List Record) (written : List ℕ) : Type 0 where
@@ -42,7 +44,8 @@ pub record ScriptWrites (form : Form) (station : Head) (m k : ℕ) (script writt
   pub write : RowsWrite form station m k records written
 
 -- the output of the first records of the script was written
-pub record WroteRows (form : Form) (station : Head) (m k : ℕ) (known : Option (List ℕ)) (w : Traffic) (records : List Record) : Type 0 where
+pub record WroteRows (form : Form) (station : Head) (m k : ℕ) (known : Option (List ℕ)) (w : Traffic)
+    (records : List Record) : Type 0 where
   pub begins : HasRecords known records
   pub written : List ℕ
   pub write : RowsWrite form station m k records written
@@ -50,7 +53,8 @@ pub record WroteRows (form : Form) (station : Head) (m k : ℕ) (known : Option 
   pub calm : IsCalm w
 
 -- the record after these is no row, and their output was written
-pub record StopsAtBadRow (form : Form) (station : Head) (m k : ℕ) (known : Option (List ℕ)) (w : Traffic) (n : ℕ) : Type 0 where
+pub record StopsAtBadRow (form : Form) (station : Head) (m k : ℕ) (known : Option (List ℕ)) (w : Traffic)
+    (n : ℕ) : Type 0 where
   pub records : List Record
   pub bad : List (List ℕ)
   pub wrote : WroteRows form station m k known w records
@@ -59,7 +63,8 @@ pub record StopsAtBadRow (form : Form) (station : Head) (m k : ℕ) (known : Opt
   pub number : n ≡ length records + 1
 
 -- the writer failed: a first part of the output of these records, no more than the bound, was written
-pub record StopsAtWrite (form : Form) (station : Head) (m k most : ℕ) (known : Option (List ℕ)) (w : Traffic) : Type 0 where
+pub record StopsAtWrite (form : Form) (station : Head) (m k most : ℕ) (known : Option (List ℕ))
+    (w : Traffic) : Type 0 where
   pub records : List Record
   pub begins : HasRecords known records
   pub within : length records ≤ most
@@ -82,7 +87,10 @@ abbrev pub Plays : Form → Head → ℕ → ℕ → ℕ → Option (List ℕ) �
 Plays form station m k most known ReadFailed w (Ok done) = PlaysAll form station m k most known w
 Plays form station m k most known ReadFailed w (Err (BadLine n)) = ⊥
 Plays form station m k most known ReadFailed w (Err (BadRow n)) = StopsAtBadRow form station m k known w n × (n ≤ most)
-Plays form station m k most known ReadFailed w (Err Read) = (records : List Record) × WroteRows form station m k known w records × (length records < most) × ReadFailed
-Plays form station m k most known ReadFailed w (Err Memory) = (records : List Record) × WroteRows form station m k known w records × (length records < most)
-Plays form station m k most known ReadFailed w (Err TooLong) = (records : List Record) × WroteRows form station m k known w records × (length records ≡ most)
+Plays form station m k most known ReadFailed w (Err Read) =
+    (records : List Record) × WroteRows form station m k known w records × (length records < most) × ReadFailed
+Plays form station m k most known ReadFailed w (Err Memory) =
+    (records : List Record) × WroteRows form station m k known w records × (length records < most)
+Plays form station m k most known ReadFailed w (Err TooLong) =
+    (records : List Record) × WroteRows form station m k known w records × (length records ≡ most)
 Plays form station m k most known ReadFailed w (Err Write) = StopsAtWrite form station m k most known w

@@ -10,7 +10,8 @@ use Rattle.rds_log.specs.Viewing.{ViewsStandAt}
 use Rattle.rds_log.specs.declared.decoder.Decoder.{Decoder}
 
 -- the decoder took the closed lines and the bytes of the begun one, and gave the output of the closed ones
-pub record DecoderStandsAt (t : Tuning) (d : Decoder) (closed : List Line) (begun : Line) (written : List ℕ) : Type 0 where
+pub record DecoderStandsAt (t : Tuning) (d : Decoder) (closed : List Line) (begun : Line)
+    (written : List ℕ) : Type 0 where
   pub cutter : CutterStandsAt d.cutter closed begun
   pub slots : List (Option Group)
   pub say : AreSlots closed slots
@@ -19,10 +20,12 @@ pub record DecoderStandsAt (t : Tuning) (d : Decoder) (closed : List Line) (begu
 -- wherever the decoder stands, this holds of what it took and gave
 abbrev pub WhereItStands : Decoder → (Tuning → List Line → Line → List ℕ → Type 0) → Type 0
 WhereItStands d Holds =
-    (t : Tuning) (closed : List Line) (begun : Line) (written : List ℕ) → DecoderStandsAt t d closed begun written → Holds t closed begun written
+    (t : Tuning) (closed : List Line) (begun : Line) (written : List ℕ) → DecoderStandsAt t d closed begun written
+    → Holds t closed begun written
 
 -- the line was closed, and its output came to what waits
-pub record GivesLine (t : Tuning) (d : Decoder) (closed : List Line) (line : Line) (written before after : List ℕ) : Type 0 where
+pub record GivesLine (t : Tuning) (d : Decoder) (closed : List Line) (line : Line)
+    (written before after : List ℕ) : Type 0 where
   pub added : List ℕ
   pub output : after ≡ before ++ added
   pub stands : DecoderStandsAt t d (line ∷ closed) [] (written ++ added)
@@ -33,7 +36,8 @@ pub record IsBadAt (t : Tuning) (n : ℕ) (closed : List Line) (line : Line) (wr
   pub write : LinesWrite t closed written
 
 -- the decoder went on by these bytes
-pub record GoesOn (t : Tuning) (d : Decoder) (closed : List Line) (begun : Line) (bytes written before after : List ℕ) : Type 0 where
+pub record GoesOn (t : Tuning) (d : Decoder) (closed : List Line) (begun : Line)
+    (bytes written before after : List ℕ) : Type 0 where
   pub lines : List Line
   pub line : Line
   pub added : List ℕ
@@ -42,7 +46,8 @@ pub record GoesOn (t : Tuning) (d : Decoder) (closed : List Line) (begun : Line)
   pub stands : DecoderStandsAt t d lines line (written ++ added)
 
 -- a line that these bytes close is bad
-pub record FailsIn (t : Tuning) (n : ℕ) (closed : List Line) (begun : Line) (bytes written before after : List ℕ) : Type 0 where
+pub record FailsIn (t : Tuning) (n : ℕ) (closed : List Line) (begun : Line)
+    (bytes written before after : List ℕ) : Type 0 where
   pub lines : List Line
   pub line : Line
   pub rest : List ℕ

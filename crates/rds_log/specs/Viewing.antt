@@ -20,5 +20,6 @@ pub record ViewsStandAt (t : Tuning) (v : ViewLines) (slots : List (Option Group
 
 -- a slot that brings this appends the changes of its view
 abbrev pub GivesChange : ViewLines → ViewLines → Option Group → List ℕ → List ℕ → Type 0
-GivesChange old new group before after = (t : Tuning) (slots : List (Option Group)) (written : List ℕ) → ViewsStandAt t old slots written
+GivesChange old new group before after =
+    (t : Tuning) (slots : List (Option Group)) (written : List ℕ) → ViewsStandAt t old slots written
     → (added : List ℕ) × (after ≡ before ++ added) × ViewsStandAt t new (group ∷ slots) (written ++ added)

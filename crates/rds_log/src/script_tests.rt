@@ -1,5 +1,4 @@
-//! Scripts and their output, scripts that are refused, and readers and writers that fail. More worked scripts are
-//! tests of the program, in rdsrt.
+//! Scripts without an end, readers and writers that fail, and memory that is refused. Worked scripts are tests of rds_run.
 
 use crate::tests::same;
 use crate::{LogFault, encode, encode_within, simulate, simulate_within};
@@ -15,137 +14,20 @@ use std::io::{self, ErrorKind, Read, Write};
 use std::process::Abort;
 use std::test::Fail;
 
-/// A script, the dwell in slots, and how it ends with which output, simulated or encoded.
-struct Case {
-    name: &'static str,
-    dwell: u16,
-    script: &'static [u8],
-    output: &'static [u8],
-    done: Result<(), LogFault>,
-}
+/// A text that one receiver gets with a dwell of one slot, and what is simulated.
+const SIMULATED: &[u8] = b"-,,1,G\ntext,HI,1,G\n-,,0,G\n";
 
-const TAGS_ON_AIR: &[u8] = b"-,,1,GGG
--,,1,GGG
--,,1,GGG
--,,1,GGG
-text,ABBA - WATERLOO,1,GGL
-tags,1 1 4 0 3 1 7 7,1,GGL
--,,1,GGL
--,,1,GGL
--,,1,GGL
--,,1,GLG
--,,1,GGL
--,,1,GGG
-";
+const SIMULATED_OUTPUT: &[u8] =
+    b"1 text ok\n1 sent C201 2140 4849 0D20\n1 r0 text \"HI\"\n2 r0 text none\n";
 
-const TAGS_OUTPUT: &[u8] = b"4 text ok
-4 sent C201 2140 4142 4241
-5 tags ok
-6 sent C201 2141 202D 2057
-8 sent C201 2142 4154 4552
-9 sent C201 3156 0000 4BD7
-10 sent C201 2143 4C4F 4F0D
-10 r0 text \"ABBA - WATERLOO\"
-10 r1 text \"ABBA - WATERLOO\"
-11 sent C201 B158 8006 08E7
-11 r0 item 1 1
-11 r0 tag1 ITEM.ARTIST \"ABBA\"
-11 r0 tag2 ITEM.TITLE \"WATERLOO\"
-";
+/// The same text set twice, and the log of it with a dwell of one slot.
+const ENCODED: &[u8] = b"text,HI,1,\ntext,HI,1,\n";
 
-const SIMULATED: [Case; 4] = [
-    Case {
-        name: "tags_on_air",
-        dwell: 4,
-        script: TAGS_ON_AIR,
-        output: TAGS_OUTPUT,
-        done: Ok(()),
-    },
-    Case {
-        name: "quoted_comma",
-        dwell: 1,
-        script: b"-,,1,G\ntext,\"A, B\",1,G\n",
-        output: b"1 text ok\n1 sent C201 2140 412C 2042\n",
-        done: Ok(()),
-    },
-    Case {
-        name: "tags_refused",
-        dwell: 1,
-        script: b"tags,0 1 1 0 1 0 0 0,1,
-tags,0 1 1 0 1 0 0 0,1,
-text,HI,1,
-tags,0 1 1 0 2 0 0 0,1,
-tags,0 1 1 0 1 1 2 0,1,
-tags,0 1 1 0 1 0 0 0,1,
-",
-        output: b"0 tags silent 1
-1 tags notext
-2 text ok
-3 tags outoftext 1
-3 sent C201 2140 4849 0D20
-4 tags outoftext 2
-5 tags ok
-5 sent C201 2140 4849 0D20
-",
-        done: Ok(()),
-    },
-    Case {
-        name: "empty_script",
-        dwell: 4,
-        script: b"",
-        output: b"",
-        done: Ok(()),
-    },
-];
-
-const ENCODED: [Case; 3] = [
-    Case {
-        name: "encoded_log",
-        dwell: 1,
-        script: b"text,HI,1,\ntext,HI,1,\n",
-        output: b"# 0 text silent 1
+const ENCODED_LOG: &[u8] = b"# 0 text silent 1
 ---- ---- ---- ----
 # 1 text ok
 C201 2140 4849 0D20
-",
-        done: Ok(()),
-    },
-    Case {
-        name: "empty_script",
-        dwell: 1,
-        script: b"",
-        output: b"",
-        done: Ok(()),
-    },
-    Case {
-        name: "row_with_a_receiver",
-        dwell: 1,
-        script: b"-,,1,G\n",
-        output: b"",
-        done: Err(LogFault::BadRow(1)),
-    },
-];
-
-/// Each alone as a script is no row.
-const REFUSED: [&[u8]; 17] = [
-    b"text,HI,1\n",
-    b"-,,1,,\n",
-    b"-,x,1,\n",
-    b"restart,x,1,\n",
-    b"Text,HI,1,\n",
-    b"text,HI,2,\n",
-    b"text,HI,,\n",
-    b"tags,1 1 0 0 1 0 0 0,1,\n",
-    b"tags,1 1 256 0 0 0 0 0,1,\n",
-    b"tags,2 1 1 0 0 0 0 0,1,\n",
-    b"tags,1 1 1 0 0 0 0,1,\n",
-    b"tags,1 1 1 0 0 0 0 0 0,1,\n",
-    b"tags,1 1 +1 0 0 0 0 0,1,\n",
-    b"text,a\\x4,1,\n",
-    b"name,123456789,1,\n",
-    b"-,,1,GGGGGGGGG\n",
-    b"-,,1,g\n",
-];
+";
 
 fn config(dwell: u16) -> Result<Config, Fail> {
     Ok(Config {
@@ -159,133 +41,20 @@ fn config(dwell: u16) -> Result<Config, Fail> {
     })
 }
 
-/// How a script ended, and its output.
-type Played = (Result<(), LogFault>, Vec<u8>);
-
-fn simulated(alloc: Global, dwell: u16, script: &[u8]) -> Result<Played, Fail> {
-    let mut output = Vec::new(alloc);
-    let done = simulate(
-        alloc,
-        Told::new(script),
-        &mut Told::new(&mut output),
-        config(dwell)?,
-    );
-    Ok((done, output))
-}
-
-fn encoded(alloc: Global, dwell: u16, script: &[u8]) -> Result<Played, Fail> {
-    let mut output = Vec::new(alloc);
-    let done = encode(
-        alloc,
-        Told::new(script),
-        &mut Told::new(&mut output),
-        config(dwell)?,
-    );
-    Ok((done, output))
-}
-
-#[test]
-fn simulations(rt: HostRuntime) -> Result<(), Fail> {
-    for case in &SIMULATED {
-        let (done, output) = simulated(rt.alloc(), case.dwell, case.script)?;
-        same(
-            &rt,
-            (case.name, output.as_slice()),
-            (case.name, case.output),
-        );
-        same(&rt, (case.name, done), (case.name, case.done));
-    }
-    Ok(())
-}
-
-#[test]
-fn encodings(rt: HostRuntime) -> Result<(), Fail> {
-    for case in &ENCODED {
-        let (done, output) = encoded(rt.alloc(), case.dwell, case.script)?;
-        same(
-            &rt,
-            (case.name, output.as_slice()),
-            (case.name, case.output),
-        );
-        same(&rt, (case.name, done), (case.name, case.done));
-    }
-    Ok(())
-}
-
-#[test]
-fn refused_rows(rt: HostRuntime) -> Result<(), Fail> {
-    for script in REFUSED {
-        let (done, output) = simulated(rt.alloc(), 4, script)?;
-        same(&rt, done, Err(LogFault::BadRow(1)));
-        same(&rt, output.as_slice(), b"".as_slice());
-    }
-    Ok(())
-}
-
-/// The first row fixes the number of receivers, and a row is judged after the output of those before it.
-#[test]
-fn first_bad_row(rt: HostRuntime) -> Result<(), Fail> {
-    let rows: [(&[u8], &[u8], u64); 4] = [
-        (b"-,,1,G\n-,,1,GG\n", b"", 2),
-        (b"-,,1,G\n-,,1", b"", 2),
-        (b"text,\"HI", b"", 1),
-        (b"text,HI,1,\n-,,1,\nx\n", b"0 text silent 4\n", 3),
-    ];
-    for (script, wanted, number) in rows {
-        let (done, output) = simulated(rt.alloc(), 4, script)?;
-        same(&rt, done, Err(LogFault::BadRow(number)));
-        same(&rt, output.as_slice(), wanted);
-    }
-    Ok(())
-}
-
-/// What a record is, is the definition of `csv`: a byte-order mark at the start and empty lines are no part of one,
-/// lines end with a carriage return too, a line end between quotes is a byte of the field, and a quote that is left
-/// open ends with the script.
-#[test]
-fn records(rt: HostRuntime) -> Result<(), Fail> {
-    let rows: [(&[u8], &[u8], Result<(), LogFault>); 5] = [
-        (b"\xEF\xBB\xBFtext,HI,1,\n", b"0 text silent 4\n", Ok(())),
-        (
-            b"text,HI,1,\r\ntext,HI,1,\r\n",
-            b"0 text silent 4\n1 text silent 3\n",
-            Ok(()),
-        ),
-        (
-            b"\n\ntext,HI,1,\n\n\ntext,HI,1,",
-            b"0 text silent 4\n1 text silent 3\n",
-            Ok(()),
-        ),
-        (b"text,\"H\nI\",1,\n", b"", Err(LogFault::BadRow(1))),
-        (
-            b"text,HI,1,\n-,,1,\"\n-,,1,\n",
-            b"0 text silent 4\n",
-            Err(LogFault::BadRow(2)),
-        ),
-    ];
-    for (script, wanted, wanted_done) in rows {
-        let (done, output) = simulated(rt.alloc(), 4, script)?;
-        same(&rt, output.as_slice(), wanted);
-        same(&rt, done, wanted_done);
-    }
-    Ok(())
-}
-
 /// As many records as the bound are too many, whether or not the script ends there.
 #[test]
 fn too_long(rt: HostRuntime) -> Result<(), Fail> {
-    let script = b"text,HI,1,\ntext,HI,1,\n";
     let wanted: [&[u8]; 4] = [
         b"",
         b"# 0 text silent 1\n---- ---- ---- ----\n",
-        ENCODED[0].output,
-        ENCODED[0].output,
+        ENCODED_LOG,
+        ENCODED_LOG,
     ];
     for (records, wanted) in wanted.iter().enumerate() {
         let mut output = Vec::new(rt.alloc());
         let done = encode_within(
             rt.alloc(),
-            Told::new(script.as_slice()),
+            Told::new(ENCODED),
             &mut Told::new(&mut output),
             config(1)?,
             records as u64,
@@ -370,24 +139,24 @@ fn reader_fails(rt: HostRuntime) -> Result<(), Fail> {
                 rt.alloc(),
                 Told::new(Lasting {
                     line: b"",
-                    left: TAGS_ON_AIR,
+                    left: SIMULATED,
                     again: false,
                     fails_at,
                     error,
                     reads: &reads,
                 }),
                 &mut Told::new(&mut output),
-                config(4)?,
+                config(1)?,
             );
-            assert!(rt; TAGS_OUTPUT.starts_with(output.as_slice()));
+            assert!(rt; SIMULATED_OUTPUT.starts_with(output.as_slice()));
             if done == Ok(()) {
-                same(&rt, output.as_slice(), TAGS_OUTPUT);
+                same(&rt, output.as_slice(), SIMULATED_OUTPUT);
                 break;
             }
             same(&rt, done, Err(fault));
             same(&rt, reads.get(), fails_at);
         }
-        assert!(rt; runs > 10);
+        assert!(rt; runs > 2);
     }
     Ok(())
 }
@@ -430,7 +199,7 @@ fn simulated_to(
 ) -> Result<Result<(), LogFault>, Fail> {
     Ok(simulate(
         alloc,
-        Told::new(TAGS_ON_AIR),
+        Told::new(SIMULATED),
         &mut Told::new(Stubborn {
             taken,
             most: 20,
@@ -438,7 +207,7 @@ fn simulated_to(
             with_error,
             writes: 0,
         }),
-        config(4)?,
+        config(1)?,
     ))
 }
 
@@ -451,14 +220,14 @@ fn writer_fails(rt: HostRuntime) -> Result<(), Fail> {
             runs = fails_at;
             let mut output = Vec::new(rt.alloc());
             let done = simulated_to(&mut output, rt.alloc(), fails_at, with_error)?;
-            assert!(rt; TAGS_OUTPUT.starts_with(output.as_slice()));
+            assert!(rt; SIMULATED_OUTPUT.starts_with(output.as_slice()));
             if done == Ok(()) {
-                same(&rt, output.as_slice(), TAGS_OUTPUT);
+                same(&rt, output.as_slice(), SIMULATED_OUTPUT);
                 break;
             }
             same(&rt, done, Err(LogFault::Write));
         }
-        assert!(rt; runs > 10);
+        assert!(rt; runs > 3);
     }
     Ok(())
 }
@@ -512,23 +281,22 @@ fn ends_whole_or_for_memory(
 #[test]
 fn refused_memory_in_a_simulation(rt: HostRuntime) -> Result<(), Fail> {
     let mut page = Page::new();
-    let reader = Told::new(TAGS_ON_AIR);
-    let done = simulate(rt.alloc(), reader, &mut Told::new(&mut page), config(4)?);
-    ends_whole_or_for_memory(&rt, done, &page, TAGS_OUTPUT);
+    let reader = Told::new(SIMULATED);
+    let done = simulate(rt.alloc(), reader, &mut Told::new(&mut page), config(1)?);
+    ends_whole_or_for_memory(&rt, done, &page, SIMULATED_OUTPUT);
     Ok(())
 }
 
 #[test]
 fn refused_memory_in_a_log(rt: HostRuntime) -> Result<(), Fail> {
-    let case = &ENCODED[0];
     let mut page = Page::new();
     let done = encode(
         rt.alloc(),
-        Told::new(case.script),
+        Told::new(ENCODED),
         &mut Told::new(&mut page),
         config(1)?,
     );
-    ends_whole_or_for_memory(&rt, done, &page, case.output);
+    ends_whole_or_for_memory(&rt, done, &page, ENCODED_LOG);
     Ok(())
 }
 

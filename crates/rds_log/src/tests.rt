@@ -1,4 +1,4 @@
-//! Logs and their output, and readers and writers that are slow, or fail.
+//! Long lines and much output, and readers and writers that are slow, or fail. Worked logs are tests of rds_run.
 
 use crate::engine::decode_within;
 use crate::{
@@ -19,118 +19,6 @@ pub(crate) fn same<T: PartialEq + Debug + Drop>(rt: &impl Abort, found: T, wante
     assert_eq!(rt; found, wanted);
 }
 
-/// A log of one station, and what is written for it where the dwell is 128.
-struct Case {
-    name: &'static str,
-    log: &'static [u8],
-    output: &'static [u8],
-}
-
-const CASES: [Case; 15] = [
-    Case {
-        name: "first_text",
-        log: b"C201 2140 4849 0D20\n",
-        output: b"0 text \"HI\"\n",
-    },
-    Case {
-        name: "empty_text",
-        log: b"C201 2140 0D20 2020\n",
-        output: b"0 text \"\"\n",
-    },
-    Case {
-        name: "two_segments",
-        log: b"C201 2140 4142 4241\nC201 2141 0D20 2020\n",
-        output: b"1 text \"ABBA\"\n",
-    },
-    Case {
-        name: "second_segment_alone",
-        log: b"C201 2141 0D20 2020\n",
-        output: b"",
-    },
-    Case {
-        name: "other_flag",
-        log: b"C201 2140 4849 0D20\nC201 2151 0D20 2020\nC201 2150 4142 4241\n",
-        output: b"0 text \"HI\"\n1 text none\n2 text \"ABBA\"\n",
-    },
-    Case {
-        name: "jazz_name",
-        log: b"C201 A140 4A41 5A5A\nC201 A141 2046 4D20\n",
-        output: b"1 name \"JAZZ FM \"\n",
-    },
-    Case {
-        name: "half_a_name",
-        log: b"C201 A140 4A41 5A5A\n",
-        output: b"",
-    },
-    Case {
-        name: "other_half_of_a_name",
-        log: b"C201 A141 2046 4D20\n",
-        output: b"",
-    },
-    Case {
-        name: "contrary_announcement",
-        log: b"C201 3156 0000 4BD7\nC201 2140 4849 0D20\nC201 B148 2002 0000\nC201 3156 0000 CD46\n",
-        output: b"1 text \"HI\"\n2 item 0 1\n2 tag1 ITEM.TITLE \"HI\"\n3 item none\n3 tag1 none\n",
-    },
-    Case {
-        name: "class_by_number",
-        log: b"C201 3156 0000 4BD7\nC201 2140 4849 0D20\nC201 B149 8002 0000\n",
-        output: b"1 text \"HI\"\n2 item 0 1\n2 tag1 12 \"HI\"\n",
-    },
-    Case {
-        name: "waterloo_tags",
-        log: b"C201 3156 0000 4BD7
-C201 2140 4142 4241
-C201 2141 202D 2057
-C201 2142 4154 4552
-C201 2143 4C4F 4F0D
-C201 B158 8006 08E7
-",
-        output: b"4 text \"ABBA - WATERLOO\"
-5 item 1 1
-5 tag1 ITEM.ARTIST \"ABBA\"
-5 tag2 ITEM.TITLE \"WATERLOO\"
-",
-    },
-    Case {
-        name: "escaped_bytes",
-        log: b"C201 2140 225C 240D\n",
-        output: b"0 text \"\\x22\\x5C\\x24\"\n",
-    },
-    Case {
-        name: "no_line_feed_at_the_end",
-        log: b"C201 2140 4849 0D20",
-        output: b"0 text \"HI\"\n",
-    },
-    Case {
-        name: "carriage_return_at_the_end",
-        log: b"C201 2140 4849 0D20\r",
-        output: b"0 text \"HI\"\n",
-    },
-    Case {
-        name: "empty_log",
-        log: b"",
-        output: b"",
-    },
-];
-
-/// The class of each number, as a tag shows it.
-const CLASSES: [(u8, &str); 13] = [
-    (1, "ITEM.TITLE"),
-    (2, "ITEM.ALBUM"),
-    (3, "ITEM.TRACKNUMBER"),
-    (4, "ITEM.ARTIST"),
-    (5, "ITEM.COMPOSITION"),
-    (6, "ITEM.MOVEMENT"),
-    (7, "ITEM.CONDUCTOR"),
-    (8, "ITEM.COMPOSER"),
-    (9, "ITEM.BAND"),
-    (10, "ITEM.COMMENT"),
-    (11, "ITEM.GENRE"),
-    (12, "12"),
-    (63, "63"),
-];
-
 /// Two texts of one segment each, the second with the other flag.
 const TWO_TEXTS: &[u8] = b"C201 2140 4849 0D20\nC201 2150 594F 0D20\n";
 
@@ -141,112 +29,12 @@ fn dwell() -> Result<Dwell, Fail> {
     Ok(Dwell::new(128).ok_or("dwell")?)
 }
 
-/// How a log ended, and its output.
-type Decoded = (Result<(), LogFault>, Vec<u8>);
-
-fn decoded(alloc: Global, log: &[u8]) -> Result<Decoded, Fail> {
-    decoded_for(alloc, log, 0xC201, dwell()?)
-}
-
-fn decoded_for(alloc: Global, log: &[u8], pi: u16, dwell: Dwell) -> Result<Decoded, Fail> {
+/// How a log of programme C201 ended, with a dwell of 128, and its output.
+fn decoded(alloc: Global, log: &[u8]) -> Result<(Result<(), LogFault>, Vec<u8>), Fail> {
     let mut output = Vec::new(alloc);
-    let done = decode(&mut Told::new(log), &mut Told::new(&mut output), pi, dwell);
+    let mut writer = Told::new(&mut output);
+    let done = decode(&mut Told::new(log), &mut writer, 0xC201, dwell()?);
     Ok((done, output))
-}
-
-#[test]
-fn logs(rt: HostRuntime) -> Result<(), Fail> {
-    for case in &CASES {
-        let (done, output) = decoded(rt.alloc(), case.log)?;
-        same(
-            &rt,
-            (case.name, output.as_slice()),
-            (case.name, case.output),
-        );
-        same(&rt, (case.name, done), (case.name, Ok(())));
-    }
-    Ok(())
-}
-
-#[test]
-fn accents_and_euro(rt: HostRuntime) -> Result<(), Fail> {
-    let (done, output) = decoded(rt.alloc(), b"C201 2140 4361 6682\nC201 2141 20A9 0D20\n")?;
-    same(&rt, output.as_slice(), "1 text \"Café €\"\n".as_bytes());
-    same(&rt, done, Ok(()));
-    Ok(())
-}
-
-/// The first tag has its class in bits 8 to 3 of the 37 bits' upper half: here on the text `HI`.
-#[test]
-fn classes(rt: HostRuntime) -> Result<(), Fail> {
-    for (class, name) in CLASSES {
-        let second = 0xB148 | u16::from(class) >> 3;
-        let third = u16::from(class) << 13 & 0xE000 | 2;
-        let log = format!(in rt.alloc();
-            "C201 3156 0000 4BD7\nC201 2140 4849 0D20\nC201 {second:04X} {third:04X} 0000\n"
-        )?;
-        let wanted = format!(in rt.alloc(); "1 text \"HI\"\n2 item 0 1\n2 tag1 {name} \"HI\"\n")?;
-        let (done, output) = decoded(rt.alloc(), log.as_bytes())?;
-        same(&rt, (class, output.as_slice()), (class, wanted.as_bytes()));
-        same(&rt, done, Ok(()));
-    }
-    Ok(())
-}
-
-/// A text is shown while the last segment of its run came less than the dwell before.
-#[test]
-fn shown_for_the_dwell(rt: HostRuntime) -> Result<(), Fail> {
-    for slots in [1u16, 4, 128] {
-        let mut log = Vec::from_slice(rt.alloc(), b"C201 2140 4849 0D20\n")?;
-        for _ in 0..130 {
-            log.extend_from_slice(b"---- ---- ---- ----\n")?;
-        }
-        let wanted = format!(in rt.alloc(); "0 text \"HI\"\n{slots} text none\n")?;
-        let dwell = Dwell::new(slots).ok_or("dwell")?;
-        let (done, output) = decoded_for(rt.alloc(), log.as_slice(), 0xC201, dwell)?;
-        same(&rt, output.as_slice(), wanted.as_bytes());
-        same(&rt, done, Ok(()));
-    }
-    Ok(())
-}
-
-/// Each programme is decoded, and no other is heard with it.
-#[test]
-fn another_programme(rt: HostRuntime) -> Result<(), Fail> {
-    let log = b"F000 2140 4849 0D20\nC201 2150 594F 0D20\n0000 2140 4142 0D20\n";
-    let rows: [(u16, &[u8]); 4] = [
-        (0xF000, b"0 text \"HI\"\n"),
-        (0xC201, b"1 text \"YO\"\n"),
-        (0x0000, b"2 text \"AB\"\n"),
-        (0xFFFF, b""),
-    ];
-    for (pi, wanted) in rows {
-        let (done, output) = decoded_for(rt.alloc(), log, pi, dwell()?)?;
-        same(&rt, output.as_slice(), wanted);
-        same(&rt, done, Ok(()));
-    }
-    Ok(())
-}
-
-/// Bad lines, with their number and the output before them.
-#[test]
-fn bad_lines(rt: HostRuntime) -> Result<(), Fail> {
-    let rows: [(&[u8], u64, &[u8]); 8] = [
-        (b"x\n", 1, b""),
-        (b"C201 2140 4849 0D2", 1, b""),
-        (b"C201 21405 4849 0D20\n", 1, b""),
-        (b"C201 2140 4849 0D20x\n", 1, b""),
-        (b"C201 2140 4849 0D2G\n", 1, b""),
-        (b"C201 2140 4849 --- \n", 1, b""),
-        (b"\n#\nC201 2140 4849 0D20\nx", 4, b"0 text \"HI\"\n"),
-        (b"\x00\xFF\x0D\x0A\x80", 1, b""),
-    ];
-    for (log, number, wanted) in rows {
-        let (done, output) = decoded(rt.alloc(), log)?;
-        same(&rt, output.as_slice(), wanted);
-        same(&rt, done, Err(LogFault::BadLine(number)));
-    }
-    Ok(())
 }
 
 /// Lines that are longer than what one read asks for: one that is skipped, one with words behind its blocks, and a

@@ -72,6 +72,10 @@ pub pair_of_none : (first : ℕ) (begins : Option ℕ) (heard : List (Option Mes
 pair_of_none first None heard = refl
 pair_of_none first (Some since) heard = refl
 
+pub pair_of_other : (first : ℕ) (begins : Option ℕ) (heard : List (Option Message)) → pair_from first begins heard ≡ pair_from first begins (Some Other ∷ heard)
+pair_of_other first None heard = refl
+pair_of_other first (Some since) heard = refl
+
 -- and while it is known they are held, where a run is
 tags_known : (first : ℕ) (g : Segment) (older : List Segment) (heard : List (Option Message)) (pair : PairFields) → AllBelow (first + length heard) (g ∷ older) → is_known heard ≡ true
     → Some pair ≡ pair_from first (begins_in (g ∷ older)) (Some (Tags pair) ∷ heard)

@@ -3,7 +3,7 @@ use Rattle.std.proofs.Common.{◌≡◌, ◌≢◌, ◌⊎◌, ◌+◌, ◌<◌,
 use Rattle.std.specs.FinMap.{empty, insert}
 use Rattle.rds_block.specs.declared.group.Group.{Group}
 use Rattle.rds_fields.specs.declared.message.Message.{Message}
-use Rattle.rds_fields.specs.declared.message.Message.TheVariants.{Text, Tags}
+use Rattle.rds_fields.specs.declared.message.Message.TheVariants.{Other, Tags, Text}
 use Rattle.rds_fields.specs.Tag.{PairFields}
 use Rattle.rds_receiver.specs.Receipts.{Hears, Piece, Segment, Tuning, name_piece, segments, text_piece}
 use Rattle.rds_receiver.specs.Run.{begins_in, run, run_before}
@@ -11,7 +11,7 @@ use Rattle.rds_receiver.specs.Standing.{HasFlag, HoldsAt, HoldsRun, StandsAt}
 use Rattle.rds_receiver.specs.State.{HeldSegments, ReceiverState}
 use Rattle.rds_receiver.specs.Tags.{pair_from}
 use Rattle.rds_receiver.proofs.Runs.{before_other, before_same, equal_or_not, held_taken, run_recent}
-use Rattle.rds_receiver.proofs.Pairs.{none_since, pair_goes_on, pair_of_none, tags_taken}
+use Rattle.rds_receiver.proofs.Pairs.{none_since, pair_goes_on, pair_of_none, pair_of_other, tags_taken}
 
 -- nothing heard
 pub nothing_heard : (m first : ℕ) (r : ReceiverState) (heard : List (Option Message)) → HoldsAt m (first + length heard) first r heard → HoldsAt m (first + length heard) first r (None ∷ heard)
@@ -21,6 +21,17 @@ nothing_heard m first r heard st = record {
   text = st.text;
   name = st.name;
   pair = st.pair ∙ pair_of_none first (begins_in (run m (first + length heard) (segments text_piece first heard))) heard;
+  known = st.known;
+}
+
+-- nothing heard that is of a text, a name or tags
+pub other_heard : (m first : ℕ) (r : ReceiverState) (heard : List (Option Message)) → HoldsAt m (first + length heard) first r heard → HoldsAt m (first + length heard) first r (Some Other ∷ heard)
+other_heard m first r heard st = record {
+  dwell = st.dwell;
+  lasts = st.lasts;
+  text = st.text;
+  name = st.name;
+  pair = st.pair ∙ pair_of_other first (begins_in (run m (first + length heard) (segments text_piece first heard))) heard;
   known = st.known;
 }
 

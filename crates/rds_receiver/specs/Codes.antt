@@ -9,12 +9,20 @@ use Rattle.rds_receiver.specs.State.{HeldSegments, ReceiverState}
 
 abbrev pub held_code : Coded HeldSegments
 held_code =
-    code_by (Cells × (Bool × ℕ)) (coded× (code coded_ℕ (coded_list coded_ℕ)) (coded× coded_bool coded_ℕ)) (λ h. (h.cells, (h.flag, h.age))) (λ p. record { cells = p.0; flag = p.1.0; age = p.1.1 }) (λ _. refl)
+    code_by (Cells × (Bool × ℕ)) (coded× (code coded_ℕ (coded_list coded_ℕ)) (coded× coded_bool coded_ℕ))
+    (λ h. (h.cells, (h.flag, h.age))) (λ p. record { cells = p.0; flag = p.1.0; age = p.1.1 }) (λ _. refl)
 
 abbrev pub receiver_code : Coded ReceiverState
 receiver_code =
     code_by ((ℕ × ℕ) × ((HeldSegments × HeldSegments) × (Option PairFields × Bool)))
     (coded× (coded× coded_ℕ coded_ℕ) (coded× (coded× held_code held_code) (coded× (coded_option pair_code) coded_bool)))
     (λ r. ((r.programme, r.dwell), ((r.text, r.name), (r.pair, r.is_known))))
-    (λ p. record { programme = p.0.0; dwell = p.0.1; text = p.1.0.0; name = p.1.0.1; pair = p.1.1.0; is_known = p.1.1.1 })
+    (λ p. record {
+      programme = p.0.0;
+      dwell = p.0.1;
+      text = p.1.0.0;
+      name = p.1.0.1;
+      pair = p.1.1.0;
+      is_known = p.1.1.1;
+    })
     (λ _. refl)

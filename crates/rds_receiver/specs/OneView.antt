@@ -21,7 +21,8 @@ same_heard_in pi (Some g) (Some m) (Some n) (inl (same, p)) (inl (same', q)) = a
 same_heard_in pi (Some g) None n (inl (same, p)) (inl (same', q)) = absurd p
 same_heard_in pi (Some g) (Some m) None (inl (same, p)) (inl (same', q)) = absurd q
 
-pub same_heard : (pi : ℕ) (input : List (Option Group)) (heard other : List (Option Message)) → AreHeard pi input heard → AreHeard pi input other → heard ≡ other
+pub same_heard : (pi : ℕ) (input : List (Option Group)) (heard other : List (Option Message)) → AreHeard pi input heard
+    → AreHeard pi input other → heard ≡ other
 same_heard pi [] [] [] p q = refl
 same_heard pi [] [] (n ∷ other) p q = absurd q
 same_heard pi [] (m ∷ heard) other p q = absurd p
@@ -33,29 +34,40 @@ same_heard pi (slot ∷ before) (m ∷ heard) (n ∷ other) p q =
     (cc)
 
 -- where at most one value is whole, one is shown
-same_shown : (IsWhole : Cells → List ℕ → Type 0) → ((cells : Cells) (x y : List ℕ) → IsWhole cells x → IsWhole cells y → x ≡ y)
-    → (cells : Cells) (shown other : Option (List ℕ)) → IsShown IsWhole cells shown → IsShown IsWhole cells other → shown ≡ other
+same_shown : (IsWhole : Cells → List ℕ → Type 0)
+    → ((cells : Cells) (x y : List ℕ) → IsWhole cells x → IsWhole cells y → x ≡ y)
+    → (cells : Cells) (shown other : Option (List ℕ)) → IsShown IsWhole cells shown → IsShown IsWhole cells other
+    → shown ≡ other
 same_shown IsWhole one cells None None p q = refl
 same_shown IsWhole one cells None (Some y) p q = absurd (p y q)
 same_shown IsWhole one cells (Some x) None p q = absurd (q x p)
 same_shown IsWhole one cells (Some x) (Some y) p q = ap Some (one cells x y p q)
 
-pub same_text_shown : (m first : ℕ) (heard : List (Option Message)) (shown other : Option (List ℕ)) → IsTextShown m first heard shown → IsTextShown m first heard other → shown ≡ other
-same_text_shown m first heard shown other p q = same_shown _ one_text (cells_of (run_at text_piece m first heard)) shown other p q
+pub same_text_shown : (m first : ℕ) (heard : List (Option Message)) (shown other : Option (List ℕ))
+    → IsTextShown m first heard shown → IsTextShown m first heard other → shown ≡ other
+same_text_shown m first heard shown other p q =
+    same_shown _ one_text (cells_of (run_at text_piece m first heard)) shown other p q
 
-same_name_shown : (m first : ℕ) (heard : List (Option Message)) (shown other : Option (List ℕ)) → IsNameShown m first heard shown → IsNameShown m first heard other → shown ≡ other
-same_name_shown m first heard shown other p q = same_shown _ one_name (cells_of (run_at name_piece m first heard)) shown other p q
+same_name_shown : (m first : ℕ) (heard : List (Option Message)) (shown other : Option (List ℕ))
+    → IsNameShown m first heard shown → IsNameShown m first heard other → shown ≡ other
+same_name_shown m first heard shown other p q =
+    same_shown _ one_name (cells_of (run_at name_piece m first heard)) shown other p q
 
-same_view_of : (m first : ℕ) (heard : List (Option Message)) (v w : ShownView) → ShowsView m first heard v → ShowsView m first heard w → v ≡ w
+same_view_of : (m first : ℕ) (heard : List (Option Message)) (v w : ShownView) → ShowsView m first heard v
+    → ShowsView m first heard w → v ≡ w
 same_view_of m first heard v w p q =
     let text : v.text ≡ w.text = same_text_shown m first heard v.text w.text p.text q.text in
     let name : v.name ≡ w.name = same_name_shown m first heard v.name w.name p.name q.name in
-    let item : v.item ≡ w.item = p.item ∙ ap (λ (x : Option (List ℕ)). item_of x (pair_held m first heard)) text ∙ sym q.item in
-    let one : v.one ≡ w.one = p.one ∙ ap (λ (x : Option (List ℕ)). tag_of One x (pair_held m first heard)) text ∙ sym q.one in
-    let two : v.two ≡ w.two = p.two ∙ ap (λ (x : Option (List ℕ)). tag_of Two x (pair_held m first heard)) text ∙ sym q.two in
+    let item : v.item ≡ w.item =
+    p.item ∙ ap (λ (x : Option (List ℕ)). item_of x (pair_held m first heard)) text ∙ sym q.item in
+    let one : v.one ≡ w.one =
+    p.one ∙ ap (λ (x : Option (List ℕ)). tag_of One x (pair_held m first heard)) text ∙ sym q.one in
+    let two : v.two ≡ w.two =
+    p.two ∙ ap (λ (x : Option (List ℕ)). tag_of Two x (pair_held m first heard)) text ∙ sym q.two in
     λ i. record { text = text i; name = name i; item = item i; one = one i; two = two i }
 
-pub same_view : (t : Tuning) (input : List (Option Group)) (v w : ShownView) → IsView t input v → IsView t input w → v ≡ w
+pub same_view : (t : Tuning) (input : List (Option Group)) (v w : ShownView) → IsView t input v → IsView t input w
+    → v ≡ w
 same_view t input v w (heard, p, shown) (heard', q, shown') =
     let same : heard ≡ heard' = same_heard t.programme input heard heard' p q in
     same_view_of t.dwell t.first heard' v w (rw same at shown) shown'

@@ -63,4 +63,5 @@ with_segment slot (Some p) older = record { slot = slot; piece = p } ∷ older
 -- the segments among what was heard
 abbrev pub segments : (Message → Option Piece) → ℕ → List (Option Message) → List Segment
 segments pick first [] = []
-segments pick first (heard ∷ before) = with_segment (first + length before) (picked pick heard) (segments pick first before)
+segments pick first (heard ∷ before) =
+    with_segment (first + length before) (picked pick heard) (segments pick first before)

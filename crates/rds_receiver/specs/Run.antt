@@ -16,7 +16,8 @@ is_same false true = false
 -- what stands before a segment of a run that has flag f and came in slot s
 abbrev pub run_before : ℕ → Bool → ℕ → List Segment → List Segment
 run_before m f s [] = []
-run_before m f s (g ∷ older) = if is_same f g.piece.flag && nat_lt s (g.slot + m) then g ∷ run_before m f g.slot older else []
+run_before m f s (g ∷ older) =
+    if is_same f g.piece.flag && nat_lt s (g.slot + m) then g ∷ run_before m f g.slot older else []
 
 -- the run at slot t
 abbrev pub run : ℕ → ℕ → List Segment → List Segment

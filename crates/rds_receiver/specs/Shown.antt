@@ -26,11 +26,13 @@ IsNameShown m first heard shown = IsShown IsWholeName (cells_of (run_at name_pie
 
 -- the item bits beside the text that is shown
 abbrev pub IsItemShown : ℕ → ℕ → List (Option Message) → Option (Bool × Bool) → Type 0
-IsItemShown m first heard item = (text : Option (List ℕ)) → IsTextShown m first heard text → item ≡ item_of text (pair_held m first heard)
+IsItemShown m first heard item =
+    (text : Option (List ℕ)) → IsTextShown m first heard text → item ≡ item_of text (pair_held m first heard)
 
 -- one of the two tags, with its piece of the text that is shown
 abbrev pub IsTagShown : ℕ → ℕ → List (Option Message) → Which → Option (ℕ × List ℕ) → Type 0
-IsTagShown m first heard which tag = (text : Option (List ℕ)) → IsTextShown m first heard text → tag ≡ tag_of which text (pair_held m first heard)
+IsTagShown m first heard which tag =
+    (text : Option (List ℕ)) → IsTextShown m first heard text → tag ≡ tag_of which text (pair_held m first heard)
 
 -- all that a receiver shows
 pub record ShownView : Type 0 where

@@ -13,7 +13,8 @@ use Rattle.rds_receiver.specs.Run.{begins_in, run_at}
 -- what an announcement says of RadioText Plus on 11A: that it is there (both fit), the contrary (just one
 -- fits), or nothing
 abbrev pub says_of_rtplus : ℕ → ℕ → Option Bool
-says_of_rtplus code aid = if code == rtplus_code then Some (aid == rtplus_aid) else if aid == rtplus_aid then Some false else None
+says_of_rtplus code aid =
+    if code == rtplus_code then Some (aid == rtplus_aid) else if aid == rtplus_aid then Some false else None
 
 abbrev pub or_before : Option Bool → Bool → Bool
 or_before None before = before
@@ -39,8 +40,10 @@ unless_contrary (Some false) pair = None
 abbrev pub pair_since : ℕ → ℕ → List (Option Message) → Option PairFields
 pair_since first since [] = None
 pair_since first since (None ∷ before) = pair_since first since before
-pair_since first since (Some (Tags pair) ∷ before) = if is_known before && nat_lt since (first + length before) then Some pair else pair_since first since before
-pair_since first since (Some (Announce code bits aid) ∷ before) = unless_contrary (says_of_rtplus code aid) (pair_since first since before)
+pair_since first since (Some (Tags pair) ∷ before) =
+    if is_known before && nat_lt since (first + length before) then Some pair else pair_since first since before
+pair_since first since (Some (Announce code bits aid) ∷ before) =
+    unless_contrary (says_of_rtplus code aid) (pair_since first since before)
 pair_since first since (Some (Text f a b) ∷ before) = pair_since first since before
 pair_since first since (Some (Name f a b) ∷ before) = pair_since first since before
 pair_since first since (Some Other ∷ before) = pair_since first since before

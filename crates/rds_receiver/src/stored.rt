@@ -1,5 +1,13 @@
 //! All that a receiver holds, as plain numbers, which another program can hold.
-use rds_fields::StoredPair;
+ghost use Rattle.std.specs.Prelude.{◌≡◌, ◌+◌, ◌<◌, ◌≤◌, ◌∷◌, ◌⊎◌, ℕ, IsFalse, IsTrue, List, None, Option, Some, length};
+ghost use Rattle.rds_block.specs.declared.group.Group.{Group};
+ghost use Rattle.rds_fields.specs.declared.message.Message.{Message};
+ghost use Rattle.rds_receiver.specs.Receipts.{Hears};
+ghost use Rattle.rds_receiver.specs.Shown.{IsView, ShownView};
+ghost use Rattle.rds_receiver.specs.Standing.{HoldsAt, ShowsAlike, StandsAt, WhereItStands, newest_slot};
+ghost use Rattle.rds_receiver.specs.Stored.{IsStored, receiver_stored};
+
+use rds_fields::{Message, StoredPair};
 
 /// The segments of one service that are held: segment a stands at the places 4 * a to 4 * a + 3 of the bytes, and
 /// is held where bit a of the mask is 1. The flag is 0, or any other number.
@@ -25,4 +33,68 @@ pub struct StoredReceiver {
     pub pair: StoredPair,
     /// Whether RadioText Plus was announced: 0, or any other number.
     pub is_known: u8,
+}
+
+impl StoredReceiver {
+    /// Takes a slot that leaves nothing but the ages to change, without a receiver that is made for it: nothing is heard in
+    /// it, or no text, name, tags or announcement, and nothing is given up. False, and no change, in any other slot.
+    pub fn rest(&mut self, message: Option<Message>) -> bool
+        ensures stands { IsTrue result → WhereItStands (receiver_stored self.old) (λ t input.
+            (group : Option Group) → Hears t.programme group message
+            → StandsAt t (receiver_stored self.new) (group ∷ input)) }
+        ensures same { IsTrue result → (view : ShownView) → WhereItStands (receiver_stored self.old)
+            (λ t input. (group : Option Group) → Hears t.programme group message
+            → IsView t input view → IsView t (group ∷ input) view) }
+        ensures good { IsStored self.old → IsStored self.new }
+        ensures kept { IsFalse result → self.new ≡ self.old }
+    {
+        if !says_nothing(message) {
+            return false;
+        }
+        self.grow_older()
+    }
+
+    /// One slot older, where nothing is given up by it; else false, and no change.
+    fn grow_older(&mut self) -> bool
+        ensures programme { self.new.programme ≡ self.old.programme }
+        ensures holds { IsTrue result → (m first : ℕ) (heard : List (Option Message))
+            → HoldsAt m (newest_slot first heard) first (receiver_stored self.old) heard
+            → HoldsAt m (first + length heard) first (receiver_stored self.new) heard }
+        ensures same { IsTrue result → ShowsAlike (receiver_stored self.old) (receiver_stored self.new) }
+        ensures good { IsStored self.old → IsStored self.new }
+        ensures kept { IsFalse result → self.new ≡ self.old }
+    {
+        let Some(text) = age_after(self.text.age, self.dwell) else {
+            return false;
+        };
+        let Some(name) = age_after(self.name.age, self.dwell) else {
+            return false;
+        };
+        self.text.age = text;
+        self.name.age = name;
+        true
+    }
+}
+
+/// Whether nothing was heard, or nothing of a text, a name or tags.
+fn says_nothing(message: Option<Message>) -> bool
+    ensures { IsTrue result → (message ≡ None) ⊎ (message ≡ Some Message.Other) }
+{
+    match message {
+        None => true,
+        Some(message) => message == Message::Other,
+    }
+}
+
+/// The age one slot later; `None` where what has it is given up by then.
+fn age_after(age: u16, dwell: u16) -> Option<u16>
+    ensures gone { dwell ≤ age → result ≡ Some age }
+    ensures older { age + 1 < dwell → result ≡ Some (age + 1) }
+    ensures over { age + 1 ≡ dwell → result ≡ None }
+{
+    if age >= dwell {
+        return Some(age);
+    }
+    let older = age + 1;
+    if older < dwell { Some(older) } else { None }
 }

@@ -2,7 +2,7 @@
 
 use crate::{Receiver, StoredReceiver, StoredSegments};
 use rds_block::Group;
-use rds_fields::{Dwell, StoredPair};
+use rds_fields::{Dwell, Message, StoredPair};
 use std::test::Fail;
 
 /// What is restored goes on where what was stored stood.
@@ -15,6 +15,22 @@ fn goes_on_from_what_is_stored(rt: HostRuntime) -> Result<(), Fail> {
     assert_eq!(rt; again.text(), Some(b"HI".as_slice()));
     assert_eq!(rt; again.slot(None), false);
     assert_eq!(rt; Receiver::restore(&again.store()).slot(None), true);
+    Ok(())
+}
+
+/// Slots that say nothing make what is held older, until one gives it up; a segment is for a receiver to take.
+#[test]
+fn rests_until_something_is_given_up(rt: HostRuntime) -> Result<(), Fail> {
+    let mut receiver = Receiver::new(0xC201, Dwell::new(3).ok_or("dwell")?);
+    let group = Group::from_blocks([0xC201, 0x2140, 0x4849, 0x0D20]);
+    receiver.slot(Some(group));
+    let mut stored = receiver.store();
+    let segment = stored.rest(Some(Message::of(&group)));
+    let nothing = stored.rest(None);
+    let other = stored.rest(Some(Message::Other));
+    let given_up = stored.rest(None);
+    let answers = (segment, nothing, other, given_up, stored.text.age);
+    assert_eq!(rt; answers, (false, true, true, false, 2));
     Ok(())
 }
 

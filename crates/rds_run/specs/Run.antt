@@ -23,7 +23,8 @@ pub record Begins (t : Traffic) (bytes : Option (List ℕ)) (failures : ℕ) : T
   pub failures_are : t.failures_before ≡ failures
 
 -- between two states of a reader, what it has left, the number of its failures and that of its counted reads stayed
-pub record IsUntouched {X : Type 0} (remaining : X → Option (List ℕ)) (failures reads : X → ℕ) (old new : X) : Type 0 where
+pub record IsUntouched {X : Type 0} (remaining : X → Option (List ℕ)) (failures reads : X → ℕ)
+    (old new : X) : Type 0 where
   pub bytes_are : remaining new ≡ remaining old
   pub failures_are : failures new ≡ failures old
   pub reads_are : reads new ≡ reads old
@@ -74,7 +75,8 @@ abbrev pub answered : Bool → ℕ
 answered passed = if passed then 0 else 1
 
 -- an engine ran, and then its outcome gave the status; `mid` and `failures` are the writer's in between
-pub record Runs {X : Type 0} (Engine : Traffic → Result X LogFault → Type 0) (status_of : X → ℕ) (task : Task) (w : Traffic) (status : ℕ) : Type 0 where
+pub record Runs {X : Type 0} (Engine : Traffic → Result X LogFault → Type 0) (status_of : X → ℕ) (task : Task)
+    (w : Traffic) (status : ℕ) : Type 0 where
   pub outcome : Result X LogFault
   pub mid : Option (List ℕ)
   pub failures : ℕ
@@ -91,11 +93,15 @@ head_of pi programme = record { pi = pi; tp = programme.tp; pty = programme.pty 
 
 -- a script is played for its log; ReadFailed says that a read of the reader failed
 abbrev pub EncodeRuns : Programme → ℕ → ℕ → ℕ → Traffic → Type 0 → Traffic → ℕ → Type 0
-EncodeRuns programme late pi dwell r ReadFailed w status = Runs (Plays Log (head_of pi programme) dwell late (2 ^ 32) r.before ReadFailed) done (Encode programme late) w status
+EncodeRuns programme late pi dwell r ReadFailed w status =
+    Runs (Plays Log (head_of pi programme) dwell late (2 ^ 32) r.before ReadFailed) done
+    (Encode programme late) w status
 
 -- a script is played with its receivers
 abbrev pub SimulateRuns : Programme → ℕ → ℕ → ℕ → Traffic → Type 0 → Traffic → ℕ → Type 0
-SimulateRuns programme late pi dwell r ReadFailed w status = Runs (Plays Simulation (head_of pi programme) dwell late (2 ^ 32) r.before ReadFailed) done (Simulate programme late) w status
+SimulateRuns programme late pi dwell r ReadFailed w status =
+    Runs (Plays Simulation (head_of pi programme) dwell late (2 ^ 32) r.before ReadFailed) done
+    (Simulate programme late) w status
 
 -- a log is audited, for a programme, with a dwell and a lateness
 abbrev pub AuditRuns : ℕ → ℕ → ℕ → Traffic → Traffic → ℕ → Type 0
@@ -106,8 +112,10 @@ AuditRuns late pi dwell r w status = Runs (Audits pi (dwell + late) (2 ^ 32) r) 
 -- the engine of the task ran
 abbrev pub TaskRuns : Task → ℕ → ℕ → Traffic → Type 0 → Traffic → ℕ → Type 0
 TaskRuns Decode pi dwell r ReadFailed w status = DecodeRuns pi dwell r w status
-TaskRuns (Encode programme late) pi dwell r ReadFailed w status = EncodeRuns programme late pi dwell r ReadFailed w status
-TaskRuns (Simulate programme late) pi dwell r ReadFailed w status = SimulateRuns programme late pi dwell r ReadFailed w status
+TaskRuns (Encode programme late) pi dwell r ReadFailed w status =
+    EncodeRuns programme late pi dwell r ReadFailed w status
+TaskRuns (Simulate programme late) pi dwell r ReadFailed w status =
+    SimulateRuns programme late pi dwell r ReadFailed w status
 TaskRuns (Audit late) pi dwell r ReadFailed w status = AuditRuns late pi dwell r w status
 
 -- the programme identification is refused

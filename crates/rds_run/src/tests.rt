@@ -48,7 +48,7 @@ pub struct Case {
     pub status: u8,
 }
 
-const DECODED: [Case; 27] = [
+const DECODED: [Case; 30] = [
     Case {
         name: "first_text",
         words: &DECODE,
@@ -75,6 +75,37 @@ const DECODED: [Case; 27] = [
         words: &DECODE,
         input: b"C201 2141 0D20 2020\n",
         output: b"",
+        status: 0,
+    },
+    Case {
+        name: "other_flag",
+        words: &DECODE,
+        input: b"C201 2140 4849 0D20\nC201 2151 0D20 2020\nC201 2150 4142 4241\n",
+        output: b"0 text \"HI\"\n1 text none\n2 text \"ABBA\"\n",
+        status: 0,
+    },
+    Case {
+        name: "class_by_number",
+        words: &DECODE,
+        input: b"C201 3156 0000 4BD7\nC201 2140 4849 0D20\nC201 B149 8002 0000\n",
+        output: b"1 text \"HI\"\n2 item 0 1\n2 tag1 12 \"HI\"\n",
+        status: 0,
+    },
+    Case {
+        name: "waterloo_tags",
+        words: &DECODE,
+        input: b"C201 3156 0000 4BD7
+C201 2140 4142 4241
+C201 2141 202D 2057
+C201 2142 4154 4552
+C201 2143 4C4F 4F0D
+C201 B158 8006 08E7
+",
+        output: b"4 text \"ABBA - WATERLOO\"
+5 item 1 1
+5 tag1 ITEM.ARTIST \"ABBA\"
+5 tag2 ITEM.TITLE \"WATERLOO\"
+",
         status: 0,
     },
     Case {
@@ -315,7 +346,7 @@ const ENCODED_LOG: &[u8] = b"# 0 text silent 1
 C201 2140 4849 0D20
 ";
 
-const SIMULATED: [Case; 13] = [
+const SIMULATED: [Case; 21] = [
     Case {
         name: "silence_dwell_and_age",
         words: &SIM_OF_FOUR,
@@ -500,6 +531,77 @@ name,JAZZ FM,1,G
         output: b"0 text silent 4\nfault row 3\n",
         status: 1,
     },
+    Case {
+        name: "row_after_an_empty_one",
+        words: &SIM_OF_FOUR,
+        input: b"-,,1,G\n-,,1",
+        output: b"fault row 2\n",
+        status: 1,
+    },
+    Case {
+        name: "no_row_after_two",
+        words: &SIM_OF_FOUR,
+        input: b"text,HI,1,\n-,,1,\nx\n",
+        output: b"0 text silent 4\nfault row 3\n",
+        status: 1,
+    },
+    Case {
+        name: "tags_refused",
+        words: &["rdsrt", "sim", "--m", "1", "--pi", "C201", "--pty", "10"],
+        input: b"tags,0 1 1 0 1 0 0 0,1,
+tags,0 1 1 0 1 0 0 0,1,
+text,HI,1,
+tags,0 1 1 0 2 0 0 0,1,
+tags,0 1 1 0 1 1 2 0,1,
+tags,0 1 1 0 1 0 0 0,1,
+",
+        output: b"0 tags silent 1
+1 tags notext
+2 text ok
+3 tags outoftext 1
+3 sent C201 2140 4849 0D20
+4 tags outoftext 2
+5 tags ok
+5 sent C201 2140 4849 0D20
+",
+        status: 0,
+    },
+    // What a record is, is the definition of `csv`: from here on.
+    Case {
+        name: "byte_order_mark",
+        words: &SIM_OF_FOUR,
+        input: b"\xEF\xBB\xBFtext,HI,1,\n",
+        output: b"0 text silent 4\n",
+        status: 0,
+    },
+    Case {
+        name: "lines_end_with_a_carriage_return_too",
+        words: &SIM_OF_FOUR,
+        input: b"text,HI,1,\r\ntext,HI,1,\r\n",
+        output: b"0 text silent 4\n1 text silent 3\n",
+        status: 0,
+    },
+    Case {
+        name: "empty_lines",
+        words: &SIM_OF_FOUR,
+        input: b"\n\ntext,HI,1,\n\n\ntext,HI,1,",
+        output: b"0 text silent 4\n1 text silent 3\n",
+        status: 0,
+    },
+    Case {
+        name: "line_end_between_quotes",
+        words: &SIM_OF_FOUR,
+        input: b"text,\"H\nI\",1,\n",
+        output: b"fault row 1\n",
+        status: 1,
+    },
+    Case {
+        name: "quote_left_open",
+        words: &SIM_OF_FOUR,
+        input: b"text,HI,1,\n-,,1,\"\n-,,1,\n",
+        output: b"0 text silent 4\nfault row 2\n",
+        status: 1,
+    },
 ];
 
 const ENCODED: [Case; 6] = [
@@ -649,15 +751,57 @@ fn late_groups(rt: HostRuntime) -> Result<(), Fail> {
 }
 
 /// Each alone as a script is no row of `sim`.
-const REFUSED_ROWS: [&[u8]; 8] = [
+const REFUSED_ROWS: [&[u8]; 18] = [
     b"text,HI,1\n",
+    b"-,,1,,\n",
     b"-,x,1,\n",
+    b"restart,x,1,\n",
+    b"Text,HI,1,\n",
     b"text,HI,2,\n",
+    b"text,HI,,\n",
     b"tags,1 1 0 0 1 0 0 0,1,\n",
     b"tags,1 1 256 0 0 0 0 0,1,\n",
+    b"tags,2 1 1 0 0 0 0 0,1,\n",
+    b"tags,1 1 1 0 0 0 0,1,\n",
+    b"tags,1 1 1 0 0 0 0 0 0,1,\n",
+    b"tags,1 1 +1 0 0 0 0 0,1,\n",
     b"text,a\\x4,1,\n",
+    b"name,123456789,1,\n",
     b"-,,1,GGGGGGGGG\n",
+    b"-,,1,g\n",
     b"text,\"HI",
+];
+
+/// Logs with a bad line, the output before it and its fault line.
+const BAD_LINES: [(&[u8], &[u8]); 8] = [
+    (b"x\n", b"fault line 1\n"),
+    (b"C201 2140 4849 0D2", b"fault line 1\n"),
+    (b"C201 21405 4849 0D20\n", b"fault line 1\n"),
+    (b"C201 2140 4849 0D20x\n", b"fault line 1\n"),
+    (b"C201 2140 4849 0D2G\n", b"fault line 1\n"),
+    (b"C201 2140 4849 --- \n", b"fault line 1\n"),
+    (
+        b"\n#\nC201 2140 4849 0D20\nx",
+        b"0 text \"HI\"\nfault line 4\n",
+    ),
+    (b"\x00\xFF\x0D\x0A\x80", b"fault line 1\n"),
+];
+
+/// The class of each number, as a tag shows it.
+const CLASSES: [(u8, &str); 13] = [
+    (1, "ITEM.TITLE"),
+    (2, "ITEM.ALBUM"),
+    (3, "ITEM.TRACKNUMBER"),
+    (4, "ITEM.ARTIST"),
+    (5, "ITEM.COMPOSITION"),
+    (6, "ITEM.MOVEMENT"),
+    (7, "ITEM.CONDUCTOR"),
+    (8, "ITEM.COMPOSER"),
+    (9, "ITEM.BAND"),
+    (10, "ITEM.COMMENT"),
+    (11, "ITEM.GENRE"),
+    (12, "12"),
+    (63, "63"),
 ];
 
 fn ran(alloc: Global, words: &[&str], input: &[u8]) -> Result<(u8, Vec<u8>), Fail> {
@@ -701,6 +845,51 @@ fn refused_rows(rt: HostRuntime) -> Result<(), Fail> {
         )?;
         same(&rt, output.as_slice(), b"fault row 1\n".as_slice());
         same(&rt, status, 1);
+    }
+    Ok(())
+}
+
+#[test]
+fn bad_lines(rt: HostRuntime) -> Result<(), Fail> {
+    for (log, wanted) in BAD_LINES {
+        let (status, output) = ran(rt.alloc(), &DECODE, log)?;
+        same(&rt, output.as_slice(), wanted);
+        same(&rt, status, 1);
+    }
+    Ok(())
+}
+
+/// The first tag has its class in bits 8 to 3 of the 37 bits' upper half: here on the text `HI`.
+#[test]
+fn classes(rt: HostRuntime) -> Result<(), Fail> {
+    for (class, name) in CLASSES {
+        let second = 0xB148 | u16::from(class) >> 3;
+        let third = u16::from(class) << 13 & 0xE000 | 2;
+        let log = format!(in rt.alloc();
+            "C201 3156 0000 4BD7\nC201 2140 4849 0D20\nC201 {second:04X} {third:04X} 0000\n"
+        )?;
+        let wanted = format!(in rt.alloc(); "1 text \"HI\"\n2 item 0 1\n2 tag1 {name} \"HI\"\n")?;
+        let (status, output) = ran(rt.alloc(), &DECODE, log.as_bytes())?;
+        same(&rt, (class, output.as_slice()), (class, wanted.as_bytes()));
+        same(&rt, status, 0);
+    }
+    Ok(())
+}
+
+/// Each programme is decoded, and no other is heard with it.
+#[test]
+fn one_of_three_programmes(rt: HostRuntime) -> Result<(), Fail> {
+    let log = b"F000 2140 4849 0D20\nC201 2150 594F 0D20\n0000 2140 4142 0D20\n";
+    let rows: [(&str, &[u8]); 4] = [
+        ("F000", b"0 text \"HI\"\n"),
+        ("C201", b"1 text \"YO\"\n"),
+        ("0000", b"2 text \"AB\"\n"),
+        ("FFFF", b""),
+    ];
+    for (pi, wanted) in rows {
+        let (status, output) = ran(rt.alloc(), &["rdsrt", "decode", "--pi", pi], log)?;
+        same(&rt, output.as_slice(), wanted);
+        same(&rt, status, 0);
     }
     Ok(())
 }

@@ -75,11 +75,13 @@ top_app = on_top (λ s. record s { has_version = true; subcommand_required = tru
 
 -- with the subcommands that read a log
 unfoldable pub log_readers_app : App
-log_readers_app = with_subcommand (with_subcommand top_app (log_app (codes "decode")).top) (late_app (codes "audit")).top
+log_readers_app = with_subcommand (with_subcommand top_app (log_app (codes "decode")).top)
+    (late_app (codes "audit")).top
 
 -- and with those that have a station of their own
 abbrev pub whole_app : App
-whole_app = with_subcommand (with_subcommand log_readers_app (station_app (codes "encode")).top) (station_app (codes "sim")).top
+whole_app = with_subcommand (with_subcommand log_readers_app (station_app (codes "encode")).top)
+    (station_app (codes "sim")).top
 
 -- `clap`'s definition takes the words, the program's own name first
 abbrev pub TakesWords : List Text → Type 0

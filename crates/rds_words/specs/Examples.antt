@@ -31,7 +31,8 @@ abbrev pub encoding : ℕ → ℕ → Asked
 encoding dwell pty = record { task = Encode (record { pty = pty; tp = false }) 0; pi = codes "C201"; dwell = dwell }
 
 abbrev pub simulating : ℕ → ℕ → Bool → ℕ → Asked
-simulating dwell pty tp late = record { task = Simulate (record { pty = pty; tp = tp }) late; pi = codes "C201"; dwell = dwell }
+simulating dwell pty tp late =
+    record { task = Simulate (record { pty = pty; tp = tp }) late; pi = codes "C201"; dwell = dwell }
 
 abbrev pub auditing : ℕ → ℕ → Asked
 auditing dwell late = record { task = Audit late; pi = codes "C201"; dwell = dwell }

@@ -55,13 +55,19 @@ pub record CanTake (allowed : Option Lengths) (address : ℕ) (bytes : List ℕ)
 abbrev pub CannotTake : Option Lengths → ℕ → List ℕ → ContentState → AuditFault → Type 0
 CannotTake allowed address bytes c Changed = HoldsNoOther address bytes c → ⊥
 CannotTake allowed address bytes c NotOneText = HoldsNoOther address bytes c × (HasRoom allowed c.lengths → ⊥)
-CannotTake allowed address bytes c TagOutside = HoldsNoOther address bytes c × HasRoom allowed c.lengths × ((narrowed allowed c.lengths).most < c.tags_end)
+CannotTake allowed address bytes c TagOutside =
+    HoldsNoOther address bytes c × HasRoom allowed c.lengths × ((narrowed allowed c.lengths).most < c.tags_end)
 CannotTake allowed address bytes c EarlyFlag = ⊥
 CannotTake allowed address bytes c EarlyTag = ⊥
 
 -- the content with four more bytes at an address
 abbrev pub taken : Option Lengths → ℕ → List ℕ → ContentState → ContentState
-taken allowed address bytes c = record { cells = slice_set c.cells address (Some bytes); lengths = narrowed allowed c.lengths; tags_end = c.tags_end }
+taken allowed address bytes c =
+    record {
+      cells = slice_set c.cells address (Some bytes);
+      lengths = narrowed allowed c.lengths;
+      tags_end = c.tags_end;
+    }
 
 -- the content with one more pair of tags
 abbrev pub tagged : PairFields → ContentState → ContentState
@@ -69,7 +75,8 @@ tagged pair c = record { cells = c.cells; lengths = c.lengths; tags_end = max c.
 
 -- the state once a piece joined the current reign
 abbrev pub joined_state : Option Lengths → ℕ → List ℕ → ReignsState → ReignsState
-joined_state allowed address bytes st = record { ages = record st.ages { since_last = 0 }; content = taken allowed address bytes st.content }
+joined_state allowed address bytes st =
+    record { ages = record st.ages { since_last = 0 }; content = taken allowed address bytes st.content }
 
 -- the state in which a piece opens a reign
 abbrev pub opened_state : ℕ → ℕ → Bool → ReignsState → ReignsState
@@ -80,21 +87,27 @@ abbrev pub tagged_state : PairFields → ReignsState → ReignsState
 tagged_state pair st = record { ages = record st.ages { since_last = 0 }; content = tagged pair st.content }
 
 abbrev pub lengths_code : Coded Lengths
-lengths_code = code_by (ℕ × ℕ) (coded× coded_ℕ coded_ℕ) (λ l. (l.least, l.most)) (λ p. record { least = p.0; most = p.1 }) (λ _. refl)
+lengths_code = code_by (ℕ × ℕ) (coded× coded_ℕ coded_ℕ) (λ l. (l.least, l.most))
+    (λ p. record { least = p.0; most = p.1 }) (λ _. refl)
 
 abbrev pub content_code : Coded ContentState
 content_code =
-    code_by (List (Option (List ℕ)) × (Lengths × ℕ)) (coded× (coded_list (coded_option (coded_list coded_ℕ))) (coded× lengths_code coded_ℕ))
-    (λ c. (c.cells, (c.lengths, c.tags_end))) (λ p. record { cells = p.0; lengths = p.1.0; tags_end = p.1.1 }) (λ _. refl)
+    code_by (List (Option (List ℕ)) × (Lengths × ℕ))
+    (coded× (coded_list (coded_option (coded_list coded_ℕ))) (coded× lengths_code coded_ℕ))
+    (λ c. (c.cells, (c.lengths, c.tags_end))) (λ p. record { cells = p.0; lengths = p.1.0; tags_end = p.1.1 })
+    (λ _. refl)
 
 abbrev pub ages_code : Coded Ages
 ages_code =
-    code_by ((Bool × Bool) × (ℕ × (ℕ × ℕ))) (coded× (coded× coded_bool coded_bool) (coded× coded_ℕ (coded× coded_ℕ coded_ℕ)))
+    code_by ((Bool × Bool) × (ℕ × (ℕ × ℕ)))
+    (coded× (coded× coded_bool coded_bool) (coded× coded_ℕ (coded× coded_ℕ coded_ℕ)))
     (λ a. ((a.is_open, a.flag), (a.since_last, (a.since_before, a.since_start))))
-    (λ p. record { is_open = p.0.0; flag = p.0.1; since_last = p.1.0; since_before = p.1.1.0; since_start = p.1.1.1 }) (λ _. refl)
+    (λ p. record { is_open = p.0.0; flag = p.0.1; since_last = p.1.0; since_before = p.1.1.0; since_start = p.1.1.1 })
+    (λ _. refl)
 
 abbrev pub reigns_code : Coded ReignsState
-reigns_code = code_by (Ages × ContentState) (coded× ages_code content_code) (λ r. (r.ages, r.content)) (λ p. record { ages = p.0; content = p.1 }) (λ _. refl)
+reigns_code = code_by (Ages × ContentState) (coded× ages_code content_code) (λ r. (r.ages, r.content))
+    (λ p. record { ages = p.0; content = p.1 }) (λ _. refl)
 
 abbrev pub fault_number : AuditFault → ℕ
 fault_number Changed = 0
@@ -104,7 +117,12 @@ fault_number EarlyTag = 3
 fault_number TagOutside = 4
 
 abbrev pub numbered_fault : ℕ → AuditFault
-numbered_fault n = if n == 0 then Changed else if n == 1 then NotOneText else if n == 2 then EarlyFlag else if n == 3 then EarlyTag else TagOutside
+numbered_fault n =
+    if n == 0 then Changed
+    else if n == 1 then NotOneText
+    else if n == 2 then EarlyFlag
+    else if n == 3 then EarlyTag
+    else TagOutside
 
 pub fault_back : (f : AuditFault) → numbered_fault (fault_number f) ≡ f
 fault_back Changed = refl

@@ -20,7 +20,8 @@ abbrev pub own_bounds : ℕ → Bounds
 own_bounds d = record { between = d; since = d; ahead = 0 }
 
 -- an input in order within these bounds, where the station has reached slot `now`
-pub record IsHeardWithin {X : Type 0} (b : Bounds) (m now : ℕ) (log : List (Option X)) (input : InputOf X) : Type 0 where
+pub record IsHeardWithin {X : Type 0} (b : Bounds) (m now : ℕ) (log : List (Option X))
+    (input : InputOf X) : Type 0 where
   pub order : IsHeardInOrder log input
   pub between : (t u r s : ℕ) → CameFrom input t r → CameFrom input u s → u < t + m → s < r + b.between
   pub since : (t s : ℕ) → CameFrom input t s → next_slot input ≤ t + m → now < s + b.since

@@ -43,7 +43,8 @@ pub record LieIn (plan : List Broadcast) (recent before : List Event) (b : Broad
 
 -- in a world that stands at the recent slots and those before, receiver i, of state r, got each free one of the
 -- recent slots, which are no more than its dwell, and shows this
-pub record GotRecently (station : Head) (m k : ℕ) (w : WorldState) (recent before : List Event) (i : ℕ) (r : ReceiverState) (view : ShownView) : Type 0 where
+pub record GotRecently (station : Head) (m k : ℕ) (w : WorldState) (recent before : List Event) (i : ℕ)
+    (r : ReceiverState) (view : ShownView) : Type 0 where
   pub stands : StandsAt station m k w (recent ++ before)
   pub within : length recent ≤ m
   pub there : slice_get w.receivers i ≡ Some r
@@ -53,20 +54,26 @@ pub record GotRecently (station : Head) (m k : ℕ) (w : WorldState) (recent bef
 -- a text of n segments is shown after 2 n free slots of its broadcast
 abbrev pub ATextIsDelivered : Type 0
 ATextIsDelivered =
-    (station : Head) (m k : ℕ) (w : WorldState) (recent before : List Event) (i : ℕ) (r : ReceiverState) (view : ShownView) (b : Broadcast)
-    → GotRecently station m k w recent before i r view → LieIn (plans_of (m + k) (recent ++ before)).text recent before b
+    (station : Head) (m k : ℕ) (w : WorldState) (recent before : List Event) (i : ℕ) (r : ReceiverState)
+    (view : ShownView) (b : Broadcast)
+    → GotRecently station m k w recent before i r view
+    → LieIn (plans_of (m + k) (recent ++ before)).text recent before b
     → 2 * segment_count (text_body b.bytes) ≤ free_slots recent → view.text ≡ Some b.bytes
 
 -- and any text after 32
 abbrev pub AnyTextIsDelivered : Type 0
 AnyTextIsDelivered =
-    (station : Head) (m k : ℕ) (w : WorldState) (recent before : List Event) (i : ℕ) (r : ReceiverState) (view : ShownView) (b : Broadcast)
-    → GotRecently station m k w recent before i r view → LieIn (plans_of (m + k) (recent ++ before)).text recent before b
+    (station : Head) (m k : ℕ) (w : WorldState) (recent before : List Event) (i : ℕ) (r : ReceiverState)
+    (view : ShownView) (b : Broadcast)
+    → GotRecently station m k w recent before i r view
+    → LieIn (plans_of (m + k) (recent ++ before)).text recent before b
     → 32 ≤ free_slots recent → view.text ≡ Some b.bytes
 
 -- a name is shown after eight
 abbrev pub ANameIsDelivered : Type 0
 ANameIsDelivered =
-    (station : Head) (m k : ℕ) (w : WorldState) (recent before : List Event) (i : ℕ) (r : ReceiverState) (view : ShownView) (b : Broadcast)
-    → GotRecently station m k w recent before i r view → LieIn (plans_of (m + k) (recent ++ before)).name recent before b
+    (station : Head) (m k : ℕ) (w : WorldState) (recent before : List Event) (i : ℕ) (r : ReceiverState)
+    (view : ShownView) (b : Broadcast)
+    → GotRecently station m k w recent before i r view
+    → LieIn (plans_of (m + k) (recent ++ before)).name recent before b
     → 8 ≤ free_slots recent → view.name ≡ Some b.bytes

@@ -37,7 +37,8 @@ pub record HasPieceBefore (sent : List Mark) (b : Broadcast) (t : ℕ) : Type 0 
 pub record IsDense (d : ℕ) (plan : List Broadcast) (sent : List Mark) : Type 0 where
   pub pieces : (k : ℕ) (b : Broadcast) (u t : ℕ) (earlier later : Piece) → HasNumber plan k b → Covers b u → Covers b t
       → IsSent sent u (Sends earlier) → IsSent sent t (Sends later) → u < t → IsBridged d sent u t
-  pub tags : (k : ℕ) (b : Broadcast) (t : ℕ) (pair : PairFields) → HasNumber plan k b → Covers b t → IsSent sent t (Tagged pair) → HasPieceBefore sent b t
+  pub tags : (k : ℕ) (b : Broadcast) (t : ℕ) (pair : PairFields) → HasNumber plan k b → Covers b t
+      → IsSent sent t (Tagged pair) → HasPieceBefore sent b t
 
 -- both plans are dense for the log
 pub record AreDense (d : ℕ) (plans : Plans) (log : List (Option Message)) : Type 0 where

@@ -36,7 +36,8 @@ LawfulPlansAreSafeByOwnClocks =
 abbrev pub LawfulPlansAreSafeForSlowClocks : Type 0
 LawfulPlansAreSafeForSlowClocks =
     (m k now : ℕ) (plans : Plans) (log : List (Option Message)) (receivers : List Listener)
-    → AreLawful (m + k) plans log → All (ListensBySlowClock k m now log) receivers → AreSafe (m + k) m now plans log receivers
+    → AreLawful (m + k) plans log → All (ListensBySlowClock k m now log) receivers
+    → AreSafe (m + k) m now plans log receivers
 
 -- plans that are lawful for the dwell and the lateness make every slot safe for any number of receivers
 abbrev pub LawfulPlansAreSafe : Type 0
@@ -53,7 +54,8 @@ LawfulPlansAreSafeOnTime =
 -- a run has at most one source
 abbrev pub ARunHasOneSource : Type 0
 ARunHasOneSource =
-    (d : ℕ) (plan : List Broadcast) (input : Input) (the_run : List Segment) (k l : ℕ) (a b : Broadcast) → IsSpaced d plan
+    (d : ℕ) (plan : List Broadcast) (input : Input) (the_run : List Segment) (k l : ℕ) (a b : Broadcast)
+    → IsSpaced d plan
     → IsSource plan input the_run k a → IsSource plan input the_run l b → (k ≡ l) × (a ≡ b)
 
 -- what is heard no slot late is each entry of the log or nothing
@@ -84,7 +86,8 @@ LateIsBySlowClock =
 -- who counts the station's slots hears no slot late, and the other way round
 abbrev pub TheTrueClockIsNoSlotLate : Type 0
 TheTrueClockIsNoSlotLate =
-    (log : List (Option Message)) (input : Input) → (IsHeardInOrder log input × IsTrueClock input) ↔ IsHeardLate 0 log input
+    (log : List (Option Message)) (input : Input)
+    → (IsHeardInOrder log input × IsTrueClock input) ↔ IsHeardLate 0 log input
 
 -- what is late as groups is late as messages
 abbrev pub LateGroupsAreLateMessages : Type 0
@@ -97,21 +100,33 @@ LateGroupsAreLateMessages =
 -- a receiver that was handed the groups of a station late, and shows their view, listens to what was sent
 abbrev pub WhoIsHandedGroupsListens : Type 0
 WhoIsHandedGroupsListens =
-    (station : Head) (k m t : ℕ) (log : List (Option Message)) (sent : List (Option Group)) (input : InputOf Group) (view : ShownView)
+    (station : Head) (k m t : ℕ) (log : List (Option Message)) (sent : List (Option Group)) (input : InputOf Group)
+    (view : ShownView)
     → AllZip (IsSent station) log sent → IsHeardLate k sent input → input.first + length input.heard ≡ t + 1
     → (v : IsView record { programme = station.pi; dwell = m; first = input.first } input.heard view)
-    → ListensTo k m t log record { input = record { first = input.first; heard = v.0; origins = input.origins }; view = view }
+    → ListensTo k m t log record {
+      input = record { first = input.first; heard = v.0; origins = input.origins };
+      view = view;
+    }
 
 -- and one that was handed them by its own clock listens by its own clock
 abbrev pub WhoIsHandedGroupsListensByOwnClock : Type 0
 WhoIsHandedGroupsListensByOwnClock =
-    (station : Head) (d m now : ℕ) (log : List (Option Message)) (sent : List (Option Group)) (input : InputOf Group) (view : ShownView)
+    (station : Head) (d m now : ℕ) (log : List (Option Message)) (sent : List (Option Group)) (input : InputOf Group)
+    (view : ShownView)
     → AllZip (IsSent station) log sent → IsHeardByOwnClock d m now sent input
     → (v : IsView record { programme = station.pi; dwell = m; first = input.first } input.heard view)
-    → ListensByOwnClock d m now log record { input = record { first = input.first; heard = v.0; origins = input.origins }; view = view }
+    → ListensByOwnClock d m now log record {
+      input = record {
+        first = input.first;
+        heard = v.0;
+        origins = input.origins;
+      };
+      view = view;
+    }
 
--- plans that are lawful for so many slots, and one receiver, of dwell m, that listens so and shows a mix: a text that no
--- broadcast of the plans has. So what it shows is safe for no d
+-- plans that are lawful for so many slots, and one receiver, of dwell m, that listens so and shows a mix: a text that
+-- no broadcast of the plans has. So what it shows is safe for no d
 pub record ShowsAMix (slots m : ℕ) (Listens : ℕ → List (Option Message) → Listener → Type 0) : Type 0 where
   pub plans : Plans
   pub log : List (Option Message)

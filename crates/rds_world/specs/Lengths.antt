@@ -66,7 +66,8 @@ sent_at a [] = None
 sent_at a (p ∷ older) = if a == p.address then Some p.bytes else sent_at a older
 
 -- some length is allowed by each piece, and reaches the ends of the tags
-pub record AreMeasured (allowed : ℕ → List ℕ → Option Lengths) (longest : ℕ) (pieces : List Piece) (tags : List SentTags) : Type 0 where
+pub record AreMeasured (allowed : ℕ → List ℕ → Option Lengths) (longest : ℕ) (pieces : List Piece)
+    (tags : List SentTags) : Type 0 where
   pub unchanged : AreUnchanged pieces
   pub each : AllByRecursion (λ (p : Piece). is_some (allowed p.address p.bytes) ≡ true) pieces
   pub room : (lengths_of allowed longest pieces).least ≤ (lengths_of allowed longest pieces).most
@@ -89,9 +90,12 @@ pub record Gauge : Type 1 where
 -- the gauge is exact: pieces and tags have one value exactly where they measure so, and then the pieces are
 -- formed
 pub record IsExact (g : Gauge) : Type 0 where
-  pub measured : (pieces : List Piece) (tags : List SentTags) → HaveOneValue g.kind pieces tags → AreMeasured g.allowed g.longest pieces tags
-  pub formed : (pieces : List Piece) (tags : List SentTags) → HaveOneValue g.kind pieces tags → AllByRecursion (IsFormed g.segments) pieces
-  pub one : (pieces : List Piece) (tags : List SentTags) → AllByRecursion (IsFormed g.segments) pieces → AreMeasured g.allowed g.longest pieces tags → HaveOneValue g.kind pieces tags
+  pub measured : (pieces : List Piece) (tags : List SentTags) → HaveOneValue g.kind pieces tags
+      → AreMeasured g.allowed g.longest pieces tags
+  pub formed : (pieces : List Piece) (tags : List SentTags) → HaveOneValue g.kind pieces tags
+      → AllByRecursion (IsFormed g.segments) pieces
+  pub one : (pieces : List Piece) (tags : List SentTags) → AllByRecursion (IsFormed g.segments) pieces
+      → AreMeasured g.allowed g.longest pieces tags → HaveOneValue g.kind pieces tags
 
 abbrev pub text_gauge : Gauge
 text_gauge = record { kind = texts; segments = 16; longest = 64; allowed = text_lengths }

@@ -39,20 +39,36 @@ start_after d flag (r ∷ older) = if is_same r.flag flag then r.last + d else m
 
 -- the reign that the piece opens after these
 abbrev pub opened_by : ℕ → ℕ → Piece → List Reign → Reign
-opened_by d slot p older = record { start = start_after d p.flag older; opened = slot; last = slot; flag = p.flag; pieces = p ∷ []; tags = [] }
+opened_by d slot p older =
+    record { start = start_after d p.flag older; opened = slot; last = slot; flag = p.flag; pieces = p ∷ []; tags = [] }
 
 -- the reign with one more piece
 abbrev pub with_piece : ℕ → Piece → Reign → Reign
-with_piece slot p r = record { start = r.start; opened = r.opened; last = slot; flag = r.flag; pieces = p ∷ r.pieces; tags = r.tags }
+with_piece slot p r = record {
+  start = r.start;
+  opened = r.opened;
+  last = slot;
+  flag = r.flag;
+  pieces = p ∷ r.pieces;
+  tags = r.tags;
+}
 
 -- the reign with one more pair of tags
 abbrev pub with_tags : ℕ → PairFields → Reign → Reign
-with_tags slot pair r = record { start = r.start; opened = r.opened; last = slot; flag = r.flag; pieces = r.pieces; tags = record { slot = slot; pair = pair } ∷ r.tags }
+with_tags slot pair r = record {
+  start = r.start;
+  opened = r.opened;
+  last = slot;
+  flag = r.flag;
+  pieces = r.pieces;
+  tags = record { slot = slot; pair = pair } ∷ r.tags;
+}
 
 -- these reigns, and a piece
 abbrev pub after_piece : ℕ → ℕ → Piece → List Reign → List Reign
 after_piece d slot p [] = opened_by d slot p [] ∷ []
-after_piece d slot p (r ∷ older) = if joins d slot p.flag r then with_piece slot p r ∷ older else opened_by d slot p (r ∷ older) ∷ r ∷ older
+after_piece d slot p (r ∷ older) =
+    if joins d slot p.flag r then with_piece slot p r ∷ older else opened_by d slot p (r ∷ older) ∷ r ∷ older
 
 -- these reigns, and tags
 abbrev pub after_tags : ℕ → PairFields → List Reign → List Reign

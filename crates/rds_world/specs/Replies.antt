@@ -47,7 +47,8 @@ IsStepRefused k receivers e before (step.Late r) = IsLateTo k receivers e before
 
 -- the event at this place can be taken after those before it; here the oldest event is the first of the list
 abbrev pub IsTaken : ℕ → ℕ → List Event → ℕ → Type 0
-IsTaken k receivers events place = IfSome (slice_get events place) (λ e. CanBeTaken k receivers e (reverse (take place events)))
+IsTaken k receivers events place =
+    IfSome (slice_get events place) (λ e. CanBeTaken k receivers e (reverse (take place events)))
 
 -- slots that can be played: with at most eight receivers, and each of them can be taken
 pub record CanBePlayed (k receivers : ℕ) (events : List Event) : Type 0 where

@@ -46,7 +46,8 @@ pub record LogPasses (d : ℕ) (log : List (Option Message)) : Type 0 where
 -- each address was sent with the same bytes
 abbrev pub AreUnchanged : List Piece → Type 0
 AreUnchanged [] = Unit {0}
-AreUnchanged (newest ∷ older) = AllByRecursion (λ (p : Piece). p.address ≡ newest.address → p.bytes ≡ newest.bytes) older × AreUnchanged older
+AreUnchanged (newest ∷ older) =
+    AllByRecursion (λ (p : Piece). p.address ≡ newest.address → p.bytes ≡ newest.bytes) older × AreUnchanged older
 
 -- the rule that a piece breaks first, by the reigns that it leaves. A reign that it opens starts too late; its
 -- address was sent with other bytes; no value has the pieces of its reign; one has, and tags end past it
@@ -54,8 +55,10 @@ abbrev pub IsBrokenByPiece : Kind → List Reign → AuditFault → Type 0
 IsBrokenByPiece kind [] fault = ⊥
 IsBrokenByPiece kind (r ∷ older) EarlyFlag = r.opened < r.start
 IsBrokenByPiece kind (r ∷ older) Changed = (r.start ≤ r.opened) × (AreUnchanged r.pieces → ⊥)
-IsBrokenByPiece kind (r ∷ older) NotOneText = (r.start ≤ r.opened) × AreUnchanged r.pieces × (HaveOneValue kind r.pieces [] → ⊥)
-IsBrokenByPiece kind (r ∷ older) TagOutside = (r.start ≤ r.opened) × HaveOneValue kind r.pieces [] × (HaveOneValue kind r.pieces r.tags → ⊥)
+IsBrokenByPiece kind (r ∷ older) NotOneText =
+    (r.start ≤ r.opened) × AreUnchanged r.pieces × (HaveOneValue kind r.pieces [] → ⊥)
+IsBrokenByPiece kind (r ∷ older) TagOutside =
+    (r.start ≤ r.opened) × HaveOneValue kind r.pieces [] × (HaveOneValue kind r.pieces r.tags → ⊥)
 IsBrokenByPiece kind (r ∷ older) EarlyTag = ⊥
 
 -- tags come too early: there is no reign, or its text has not lasted for d slots
@@ -80,14 +83,17 @@ IsBrokenByTags d kind slot rs EarlyFlag = ⊥
 abbrev pub IsBrokenBy : ℕ → Kind → Mark → List Mark → AuditFault → Type 0
 IsBrokenBy d kind Nothing before fault = ⊥
 IsBrokenBy d kind (Sends p) before fault = IsBrokenByPiece kind (reigns d (Sends p ∷ before)) fault
-IsBrokenBy d kind (Tagged pair) before fault = IsBrokenByTags d kind (length before) (reigns d (Tagged pair ∷ before)) fault
+IsBrokenBy d kind (Tagged pair) before fault =
+    IsBrokenByTags d kind (length before) (reigns d (Tagged pair ∷ before)) fault
 
 -- the rule that the newest slot breaks first, of texts or of names
 abbrev pub BreaksFirst : ℕ → Option Message → List (Option Message) → AuditFault → Type 0
 BreaksFirst d newest before fault =
-    IsBrokenBy d texts (text_mark newest) (marks text_mark before) fault ⊎ IsBrokenBy d names (name_mark newest) (marks name_mark before) fault
+    IsBrokenBy d texts (text_mark newest) (marks text_mark before) fault
+    ⊎ IsBrokenBy d names (name_mark newest) (marks name_mark before) fault
 
 -- the fault of a log: that of the first slot up to which it does not pass
 abbrev pub IsFaultOf : ℕ → List (Option Message) → AuditFault → Type 0
 IsFaultOf d [] fault = ⊥
-IsFaultOf d (newest ∷ before) fault = (LogPasses d before × BreaksFirst d newest before fault) ⊎ IsFaultOf d before fault
+IsFaultOf d (newest ∷ before) fault =
+    (LogPasses d before × BreaksFirst d newest before fault) ⊎ IsFaultOf d before fault

@@ -26,7 +26,8 @@ pub record ListensTo (k m t : ℕ) (log : List (Option Message)) (r : Listener) 
 
 -- the run has a source, the bytes of that broadcast are the value, and it covers one of the d slots up to slot
 -- t
-pub record WasOnAir (d t : ℕ) (plan : List Broadcast) (input : Input) (the_run : List Segment) (value : List ℕ) : Type 0 where
+pub record WasOnAir (d t : ℕ) (plan : List Broadcast) (input : Input) (the_run : List Segment)
+    (value : List ℕ) : Type 0 where
   pub number : ℕ
   pub broadcast : Broadcast
   pub source : IsSource plan input the_run number broadcast
@@ -59,7 +60,8 @@ pub record ShowsNoTags (view : ShownView) : Type 0 where
 
 -- the item bits and the tags shown are those of a pair that was sent in the source of the run, d slots after
 -- its start or later, and each tag shown names its piece of that broadcast's text
-pub record ShowsTagsOf (d : ℕ) (plan : List Broadcast) (sent : List Mark) (input : Input) (the_run : List Segment) (view : ShownView) : Type 0 where
+pub record ShowsTagsOf (d : ℕ) (plan : List Broadcast) (sent : List Mark) (input : Input) (the_run : List Segment)
+    (view : ShownView) : Type 0 where
   pub number : ℕ
   pub broadcast : Broadcast
   pub source : IsSource plan input the_run number broadcast

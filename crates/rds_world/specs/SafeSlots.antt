@@ -14,7 +14,8 @@ use Rattle.rds_world.specs.State.{WorldState}
 -- the receivers from number i on: what each got, and what it shows
 abbrev pub listeners : ℕ → List Event → ℕ → List ShownView → List Listener
 listeners d events i [] = []
-listeners d events i (view ∷ views) = record { input = input_of d i events; view = view } ∷ listeners d events (i + 1) views
+listeners d events i (view ∷ views) =
+    record { input = input_of d i events; view = view } ∷ listeners d events (i + 1) views
 
 -- For every list of slots, in each of which the encoder or any receiver may restart and each receiver gets a group
 -- that was sent at most k slots before, in the order of sending, or nothing: at the end of the newest slot every
@@ -25,9 +26,11 @@ abbrev pub OnlyWhatWasOnAirIsShown : ℕ → ℕ → List Event → List Receive
 OnlyWhatWasOnAirIsShown m k [] receivers = Unit {0}
 OnlyWhatWasOnAirIsShown m k (newest ∷ before) receivers =
     (views : List ShownView) → AllZip Shows receivers views
-    → AreSafe (m + k) m (length before) (plans_of (m + k) (newest ∷ before)) (log (m + k) (newest ∷ before)) (listeners (m + k) (newest ∷ before) 0 views)
+    → AreSafe (m + k) m (length before) (plans_of (m + k) (newest ∷ before)) (log (m + k) (newest ∷ before))
+    (listeners (m + k) (newest ∷ before) 0 views)
 
 -- so it is in every world, wherever it stands
 abbrev pub EveryWorldShowsOnlyWhatWasOnAir : Type 0
 EveryWorldShowsOnlyWhatWasOnAir =
-    (station : Head) (m k : ℕ) (w : WorldState) (events : List Event) → StandsAt station m k w events → OnlyWhatWasOnAirIsShown m k events w.receivers
+    (station : Head) (m k : ℕ) (w : WorldState) (events : List Event) → StandsAt station m k w events
+    → OnlyWhatWasOnAirIsShown m k events w.receivers

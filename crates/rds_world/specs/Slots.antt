@@ -66,11 +66,18 @@ sent_back back sent = slice_index_or sent back None
 -- the input of a receiver after one more slot, up to which this was sent: what was sent so many slots before, or
 -- nothing; a new receiver has got nothing yet, and its input begins in the slot after
 abbrev pub received : Reception → ℕ → List (Option Message) → Input → Input
-received (Got back) slot sent before = record { first = before.first; heard = sent_back back sent ∷ before.heard; origins = Some (slot - back) ∷ before.origins }
-received Lost slot sent before = record { first = before.first; heard = None ∷ before.heard; origins = None ∷ before.origins }
+received (Got back) slot sent before =
+    record {
+      first = before.first;
+      heard = sent_back back sent ∷ before.heard;
+      origins = Some (slot - back) ∷ before.origins;
+    }
+received Lost slot sent before =
+    record { first = before.first; heard = None ∷ before.heard; origins = None ∷ before.origins }
 received reception.Restart slot sent before = record { first = slot + 1; heard = []; origins = [] }
 
 -- the input of receiver i since its last restart
 abbrev pub input_of : ℕ → ℕ → List Event → Input
 input_of d i [] = record { first = 0; heard = []; origins = [] }
-input_of d i (e ∷ before) = received (slice_index_or e.receptions i Lost) (length before) (log d (e ∷ before)) (input_of d i before)
+input_of d i (e ∷ before) =
+    received (slice_index_or e.receptions i Lost) (length before) (log d (e ∷ before)) (input_of d i before)

@@ -20,7 +20,8 @@ LastWasSentIn input [] slot = ⊥
 LastWasSentIn input (newest ∷ older) slot = CameFrom input newest.slot slot
 
 -- the broadcast of this number is the source of the run
-pub record IsSource (plan : List Broadcast) (input : Input) (the_run : List Segment) (number : ℕ) (b : Broadcast) : Type 0 where
+pub record IsSource (plan : List Broadcast) (input : Input) (the_run : List Segment) (number : ℕ)
+    (b : Broadcast) : Type 0 where
   pub planned : HasNumber plan number b
   pub slot : ℕ
   pub sent : LastWasSentIn input the_run slot

@@ -39,7 +39,8 @@ IsHeardOfSome pi message = (group : Option Group) × Hears pi group message
 -- these are the messages of the last k + 1 slots of a log, the newest first, as receivers of the programme hear them
 abbrev pub AreLastSent : ℕ → ℕ → List (Option Message) → List (Option Message) → Type 0
 AreLastSent pi k sent messages =
-    (back : ℕ) → back ≤ k → (slice_index_or messages back None ≡ sent_back back sent) × IsHeardOfSome pi (sent_back back sent)
+    (back : ℕ) → back ≤ k → (slice_index_or messages back None ≡ sent_back back sent)
+    × IsHeardOfSome pi (sent_back back sent)
 
 -- this is how many slots back each receiver may be handed what was sent
 pub record HaveReaches (k : ℕ) (events : List Event) (reaches : List ℕ) : Type 0 where
@@ -53,7 +54,8 @@ pub record IsViewOfInput (station : Head) (m : ℕ) (input : Input) (view : Show
 
 -- what a receiver showed after the input before, it shows after this one
 abbrev pub StaysShown : Head → ℕ → Input → Input → Type 0
-StaysShown station m before after = (view : ShownView) → IsViewOfInput station m before view → IsViewOfInput station m after view
+StaysShown station m before after =
+    (view : ShownView) → IsViewOfInput station m before view → IsViewOfInput station m after view
 
 -- receiver i shows what it showed before the newest slot; the encoder's dwell is d
 abbrev pub ShowsStill : Head → ℕ → ℕ → ℕ → List Event → Type 0
@@ -77,7 +79,8 @@ pub record StandsAt (station : Head) (m k : ℕ) (w : WorldState) (events : List
 
 -- wherever the world stands, this holds of its station, of its dwell, of its greatest lateness and of its slots
 abbrev pub WhereItStands : WorldState → (Head → ℕ → ℕ → List Event → Type 0) → Type 0
-WhereItStands w Holds = (station : Head) (m k : ℕ) (events : List Event) → StandsAt station m k w events → Holds station m k events
+WhereItStands w Holds = (station : Head) (m k : ℕ) (events : List Event) → StandsAt station m k w events
+    → Holds station m k events
 
 -- the receiver shows this: wherever it stands, it is the view of its input
 abbrev pub Shows : ReceiverState → ShownView → Type 0

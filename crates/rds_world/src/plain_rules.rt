@@ -10,10 +10,8 @@ type Cells = [Option<[u8; 4]>; 16];
 fn end_of_text(cells: &Cells) -> usize {
     for (address, cell) in cells.iter().enumerate() {
         if let Some(bytes) = cell {
-            for (place, byte) in bytes.iter().enumerate() {
-                if *byte == 0x0D {
-                    return 4 * address + place;
-                }
+            if let Some(place) = bytes.iter().position(|byte| *byte == 0x0D) {
+                return 4 * address + place;
             }
         }
     }
@@ -32,15 +30,23 @@ fn may_stand(end: usize, place: usize, byte: u8) -> bool {
     }
 }
 
+/// Whether the segment at this address can be one of a text of so many bytes.
+fn can_be_sent(end: usize, address: usize, bytes: &[u8; 4]) -> bool {
+    for (place, byte) in bytes.iter().enumerate() {
+        if !may_stand(end, address.wrapping_mul(4).wrapping_add(place), *byte) {
+            return false;
+        }
+    }
+    true
+}
+
 /// Whether some text has the segments.
 fn is_one_text(cells: &Cells) -> bool {
     let end = end_of_text(cells);
     for (address, cell) in cells.iter().enumerate() {
         if let Some(bytes) = cell {
-            for (place, byte) in bytes.iter().enumerate() {
-                if !may_stand(end, 4 * address + place, *byte) {
-                    return false;
-                }
+            if !can_be_sent(end, address, bytes) {
+                return false;
             }
         }
     }

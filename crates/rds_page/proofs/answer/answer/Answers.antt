@@ -1,0 +1,41 @@
+use Rattle.std.proofs.Common.{◌≡◌, List, ℕ, None, Some, inl, inr, map, refl, rules, subst, sym}
+use Rattle.rds_words.specs.CommandLine.{AreRefused, AskFor, AskForHelp, TakesWords, asked_in}
+use Rattle.rds_page.specs.Page.{words_in}
+use Rattle.rds_page.proofs.Calm.{calm_task, none_failed}
+use Rattle.rds_page.proofs.answer.answer.Goals as goal
+
+pub returns-in_default-words_in-clause-text : goal.returns-in_default-words_in-clause-text
+returns-in_default-words_in-clause-text g c text = record {
+  runs = λ asked pi given is. (
+    record { before = Some c.args.input.now; after = Some c.args.input.now; failures_before = 0; failures_after = 0 },
+    record { bytes_are = refl; failures_are = refl },
+    inl (record { status_is = refl; told = (c.put.result, c.put.ensures) }),
+  );
+  fault_pi = λ asked given none. inl (record { status_is = refl; told = (c.put.result, c.put.ensures) });
+  nothing_asked = λ takes none. inl (record { status_is = refl; told = (c.put.result, c.put.ensures) });
+  help = λ asks. inl (record { status_is = refl; told = (c.put.result, c.put.ensures) });
+  refused = λ refused. inl (record { status_is = refl; told = (c.put.result, c.put.ensures) });
+  not_taken = λ untaken. inl (record { status_is = refl; told = (c.put.result, c.put.ensures) });
+}
+
+pub returns-clause-text : goal.returns-clause-text
+returns-clause-text g c text =
+    let words : map (λ w. w.now) c.as_slice.result.now ≡ words_in c.args.words.now = search rules in
+    let did = c.run.ensures in
+    record {
+      runs = λ asked pi given is.
+          let (r, begins, ran) = did.runs asked pi (subst (λ (ws : List (List ℕ)). AskFor ws asked) (sym words) given) is in (
+            r,
+            record { bytes_are = search rules; failures_are = search rules },
+            elim ran [
+              | inl memory ↦ inl memory
+              | inr did ↦ inr (calm_task none_failed asked.task pi asked.dwell r _ c.run.result did)
+            ],
+          );
+      fault_pi = λ asked given none. did.fault_pi asked (subst (λ (ws : List (List ℕ)). AskFor ws asked) (sym words) given) none;
+      nothing_asked = λ takes none.
+          did.nothing_asked (subst (λ (ws : List (List ℕ)). TakesWords ws) (sym words) takes) (subst (λ (ws : List (List ℕ)). asked_in ws ≡ None) (sym words) none);
+      help = λ asks. did.help (subst (λ (ws : List (List ℕ)). AskForHelp ws) (sym words) asks);
+      refused = λ refused. did.refused (subst (λ (ws : List (List ℕ)). AreRefused ws) (sym words) refused);
+      not_taken = λ untaken. did.not_taken (λ takes. untaken (subst (λ (ws : List (List ℕ)). TakesWords ws) words takes));
+    }

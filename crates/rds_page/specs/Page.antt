@@ -1,0 +1,44 @@
+-- What a page gives the program, and what it gets.
+use Rattle.std.specs.Prelude.{◌≡◌, ◌⊎◌, ◌==◌, ℕ, List, [], None, Some, length, take}
+use Rattle.std.specs.List.{slice_split}
+use Rattle.std.specs.Str.{IsUtf8}
+use Rattle.rds_charset.specs.Told.{PutsNothing, Traffic}
+use Rattle.rds_words.specs.CommandLine.{AreRefused, AskFor, AskForHelp, Asked, TakesWords, asked_in}
+use Rattle.rds_run.specs.Run.{Begins, IsPi, NoMemory, RefusesPi, TaskRuns}
+
+-- the words are the lines of a text
+abbrev pub words_in : List ℕ → List (List ℕ)
+words_in text = slice_split (λ byte. byte == 10) text
+
+-- this was written where nothing was, and so many writes failed
+abbrev pub writing : List ℕ → ℕ → Traffic
+writing printed failures =
+    record { before = Some []; after = Some printed; failures_before = 0; failures_after = failures }
+
+-- what the program prints over these words and this input, and its status: as `run` says, where no read fails
+pub record Prints (words : List (List ℕ)) (input : List ℕ) (w : Traffic) (status : ℕ) : Type 0 where
+  pub runs : (asked : Asked) (pi : ℕ) → AskFor words asked → IsPi asked.pi pi → (r : Traffic)
+      × Begins r (Some input) 0 × (NoMemory w status ⊎ TaskRuns asked.task pi asked.dwell r ⊥ w status)
+  pub fault_pi : (asked : Asked) → AskFor words asked → ((pi : ℕ) → IsPi asked.pi pi → ⊥)
+      → NoMemory w status ⊎ RefusesPi asked.task w status
+  pub nothing_asked : TakesWords words → asked_in words ≡ None
+      → NoMemory w status ⊎ ((status ≡ 2) × PutsNothing w)
+  pub help : AskForHelp words → NoMemory w status ⊎ (status ≡ 0)
+  pub refused : AreRefused words → NoMemory w status ⊎ (status ≡ 2)
+  pub not_taken : (TakesWords words → ⊥) → NoMemory w status ⊎ ((status ≡ 0) ⊎ (status ≡ 2))
+
+-- words that are no text are refused, and nothing is printed
+abbrev pub Refuses : Traffic → ℕ → Type 0
+Refuses w status = (status ≡ 2) × PutsNothing w
+
+-- the output begins with what was printed, or with as much of it as there is room for
+pub record Begun (printed output : List ℕ) (number : ℕ) : Type 0 where
+  pub number_is : number ≡ length printed
+  pub shown : take number output ≡ take (length output) printed
+
+-- a run in a page
+pub record Runs (words input output : List ℕ) (number failures status : ℕ) : Type 0 where
+  pub printed : List ℕ
+  pub begun : Begun printed output number
+  pub prints : IsUtf8 words → Prints (words_in words) input (writing printed failures) status
+  pub no_text : (IsUtf8 words → ⊥) → Refuses (writing printed failures) status

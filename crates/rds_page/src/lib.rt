@@ -1,0 +1,51 @@
+//! The program `rdsrt` for a page: its words and its input are bytes of memory, and so is its output.
+#![tactic(auto)]
+
+mod answer;
+mod given;
+mod sheet;
+mod words;
+
+ghost use Rattle.rds_page.specs.Page.{Begun, Runs};
+
+use answer::answer;
+use sheet::Sheet;
+use std::alloc::Global;
+
+/// How the program ended.
+#[repr(C)]
+#[derive(Clone, Copy)]
+pub struct Ended {
+    /// How many bytes it printed. Where they are more than the output has room for, only the first of them are in it.
+    pub length: usize,
+    /// How many writes failed, for want of memory.
+    pub failures: u64,
+    /// Its status.
+    pub status: u8,
+}
+
+/// Runs the program over its words, one a line, the program's own name first, and the bytes of its input.
+#[unsafe(no_mangle)]
+pub extern "C" fn rdsrt_run(alloc: Global, words: &[u8], input: &[u8], output: &mut [u8]) -> Ended
+    ensures { Runs words.now input.now output.new result.length result.failures result.status }
+{
+    let mut sheet = Sheet::new(alloc);
+    let status = answer(alloc, words, input, &mut sheet);
+    Ended {
+        length: copy_front(sheet.bytes.as_slice(), output),
+        failures: sheet.failures,
+        status,
+    }
+}
+
+/// Copies as many bytes as there is room for, and gives how many there are.
+fn copy_front(printed: &[u8], output: &mut [u8]) -> usize
+    ensures { Begun printed.now output.new result }
+{
+    let count = printed.len().min(output.len());
+    output[..count].copy_from_slice(&printed[..count]);
+    printed.len()
+}
+
+#[cfg(test)]
+mod tests;

@@ -1,0 +1,96 @@
+"use strict";
+/* The page: its tabs, the files that are dropped on it, and its begin. */
+const page = (() => {
+  const { $ } = parts, TABS = ["log", "script", "dwell"];
+  const state = { ready: false };
+
+  function tab(name, focus = false) {
+    for (const it of TABS) {
+      const is_on = it === name, button = $(`tab-${it}`);
+      $(it).hidden = !is_on;
+      button.setAttribute("aria-selected", is_on);
+      button.tabIndex = is_on ? 0 : -1;
+      if (is_on && focus) button.focus();
+    }
+    try { history.replaceState(null, "", `#${name}`); } catch { /* some browsers refuse it to a file */ }
+    for (const it of [log_tab, script_tab]) it.timeline.draw();
+  }
+
+  function tab_keys() {
+    TABS.forEach((name, i) => {
+      const moves = { ArrowRight: (i + 1) % 3, ArrowLeft: (i + 2) % 3, Home: 0, End: 2 };
+      $(`tab-${name}`).onclick = () => tab(name);
+      $(`tab-${name}`).onkeydown = (e) => {
+        if (!(e.key in moves)) return;
+        e.preventDefault();
+        tab(TABS[moves[e.key]], true);
+      };
+    });
+  }
+
+  /* A script has a comma in its first line; no line of a log has one before its 20th byte. */
+  const is_script = (name, text) => /\.csv$/i.test(name) || /^\uFEFF?(?:\r?\n)*(?:-|text|name|tags|restart|"[a-z-]+"),/.test(text);
+
+  async function open_file(file) {
+    const text = await file.text(), to_script = is_script(file.name, text);
+    if (to_script) script_tab.open(text); else log_tab.open(text);
+    tab(to_script ? "script" : "log");
+  }
+
+  function examples(what, open) {
+    const all = RDSRT_EXAMPLES[what], select = $(`${what}-example`);
+    const use = () => {
+      const it = all[select.value];
+      if (it) open(it.from ? rdsrt.run(it.from, it.text).output : it.text, { ...it, example: select.value });
+    };
+    select.replaceChildren(...all.map((it, i) => new Option(it.name, i)), new Option("your own", ""));
+    select.onchange = use;
+    $(`${what}-file`).onchange = (e) => { if (e.target.files[0]) open_file(e.target.files[0]); };
+    use();
+  }
+
+  function drops() {
+    const over = (is) => document.body.classList.toggle("over", is);
+    document.ondragover = (e) => { e.preventDefault(); over(true); };
+    document.ondragleave = (e) => { if (!e.relatedTarget) over(false); };
+    document.ondrop = (e) => {
+      e.preventDefault();
+      over(false);
+      if (e.dataTransfer.files[0]) open_file(e.dataTransfer.files[0]);
+    };
+  }
+
+  function no_engine(error) {
+    $("no-engine").hidden = false;
+    $("no-engine").textContent = "This browser can’t run the program: it needs WebAssembly with a memory of 64 bits, which Chrome "
+      + `and Edge have from 133 on and Firefox from 134 on. (${error.message})`;
+    for (const it of TABS) $(it).inert = true;
+  }
+
+  async function open_address() {
+    const hash = location.hash.slice(1);
+    try {
+      if (await script_tab.open_link(hash)) return "script";
+    } catch {
+      $("script-saved").textContent = "The link holds no script.";
+      return "script";
+    }
+    return TABS.includes(hash) ? hash : "log";
+  }
+
+  async function begin() {
+    try { await rdsrt.load(); } catch (error) { no_engine(error); return; }
+    tab_keys();
+    examples("log", log_tab.open);
+    examples("script", script_tab.open);
+    for (const it of [log_tab, script_tab, dwell_tab]) it.begin();
+    for (const form of document.forms) form.onsubmit = (e) => e.preventDefault();
+    $("command-form").addEventListener("submit", script_tab.command_changed);
+    drops();
+    tab(await open_address());
+    window.onhashchange = async () => { if (location.hash.includes("script=")) tab(await open_address()); };
+    state.ready = true;
+  }
+  begin();
+  return { open_file, state, tab };
+})();

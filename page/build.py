@@ -1,0 +1,48 @@
+#!/usr/bin/env python3
+"""Writes engine.js and examples.js: the module and the examples, as scripts, so that the page opens from a disk too.
+
+usage: build.py MODULE EXAMPLES OUT
+"""
+import base64
+import gzip
+import json
+import os
+import sys
+
+ENCODE = ["encode", "--pi", "C201", "--pty", "10", "--m", "8"]
+LOGS = [
+    ("An encoder turns its flag back too soon", "flags.log", {"pi": "C201", "m": 8, "lost": [2, 3, 4]}),
+    ("A song with its artist and title", "accents.log", {"pi": "F201", "m": 128}),
+    ("Our own encoder", "chanson.csv", {"from": ENCODE, "pi": "C201", "m": 8}),
+    ("Two letters", "hi.log", {"pi": "C201", "m": 128}),
+]
+SCRIPTS = [
+    ("The mix: a long tunnel", "mix.csv", {"m": 8, "k": 0, "pty": "10"}),
+    ("A short tunnel", "tunnel.csv", {"m": 8, "k": 0, "pty": "24"}),
+    ("Groups that come late", "late.csv", {"m": 4, "k": 2, "pty": "10"}),
+    ("A song with its tags", "chanson.csv", {"m": 8, "k": 0, "pty": "10"}),
+]
+
+
+def shown(folder, rows):
+    """The examples as the page takes them: name, text, and how they are opened."""
+    for name, file, how in rows:
+        with open(os.path.join(folder, file), encoding="utf-8") as text:
+            yield {"name": name, "text": text.read(), **how}
+
+
+def write(out, name, constant, value):
+    with open(os.path.join(out, name), "w", encoding="utf-8") as file:
+        file.write(f'"use strict";\nconst {constant} = {json.dumps(value, ensure_ascii=False, indent=1)};\n')
+
+
+def main():
+    module, examples, out = sys.argv[1:]
+    with open(module, "rb") as file:
+        packed = gzip.compress(file.read(), 9, mtime=0)
+    write(out, "engine.js", "RDSRT_ENGINE", base64.b64encode(packed).decode())
+    write(out, "examples.js", "RDSRT_EXAMPLES", {"log": list(shown(examples, LOGS)), "script": list(shown(examples, SCRIPTS))})
+
+
+if __name__ == "__main__":
+    main()

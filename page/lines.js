@@ -1,0 +1,117 @@
+"use strict";
+/* What logs, scripts and the program's lines say, for drawing: docs/FORMATS.md has their forms. */
+const lines = (() => {
+  const SLOT = 104 / 1187.5, BLOCK = "(?:[0-9A-Fa-f]{4}|----)";
+  const SKIPPED = /^(?:\r?$|[<#%])/, SLOT_LINE = new RegExp(`^${BLOCK}(?: ${BLOCK}){3}(?:\r?$| )`);
+  const SHOWN = /^(?:none$|"|[01] [01]$|\S+ ")/;
+
+  const seconds = (slots) => slots * SLOT;
+  function time(slots) {
+    const s = seconds(slots);
+    if (s < 60) return `${s.toFixed(s < 10 ? 2 : 1)} s`;
+    return s < 3600 ? `${Math.floor(s / 60)} min ${Math.round(s % 60)} s` : `${(s / 3600).toFixed(1)} h`;
+  }
+
+  /* The slots of a log up to the first line that is none: four words, or null where nothing was received; the number of
+     each one's line; and of the line that is none. */
+  function slots_of(log) {
+    const slots = [], at = [];
+    const all = log.split("\n");
+    for (let i = 0; i < all.length; i++) {
+      const line = all[i];
+      if (SKIPPED.test(line)) continue;
+      if (!SLOT_LINE.test(line)) return { slots, at, bad: i };
+      const blocks = line.slice(0, 19);
+      slots.push(blocks.includes("-") ? null : blocks.split(" ").map((word) => parseInt(word, 16)));
+      at.push(i);
+    }
+    return { slots, at, bad: null };
+  }
+
+  /* What each part showed, as runs [from, to) with a value; null where nothing was shown. */
+  class View {
+    constructor() { this.parts = { text: [], name: [], item: [], tag1: [], tag2: [] }; }
+
+    change(part, slot, value) {
+      const runs = this.parts[part], last = runs[runs.length - 1];
+      if (last && last.from === slot) { last.value = value; return; }
+      if (last) last.to = slot;
+      runs.push({ from: slot, to: Infinity, value });
+    }
+
+    at(part, slot) {
+      const runs = this.parts[part];
+      let low = 0, high = runs.length;
+      while (low < high) {
+        const mid = (low + high) >> 1;
+        if (runs[mid].from <= slot) low = mid + 1; else high = mid;
+      }
+      return low ? runs[low - 1] : null;
+    }
+
+    finish(slots) {
+      for (const runs of Object.values(this.parts)) if (runs.length) runs[runs.length - 1].to = slots;
+      return this;
+    }
+  }
+
+  function value_of(part, rest) {
+    if (rest === "none") return null;
+    if (part === "item") return rest;
+    if (part === "text" || part === "name") return rest.slice(1, -1);
+    const cut = rest.indexOf(" ");
+    return { kind: rest.slice(0, cut), text: rest.slice(cut + 2, -1) };
+  }
+
+  /* What the lines of `decode` and of `sim` say; the last line where it is a fault. */
+  function read(output, count) {
+    const said = { views: [], sent: [], replies: [], fault: null };
+    for (const line of output.split("\n")) {
+      const m = /^(\d+) (?:r(\d) )?(\w+) ?(.*)$/.exec(line);
+      if (!m) { if (line) said.fault = line; continue; }
+      const slot = Number(m[1]), [, , receiver, what, rest] = m;
+      if (what === "sent") said.sent[slot] = rest.split(" ").map((word) => parseInt(word, 16));
+      else if (receiver === undefined && !SHOWN.test(rest)) said.replies.push({ slot, what, reply: rest });
+      else (said.views[Number(receiver ?? 0)] ??= new View()).change(what, slot, value_of(what, rest));
+    }
+    for (const view of said.views) view?.finish(count);
+    return said;
+  }
+
+  /* What a group is to the text services. */
+  const NOTHING = 0, TEXT = 1, NAME = 2, TAGS = 3, OTHER = 4;
+  function code_of(group, pi) {
+    if (!group || (pi !== null && group[0] !== pi)) return NOTHING;
+    const kind = group[1] >> 11;
+    if (kind === 4) return TEXT;
+    if (kind === 20) return NAME;
+    return kind === 22 || (kind === 6 && (group[1] & 31) === 22) ? TAGS : OTHER;
+  }
+  function codes_of(groups, count, pi) {
+    const codes = new Uint8Array(count);
+    for (let i = 0; i < count; i++) codes[i] = code_of(groups[i], pi);
+    return codes;
+  }
+
+  /* Bytes as the program prints them. */
+  const table = new Map();
+  const STRETCHES = { 0x80: "áàéèíìóòúùÑÇ", 0x90: "âäêëîïôöûüñç", 0xA9: "€£$", 0xC0: "ÁÀÉÈÍÌÓÒÚÙ", 0xD0: "ÂÄÊËÎÏÔÖÛÜ" };
+  for (const [from, all] of Object.entries(STRETCHES)) [...all].forEach((c, i) => table.set(Number(from) + i, c));
+  for (let b = 0x20; b <= 0x7D; b++) if (![0x22, 0x24, 0x5C, 0x5E, 0x60].includes(b)) table.set(b, String.fromCharCode(b));
+  const escaped = (byte) => `\\x${byte.toString(16).toUpperCase().padStart(2, "0")}`;
+  const printed = (bytes) => bytes.map((byte) => table.get(byte) ?? escaped(byte)).join("");
+
+  const CLASSES = ["", "TITLE", "ALBUM", "TRACKNUMBER", "ARTIST", "COMPOSITION", "MOVEMENT", "CONDUCTOR", "COMPOSER", "BAND", "COMMENT",
+    "GENRE"];
+  const class_of = (number) => number < CLASSES.length ? `ITEM.${CLASSES[number]}` : String(number);
+
+  /* The two tags of a group 11A: class, start and extra of each. */
+  function tags_of(group) {
+    const [, b, c, d] = group;
+    return [[((b & 7) << 3) | (c >> 13), (c >> 7) & 63, (c >> 1) & 63], [((c & 1) << 5) | (d >> 11), (d >> 5) & 63, d & 31]];
+  }
+  const bytes_of = (group) => [group[2] >> 8, group[2] & 255, group[3] >> 8, group[3] & 255];
+
+  const CODES = { NOTHING, TEXT, NAME, TAGS, OTHER };
+  return { ...CODES, View, bytes_of, class_of, code_of, codes_of, printed, read, seconds, slots_of, tags_of, time };
+})();

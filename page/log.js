@@ -1,0 +1,252 @@
+"use strict";
+/* The tab of a log: what a receiver shows of it, what the audit says, and which slots are lost. */
+const log_tab = (() => {
+  const { $, make } = parts;
+  const PI = "C201", MOST_PROGRAMMES = 12, LOST = "---- ---- ---- ----";
+  const LINE = "A line has four blocks of four hexadecimal digits, or ---- for each that was not received, with one space between "
+    + "them. What stands behind it isn't shown.";
+  const NO_RECEIVER = " that loses slots in one place and shows what nobody sent. A no says that a rule was broken, not that a mix "
+    + "can be seen.";
+  /* Milliseconds of a search between two turns of the page. */
+  const AT_ONCE = 12;
+  const PARTS = [["name", "name"], ["tag1", "first tag"], ["tag2", "second tag"]];
+  const KINDS = ["nothing", "text", "name", "tags", "other"];
+  const state = {
+    text: "", lost: new Set(), slots: [], at: [], heard: [], view: new lines.View(), naive: new lines.View(), mixed: () => false,
+    turn: 0, witness: null,
+  };
+  const timeline = new Timeline($("log-time"), {
+    label: "Slot of the log",
+    on_move: show_slot,
+    on_paint: (lane, from, to, e) => {
+      if (lane && from === to && (e.shiftKey || (lane.lost && $("log-click").checked))) lose([from]);
+      return false;
+    },
+    on_key: (key) => {
+      if (key !== "l") return false;
+      lose([timeline.cursor]);
+      return true;
+    },
+  });
+
+  /* Loses these slots, or gives back those that are lost. */
+  function lose(slots) {
+    for (const slot of slots) if (!state.lost.delete(slot)) state.lost.add(slot);
+    look({ fit: false });
+  }
+
+  function programmes(slots) {
+    const counts = new Map();
+    for (const group of slots) if (group) counts.set(group[0], (counts.get(group[0]) ?? 0) + 1);
+    const all = [...counts].sort((a, b) => b[1] - a[1]).slice(0, MOST_PROGRAMMES);
+    return all.length ? all : [[parseInt(PI, 16), 0]];
+  }
+
+  function open(text, { pi, m, k, lost = [], example = "" } = {}) {
+    Object.assign(state, { text, lost: new Set(lost) });
+    $("log-example").value = example;
+    const all = programmes(lines.slots_of(text).slots);
+    const options = all.map(([p, n]) => new Option(`${parts.hex(p)} (${parts.counted(n, "group")})`, parts.hex(p)));
+    $("log-pi").replaceChildren(...options);
+    if (all.some(([p]) => parts.hex(p) === pi)) $("log-pi").value = pi;
+    if (m) $("log-m").value = m;
+    if (k !== undefined) $("log-k").value = k;
+    parts.fill("log-text", text);
+    look({ fit: true });
+    const shown = state.view.parts.text.filter((run) => run.value !== null);
+    const mix = shown.find((run) => state.mixed("text", run.value)) ?? shown.at(-1);
+    timeline.move(mix ? mix.from : 0, { keep: true });
+  }
+
+  /* The log as a receiver gets it: a lost slot's line is one of missing blocks. */
+  function received() {
+    if (!state.lost.size) return state.text;
+    const all = state.text.split("\n");
+    for (const slot of state.lost) if (state.at[slot] !== undefined) all[state.at[slot]] = LOST;
+    return all.join("\n");
+  }
+
+  function look({ fit }) {
+    if (!$("log-form").checkValidity()) return;
+    const pi = $("log-pi").value, m = $("log-m").value, k = $("log-k").value, number = parseInt(pi, 16);
+    const { slots, at, bad } = lines.slots_of(state.text), count = slots.length;
+    Object.assign(state, { slots, at, number, heard: slots.map((group, i) => state.lost.has(i) ? null : group) });
+    const words = ["decode", "--pi", pi, "--m", m], audit_words = ["audit", "--pi", pi, "--m", m, "--k", k];
+    const decode = rdsrt.run(words, received()), audit = rdsrt.run(audit_words, state.text);
+    state.view = lines.read(decode.output, count).views[0] ?? new lines.View();
+    state.naive = naive.receive(state.heard, number, count);
+    state.mixed = mixed_by(words, number, count);
+    state.result = { decode, audit };
+    const no = /^no (\d+) (\w+)/.exec(audit.output);
+    timeline.title = `rdsrt ${words.join(" ")}`;
+    timeline.show(lanes(no, count), count, { fit });
+    show_verdict({ audit, no, m: Number(m), k: Number(k), bad });
+    $("log-unlose").hidden = !state.lost.size;
+    tell_lines([["log", words, decode], ["audit", audit_words, audit]]);
+  }
+
+  /* Nobody sent what neither receiver shows that loses nothing. */
+  function mixed_by(words, number, count) {
+    if (!state.lost.size) return () => false;
+    const whole = lines.read(rdsrt.run(words, state.text).output, count).views[0];
+    const sent = parts.all_shown(whole, naive.receive(state.slots, number, count));
+    return (part, value) => !sent.has(parts.key_of(part, value));
+  }
+
+  function tell_lines(all) {
+    for (const [name, words, got] of all) {
+      $(`${name}-command`).textContent = `rdsrt ${words.join(" ")}`;
+      parts.fill(`${name}-lines`, got.output);
+    }
+  }
+
+  /* Why the text or the name that was shown before this slot is shown no longer. */
+  const why_gone = (part, slot) => parts.why_gone(part, state.heard[slot], state.number);
+
+  function events(no) {
+    const marks = [];
+    for (const part of ["text", "name"]) {
+      state.view.parts[part].forEach((run, i, all) => {
+        if (run.value === null && i && all[i - 1].value !== null) marks.push(parts.mark(run.from, `${part}: ${why_gone(part, run.from)}`));
+      });
+    }
+    if (no) marks.push(parts.mark(Number(no[1]), no[2], true));
+    return marks.sort((a, b) => a.at - b.at);
+  }
+
+  /* Bars of the receiver with the flag bit alone, pale from where the other forgot the text that it shows. */
+  function aged(runs) {
+    const gone = state.view.parts.text.filter((run) => run.value === null && why_gone("text", run.from) === "forgotten");
+    let next = 0;
+    return runs.flatMap((run) => {
+      while (next < gone.length && gone[next].from <= run.from) next++;
+      const from = gone[next]?.from ?? Infinity;
+      if (run.label === null || run.mix || from >= run.to) return [run];
+      return [{ ...run, to: from }, { ...run, from, old: true }];
+    });
+  }
+
+  function lanes(no, count) {
+    const tint = parts.tinter(), { view, naive: other, mixed } = state, codes = lines.codes_of(state.heard, count, state.number);
+    const bars = (it, part) => parts.bars(it, part, tint, mixed);
+    const lane = (name, short, runs, more) => ({ name, short, kind: "bars", runs, gap: 3, ...more });
+    const all = [
+      { name: "received", kind: "ticks", codes, losses: true, lost: state.lost },
+      { name: "events", kind: "marks", marks: events(no) },
+      lane("text", "text", bars(view, "text"), { strong: true, gap: 10 }),
+    ];
+    for (const [part, name] of PARTS) if (parts.shows(view, part)) all.push(lane(name, name, bars(view, part)));
+    all.push(lane("flag bit alone", "flag bit", aged(bars(other, "text")), { gap: 12 }));
+    if (parts.shows(other, "name")) all.push(lane("  its name", " name", bars(other, "name")));
+    if (parts.shows_tags(other)) all.push(lane("  its tags", " tags", parts.tag_bars(other, tint, mixed)));
+    return all;
+  }
+
+  // ---- the verdict
+
+  const button = (text, what) => Object.assign(make("button", { type: "button", textContent: text }), { onclick: what });
+  const says = (strong, text) => make("p", {}, make("b", { textContent: strong }), ` ${text}`);
+  const go_to = (slot) => button(`slot ${slot.toLocaleString("en")}`, () => { timeline.move(slot); timeline.canvas.focus(); });
+
+  function show_verdict({ audit, no, m, k, bad }) {
+    const root = $("verdict"), yes = /^yes (\d+)/.exec(audit.output), told = [];
+    root.className = `verdict${no ? " no" : yes ? "" : " fault"}`;
+    state.turn++;
+    if (yes) told.push(...passed(Number(yes[1])));
+    else if (no) told.push(...refused(no, m, k));
+    else told.push(...faulty(audit, bad));
+    const about = `The audit reads the log as sent, with M + K = ${m + k} slots (${lines.time(m + k)}).`;
+    root.replaceChildren(...told, make("p", { className: "small", textContent: about }));
+  }
+
+  function passed(count) {
+    const what = `All ${parts.counted(count, "slot")}: whatever a receiver of this dwell loses, it never shows a mix of two texts.`;
+    return [make("h2", { textContent: "✓ Passes the audit" }), make("p", { textContent: what })];
+  }
+
+  function refused(no, m, k) {
+    const slot = Number(no[1]), { name, what, should } = rules.explain(no[2], state.slots, state.number, slot, m + k);
+    const about = make("p", { className: "witness", textContent: "Looking for a receiver that pays for it …" });
+    look_for_witness(about, slot, m, k);
+    return [
+      make("h2", {}, "✗ ", make("code", { textContent: no[2] }), `: ${name}`),
+      make("p", {}, "First at ", go_to(slot), ` (${lines.time(slot)}). ${what ?? ""}`),
+      ...(should ? [says("What an encoder should do:", should)] : []),
+      about,
+    ];
+  }
+
+  function faulty(audit, bad) {
+    const line = /^fault line (\d+)/.exec(audit.output);
+    if (!line) return [make("h2", { textContent: "No verdict" }), make("p", { textContent: audit.output.trim() })];
+    const number = Number(line[1]), text = state.text.split("\n")[number - 1] ?? "";
+    return [
+      make("h2", { textContent: `Line ${number.toLocaleString("en")} is no line of a log` }),
+      make("p", {}, make("code", { textContent: text.length > 60 ? `${text.slice(0, 60)}…` : text || "(empty)" })),
+      make("p", { textContent: LINE }),
+      make("p", {}, button("Show the line", () => parts.go_to_line("log-text", number))),
+    ];
+  }
+
+  /* Gives way to the page where a piece of work has taken its time, and stops where the log was changed meanwhile. */
+  function give_way(turn) {
+    let since = -Infinity;
+    return () => performance.now() - since < AT_ONCE ? undefined : new Promise((go, stop) => setTimeout(() => {
+      since = performance.now();
+      if (state.turn === turn) go(); else stop(new Error("the log was changed"));
+    }));
+  }
+
+  async function look_for_witness(about, no, m, k) {
+    const turn = state.turn, way = give_way(turn), text = state.text.split("\n");
+    state.witness = null;
+    try {
+      await way();
+      const logged = state.at.map((line) => text[line].slice(0, 19));
+      const found = await witness.find({ groups: state.slots, logged, pi: state.number, m, k, no }, way);
+      await way();
+      state.witness = found;
+      about.replaceChildren(...witness_words(found));
+    } catch (e) { if (state.turn === turn) throw e; }
+  }
+
+  function witness_words({ slot, lost, shown, upto }) {
+    if (!lost || !shown.length) {
+      const where = upto === null || upto === undefined ? "" : ` up to slot ${upto.toLocaleString("en")}`;
+      return [make("b", { textContent: "Receivers:" }), ` none was found${where}${NO_RECEIVER}`];
+    }
+    const [first, last] = lost, slots = first === last ? `slot ${first}` : `slots ${first} to ${last}`;
+    const what = make("code", { textContent: shown.join("; ") }), do_so = button(`Lose ${slots}`, () => be_witness(slot, first, last));
+    return [make("b", { textContent: "A receiver that pays for it" }), ` loses ${slots}, and then shows what nobody sent: `, what, ". ", do_so];
+  }
+
+  /* Loses these slots alone, and goes to the one in which the mix is shown. */
+  function be_witness(slot, first, last) {
+    state.lost = new Set(Array.from({ length: last - first + 1 }, (_, i) => first + i));
+    look({ fit: false });
+    timeline.move(slot);
+    timeline.canvas.focus();
+  }
+
+  // ---- a slot
+
+  function show_slot(slot) {
+    const group = state.slots[slot], sent = group ? `${KINDS[lines.code_of(group, state.number)]} group` : "nothing received";
+    const what = state.lost.has(slot) ? "lost" : sent, run = state.view.at("text", slot), other = state.naive.at("text", slot);
+    const none = run && run.value === null && run.from > 0 ? why_gone("text", run.from) : "no text";
+    const is_mix = (it) => !!it && it.value !== null && state.mixed("text", it.value);
+    const led = (it, or) => is_mix(it) ? "nobody sent this" : or;
+    parts.radio($("log-radio"), "The receiver, with the dwell", state.view, slot, { led: led(run, what), bad: is_mix(run), none });
+    parts.radio($("log-naive"), "Flag bit alone (the page's own)", state.naive, slot, { led: led(other, ""), bad: is_mix(other) });
+    const words = (view, it) => parts.in_words(view, slot) + (is_mix(it) ? ", which nobody sent" : "");
+    return `${what}. The receiver shows ${words(state.view, run)}. With the flag bit alone: ${words(state.naive, other)}.`;
+  }
+
+  function begin() {
+    for (const id of ["log-pi", "log-m", "log-k"]) $(id).oninput = parts.soon(() => look({ fit: false }));
+    $("log-text").oninput = parts.soon(() => open($("log-text").value, { pi: $("log-pi").value }));
+    $("log-unlose").onclick = () => { state.lost.clear(); look({ fit: false }); };
+  }
+
+  return { begin, look, lose, open, state, timeline };
+})();

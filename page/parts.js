@@ -1,0 +1,117 @@
+"use strict";
+/* What the tabs share: elements, displays, bars and marks of lanes, and long texts that are laid out only where they are
+   open. */
+const parts = (() => {
+  const SHORT = 20000, MOST = 400000;
+  const $ = (id) => document.getElementById(id);
+  const make = (tag, props = {}, ...inside) => {
+    const element = Object.assign(document.createElement(tag), props);
+    element.append(...inside);
+    return element;
+  };
+  const hex = (n) => n.toString(16).toUpperCase().padStart(4, "0");
+  const counted = (n, one, more = `${one}s`) => `${n.toLocaleString("en")} ${n === 1 ? one : more}`;
+  const soon = (what) => {
+    let timer;
+    return () => { clearTimeout(timer); timer = setTimeout(what, 120); };
+  };
+
+  /* A class of RadioText Plus in small letters, as ITEM.ARTIST. */
+  const kind_of = (tag) => tag.kind.replace(/^ITEM\./, "").toLowerCase();
+  const said_of = (tag) => `${kind_of(tag)}: ${tag.text}`;
+  const label_of = (value) => value === null ? null : typeof value === "string" ? value || "(empty)" : said_of(value);
+  const key_of = (part, value) => typeof value === "string" ? `${part} ${value}` : `tag ${value.kind} ${value.text}`;
+
+  /* A display as a car has it: the name, the text and its tags at a slot. */
+  function radio(root, caption, view, slot, { led = "", bad = false, none = "no text" } = {}) {
+    const at = (part) => view?.at(part, slot)?.value ?? null, text = at("text");
+    const tags = [at("tag1"), at("tag2")].filter((tag) => tag !== null);
+    const said = (className, textContent) => make("div", { className, textContent });
+    const pieces = tags.map((tag) => make("span", {}, make("b", { textContent: kind_of(tag) }), tag.text));
+    root.replaceChildren(
+      make("figcaption", {}, make("span", { textContent: caption }), make("span", { className: bad ? "led bad" : "led", textContent: led })),
+      make("div", { className: "lcd" }, said("name", at("name") ?? " "), said(text === null ? "text none" : "text", text ?? `— ${none} —`),
+        make("div", { className: "tags" }, ...pieces)));
+    root.classList.toggle("mixed", bad);
+  }
+
+  /* What a display shows, in words. */
+  function in_words(view, slot) {
+    const at = (part) => view?.at(part, slot)?.value ?? null, text = at("text"), name = at("name");
+    const all = [text === null ? "no text" : `“${text}”`, ...(name === null ? [] : [`name ${name.trim()}`])];
+    return [...all, ...[at("tag1"), at("tag2")].filter((tag) => tag !== null).map(said_of)].join(", ");
+  }
+
+  /* Gives each text one of eight colours, in turn. */
+  function tinter() {
+    const known = new Map();
+    return (text) => {
+      if (!known.has(text)) known.set(text, known.size % 8);
+      return known.get(text);
+    };
+  }
+
+  /* The bars of a part of a view; `mixed` says which values nobody sent. */
+  const bars = (view, part, tint, mixed = () => false) => (view?.parts[part] ?? []).map(({ from, to, value }) => ({
+    from, to, value, label: label_of(value), tint: value === null ? 0 : tint(value.text ?? value), mix: value !== null && mixed(part, value),
+  }));
+
+  /* The bars of both tags as one lane. */
+  function tag_bars(view, tint, mixed = () => false) {
+    if (!view) return [];
+    const from = [...new Set([...view.parts.tag1, ...view.parts.tag2].map((run) => run.from))].sort((a, b) => a - b);
+    const ends = Math.max(0, ...["tag1", "tag2"].map((part) => view.parts[part].at(-1)?.to ?? 0));
+    return from.map((slot, i) => {
+      const tags = ["tag1", "tag2"].map((part) => view.at(part, slot)?.value ?? null).filter((tag) => tag !== null);
+      return {
+        from: slot, to: from[i + 1] ?? ends, value: tags, label: tags.length ? tags.map(said_of).join(" · ") : null,
+        tint: tags.length ? tint(tags[0].text) : 0, mix: tags.some((tag) => mixed("tag", tag)),
+      };
+    });
+  }
+
+  const shows = (view, part) => (view?.parts[part] ?? []).some((run) => run.value !== null);
+  const shows_tags = (view) => shows(view, "tag1") || shows(view, "tag2");
+  const mark = (at, label, bad = false) => ({ at, to: at + 1, label, bad });
+
+  /* All that a view ever shows, each as a key. */
+  function all_shown(...views) {
+    const runs = (part) => views.flatMap((view) => view?.parts[part] ?? []).filter((run) => run.value !== null);
+    return new Set(["text", "name", "tag1", "tag2"].flatMap((part) => runs(part).map((run) => key_of(part, run.value))));
+  }
+
+  /* Why a text or a name is shown no longer: the next has begun, or nothing of it came for the dwell. */
+  const OF = { text: lines.TEXT, name: lines.NAME };
+  const why_gone = (part, group, pi) => lines.code_of(group, pi) === OF[part] ? "the next begins" : "forgotten";
+
+  const later = new Map();
+  function put(element, text) {
+    if (element.tagName !== "TEXTAREA") element.textContent = text.length > MOST ? `${text.slice(0, MOST)}…` : text;
+    else if (element.value !== text) element.value = text;
+  }
+  function lay_out(details) {
+    if (!details.open) return;
+    for (const [element, text] of later) if (details.contains(element)) { put(element, text); later.delete(element); }
+  }
+  function fill(id, text) {
+    const element = $(id), details = element.closest("details");
+    if (text.length > MOST) details.open = false;
+    details.ontoggle = () => lay_out(details);
+    later.set(element, text);
+    if (text.length < SHORT) { put(element, text); later.delete(element); } else lay_out(details);
+  }
+
+  /* Opens a text and chooses a line of it, counted from 1. */
+  function go_to_line(id, number) {
+    const area = $(id), details = area.closest("details");
+    details.open = true;
+    lay_out(details);
+    const all = area.value.split("\n"), from = all.slice(0, number - 1).reduce((sum, line) => sum + line.length + 1, 0);
+    area.focus();
+    area.setSelectionRange(from, from + (all[number - 1]?.length ?? 0));
+    area.scrollTop = Math.max(0, (number - 4) * parseFloat(getComputedStyle(area).lineHeight));
+  }
+
+  const lanes = { all_shown, bars, mark, shows, shows_tags, tag_bars, tinter };
+  return { $, ...lanes, counted, fill, go_to_line, hex, in_words, key_of, make, radio, soon, why_gone };
+})();

@@ -1,0 +1,66 @@
+"use strict";
+/* The program itself: words and input in, status and output out. Its output is read in lines.js. */
+const rdsrt = (() => {
+  const HEAP = 1 << 20, ROOM = 1 << 16, MOST = 2 ** 31, PAGE = 1 << 16;
+  const encoder = new TextEncoder(), decoder = new TextDecoder();
+  let module = null;
+
+  /* The module comes packed in engine.js: a page that was opened from a disk may fetch nothing. */
+  async function load() {
+    const packed = Uint8Array.from(atob(RDSRT_ENGINE), (c) => c.charCodeAt(0));
+    const plain = new Blob([packed]).stream().pipeThrough(new DecompressionStream("gzip"));
+    const made = await WebAssembly.instantiate(await new Response(plain).arrayBuffer(), {});
+    module = made.instance.exports;
+  }
+
+  /* Where words, input, output and heap of one run lie, behind what is the module's own. */
+  function layout(words, input, room, heap) {
+    const up = (n) => (n + 15) & ~15, ended = up(Number(module.__heap_base.value));
+    const at = { ended, words: ended + 64 };
+    at.input = up(at.words + words);
+    at.output = up(at.input + input);
+    at.heap = up(at.output + room);
+    at.end = at.heap + heap;
+    return at;
+  }
+
+  /* One call. Its memory is one of 64 bits, so addresses and lengths are BigInts. */
+  function call(words, input, room, heap) {
+    const at = layout(words.length, input.length, room, heap);
+    const pages = Math.ceil((at.end - module.memory.buffer.byteLength) / PAGE);
+    if (pages > 0) module.memory.grow(BigInt(pages));
+    const bytes = new Uint8Array(module.memory.buffer);
+    bytes.set(words, at.words);
+    bytes.set(input, at.input);
+    module.rdsrt_heap(BigInt(at.heap), BigInt(at.end));
+    module.rdsrt_run(...[at.ended, at.words, words.length, at.input, input.length, at.output, room].map(BigInt));
+    const ended = new DataView(module.memory.buffer, at.ended, 24);
+    return {
+      length: Number(ended.getBigUint64(0, true)),
+      failures: Number(ended.getBigUint64(8, true)),
+      status: ended.getUint8(16),
+      at: at.output,
+      heap: Number(module.rdsrt_heap_at()) - at.heap,
+    };
+  }
+
+  /* Runs the program. Where there was no memory, or no room for the output, it runs again with more. */
+  function run(words, input) {
+    const given = encoder.encode(["rdsrt", ...words].join("\n"));
+    const bytes = typeof input === "string" ? encoder.encode(input) : input, from = performance.now();
+    let room = ROOM + 4 * bytes.length, heap = HEAP + 2 * room;
+    for (;;) {
+      const got = call(given, bytes, room, heap), fits = got.length <= room;
+      const output = fits ? decoder.decode(new Uint8Array(module.memory.buffer, got.at, got.length)) : "";
+      if (got.failures > 0 || output.endsWith("fault memory\n")) {
+        heap *= 4;
+        if (heap > MOST) throw new Error("no memory for this input");
+      } else if (!fits) {
+        room = got.length;
+        heap = Math.max(heap, HEAP + 2 * room);
+      } else return { status: got.status, output, heap: got.heap, ms: performance.now() - from };
+    }
+  }
+
+  return { load, run };
+})();

@@ -1,0 +1,71 @@
+"use strict";
+/* The records of a script, as its definition reads them, and a script as a link holds it. */
+const records = (() => {
+  /* Each record with the number of the line that it begins in, counted from 1. */
+  function split(text) {
+    const all = [];
+    let field = "", row = [], quoted = false, line = 1, began = 1, i = text.charCodeAt(0) === 0xFEFF ? 1 : 0;
+    const end_row = () => {
+      if (row.length || field) all.push({ fields: [...row, field], line: began });
+      row = [];
+      field = "";
+    };
+    for (; i < text.length; i++) {
+      const c = text[i];
+      if (c === "\n") line++;
+      if (quoted) {
+        if (c !== '"') field += c;
+        else if (text[i + 1] === '"') { field += c; i++; } else quoted = false;
+      } else if (c === '"' && field === "") quoted = true;
+      else if (c === ",") { row.push(field); field = ""; }
+      else if (c === "\n" || c === "\r") { end_row(); began = line; }
+      else field += c;
+    }
+    end_row();
+    return all;
+  }
+
+  const letters = (receptions) => receptions.match(/G\d*|L|R/g) ?? [];
+  function row_of({ fields, line }) {
+    const [command = "", argument = "", free = "", receptions = ""] = fields;
+    return { command, argument, free, receptions: letters(receptions), line, fields };
+  }
+  const read = (text) => split(text).map(row_of);
+  const empty = (receivers) => ({ command: "-", argument: "", free: "1", receptions: Array(receivers).fill("G") });
+
+  const field = (s) => /[",\n\r]/.test(s) ? `"${s.replaceAll('"', '""')}"` : s;
+  const write_row = (r) => `${field(r.command)},${field(r.argument)},${r.free},${r.receptions.join("")}\n`;
+  const write = (rows) => rows.map(write_row).join("");
+
+  /* Why a record is no row, as far as it can be told from its fields alone. */
+  function why_no_row(row, receivers) {
+    const { fields } = row;
+    if (fields.length !== 4) return `it has ${fields.length === 1 ? "one field" : `${fields.length} fields`}, and a row has four`;
+    if (!["-", "restart", "text", "name", "tags"].includes(fields[0])) return `“${fields[0]}” is no command`;
+    if (fields[2] !== "0" && fields[2] !== "1") return "its third field is neither 0 nor 1";
+    if (!/^(?:G\d{0,4}|L|R)*$/.test(fields[3])) return "its last field has something other than G, L and R";
+    if (row.receptions.length > 8) return "it has more than eight receivers";
+    if (row.receptions.length !== receivers) return `it has ${row.receptions.length} receivers, and the first row has ${receivers}`;
+    if (/\d/.test(fields[3])) return "a group comes too late, or out of its order";
+    return "its argument is none that its command can have";
+  }
+
+  /* A script as letters of a link, and back. */
+  const MOST = 8000;
+  async function squeezed(bytes, by) {
+    const stream = new Blob([bytes]).stream().pipeThrough(by);
+    return new Uint8Array(await new Response(stream).arrayBuffer());
+  }
+  async function pack(text) {
+    const bytes = await squeezed(new TextEncoder().encode(text), new CompressionStream("deflate-raw"));
+    if (bytes.length > MOST) return null;
+    return btoa(String.fromCharCode(...bytes)).replaceAll("+", "-").replaceAll("/", "_").replace(/=+$/, "");
+  }
+  async function unpack(packed) {
+    const plain = atob(packed.replaceAll("-", "+").replaceAll("_", "/"));
+    const bytes = await squeezed(Uint8Array.from(plain, (c) => c.charCodeAt(0)), new DecompressionStream("deflate-raw"));
+    return new TextDecoder("utf-8", { fatal: true }).decode(bytes);
+  }
+
+  return { empty, pack, read, unpack, why_no_row, write };
+})();

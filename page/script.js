@@ -1,0 +1,364 @@
+"use strict";
+/* The tab of a script: a station and up to eight receivers, each beside one with the flag bit alone. */
+const script_tab = (() => {
+  const { $ } = parts;
+  const COMMANDS = ["-", "text", "name", "tags", "restart"], PI = "C201";
+  const HINTS = { text: "the text", name: "the name", tags: "1 1 4 0 3 1 7 7" };
+  const state = {
+    rows: [], chosen: 0, pty: "10", air: new lines.View(), said: { views: [], sent: [] }, naives: [], heard: [], replies: new Map(),
+    spans: new Map(), mixed: () => false,
+  };
+  const timeline = new Timeline($("script-time"), {
+    label: "Slot of the script",
+    on_move: show_slot,
+    on_lane: (group) => { state.chosen = group; show_slot(timeline.cursor); },
+    on_paint: brush,
+    on_key: key,
+  });
+  const undo = new Undo((it) => {
+    $("script-undo").disabled = !it.has(-1);
+    $("script-redo").disabled = !it.has(1);
+  });
+  const receivers = () => Number($("script-n").value);
+
+  // ---- edits
+
+  function brush(lane, from, to) {
+    const letter = document.querySelector("[name=brush]:checked").value;
+    if (lane === null) { edited(); return true; }
+    if (letter === "look" || lane?.group === undefined) return false;
+    for (let s = from; s <= to; s++) set_reception(s, lane.group, letter);
+    return true;
+  }
+
+  function key(name, e) {
+    if (e.ctrlKey || e.metaKey) {
+      if (name !== "z" && name !== "y") return false;
+      back(name === "y" || e.shiftKey ? 1 : -1);
+      return true;
+    }
+    if (name === "Enter") { $("command").focus(); return true; }
+    const n = receivers();
+    if (!n) return false;
+    if (name === "ArrowDown" || name === "ArrowUp") {
+      state.chosen = timeline.chosen = (state.chosen + (name === "ArrowDown" ? 1 : n - 1)) % n;
+      timeline.move(timeline.cursor, { keep: true });
+      return true;
+    }
+    if (!["l", "g", "r"].includes(name)) return false;
+    set_reception(timeline.cursor, state.chosen, name.toUpperCase());
+    edited();
+    return true;
+  }
+
+  function set_reception(slot, receiver, letter) {
+    const row = state.rows[slot];
+    if (row?.receptions[receiver]) row.receptions[receiver] = letter;
+  }
+
+  /* The rows were edited: plays them, and notes the script for the undo. */
+  function edited(how) {
+    const text = records.write(state.rows);
+    undo.note(text);
+    play({ ...how, text });
+  }
+
+  function back(by) {
+    const text = undo.go(by);
+    if (text === undefined) return;
+    take(text);
+    play({ text });
+  }
+
+  function command_changed() {
+    const row = state.rows[timeline.cursor], takes = ["text", "name", "tags"].includes($("command").value);
+    $("argument").hidden = !takes;
+    if (!row) return;
+    const free = $("free").checked ? "1" : "0";
+    Object.assign(row, { command: $("command").value, argument: takes ? $("argument").value : "", free });
+    edited();
+  }
+
+  function resize() {
+    if (!$("script-form").checkValidity()) return;
+    const n = receivers(), count = Number($("script-slots").value);
+    while (state.rows.length < count) state.rows.push(records.empty(n));
+    state.rows.length = count;
+    for (const row of state.rows) {
+      while (row.receptions.length < n) row.receptions.push("G");
+      row.receptions.length = n;
+    }
+    state.chosen = Math.max(0, Math.min(state.chosen, n - 1));
+    edited({ fit: true });
+  }
+
+  // ---- a script
+
+  /* The rows of a script, and what the form says of them. */
+  function take(text) {
+    state.rows = records.read(text);
+    $("script-n").value = state.rows[0]?.receptions.length ?? 0;
+    $("script-slots").value = Math.max(1, state.rows.length);
+    state.chosen = Math.max(0, Math.min(state.chosen, receivers() - 1));
+  }
+
+  function open(text, { m, k, pty = "10", is_edit = false, example = "" } = {}) {
+    state.pty = pty;
+    if (!is_edit) $("script-example").value = example;
+    if (m) $("script-m").value = m;
+    if (k !== undefined) $("script-k").value = k;
+    take(text);
+    if (is_edit) undo.note(text); else undo.begin(text);
+    play({ fit: true, text });
+    if (is_edit) return;
+    const { first_mix } = state, [first] = state.air.parts.text;
+    if (first_mix) state.chosen = timeline.chosen = first_mix.receiver;
+    if (first_mix) timeline.move(first_mix.slot, { keep: true });
+    else if (first) timeline.move(Math.min(state.rows.length - 1, first.from + Number($("script-m").value)), { keep: true });
+  }
+
+  function play({ fit = false, text = records.write(state.rows) } = {}) {
+    if (!$("script-form").checkValidity()) return;
+    const m = $("script-m").value, k = $("script-k").value, count = state.rows.length;
+    const words = ["sim", "--pi", PI, "--pty", state.pty, "--m", m, "--k", k], got = rdsrt.run(words, text);
+    const said = lines.read(got.output, count), tint = parts.tinter(), broadcast = on_air(said.replies, count, tint);
+    const replies = new Map(said.replies.map((it) => [it.slot, it]));
+    Object.assign(state, { said, replies, air: broadcast.air, result: got, spaced: Number(m) + Number(k) });
+    const sent = parts.all_shown(state.air);
+    state.mixed = (part, value) => !sent.has(parts.key_of(part, value));
+    state.spans = spans(state.air.parts.text);
+    hear(count);
+    timeline.chosen = receivers() ? state.chosen : null;
+    timeline.title = `rdsrt ${words.join(" ")}`;
+    timeline.show(lanes(broadcast.marks, count, tint), count, { fit });
+    parts.fill("script-text", text);
+    parts.fill("script-lines", got.output);
+    $("script-command").textContent = `rdsrt ${words.join(" ")}`;
+    tell_mixes();
+    tell_fault(text);
+  }
+
+  /* The characters of a printed text: an escape is one. */
+  const characters = (text) => [...text.matchAll(/\\x[0-9A-Fa-f]{2}|./gsu)].map(([c]) => c);
+  const as_name = (text) => text + " ".repeat(Math.max(0, 8 - characters(text).length));
+
+  /* The tags of a row as they cut the text: class and piece, or nothing. */
+  function pieces_of(argument, text) {
+    const numbers = argument.split(" ").map(Number), chars = characters(text);
+    return [numbers.slice(2, 5), numbers.slice(5, 8)].map(([kind, start, extra]) => {
+      const text = chars.slice(start, start + extra + 1).join("");
+      return kind > 0 && start + extra < chars.length ? { kind: lines.class_of(kind), text } : null;
+    });
+  }
+
+  /* What is on air, by the replies and the rows: the program doesn't print it. And the marks of what was commanded. */
+  function on_air(replies, count, tint) {
+    const air = new lines.View(), marks = [];
+    const clear = (slot, ...all) => { for (const part of all) if (air.at(part, slot)?.value) air.change(part, slot, null); };
+    const set_tags = (slot, tags) => tags.forEach((tag, i) => air.change(`tag${i + 1}`, slot, tag));
+    for (const { slot, what, reply } of replies) {
+      const { argument = "" } = state.rows[slot] ?? {}, is_done = what === "restart" || reply === "ok";
+      if (!is_done) { marks.push(parts.mark(slot, `${what} ${reply}`, true)); continue; }
+      if (what === "restart" || what === "tags") marks.push(parts.mark(slot, what));
+      if (what === "restart") clear(slot, "text", "name", "tag1", "tag2");
+      else if (what === "tags") set_tags(slot, pieces_of(argument, air.at("text", slot)?.value ?? ""));
+      else {
+        const value = printed_form(what === "name" ? as_name(argument) : argument);
+        if (what === "text") { clear(slot, "tag1", "tag2"); tint(value); }
+        air.change(what, slot, value);
+      }
+    }
+    return { air: air.finish(count), marks };
+  }
+
+  /* A row's argument as the program prints it: escapes in capitals, and the quotation mark as one. */
+  const in_capitals = (all, digits) => `\\x${digits.toUpperCase()}`;
+  const printed_form = (text) => text.replace(/\\x([0-9A-Fa-f]{2})/g, in_capitals).replaceAll('"', "\\x22");
+
+  /* For each text the spans in which it was on air. */
+  function spans(runs) {
+    const all = new Map();
+    for (const run of runs) if (run.value !== null) all.set(run.value, [...all.get(run.value) ?? [], run]);
+    return all;
+  }
+
+  /* What each receiver got, and what one with the flag bit alone makes of it. */
+  function hear(count) {
+    const n = receivers(), { said } = state;
+    state.heard = Array.from({ length: n }, (_, i) => state.rows.map((row, s) => {
+      const letter = row.receptions[i];
+      return letter?.[0] === "G" ? said.sent[letter.length > 1 ? s - Number(letter.slice(1)) : s] ?? null : null;
+    }));
+    state.naives = state.heard.map((heard) => naive.receive(heard, parseInt(PI, 16), count));
+  }
+
+  function codes_heard(i, count) {
+    const codes = lines.codes_of(state.heard[i], count, null);
+    for (let s = 0; s < count; s++) if (!codes[s] && state.rows[s].receptions[i]?.[0] === "G") codes[s] = lines.OTHER;
+    return codes;
+  }
+
+  /* Bars of texts, pale from where the text has been off the air for M + K slots. */
+  function aged(runs) {
+    return runs.flatMap((run) => {
+      const all = run.label === null || run.mix ? undefined : state.spans.get(run.value);
+      if (!all) return [run];
+      const spans = all.filter((span) => span.from <= run.from + state.spaced);
+      const at = Math.max(run.from, ...spans.map((span) => span.to + state.spaced));
+      return at >= run.to ? [run] : [{ ...run, to: at }, { ...run, from: at, old: true }].filter((it) => it.to > it.from);
+    });
+  }
+
+  const lane = (name, short, runs, more) => ({ name, short, kind: "bars", runs, gap: 2, ...more });
+
+  function lanes(marks, count, tint) {
+    const { air, said } = state, all = [
+      { name: "sent", kind: "ticks", codes: lines.codes_of(said.sent, count, null) },
+      { name: "station", kind: "marks", marks },
+      lane("on air", "on air", parts.bars(air, "text", tint), { strong: true, gap: 8 }),
+    ];
+    if (parts.shows(air, "name")) all.push(lane("  its name", " name", parts.bars(air, "name", tint)));
+    if (parts.shows_tags(air)) all.push(lane("  its tags", " tags", parts.tag_bars(air, tint)));
+    for (let i = 0; i < receivers(); i++) all.push(...receiver_lanes(i, count, tint));
+    return all;
+  }
+
+  function receiver_lanes(i, count, tint) {
+    const all = [{ name: `receiver ${i}`, kind: "ticks", codes: codes_heard(i, count), losses: true, group: i, gap: 14 }];
+    const add = (name, short, runs) => all.push(lane(`  ${name}`, ` ${short}`, runs, { group: i }));
+    const add_view = (name, short, view, old) => {
+      add(name, short, old(parts.bars(view, "text", tint, state.mixed)));
+      if (parts.shows(view, "name")) add("  its name", "  name", parts.bars(view, "name", tint, state.mixed));
+      if (parts.shows_tags(view)) add("  its tags", "  tags", parts.tag_bars(view, tint, state.mixed));
+    };
+    add_view("with the dwell", "dwell", state.said.views[i], (runs) => runs);
+    add_view("flag bit alone", "flag bit", state.naives[i], aged);
+    return all;
+  }
+
+  // ---- what it comes to
+
+  function mixes_of(view) {
+    const mixes = (part) => (view?.parts[part] ?? []).filter((run) => run.value !== null && state.mixed(part, run.value));
+    return ["text", "name", "tag1", "tag2"].flatMap((part) => mixes(part).map((run) => ({ ...run, part: part.replace(/[12]$/, "") })));
+  }
+
+  /* How many texts, names and tags these are. */
+  function in_kinds(all) {
+    const number = (part) => all.filter((run) => run.part === part).length;
+    const each = ["text", "name", "tag"].filter((part) => number(part) > 0);
+    return each.map((part) => number(part) === 1 ? `a ${part}` : parts.counted(number(part), part)).join(" and ");
+  }
+
+  function tell_mixes() {
+    const n = receivers(), wrong = state.naives.map(mixes_of), ours = state.said.views.slice(0, n).flatMap(mixes_of).length;
+    const all = wrong.flat().length, at = wrong.findIndex((it) => it.length);
+    state.first_mix = at < 0 ? null : { receiver: at, slot: Math.min(...wrong[at].map((run) => run.from)) };
+    const mixed = `With the flag bit alone, receivers show ${in_kinds(wrong.flat())} that nobody sent. `
+      + `With the dwell ${ours === 0 ? "none does" : `${ours} do`}.`;
+    const told = all ? mixed : "No receiver shows a mix here. Lose more: a whole text and its change back.";
+    $("script-count").textContent = n === 0 || state.said.fault ? "" : told;
+  }
+
+  /* A fault of the script, by the line of the text that was played. */
+  function tell_fault(text) {
+    const { fault } = state.said, root = $("script-fault"), row = /^fault row (\d+)/.exec(fault ?? "");
+    root.hidden = !fault;
+    if (!fault) return;
+    const bad = row && records.read(text)[Number(row[1]) - 1];
+    if (!bad) { root.textContent = fault; return; }
+    const go = parts.make("button", { type: "button", textContent: "Show the line" });
+    go.onclick = () => parts.go_to_line("script-text", bad.line);
+    const why = records.why_no_row(bad, receivers());
+    root.replaceChildren(`Line ${bad.line.toLocaleString("en")} is no row of a script: ${why}. What stands behind it isn't played. `, go);
+  }
+
+  // ---- a slot
+
+  function is_old(value, slot) {
+    const spans = state.spans.get(value);
+    return spans !== undefined && !spans.some((span) => span.from <= slot && span.to > slot - state.spaced);
+  }
+
+  /* What the receiver does in the slot. */
+  function does(letter, slot) {
+    if (letter[0] !== "G") return { L: "loses", R: "restarts" }[letter[0]] ?? "";
+    return letter.length > 1 ? `gets slot ${slot - Number(letter.slice(1))}` : "gets";
+  }
+
+  function show_slot(slot) {
+    const i = state.chosen, row = state.rows[slot], n = receivers(), reply = state.replies.get(slot);
+    const got = does(row?.receptions[i] ?? "", slot);
+    const view = state.said.views[i], run = view?.at("text", slot), simple = state.naives[i], other = simple?.at("text", slot);
+    const mix = !!other && other.value !== null && state.mixed("text", other.value), old = !!other && is_old(other.value, slot);
+    const none = run ? parts.why_gone("text", state.heard[i]?.[run.from], parseInt(PI, 16)) : "no text";
+    const sent = state.said.sent[slot] ? "sends" : "", stale = old ? "long over" : "";
+    const named = (what) => n ? `Receiver ${i}, ${what}` : "No receiver";
+    parts.radio($("script-air"), "On air", state.air, slot, { led: reply ? `${reply.what} ${reply.reply}` : sent, none: "silence" });
+    parts.radio($("script-radio"), named("with the dwell"), view, slot, { led: got, none });
+    parts.radio($("script-naive"), named("flag bit alone"), simple, slot, { led: mix ? "nobody sent this" : stale, bad: mix });
+    show_command(slot, row);
+    const air = `On air ${parts.in_words(state.air, slot)}.`, its = `${parts.in_words(simple, slot)}${mix ? ", which nobody sent" : ""}`;
+    return n ? `${air} Receiver ${i} ${got}: ${parts.in_words(view, slot)}. With the flag bit alone: ${its}.` : air;
+  }
+
+  function show_command(slot, row) {
+    $("at-slot").textContent = `Slot ${slot.toLocaleString("en")}`;
+    if (document.activeElement !== $("argument")) {
+      $("command").value = COMMANDS.includes(row?.command) ? row.command : "-";
+      $("argument").value = row?.argument ?? "";
+    }
+    $("argument").hidden = !($("command").value in HINTS);
+    $("argument").placeholder = HINTS[$("command").value] ?? "";
+    $("free").checked = row?.free !== "0";
+  }
+
+  // ---- saving, and a link
+
+  const save = () => picture.save_as("script.csv", new Blob([records.write(state.rows)], { type: "text/csv" }));
+
+  async function link() {
+    const packed = await records.pack(records.write(state.rows)), root = $("script-link");
+    root.hidden = packed === null;
+    if (packed === null) { tell_saved("This script is too long for a link: save it as a file."); return; }
+    const [here] = location.href.split("#"), options = `m=${$("script-m").value}&k=${$("script-k").value}&pty=${state.pty}`;
+    root.value = `${here}#script=${packed}&${options}`;
+    root.focus();
+    root.select();
+    try {
+      await navigator.clipboard.writeText(root.value);
+      tell_saved("The link was copied.");
+    } catch { tell_saved("This is the link: copy it."); }
+  }
+  const tell_saved = (text) => { $("script-saved").textContent = text; };
+
+  /* Opens the script that the address holds, if it holds one. */
+  async function open_link(hash) {
+    const given = new URLSearchParams(hash);
+    const within = (name, low, high) => {
+      const number = /^\d{1,5}$/.test(given.get(name) ?? "") ? Number(given.get(name)) : NaN;
+      return number >= low && number <= high ? String(number) : undefined;
+    };
+    // the name of the tab alone, as it stands in the address after a look at it, is no link
+    if (!given.get("script")) return false;
+    const text = await records.unpack(given.get("script"));
+    open(text, { m: within("m", 1, 65535), k: within("k", 0, 1024), pty: within("pty", 0, 31) });
+    return true;
+  }
+
+  function begin() {
+    for (const id of ["script-m", "script-k"]) $(id).oninput = parts.soon(() => play());
+    for (const id of ["script-n", "script-slots"]) $(id).oninput = parts.soon(resize);
+    $("script-text").oninput = parts.soon(() => {
+      const area = $("script-text"), at = area.selectionStart;
+      open(area.value, { pty: state.pty, is_edit: true });
+      area.selectionStart = area.selectionEnd = at;
+    });
+    for (const id of ["command", "free"]) $(id).onchange = command_changed;
+    $("argument").oninput = parts.soon(command_changed);
+    const buttons = { "script-undo": () => back(-1), "script-redo": () => back(1), "script-save": save, "script-share": link };
+    for (const [id, what] of Object.entries(buttons)) $(id).onclick = what;
+  }
+
+  return { begin, command_changed, edited, open, open_link, play, state, timeline, undo };
+})();

@@ -1,0 +1,184 @@
+"use strict";
+/* A timeline of slots: which of them are in sight, the chosen one, and the keys, the wheel and the pointer on it. */
+class Timeline {
+  constructor(root, { label, on_move, on_paint = () => false, on_key = () => false, on_lane = () => {} }) {
+    Object.assign(this, { root, on_move, on_paint, on_key, on_lane });
+    Object.assign(this, { lanes: [], count: 1, from: 0, across: 1, cursor: 0, chosen: null, changes: [] });
+    root.innerHTML = `<div class="time-bar"><output></output><span class="space"></span>
+      <button type="button" data-do="out" title="Smaller (−)" aria-label="Smaller">−</button>
+      <button type="button" data-do="in" title="Larger (+)" aria-label="Larger">+</button>
+      <button type="button" data-do="fit" title="All slots">All</button>
+      <button type="button" data-do="prev" title="Last change (P)">‹ change</button>
+      <button type="button" data-do="next" title="Next change (N)">change ›</button>
+      <button type="button" data-do="save" title="Save the timeline as a picture">Picture</button></div>
+      <canvas tabindex="0" role="slider" aria-orientation="horizontal" aria-valuemin="0"></canvas>
+      <input type="range" class="scroll" aria-label="Part of the timeline in sight" min="0" step="any">`;
+    this.canvas = root.querySelector("canvas");
+    this.canvas.setAttribute("aria-label", label);
+    this.said = root.querySelector("output");
+    this.scroll = root.querySelector(".scroll");
+    this.scroll.oninput = () => { this.from = Number(this.scroll.value); this.draw(); };
+    for (const button of root.querySelectorAll("button")) button.onclick = () => this.act(button.dataset.do);
+    this.canvas.addEventListener("pointerdown", (e) => this.down(e));
+    this.canvas.addEventListener("keydown", (e) => this.key(e));
+    this.canvas.addEventListener("wheel", (e) => this.wheel(e), { passive: false });
+    this.measure();
+    new ResizeObserver(() => this.draw()).observe(this.canvas);
+    matchMedia("(prefers-color-scheme: dark)").addEventListener("change", () => this.draw());
+  }
+
+  show(lanes, count, { fit = false } = {}) {
+    const was = this.count;
+    this.lanes = lanes;
+    this.count = Math.max(1, count);
+    if (fit || was !== this.count) this.fit();
+    for (const lane of lanes) if (lane.kind === "ticks") lane.sums = Timeline.sums(lane.codes);
+    this.changes = this.all_changes();
+    this.move(Math.min(this.cursor, this.count - 1), { keep: true });
+  }
+
+  /* How many of the slots before each one brought nothing. */
+  static sums(codes) {
+    const all = new Int32Array(codes.length + 1);
+    for (let i = 0; i < codes.length; i++) all[i + 1] = all[i] + (codes[i] === 0 ? 1 : 0);
+    return all;
+  }
+
+  all_changes() {
+    const at = new Set();
+    for (const lane of this.lanes) {
+      if (lane.kind === "bars") for (const run of lane.runs) at.add(run.from);
+      if (lane.kind === "marks") for (const mark of lane.marks) at.add(mark.at);
+    }
+    return Float64Array.from(at).sort();
+  }
+
+  /* The width is asked of the page once a frame, since each question may lay it out. */
+  measure() {
+    this.width = this.canvas.clientWidth;
+    this.gutter = this.width < 560 ? 74 : 132;
+    this.room = Math.max(20, this.width - this.gutter - 4);
+    return this.width;
+  }
+  x(slot) { return this.gutter + (slot - this.from) / this.across * this.room; }
+  slot(x) { return Math.floor(this.from + (x - this.gutter) / this.room * this.across); }
+  within(from) { return Math.min(Math.max(0, this.count - this.across), Math.max(0, from)); }
+  fit() { this.from = 0; this.across = this.count; }
+
+  zoom(by, at = this.cursor + 0.5) {
+    const across = Math.min(this.count, Math.max(8, this.across * by)), share = (at - this.from) / this.across;
+    this.across = across;
+    this.from = this.within(at - share * across);
+    this.draw();
+  }
+
+  act(what) {
+    if (what === "in") this.zoom(0.5);
+    if (what === "out") this.zoom(2);
+    if (what === "fit") { this.fit(); this.draw(); }
+    if (what === "save") picture.save(this);
+    if (what === "next") this.move(this.changes.find((c) => c > this.cursor) ?? this.cursor);
+    if (what === "prev") this.move(this.changes.findLast((c) => c < this.cursor) ?? this.cursor);
+  }
+
+  move(slot, { keep = false } = {}) {
+    this.cursor = Math.min(this.count - 1, Math.max(0, slot));
+    if (!keep || this.from + this.across > this.count) {
+      if (this.cursor < this.from) this.from = this.cursor - this.across / 8;
+      if (this.cursor >= this.from + this.across) this.from = this.cursor - this.across * 7 / 8;
+      this.from = this.within(this.from);
+    }
+    const shown = this.on_move(this.cursor);
+    const said = `slot ${this.cursor.toLocaleString("en")} of ${this.count.toLocaleString("en")} · ${lines.time(this.cursor)}`;
+    this.said.textContent = said;
+    this.canvas.setAttribute("aria-valuemax", this.count - 1);
+    this.canvas.setAttribute("aria-valuenow", this.cursor);
+    this.canvas.setAttribute("aria-valuetext", shown ? `${said}. ${shown}` : said);
+    this.draw();
+  }
+
+  lane_at(y) { return this.lanes.find((l) => y >= l.top && y < l.top + l.height); }
+
+  down(e) {
+    if (e.button) return;
+    this.canvas.focus();
+    const box = this.canvas.getBoundingClientRect(), lane = this.lane_at(e.clientY - box.top);
+    const slot = (ev) => Math.min(this.count - 1, Math.max(0, this.slot(ev.clientX - box.left)));
+    if (lane?.group !== undefined) { this.chosen = lane.group; this.on_lane(lane.group); }
+    if (e.clientX - box.left < this.gutter) { this.draw(); return; }
+    const brush = this.on_paint(lane, slot(e), slot(e), e);
+    this.drag(e, slot, brush, (from, to) => this.on_paint(lane, from, to, e));
+  }
+
+  /* From the press of a pointer to its end: a brush over slots, a move of what is in sight, or a choice. */
+  drag(e, slot, brush, paint) {
+    const start = e.clientX, from = this.from;
+    let moved = false, last = slot(e);
+    const go = (ev) => {
+      moved ||= Math.abs(ev.clientX - start) > 3;
+      if (brush) {
+        const now = slot(ev);
+        paint(Math.min(last, now), Math.max(last, now));
+        last = now;
+        this.move(now, { keep: true });
+      } else if (moved) {
+        this.from = this.within(from - (ev.clientX - start) / this.room * this.across);
+        this.draw();
+      }
+    };
+    const end = (ev) => {
+      for (const [kind, what] of hears) this.canvas.removeEventListener(kind, what);
+      if (!moved || brush) this.move(slot(ev), { keep: true });
+      if (brush) this.on_paint(null);
+    };
+    const hears = [["pointermove", go], ["pointerup", end], ["pointercancel", end]];
+    this.canvas.setPointerCapture(e.pointerId);
+    for (const [kind, what] of hears) this.canvas.addEventListener(kind, what);
+  }
+
+  wheel(e) {
+    const x = e.clientX - this.canvas.getBoundingClientRect().left, by = e.shiftKey ? e.deltaY : e.deltaX;
+    if (e.ctrlKey || e.metaKey) {
+      e.preventDefault();
+      this.zoom(Math.exp(e.deltaY / 200), this.from + (x - this.gutter) / this.room * this.across);
+    } else if (by && this.across < this.count) {
+      e.preventDefault();
+      this.from = this.within(this.from + by / this.room * this.across);
+      this.draw();
+    }
+  }
+
+  key(e) {
+    if (e.altKey) return;
+    const steps = { ArrowRight: 1, ArrowLeft: -1, PageDown: 16, PageUp: -16 };
+    const acts = { "+": "in", "=": "in", "-": "out", n: "next", p: "prev" };
+    const key = e.key.length === 1 ? e.key.toLowerCase() : e.key, plain = !e.ctrlKey && !e.metaKey;
+    if (plain && key in steps) this.move(this.cursor + steps[key]);
+    else if (plain && key === "Home") this.move(0);
+    else if (plain && key === "End") this.move(this.count - 1);
+    else if (plain && key in acts) this.act(acts[key]);
+    else if (!this.on_key(key, e)) return;
+    e.preventDefault();
+  }
+
+  draw() {
+    if (this.waits) return;
+    this.waits = true;
+    requestAnimationFrame(() => { this.waits = false; this.paint(); });
+  }
+
+  paint() {
+    const width = this.measure(), scale = devicePixelRatio || 1;
+    if (!width) return;
+    const height = painter.place(this.lanes), { canvas } = this, [w, h] = [width, height].map((n) => Math.round(n * scale));
+    if (canvas.style.height !== `${height}px`) canvas.style.height = `${height}px`;
+    if (canvas.width !== w || canvas.height !== h) Object.assign(canvas, { width: w, height: h });
+    const c = canvas.getContext("2d");
+    c.setTransform(scale, 0, 0, scale, 0, 0);
+    c.clearRect(0, 0, width, height);
+    painter.paint(c, this.lanes, this, painter.inks(this.root), height);
+    this.scroll.max = Math.max(0, this.count - this.across);
+    this.scroll.value = this.from;
+    this.scroll.hidden = this.across >= this.count;
+  }
+}

@@ -1,0 +1,34 @@
+"use strict";
+/* What was, and what was undone: a list of states, of which one is now. It keeps as many as there is room for. */
+class Undo {
+  constructor(changed) { Object.assign(this, { changed, all: [], now: -1 }); }
+
+  /* Begins anew. */
+  begin(text) {
+    this.all = [text];
+    this.now = 0;
+    this.changed(this);
+  }
+
+  /* Notes a state, and forgets what was undone. */
+  note(text) {
+    if (this.all[this.now] === text) return;
+    this.all.splice(this.now + 1, Infinity, text);
+    const is_full = () => this.all.length > Undo.MOST || this.all.reduce((sum, it) => sum + it.length, 0) > Undo.ROOM;
+    while (this.all.length > 2 && is_full()) this.all.shift();
+    this.now = this.all.length - 1;
+    this.changed(this);
+  }
+
+  has(by) { return this.all[this.now + by] !== undefined; }
+
+  /* Goes back (-1) or forth (1); gives that state, or nothing where there is none. */
+  go(by) {
+    if (!this.has(by)) return undefined;
+    this.now += by;
+    this.changed(this);
+    return this.all[this.now];
+  }
+}
+Undo.MOST = 200;
+Undo.ROOM = 40e6;

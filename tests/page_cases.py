@@ -1,0 +1,543 @@
+#!/usr/bin/env python3
+"""Cases of the page in a real browser: it prints what the program prints, it shows what it should, and it can be used.
+
+usage: page_cases.py PAGE     the page's folder, as page/build writes it
+       page_cases.py          whether there is a browser, by the status alone
+
+The program is the one that the gate left, crates/rdsrt/out/rdsrt. The last line is `N passed, M failed`.
+"""
+import json
+import os
+import random
+import re
+import struct
+import subprocess
+import sys
+import tempfile
+import time
+
+sys.dont_write_bytecode = True
+import browser
+
+ROOT = os.path.dirname(os.path.dirname(os.path.abspath(__file__)))
+PROGRAM = os.path.join(ROOT, "crates/rdsrt/out/rdsrt")
+WITNESS = os.path.join(ROOT, "examples/witness")
+EXAMPLES = os.path.join(ROOT, "examples")
+SEED = 20261123
+SECONDS = 60
+# milliseconds in which 100,000 slots are opened, and a frame of them is drawn
+OPENING, FRAME = 2000, 50
+SLOTS = 100_000
+CONTRAST = 4.5
+TABS = ("log", "script", "dwell")
+PROBE = os.path.join(ROOT, "tests/page_probe.js")
+SCHEMES = ("light", "dark")
+PHONES = (390, 320)
+READY = "page.state.ready || !document.getElementById('no-engine').hidden"
+HI = "C201 2140 4849 0D20"
+NOTHING = "---- ---- ---- ----"
+GROUPS = [HI, "C201 2150 594F 0D20", "C201 2140 4A41 5A5A", "C201 2141 2046 4D0D", "C201 A140 504F 5020",
+          "C201 A141 4D49 5820", "C201 3156 0000 4BD7", "C201 B158 8012 0985", "F000 2140 4849 0D20", NOTHING]
+
+outcomes = []
+
+
+def check(name, got, wanted):
+    """Notes the case, and prints it where it failed."""
+    outcomes.append(got == wanted)
+    if got != wanted:
+        print(f"FAILED: {name}: {got!r:.600} in place of {wanted!r:.600}", flush=True)
+
+
+def example(name):
+    with open(os.path.join(EXAMPLES, name), "rb") as file:
+        return file.read()
+
+
+def program(words, data):
+    """Status and output of the program that the gate built."""
+    done = subprocess.run([PROGRAM, *words], input=data, stdout=subprocess.PIPE, timeout=SECONDS)
+    return [done.returncode, done.stdout.decode()]
+
+
+# ---- the page
+
+
+def call(b, what, *given):
+    """What a function of the page gives for these values."""
+    return b.run(f"{what}({', '.join(map(json.dumps, given))})")
+
+
+def of(b, query, what):
+    """A property of the first element that fits."""
+    return b.run(f"document.querySelector({json.dumps(query)}).{what}")
+
+
+def text_of(b, query):
+    return of(b, query, "textContent")
+
+
+def click(b, query):
+    b.run(f"document.querySelector({json.dumps(query)}).click()")
+
+
+def shown(b, radio):
+    return text_of(b, f"#{radio} .lcd .text")
+
+
+def settle(b):
+    b.run("new Promise(done => setTimeout(done, 250))")
+
+
+def visit(b, url):
+    """Opens the page; answers whether it came to its begin."""
+    b.go(url)
+    with open(PROBE, encoding="utf-8") as probe:
+        b.run(probe.read() + ";window.probe = probe; undefined")
+    return b.until(READY)
+
+
+def open_script(b, text, **options):
+    call(b, "page.tab", "script")
+    call(b, "script_tab.open", text, options)
+
+
+def verdict_of(b, log, m):
+    """Opens the log, and gives the verdict once it says something of receivers."""
+    call(b, "page.tab", "log")
+    call(b, "log_tab.open", log, {"pi": "C201", "m": m, "k": 0})
+    return settled_verdict(b)
+
+
+def settled_verdict(b):
+    b.until("!document.querySelector('#verdict').textContent.includes('Looking for')")
+    return text_of(b, "#verdict")
+
+
+# ---- the same lines
+
+
+def same(b, name, words, data):
+    got = call(b, "probe.run", words, list(data))
+    check(f"{name}: {' '.join(words)}", got, program(words, data))
+
+
+def some_line(dice):
+    if dice.random() < 0.98:
+        return dice.choice(GROUPS)
+    return dice.choice(["", "# note", "<x>", "bad", f"C201 {dice.randrange(65536):04x} 1234 0d0D @time"])
+
+
+def some_log(dice):
+    return "\n".join(some_line(dice) for _ in range(dice.randrange(80))).encode() + (b"\n" if dice.random() < 0.8 else b"")
+
+
+def some_script(dice, receivers, late):
+    arguments = {"text": ["HI", "Édith", '"a, b"', "X" * 64, "", "no\u2603"], "name": ["POP MIX", "CHANSON"],
+                 "tags": ["1 1 4 0 1 1 0 0", "0 0 1 60 3 0 0 0", "x"]}
+    rows = []
+    for _ in range(dice.randrange(1, 120)):
+        command = dice.choice(["-"] * 12 + ["text", "text", "name", "tags", "restart"])
+        heard = ["G", "G", "G", "L", "R"] + (["G1"] if late and dice.random() < 0.1 else [])
+        letters = "".join(dice.choice(heard) for _ in range(receivers))
+        rows.append(f"{command},{dice.choice(arguments.get(command, ['']))},{dice.choice('011')},{letters}")
+    return ("\n".join(rows) + "\n").encode()
+
+
+def same_lines_of_examples(b):
+    calls = [["decode", "--pi", "C201"], ["decode", "--pi", "F201", "--m", "8"], ["audit", "--pi", "C201", "--m", "8"],
+             ["audit", "--pi", "F201", "--k", "3"], ["sim", "--pi", "C201", "--pty", "24", "--m", "8"],
+             ["sim", "--pi", "C201", "--pty", "10", "--m", "4", "--k", "2"],
+             ["encode", "--pi", "C201", "--pty", "10", "--m", "8", "--tp"]]
+    names = sorted(name for name in os.listdir(EXAMPLES) if name.endswith((".log", ".csv")))
+    check("examples", len(names) > 5, True)
+    for name in names:
+        for words in calls:
+            same(b, name, words, example(name))
+
+
+def same_help_and_refusals(b):
+    rows = [[], ["--help"], ["-h"], ["--version"], ["sing"], ["help"], ["help", "decode"], ["help", "nonsense"], ["decode"],
+            ["decode", "--help"], ["encode", "--help"], ["sim", "--help"], ["audit", "--help"], ["decode", "--pi", "C20"],
+            ["encode", "--pi", "xyzw"], ["decode", "--pi", "C201", "--m", "0"], ["encode", "--pi", "C201", "--pty", "32"],
+            ["audit", "--pi", "C201", "--k", "1025"], ["decode", "--pi", "Ĉ201"]]
+    for words in rows:
+        same(b, "words", words, b"C201 2140 4849 0D20\n")
+    same(b, "no input", ["decode", "--pi", "C201"], b"")
+    same(b, "bytes that are no text", ["decode", "--pi", "C201"], b"C201 2140 4849 0D20\n\xff\xfe\n")
+    same(b, "a long line", ["decode", "--pi", "C201"], b"#" + b"x" * 300_000 + b"\nC201 2140 4849 0D20\n")
+
+
+def same_lines_by_chance(b):
+    dice = random.Random(SEED)
+    for number in range(120):
+        data, m, k = some_log(dice), str(dice.choice([1, 2, 5, 8, 128, 65535])), str(dice.choice([0, 0, 1, 7, 1024]))
+        same(b, f"log {number}", ["decode", "--pi", "C201", "--m", m], data)
+        same(b, f"log {number}", ["audit", "--pi", "C201", "--m", m, "--k", k], data)
+    for number in range(120):
+        m, k = dice.choice([1, 2, 4, 8]), dice.choice([0, 0, 1, 2])
+        options = ["--pi", "C201", "--m", str(m), "--k", str(k)]
+        same(b, f"script {number}", ["sim", *options], some_script(dice, dice.randrange(9), k))
+        same(b, f"script {number}", ["encode", *options], some_script(dice, 0, k))
+
+
+# ---- what is shown
+
+
+def lost(b):
+    return b.run("[...log_tab.state.lost]")
+
+
+def the_first_log(b):
+    call(b, "page.tab", "log")
+    settled_verdict(b)
+    check("its verdict", text_of(b, "#verdict h2 code"), "EarlyFlag")
+    check("it shows the mix", (shown(b, "log-radio"), of(b, "#log-radio", "className")), ("JAZZMIX", "radio mixed"))
+    check("its lines", text_of(b, "#log-lines"), '1 text "JAZZ FM"\n5 text "JAZZMIX"\n')
+    b.run("log_tab.timeline.canvas.focus()")
+    b.key("ArrowLeft", number=37)
+    check("a key moves a slot back", (b.run("log_tab.timeline.cursor"), shown(b, "log-radio")), (4, "JAZZ FM"))
+    b.key("l", "KeyL", 76)
+    check("a key gives a lost slot back", lost(b), [2, 3])
+    told = of(b, "#log-time canvas", "ariaValueText").split(". ")
+    check("the slider tells slot and group", told[:2], ["slot 4 of 6 · 0.35 s", "text group"])
+    click(b, "#log-unlose")
+    check("all received again", text_of(b, "#log-lines").splitlines()[-1], '5 text "POP MIX"')
+    settled_verdict(b)
+    click(b, "#verdict .witness button")
+    check("the button loses the slots of the witness", (lost(b), shown(b, "log-radio")), ([2, 3], "POP  FM"))
+    click(b, "#log-click")
+    at = b.run("probe.place(log_tab.timeline, 0, lane => lane.lost)")
+    b.drag(at, at)
+    check("a click loses a slot", lost(b), [2, 3, 0])
+    click(b, "#log-click")
+
+
+def printed(b):
+    return text_of(b, "#script-lines")
+
+
+def the_first_script(b):
+    click(b, "#tab-script")
+    both = shown(b, "script-naive"), shown(b, "script-radio")
+    check("one with the flag bit alone shows a mix", both, ("A1: closed today", "— no text —"))
+    check("the mix is counted", text_of(b, "#script-count"),
+          "With the flag bit alone, receivers show a text that nobody sent. With the dwell none does.")
+    check("it is the example", of(b, "#script-text", "value"), example("mix.csv").decode())
+    before = printed(b)
+    b.run("script_tab.timeline.move(30)")
+    call(b, "probe.choose", "command", "restart")
+    check("a command is edited", "30 restart\n" in printed(b), True)
+    click(b, "#script-undo")
+    check("undone", (printed(b), of(b, "#script-redo", "disabled")), (before, False))
+    b.run("script_tab.timeline.canvas.focus()")
+    b.key("y", "KeyY", 89, modifiers=2)
+    check("and done again by key", "30 restart\n" in printed(b), True)
+    b.key("z", "KeyZ", 90, modifiers=2)
+    check("and undone by key", printed(b), before)
+    brush(b)
+    call(b, "probe.choose", "script-n", 8)
+    settle(b)
+    check("eight receivers", b.run("script_tab.state.rows[0].receptions.length"), 8)
+
+
+def brush(b):
+    """A stroke of the brush over a receiver's lane."""
+    got = "script_tab.state.rows.slice(8, 17).map(row => row.receptions[0]).join('')"
+    click(b, "[name=brush][value=L]")
+    b.drag(*(b.run(f"probe.place(script_tab.timeline, {slot}, lane => lane.group === 0)") for slot in (10, 14)))
+    check("the brush loses slots", b.run(got), "GGLLLLLGG")
+    click(b, "[name=brush][value=look]")
+    click(b, "#script-undo")
+    check("a stroke is undone as one", b.run(got), "GGGGGGGGG")
+
+
+def names_and_tags(b):
+    open_script(b, "".join(f"{line}GG\n" for line in example("chanson.csv").decode().splitlines()), m=8, k=0)
+    names = b.run("script_tab.timeline.lanes.map(lane => lane.name.trim())")
+    check("names and tags have lanes", (names.count("its name"), names.count("its tags")), (5, 5))
+    last = b.run("[...script_tab.state.naives, ...script_tab.state.said.views].map(view => view.parts.tag1.at(-1).value.text)")
+    check("tags of both kinds of receivers", last, ["Édith Piaf"] * 4)
+    check("nothing is taken for a mix", "No receiver shows a mix" in text_of(b, "#script-count"), True)
+
+
+def the_dwell(b):
+    click(b, "#tab-dwell")
+    check("how often a text may change", text_of(b, ".card strong"), "22.4 s")
+    call(b, "probe.choose", "k-range", 128)
+    check("with late groups", text_of(b, ".card strong"), "44.8 s")
+    told = b.run("[...document.querySelectorAll('[role=tab]')].map(tab => tab.ariaSelected)")
+    check("the chosen tab is told", told, ["false", "false", "true"])
+
+
+# ---- files, links, faults
+
+
+def hidden(b):
+    """The tabs that are not open."""
+    return [name for name in TABS if of(b, f"#{name}", "hidden")]
+
+
+def files(b):
+    rows = [("hi.log", example("hi.log").decode(), "log"), ("tunnel.csv", example("tunnel.csv").decode(), "script"),
+            ("a", f"{NOTHING}\n{HI}\n", "log"), ("tunnel.txt", example("tunnel.csv").decode(), "script")]
+    for name, text, tab in rows:
+        call(b, "page.tab", "dwell")
+        call(b, "probe.drop", name, text)
+        settle(b)
+        opened = of(b, "#script-text" if tab == "script" else "#log-text", "value")
+        check(f"{name} is dropped", (hidden(b), opened), ([it for it in TABS if it != tab], text))
+    with tempfile.TemporaryDirectory() as folder:
+        b.ask("Browser.setDownloadBehavior", behavior="allow", downloadPath=folder)
+        open_script(b, example("late.csv").decode(), m=4, k=2)
+        click(b, "#script-save")
+        check("a saved script", waited_for(os.path.join(folder, "script.csv")), example("late.csv"))
+        click(b, "#script-time [data-do=save]")
+        data = waited_for(os.path.join(folder, "timeline.png"))
+        check("a saved picture", (data[:8], struct.unpack(">I", data[16:20])), (b"\x89PNG\r\n\x1a\n", (2400,)))
+
+
+def waited_for(path):
+    """What the browser saves in this file."""
+    end = time.time() + SECONDS
+    while time.time() < end:
+        if os.path.exists(path) and os.path.getsize(path):
+            with open(path, "rb") as file:
+                return file.read()
+        time.sleep(0.05)
+    return b""
+
+
+def links(b, url):
+    open_script(b, example("late.csv").decode(), m=4, k=2, pty="10")
+    click(b, "#script-share")
+    b.until("!!document.getElementById('script-link').value")
+    link, before = of(b, "#script-link", "value"), printed(b)
+    visit(b, link)
+    check("a link opens its script", (printed(b), hidden(b), len(link) < 2000), (before, ["log", "dwell"], True))
+    visit(b, f"{url}#script=nonsense")
+    check("a link that holds none", text_of(b, "#script-saved"), "The link holds no script.")
+    visit(b, f"{url}#script")
+    check("a tab by its name", (text_of(b, "#script-saved"), hidden(b)), ("", ["log", "dwell"]))
+    dice = random.Random(SEED)
+    open_script(b, "".join(f"text,{dice.random()},1,\n" for _ in range(20_000)))
+    click(b, "#script-share")
+    settle(b)
+    check("a script that is too long for one", text_of(b, "#script-saved"), "This script is too long for a link: save it as a file.")
+
+
+def faults(b):
+    said = verdict_of(b, f"# note\n{HI}\nC201 2140 4849\n", 8)
+    check("a bad line is named", ("Line 3 is no line of a log" in said, "C201 2140 4849" in said), (True, True))
+    b.run("[...document.querySelectorAll('#verdict button')].at(-1).click()")
+    check("and shown", call(b, "probe.chosen_line", "log-text"), "C201 2140 4849")
+    rows = [
+        ("-,,1,G\n\n-,,1\n", 3, "it has 3 fields, and a row has four"),
+        ("-,,1,G\nsing,,1,G\n", 2, "“sing” is no command"),
+        ("-,,1,G\n-,,2,G\n", 2, "its third field is neither 0 nor 1"),
+        ("-,,1,G\n-,,1,X\n", 2, "its last field has something other than G, L and R"),
+        ("-,,1,G\n-,,1,GG\n", 2, "it has 2 receivers, and the first row has 1"),
+        ("-,,1,G\n-,,1,G1\n", 2, "a group comes too late, or out of its order"),
+        ('-,,1,G\ntags,"1\n2",1,G\n', 2, "its argument is none that its command can have"),
+        ("text,\u2603,1,G\n", 1, "its argument is none that its command can have"),
+    ]
+    for text, line, why in rows:
+        open_script(b, text, m=8, k=0)
+        check(f"a bad row is named: {why}", text_of(b, "#script-fault"),
+              f"Line {line} is no row of a script: {why}. What stands behind it isn't played. Show the line")
+    click(b, "#script-fault button")
+    check("and shown", call(b, "probe.chosen_line", "script-text"), "text,\u2603,1,G")
+
+
+# ---- after a no
+
+
+EXPLAINED = [
+    ("EarlyFlag", [GROUPS[2], GROUPS[3], "C201 2150 4E45 5753", "C201 2151 2046 4D0D", "C201 2140 504F 5020"],
+     "In slot 4 the text “POP…” opens with the flag of “JAZZ FM”, whose last group was in slot 1: 3 slots before, and 8 are wanted.",
+     "Keep each text on air for 2 (M + K) = 16 slots"),
+    ("EarlyFlag", ["C201 A140 504F 5020", "C201 A150 4A41 5A5A", "C201 A140 504F 5020"],
+     "In slot 2 the name “POP…”", "Keep each name on air"),
+    ("Changed", [HI, "C201 2140 594F 0D20"],
+     "The text “HI” had “HI\\x0D ” for characters 1 to 4 (slot 0), and in slot 1 has “YO\\x0D ” there", "Turn the flag with every change"),
+    ("NotOneText", ["C201 2140 4849 0D21"],
+     "In slot 0 the segment “HI\\x0D!” (characters 1 to 4) has something other than spaces behind the carriage return.",
+     "End a text with one carriage return"),
+    ("NotOneText", [HI, "C201 2141 4849 4849"],
+     "stands behind the carriage return that ends the text.", "End a text with one carriage return"),
+    ("NotOneText", ["C201 A140 0148 4949"],
+     "has a control character, and no name has one.", "Send eight printed characters"),
+    ("EarlyTag", ["C201 B158 8012 0985"],
+     "The tags in slot 0 come before any text was sent.", "Begin with the tags of a text M + K = 8 slots"),
+    ("EarlyTag", [HI, "C201 2150 594F 0D20", "C201 B158 8012 0985"],
+     "come with the text “YO”, whose first group was in slot 1. It could have had tags from slot 9 on.", "Begin with the tags"),
+    ("TagOutside", [HI, *[NOTHING] * 6, HI, "C201 B158 8012 0985"],
+     "A tag in slot 8 ends at character 10, and the text “HI” has 2.", "Count the start from 0"),
+]
+
+
+def explained(b):
+    """A worked log of each fault: what the verdict says."""
+    for fault, log, what, should in EXPLAINED:
+        said = verdict_of(b, "".join(f"{line}\n" for line in log), 8)
+        check(f"{fault}: {what}", (text_of(b, "#verdict h2 code"), said if what not in said or should not in said else ""), (fault, ""))
+
+
+def witnesses(b):
+    """Receivers that pay for a no: the page beside examples/witness, on logs by chance."""
+    dice, found = random.Random(SEED), 0
+    groups = GROUPS[:8] + ["C201 2150 4E45 5753", "C201 2151 2046 4D0D", "C201 A150 4A41 5A5A", "C201 A151 2046 4D20"]
+    for number in range(40):
+        m, log = dice.choice([2, 4, 8]), "".join(f"{dice.choice(groups)}\n" for _ in range(dice.randrange(4, 60)))
+        done = subprocess.run([sys.executable, "-B", WITNESS, "--pi", "C201", "--m", str(m)], input=log, text=True,
+                              stdout=subprocess.PIPE, timeout=SECONDS, env={**os.environ, "RDSRT": PROGRAM})
+        answer, *told = done.stdout.splitlines()
+        said = verdict_of(b, log, m)
+        if answer.startswith("yes"):
+            check(f"log {number} passes", "✓ Passes the audit" in said, True)
+            continue
+        its = b.run("log_tab.state.witness")
+        slots = its["lost"] and "-".join(map(str, sorted(set(its["lost"]))))
+        check(f"witness of log {number}, M {m}", [f"lose {slots}: {line}" for line in its["shown"]] or ["no witness found"], told)
+        found += bool(its["shown"])
+    check("witnesses were found", found > 5, True)
+
+
+# ---- by key, to be heard, to be read
+
+
+def first_examples(b):
+    for name in ("log-example", "script-example"):
+        call(b, "probe.choose", name, 0)
+
+
+def keyboard(b):
+    """The tab key reaches all that can be used in each tab, and the arrows choose the tabs."""
+    wanted = {
+        "log": ["tab-log", "log-example", "log-file", "log-pi", "log-m", "log-k", "CANVAS", "log-click", "SUMMARY"],
+        "script": ["tab-script", "script-example", "script-file", "script-m", "script-n", "script-slots", "command", "free", "brush",
+                   "script-save", "script-share", "CANVAS", "SUMMARY"],
+        "dwell": ["tab-dwell", "m-range", "k-range", "f-range"],
+    }
+    first_examples(b)
+    for name in TABS:
+        call(b, "page.tab", name)
+        b.run("document.activeElement?.blur(); getSelection().removeAllRanges()")
+        reached = set()
+        for _ in range(40):
+            b.key("Tab", number=9)
+            reached |= set(b.run("(e => [e.id, e.name, e.tagName])(document.activeElement)"))
+        check(f"the tab key reaches all of {name}", [it for it in wanted[name] if it not in reached], [])
+    call(b, "page.tab", "log", True)
+    b.key("ArrowRight", number=39)
+    check("arrows choose the tab", (b.run("document.activeElement.id"), hidden(b)), ("tab-script", ["log", "dwell"]))
+    b.run("script_tab.timeline.canvas.focus()")
+    b.key("Enter", number=13, text="\r")
+    check("Enter goes to the command", b.run("document.activeElement.id"), "command")
+
+
+def tree(b):
+    """What a screen reader is told: role, name and value of each thing that is not left out."""
+    nodes = [it for it in b.ask("Accessibility.getFullAXTree")["nodes"] if not it.get("ignored")]
+    return [tuple(it.get(key, {}).get("value") for key in ("role", "name", "value")) for it in nodes]
+
+
+def screen_reader(b):
+    b.ask("Accessibility.enable")
+    call(b, "page.tab", "log")
+    first_examples(b)
+    settled_verdict(b)
+    nodes = tree(b)
+    check("it finds the tabs", [name for role, name, _ in nodes if role == "tab"], ["Look at a log", "Play a script", "Choose the dwell"])
+    check("and the slot", [value for role, name, value in nodes if role == "slider" and name == "Slot of the log"], [5])
+    told = of(b, "#log-time canvas", "ariaValueText")
+    check("and what is shown there", "The receiver shows “JAZZMIX”, which nobody sent" in told, True)
+    check("and the verdict", [role for role, name, _ in nodes if role == "heading" and "EarlyFlag" in (name or "")], ["heading"])
+    b.run("document.querySelector('#log details').open = true")
+    check("and the lines", any('5 text "JAZZMIX"' in (name or "") for _, name, _ in tree(b)), True)
+    controls = ("button", "slider", "textbox", "combobox", "spinbutton", "checkbox", "tab", "radio")
+    check("all controls have names", [role for role, name, _ in nodes if role in controls and not name], [])
+    b.ask("Accessibility.disable")
+
+
+def contrast_and_width(b):
+    first_examples(b)
+    for scheme in SCHEMES:
+        b.scheme(scheme)
+        for name in TABS:
+            call(b, "page.tab", name)
+            settle(b)
+            seen, low = call(b, "probe.contrasts", CONTRAST)
+            check(f"contrast of {name}, {scheme}", (seen > 10, low), (True, []))
+    b.scheme("light")
+    for width in PHONES:
+        b.size(width, 844)
+        for name in TABS:
+            call(b, "page.tab", name)
+            settle(b)
+            check(f"{name} is as wide as a phone of {width}", b.run("document.documentElement.scrollWidth <= innerWidth"), True)
+    b.size(1280, 900)
+
+
+# ---- many slots, and none
+
+
+def large(b):
+    told = call(b, "probe.large", SLOTS)
+    verdict = told.pop("verdict")
+    print(f"{SLOTS} slots, ms:", ", ".join(f"{key} {value:.0f}" for key, value in told.items()), flush=True)
+    check("many slots pass", verdict, f"yes {SLOTS}\n")
+    for name, most in (("open_log", OPENING), ("open_script", OPENING), ("log_frame", FRAME), ("script_frame", FRAME)):
+        check(f"{name} of many slots within {most} ms", (told[name] <= most) or told[name], True)
+    for words, what in ((["decode", "--pi", "C201"], "log"), (["sim", "--pi", "C201"], "script")):
+        data, got = b.run(f"probe.many.{what}").encode(), b.run(f"rdsrt.run({json.dumps(words)}, probe.many.{what}).output")
+        check(f"{words[0]} of many slots", got == program(words, data)[1], True)
+
+
+def no_wide_memory(b, url):
+    """A browser that can't load the module."""
+    undo = b.before_load("WebAssembly.instantiate = () => Promise.reject(new Error('no memory of 64 bits'))")
+    visit(b, url)
+    check("a browser without such a memory gets a sentence", text_of(b, "#no-engine"),
+          "This browser can’t run the program: it needs WebAssembly with a memory of 64 bits, which Chrome and Edge have from 133 on "
+          "and Firefox from 134 on. (no memory of 64 bits)")
+    undo()
+
+
+def nothing_fetched(b, folder):
+    fetched = b.fetched()
+    away = [it for it in fetched if not it.startswith((f"file://{folder}/", "data:", "blob:", "about:"))]
+    check("nothing is fetched but the page's files", away, [])
+    here = {re.sub("[?#].*", "", it).rsplit("/", 1)[-1] for it in fetched if it.startswith("file:")}
+    check("and these are in its folder", (sorted(here - set(os.listdir(folder))), len(here) > 10), ([], True))
+
+
+PARTS = (the_first_log, the_first_script, names_and_tags, the_dwell, files, faults, explained, witnesses, keyboard, screen_reader,
+         contrast_and_width, same_lines_of_examples, same_help_and_refusals, same_lines_by_chance, large)
+
+
+def main():
+    if len(sys.argv) < 2:
+        return 0 if browser.program() else 1
+    folder = os.path.abspath(sys.argv[1])
+    url = f"file://{folder}/index.html"
+    b = browser.Browser()
+    try:
+        visit(b, url)
+        check("the program runs in this browser", text_of(b, "#no-engine"), "")
+        if outcomes[-1]:
+            for part in PARTS:
+                part(b)
+            links(b, url)
+        check("the browser's console is empty", b.complaints(), [])
+        no_wide_memory(b, url)
+        nothing_fetched(b, folder)
+    finally:
+        b.close()
+    failed = outcomes.count(False)
+    print(f"{len(outcomes) - failed} passed, {failed} failed")
+    return 1 if failed else 0
+
+
+if __name__ == "__main__":
+    sys.exit(main())

@@ -1,0 +1,137 @@
+"use strict";
+/* What tests/page_cases.py asks of the page, run in it. */
+const probe = (() => {
+  const at = (id) => document.getElementById(id);
+
+  /* Status and output of the program in the page over these bytes. */
+  function run(words, bytes) {
+    const { status, output } = rdsrt.run(words, Uint8Array.from(bytes));
+    return [status, output];
+  }
+
+  function choose(id, value) {
+    at(id).value = value;
+    at(id).dispatchEvent(new Event("input"));
+    at(id).dispatchEvent(new Event("change"));
+  }
+
+  /* Drops a file of this text on the page. */
+  function drop(name, text) {
+    const data = new DataTransfer();
+    data.items.add(new File([text], name));
+    document.querySelector("h1").dispatchEvent(new DragEvent("drop", { dataTransfer: data, bubbles: true, cancelable: true }));
+  }
+
+  const chosen_line = (id) => at(id).value.slice(at(id).selectionStart, at(id).selectionEnd);
+
+  /* A place of the canvas in the window: the middle of a slot, and of the first lane that fits. */
+  function place(timeline, slot, fits) {
+    timeline.root.scrollIntoView();
+    timeline.paint();
+    const box = timeline.canvas.getBoundingClientRect(), lane = timeline.lanes.find(fits);
+    return [box.left + timeline.x(slot + 0.5), box.top + lane.top + lane.height / 2];
+  }
+
+  // ---- contrast, by the formula of WCAG 2
+
+  const painter_of_one = document.createElement("canvas").getContext("2d", { willReadFrequently: true });
+  function rgba(color) {
+    painter_of_one.clearRect(0, 0, 1, 1);
+    painter_of_one.fillStyle = color;
+    painter_of_one.fillRect(0, 0, 1, 1);
+    return [...painter_of_one.getImageData(0, 0, 1, 1).data];
+  }
+  const channel = (v) => v / 255 <= 0.03928 ? v / 255 / 12.92 : ((v / 255 + 0.055) / 1.055) ** 2.4;
+  const light = ([r, g, b]) => 0.2126 * channel(r) + 0.7152 * channel(g) + 0.0722 * channel(b);
+  function ratio(a, b) {
+    const [x, y] = [light(rgba(a)), light(rgba(b))].sort((p, q) => q - p);
+    return (x + 0.05) / (y + 0.05);
+  }
+
+  /* The colour behind an element: its own or that of the first element around it that has one. */
+  function ground(element) {
+    for (let e = element; e; e = e.parentElement) {
+      const color = getComputedStyle(e).backgroundColor;
+      if (rgba(color)[3] === 255) return color;
+    }
+    return "#fff";
+  }
+
+  function has_text(e) {
+    if (["radio", "checkbox", "range"].includes(e.type) || e.tagName === "OPTION" || e instanceof SVGElement) return false;
+    const own = [...e.childNodes].some((node) => node.nodeType === Node.TEXT_NODE && node.data.trim());
+    return (own || ["INPUT", "SELECT", "TEXTAREA"].includes(e.tagName)) && e.checkVisibility();
+  }
+
+  /* Pairs of colours that the canvas draws on each other. */
+  const PAIRS = [
+    ...[0, 1, 2, 3, 4, 5, 6, 7].map((i) => ["white", `c${i}`]), ["white", "wrong"], ["stale-text", "stale"],
+    ["dim", "card"], ["dim", "lane"],
+    ...["lane", "chosen", "card"].flatMap((on) => [["text", on], ["bad", on]]),
+  ];
+
+  /* How many texts are in sight, and those whose contrast is too low. */
+  function contrasts(least) {
+    const root = getComputedStyle(document.documentElement), ink = (name) => root.getPropertyValue(`--${name}`).trim() || name;
+    const told = (e) => [e.textContent.slice(0, 40) || e.id, getComputedStyle(e).color, ground(e)];
+    const all = [...document.querySelectorAll("body *")].filter(has_text).map(told);
+    const drawn = PAIRS.map(([a, b]) => [`${a} on ${b}`, ink(a), ink(b)]);
+    const low = [...all, ...drawn].filter(([, a, b]) => ratio(a, b) < least).map(([what, a, b]) => `${what} ${ratio(a, b).toFixed(2)}`);
+    return [all.length, low];
+  }
+
+  // ---- many slots
+
+  const many = {};
+
+  function timed(what) {
+    const from = performance.now();
+    what();
+    return performance.now() - from;
+  }
+
+  /* Of three tries the best: a machine may have other work. */
+  const best = (what) => Math.min(what(), what(), what());
+
+  /* How long it takes to open a text and to draw it. */
+  const opening = (tab, text) => best(() => timed(() => {
+    tab.open(text, { m: 128, k: 0 });
+    tab.timeline.paint();
+  }));
+
+  /* The longest of 40 frames that show more and fewer slots, the last all of them. */
+  function frame(timeline) {
+    const longest = () => {
+      const all = Array.from({ length: 40 }, (_, i) => {
+        timeline.zoom(i % 2 ? 1.7 : 0.4);
+        return timed(() => timeline.paint());
+      });
+      timeline.fit();
+      return Math.max(...all, timed(() => timeline.paint()));
+    };
+    return best(longest);
+  }
+
+  function script_of(count) {
+    const row = (s) => s % 600 === 300 ? `text,Song number ${s}` : "-,";
+    return Array.from({ length: count }, (_, s) => `${row(s)},${s % 3 ? 1 : 0},GLGGGGGG\n`).join("");
+  }
+
+  /* Milliseconds of the commands, of opening and of frames, over so many slots; `many` keeps the script and its log. */
+  function large(count) {
+    many.script = script_of(count);
+    const encoded = rdsrt.run(["encode", "--pi", "C201"], many.script.replaceAll("GLGGGGGG", ""));
+    many.log = encoded.output;
+    const audit = rdsrt.run(["audit", "--pi", "C201"], many.log), decode = rdsrt.run(["decode", "--pi", "C201"], many.log);
+    const told = { encode: encoded.ms, audit: audit.ms, decode: decode.ms, heap: decode.heap, verdict: audit.output };
+    page.tab("log");
+    told.open_log = opening(log_tab, many.log);
+    told.log_frame = frame(log_tab.timeline);
+    page.tab("script");
+    told.open_script = opening(script_tab, many.script);
+    told.script_frame = frame(script_tab.timeline);
+    return told;
+  }
+
+  return { choose, chosen_line, contrasts, drop, large, many, place, run };
+})();
