@@ -16,11 +16,13 @@ use Rattle.rds_world.specs.Event.{Event}
 use Rattle.rds_world.specs.Late.{Input}
 use Rattle.rds_world.specs.Slots.{commanded, entries, input_of, sent_at}
 use Rattle.rds_world.specs.Standing.{IsViewOfInput, tuned_to}
+use Rattle.rds_world.specs.State.{distance}
 use Rattle.rds_log.specs.Rows.{Record}
 use Rattle.rds_log.specs.Scripts.{RowsWrite}
 use Rattle.rds_log.proofs.OneEvent.{same_events}
 use Rattle.rds_log.specs.Outcomes.{AreOutcomes, IsOutcome, Outcome, lines_of, view_at}
 use Rattle.rds_log.specs.declared.form.Form.{Form}
+use Rattle.rds_world.specs.declared.world.Config.{Config}
 
 -- one group is written for a message that is no other
 abbrev pub OneGroup : Type 0
@@ -35,47 +37,47 @@ same_sent one head (Some m) (Some g) None other p q = absurd q
 same_sent one head (Some m) (Some g) (Some h) other p q = ap Some (one m head g h (λ e. other (ap Some e)) p q)
 
 -- an input has one view, whichever groups spell it
-same_view_of_input : (station : Head) (m k : ℕ) (input : Input) (v w : ShownView) → IsViewOfInput station m input v → IsViewOfInput station m input w → v ≡ w
-same_view_of_input station m k input v w p q =
+same_view_of_input : (config : Config) (input : Input) (v w : ShownView) → IsViewOfInput config input v → IsViewOfInput config input w → v ≡ w
+same_view_of_input config input v w p q =
     let (heard, are, shows) = q.is in
-    let other : heard ≡ input.heard = same_heard station.pi q.groups heard input.heard are q.spelled in
-    same_view (tuned_to station m input) p.groups v w p.is (input.heard, p.spelled, subst (λ (h : List (Option Message)). ShowsView m input.first h w) other shows)
+    let other : heard ≡ input.heard = same_heard config.head.pi q.groups heard input.heard are q.spelled in
+    same_view (tuned_to config input) p.groups v w p.is (input.heard, p.spelled, subst (λ (h : List (Option Message)). ShowsView config.dwell input.first h w) other shows)
 
 sent_is_known : (d : ℕ) (e : Event) (before : List Event) → sent_at d e before ≢ Some Other
 sent_is_known d e before =
     sent_is_known_in d e.free (commanded e.command (entries before))
 
-same_views : (station : Head) (m k : ℕ) (e : Event) (before : List Event) (o other : Outcome) → IsOutcome station m k e before o → IsOutcome station m k e before other → o.views ≡ other.views
-same_views station m k e before o other p q =
+same_views : (config : Config) (e : Event) (before : List Event) (o other : Outcome) → IsOutcome config e before o → IsOutcome config e before other → o.views ≡ other.views
+same_views config e before o other p q =
     same_lists o.views other.views (p.receivers ∙ sym q.receivers) (λ n d within.
     let here : view_at o.views n ≡ view_at other.views n =
-    same_view_of_input station m k (input_of (m + k) n (e ∷ before)) (view_at o.views n) (view_at other.views n) (p.views n within) (q.views n (omega (arith, within, p.receivers, q.receivers))) in
+    same_view_of_input config (input_of (distance config) n (e ∷ before)) (view_at o.views n) (view_at other.views n) (p.views n within) (q.views n (omega (arith, within, p.receivers, q.receivers))) in
     let first : get_or o.views n d ≡ view_at o.views n = grind (arith, common_steps) in
     let second : get_or other.views n d ≡ view_at other.views n = (let there : n < length other.views = omega (arith, within, p.receivers, q.receivers) in grind (arith, common_steps)) in
     first ∙ here ∙ sym second)
 
-same_outcome : OneGroup → (station : Head) (m k : ℕ) (e : Event) (before : List Event) (o other : Outcome) → IsOutcome station m k e before o → IsOutcome station m k e before other → o ≡ other
-same_outcome one station m k e before o other p q =
+same_outcome : OneGroup → (config : Config) (e : Event) (before : List Event) (o other : Outcome) → IsOutcome config e before o → IsOutcome config e before other → o ≡ other
+same_outcome one config e before o other p q =
     let command : o.command ≡ other.command = p.command ∙ sym q.command in
     let reply : o.reply ≡ other.reply = p.reply ∙ sym q.reply in
-    let sent : o.sent ≡ other.sent = same_sent one station (sent_at (m + k) e before) o.sent other.sent (sent_is_known (m + k) e before) p.sent q.sent in
-    let views : o.views ≡ other.views = same_views station m k e before o other p q in
+    let sent : o.sent ≡ other.sent = same_sent one config.head (sent_at (distance config) e before) o.sent other.sent (sent_is_known (distance config) e before) p.sent q.sent in
+    let views : o.views ≡ other.views = same_views config e before o other p q in
     λ i. record { command = command i; reply = reply i; sent = sent i; views = views i }
 
-same_outcomes : OneGroup → (station : Head) (m k : ℕ) (events : List Event) (outcomes other : List Outcome) → AreOutcomes station m k events outcomes → AreOutcomes station m k events other → outcomes ≡ other
-same_outcomes one station m k [] [] [] p q = refl
-same_outcomes one station m k [] [] (o ∷ other) p q = absurd q
-same_outcomes one station m k [] (o ∷ outcomes) other p q = absurd p
-same_outcomes one station m k (e ∷ before) [] other p q = absurd p
-same_outcomes one station m k (e ∷ before) (o ∷ outcomes) [] p q = absurd q
-same_outcomes one station m k (e ∷ before) (o ∷ outcomes) (o' ∷ other) p q =
-    let head : o ≡ o' = same_outcome one station m k e before o o' p.0 q.0 in
-    let tail : outcomes ≡ other = same_outcomes one station m k before outcomes other p.1 q.1 in
+same_outcomes : OneGroup → (config : Config) (events : List Event) (outcomes other : List Outcome) → AreOutcomes config events outcomes → AreOutcomes config events other → outcomes ≡ other
+same_outcomes one config [] [] [] p q = refl
+same_outcomes one config [] [] (o ∷ other) p q = absurd q
+same_outcomes one config [] (o ∷ outcomes) other p q = absurd p
+same_outcomes one config (e ∷ before) [] other p q = absurd p
+same_outcomes one config (e ∷ before) (o ∷ outcomes) [] p q = absurd q
+same_outcomes one config (e ∷ before) (o ∷ outcomes) (o' ∷ other) p q =
+    let head : o ≡ o' = same_outcome one config e before o o' p.0 q.0 in
+    let tail : outcomes ≡ other = same_outcomes one config before outcomes other p.1 q.1 in
     (cc)
 
 -- rows write one output
-pub same_written : TextIsReadOneWay → OneGroup → (form : Form) (station : Head) (m k : ℕ) (records : List Record) (written other : List ℕ) → RowsWrite form station m k records written → RowsWrite form station m k records other → written ≡ other
-same_written text one form station m k records written other p q =
-    let events : p.events ≡ q.events = same_events text k p.say.receivers q.say.receivers records p.events q.events p.say.rows q.say.rows in
-    let outcomes : p.write.outcomes ≡ q.write.outcomes = same_outcomes one station m k q.events p.write.outcomes q.write.outcomes (subst (λ (l : List Event). AreOutcomes station m k l p.write.outcomes) events p.write.are) q.write.are in
+pub same_written : TextIsReadOneWay → OneGroup → (form : Form) (config : Config) (records : List Record) (written other : List ℕ) → RowsWrite form config records written → RowsWrite form config records other → written ≡ other
+same_written text one form config records written other p q =
+    let events : p.events ≡ q.events = same_events text config.late p.say.receivers q.say.receivers records p.events q.events p.say.rows q.say.rows in
+    let outcomes : p.write.outcomes ≡ q.write.outcomes = same_outcomes one config q.events p.write.outcomes q.write.outcomes (subst (λ (l : List Event). AreOutcomes config l p.write.outcomes) events p.write.are) q.write.are in
     p.write.lines ∙ ap (lines_of form) outcomes ∙ sym q.write.lines

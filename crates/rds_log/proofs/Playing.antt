@@ -3,7 +3,7 @@ use Rattle.std.proofs.Common.{◌≡◌, ◌<◌, ◌≤◌, ◌+◌, ◌∙◌,
 use Rattle.std.specs.Prelude.{IsSome}
 use Rattle.rds_fields.specs.declared.head.Head.{Head}
 use Rattle.rds_world.specs.Event.{Event}
-use Rattle.rds_world.specs.State.{WorldState}
+use Rattle.rds_world.specs.State.{WorldState, distance}
 use Rattle.rds_block.specs.declared.group.Group.{Group}
 use Rattle.rds_receiver.specs.Shown.{ShownView}
 use Rattle.rds_world.specs.declared.event.Command.{Command}
@@ -13,7 +13,7 @@ use Rattle.rds_log.proofs.Views.{view_of_none}
 use Rattle.rds_world.specs.Slots.{input_of}
 use Rattle.rds_world.specs.Standing.{IsViewOfInput, ShowsStill, tuned_to}
 use Rattle.rds_log.specs.Outcomes.{AreOutcomes, Outcome, answer_lines, lines_of, newest_views, receiver_changes, view_at}
-use Rattle.rds_log.specs.Playing.{AreKept, BeginsRow, HasWorld, PlayerStandsAt, WereShown}
+use Rattle.rds_log.specs.Playing.{AreKept, BeginsRow, HasWorld, Played, PlayerStandsAt, WereShown}
 use Rattle.rds_log.specs.declared.player.Player.{Player}
 use Rattle.rds_charset.specs.Laws.{TextIsReadOneWay}
 use Rattle.rds_world.specs.Replies.{CanBeTaken, IsStepRefused}
@@ -25,6 +25,7 @@ use Rattle.rds_log.proofs.OneEvent.{same_event, same_events}
 use Rattle.rds_log.proofs.Receptions.{same_receptions}
 use Rattle.rds_log.specs.declared.form.Form.{Form}
 use Rattle.rds_log.specs.declared.form.Form.TheVariants.{Simulation, Log}
+use Rattle.rds_world.specs.declared.world.Config.{Config}
 
 -- a record, an event and an outcome for each slot
 pub as_many_rows : (k receivers : ℕ) (records : List Record) (events : List Event) → AreRows k receivers records events → length records ≡ length events
@@ -33,11 +34,11 @@ as_many_rows k receivers [] (e ∷ older) are = absurd are
 as_many_rows k receivers (row ∷ before) [] are = absurd are
 as_many_rows k receivers (row ∷ before) (e ∷ older) are = ap suc (as_many_rows k receivers before older are.2)
 
-pub as_many_outcomes : (station : Head) (m k : ℕ) (events : List Event) (outcomes : List Outcome) → AreOutcomes station m k events outcomes → length events ≡ length outcomes
-as_many_outcomes station m k [] [] are = refl
-as_many_outcomes station m k [] (o ∷ older) are = absurd are
-as_many_outcomes station m k (e ∷ before) [] are = absurd are
-as_many_outcomes station m k (e ∷ before) (o ∷ older) are = ap suc (as_many_outcomes station m k before older are.1)
+pub as_many_outcomes : (config : Config) (events : List Event) (outcomes : List Outcome) → AreOutcomes config events outcomes → length events ≡ length outcomes
+as_many_outcomes config [] [] are = refl
+as_many_outcomes config [] (o ∷ older) are = absurd are
+as_many_outcomes config (e ∷ before) [] are = absurd are
+as_many_outcomes config (e ∷ before) (o ∷ older) are = ap suc (as_many_outcomes config before older are.1)
 
 -- a row has one number of receptions
 pub same_count : (row : Record) (e f : Event) → SaysEvent row e → SaysEvent row f → length e.receptions ≡ length f.receptions
@@ -81,21 +82,22 @@ slot_written form slot n command reply sent kept views older written answered li
     ap₂ (λ (x y : List ℕ). x ++ y) had (changed ∙ ap₂ (λ (x y : List ℕ). x ++ y) answer changes)
 
 -- a player that counts slots has played rows
-pub has_played : (form : Form) (station : Head) (m k receivers : ℕ) (p : Player) (records : List Record) (written : List ℕ) → PlayerStandsAt form station m k receivers p records written → p.slot ≡ length records
-has_played form station m k receivers p records written s = s.slot ∙ sym (as_many_outcomes station m k s.events s.outcomes s.are) ∙ sym (as_many_rows k receivers records s.events s.rows)
+pub has_played : (p : Player) (played : Played) → PlayerStandsAt p played → p.slot ≡ length played.records
+has_played p played s =
+    s.slot ∙ sym (as_many_outcomes played.config s.events s.outcomes s.are) ∙ sym (as_many_rows played.config.late played.receivers played.records s.events s.rows)
 
 -- from the first row on there is a world
-pub has_world : (station : Head) (m k receivers : ℕ) (w : Option WorldState) (events : List Event) → HasWorld station m k receivers w events → 0 < length events → IsSome w
-has_world station m k receivers None events has some = absurd (omega (arith, ap length has, some))
-has_world station m k receivers (Some w) events has some = refl
+pub has_world : (config : Config) (receivers : ℕ) (w : Option WorldState) (events : List Event) → HasWorld config receivers w events → 0 < length events → IsSome w
+has_world config receivers None events has some = absurd (omega (arith, ap length has, some))
+has_world config receivers (Some w) events has some = refl
 
 -- before the first row
-pub nothing_played : (form : Form) (station : Head) (m k receivers : ℕ) (records : List Record) (events : List Event) (outcomes : List Outcome) → AreRows k receivers records events → AreOutcomes station m k events outcomes
+pub none_yet : (form : Form) (config : Config) (receivers : ℕ) (records : List Record) (events : List Event) (outcomes : List Outcome) → AreRows config.late receivers records events → AreOutcomes config events outcomes
     → length records ≡ 0 → (records ≡ []) × (lines_of form outcomes ≡ [])
-nothing_played form station m k receivers [] [] [] rows are none = (refl, refl)
-nothing_played form station m k receivers [] [] (o ∷ older) rows are none = absurd are
-nothing_played form station m k receivers [] (e ∷ events) outcomes rows are none = absurd rows
-nothing_played form station m k receivers (row ∷ records) events outcomes rows are none = absurd (omega (arith, none))
+none_yet form config receivers [] [] [] rows are none = (refl, refl)
+none_yet form config receivers [] [] (o ∷ older) rows are none = absurd are
+none_yet form config receivers [] (e ∷ events) outcomes rows are none = absurd rows
+none_yet form config receivers (row ∷ records) events outcomes rows are none = absurd (omega (arith, none))
 
 -- a slot that is refused can't be taken
 pub not_taken : (k receivers : ℕ) (e : Event) (before : List Event) (why : StepRefused) → IsStepRefused k receivers e before why → CanBeTaken k receivers e before → ⊥
@@ -103,29 +105,30 @@ not_taken k receivers e before ReceiverCount other taken = other taken.count
 not_taken k receivers e before (Late r) is taken = is.late.late (taken.due r)
 
 -- a record whose event was refused
-pub refused_row : TextIsReadOneWay → (form : Form) (station : Head) (m k : ℕ) (p : Player) (row : Record) (records : List Record) (written : List ℕ) (e : Event) (asked : ℕ) → asked ≡ length e.receptions
-    → (began : BeginsRow form station m k asked p records written) → SaysEvent row e → (CanBeTaken k began.0 e began.1.events → ⊥) → AreNoRows k form (row ∷ records)
-refused_row one form station m k p row records written e asked is (receivers, s, how, made) says none [] say = say.rows
-refused_row one form station m k p row records written e asked is (receivers, s, how, made) says none (g ∷ older) say =
+pub refused_row : TextIsReadOneWay → (p : Player) (row : Record) (played : Played) (e : Event) (asked : ℕ) → asked ≡ length e.receptions
+    → (began : BeginsRow asked p played) → SaysEvent row e → (CanBeTaken played.config.late began.0 e began.1.events → ⊥) → AreNoRows played.config.late played.form (row ∷ played.records)
+refused_row one p row played e asked is (receivers, s, how, made) says none [] say = say.rows
+refused_row one p row played e asked is (receivers, s, how, made) says none (g ∷ older) say =
+    let k = played.config.late in
     let same : g ≡ e = same_event one row g e say.rows.0 says in
-    let before : older ≡ s.events = same_events one k say.receivers receivers records older s.events say.rows.2 s.rows in
+    let before : older ≡ s.events = same_events one k say.receivers receivers played.records older s.events say.rows.2 s.rows in
     let count : say.receivers ≡ receivers = elim how [
-      | inl some ↦ same_receivers k say.receivers receivers records older s.events say.rows.2 s.rows some
+      | inl some ↦ same_receivers k say.receivers receivers played.records older s.events say.rows.2 s.rows some
       | inr began ↦ sym say.rows.1.count ∙ same_count row g e say.rows.0 says ∙ sym is ∙ sym began
     ] in
     none (subst (λ (n : ℕ). CanBeTaken k n e s.events) count (subst (λ (x : Event). CanBeTaken k say.receivers x s.events) same (subst (λ (l : List Event). CanBeTaken k say.receivers g l) before say.rows.1)))
 
 -- what a receiver shows that shows what it showed
-pub still_shown : (station : Head) (m d n i : ℕ) (events : List Event) (kept now : List ShownView) → ShowsStill station m d i events → WereShown station m d n events kept → i < n
-    → view_at now i ≡ view_at kept i → IsViewOfInput station m (input_of d i events) (view_at now i)
-still_shown station m d n i [] kept now still were within same = absurd were
-still_shown station m d n i (e ∷ before) kept now still were within same = subst (IsViewOfInput station m (input_of d i (e ∷ before))) (sym same) (still (view_at kept i) (were i within))
+pub still_shown : (config : Config) (n i : ℕ) (events : List Event) (kept now : List ShownView) → ShowsStill config i events → WereShown config n events kept → i < n
+    → view_at now i ≡ view_at kept i → IsViewOfInput config (input_of (distance config) i events) (view_at now i)
+still_shown config n i [] kept now still were within same = absurd were
+still_shown config n i (e ∷ before) kept now still were within same = subst (IsViewOfInput config (input_of (distance config) i (e ∷ before))) (sym same) (still (view_at kept i) (were i within))
 
 -- what each receiver shows after these slots
-pub shown_now : (station : Head) (m k receivers : ℕ) (records : List Record) (events : List Event) (outcomes : List Outcome) → AreRows k receivers records events → AreOutcomes station m k events outcomes
-    → (i : ℕ) → i < receivers → IsViewOfInput station m (input_of (m + k) i events) (view_at (newest_views outcomes) i)
-shown_now station m k receivers records [] [] rows are i within = record { groups = []; spelled = tt; is = view_of_none (tuned_to station m (input_of (m + k) i [])) }
-shown_now station m k receivers records [] (o ∷ older) rows are i within = absurd are
-shown_now station m k receivers records (e ∷ before) [] rows are i within = absurd are
-shown_now station m k receivers [] (e ∷ before) (o ∷ older) rows are i within = absurd rows
-shown_now station m k receivers (row ∷ records) (e ∷ before) (o ∷ older) rows are i within = are.0.views i (omega (arith, within, are.0.receivers, rows.1.count))
+pub shown_now : (config : Config) (receivers : ℕ) (records : List Record) (events : List Event) (outcomes : List Outcome) → AreRows config.late receivers records events → AreOutcomes config events outcomes
+    → (i : ℕ) → i < receivers → IsViewOfInput config (input_of (distance config) i events) (view_at (newest_views outcomes) i)
+shown_now config receivers records [] [] rows are i within = record { groups = []; spelled = tt; is = view_of_none (tuned_to config (input_of (distance config) i [])) }
+shown_now config receivers records [] (o ∷ older) rows are i within = absurd are
+shown_now config receivers records (e ∷ before) [] rows are i within = absurd are
+shown_now config receivers [] (e ∷ before) (o ∷ older) rows are i within = absurd rows
+shown_now config receivers (row ∷ records) (e ∷ before) (o ∷ older) rows are i within = are.0.views i (omega (arith, within, are.0.receivers, rows.1.count))

@@ -2,7 +2,7 @@
 use Rattle.std.proofs.Math.Logic.{∥∥₁_map}
 use Rattle.std.specs.Prelude.{ℕ, Err, List, Ok, Option, Result}
 use Rattle.rds_charset.specs.Told.{Failed, Traffic}
-use Rattle.rds_fields.specs.declared.head.Head.{Head}
+use Rattle.rds_world.specs.declared.world.Config.{Config}
 use Rattle.rds_log.specs.Failing.{SomeReadFailed}
 use Rattle.rds_log.specs.Scripts.{Plays}
 use Rattle.rds_log.specs.declared.fault.LogFault.{LogFault}
@@ -18,14 +18,14 @@ failed_behind {A} {B} view failures some =
 
 -- a script that was played, where what was told of its reads says something else
 pub plays_by : {P Q : Type 0} → (P → Q)
-    → (form : Form) (station : Head) (m k most : ℕ) (known : Option (List ℕ)) (w : Traffic)
-    (result : Result (Unit {0}) LogFault)
-    → Plays form station m k most known P w result → Plays form station m k most known Q w result
-plays_by says form station m k most known w (Ok done) p = p
-plays_by says form station m k most known w (Err (BadLine n)) p = p
-plays_by says form station m k most known w (Err (BadRow n)) p = p
-plays_by says form station m k most known w (Err Read) (records, wrote, fewer, failed) =
+    → (form : Form) (config : Config) (most : ℕ) (known : Option (List ℕ)) (w : Traffic)
+    (result : Result (Unit {0}) LogFault) → Plays form config most record { known = known; Failed = P } w result
+    → Plays form config most record { known = known; Failed = Q } w result
+plays_by says form config most known w (Ok done) p = p
+plays_by says form config most known w (Err (BadLine n)) p = p
+plays_by says form config most known w (Err (BadRow n)) p = p
+plays_by says form config most known w (Err Read) (records, wrote, fewer, failed) =
     (records, wrote, fewer, says failed)
-plays_by says form station m k most known w (Err Write) p = p
-plays_by says form station m k most known w (Err TooLong) p = p
-plays_by says form station m k most known w (Err Memory) p = p
+plays_by says form config most known w (Err Write) p = p
+plays_by says form config most known w (Err TooLong) p = p
+plays_by says form config most known w (Err Memory) p = p

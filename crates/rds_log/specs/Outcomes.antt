@@ -5,7 +5,8 @@
 use Rattle.std.specs.Prelude.{◌≡◌, ◌<◌, ◌+◌, ◌++◌, ℕ, zero, suc, List, [], ◌∷◌, Option, Some, None, codes, decimal, length, slice_index_or}
 use Rattle.rds_block.specs.declared.group.Group.{Group}
 use Rattle.rds_block.specs.Words.{second_word_of}
-use Rattle.rds_fields.specs.declared.head.Head.{Head}
+use Rattle.rds_world.specs.State.{distance}
+use Rattle.rds_world.specs.declared.world.Config.{Config}
 use Rattle.rds_fields.specs.declared.pair.Which.{Which}
 use Rattle.rds_fields.specs.declared.pair.Which.TheVariants.{One, Two}
 use Rattle.rds_encoder.specs.Sent.{IsSent}
@@ -38,21 +39,21 @@ pub record Outcome : Type 0 where
   pub views : List ShownView
 
 -- the outcome of a slot after these
-pub record IsOutcome (station : Head) (m k : ℕ) (e : Event) (before : List Event) (o : Outcome) : Type 0 where
+pub record IsOutcome (config : Config) (e : Event) (before : List Event) (o : Outcome) : Type 0 where
   pub command : o.command ≡ e.command
-  pub reply : o.reply ≡ reply_at (m + k) e.command (entries before)
-  pub sent : IsSent station (sent_at (m + k) e before) o.sent
+  pub reply : o.reply ≡ reply_at (distance config) e.command (entries before)
+  pub sent : IsSent config.head (sent_at (distance config) e before) o.sent
   pub receivers : length o.views ≡ length e.receptions
   pub views : (i : ℕ) → i < length o.views
-      → IsViewOfInput station m (input_of (m + k) i (e ∷ before)) (view_at o.views i)
+      → IsViewOfInput config (input_of (distance config) i (e ∷ before)) (view_at o.views i)
 
 -- these are the outcomes of the slots
-abbrev pub AreOutcomes : Head → ℕ → ℕ → List Event → List Outcome → Type 0
-AreOutcomes station m k [] [] = Unit {0}
-AreOutcomes station m k [] (o ∷ older) = ⊥
-AreOutcomes station m k (e ∷ before) [] = ⊥
-AreOutcomes station m k (e ∷ before) (o ∷ older) =
-    IsOutcome station m k e before o × AreOutcomes station m k before older
+abbrev pub AreOutcomes : Config → List Event → List Outcome → Type 0
+AreOutcomes config [] [] = Unit {0}
+AreOutcomes config [] (o ∷ older) = ⊥
+AreOutcomes config (e ∷ before) [] = ⊥
+AreOutcomes config (e ∷ before) (o ∷ older) =
+    IsOutcome config e before o × AreOutcomes config before older
 
 -- what a reply line says of a text, a name or tags
 abbrev pub thing_set : Command → List ℕ
@@ -139,7 +140,7 @@ lines_of form [] = []
 lines_of form (o ∷ older) = lines_of form older ++ slot_lines form (length older) (newest_views older) o
 
 -- the slots of a station write the lines of their outcomes
-pub record EventsWrite (form : Form) (station : Head) (m k : ℕ) (events : List Event) (written : List ℕ) : Type 0 where
+pub record EventsWrite (form : Form) (config : Config) (events : List Event) (written : List ℕ) : Type 0 where
   pub outcomes : List Outcome
-  pub are : AreOutcomes station m k events outcomes
+  pub are : AreOutcomes config events outcomes
   pub lines : written ≡ lines_of form outcomes

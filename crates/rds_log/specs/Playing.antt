@@ -1,15 +1,15 @@
 -- What the parts of a script's engine hold: its reader after these records, and its station after their slots.
 -- Lists have the newest first.
-use Rattle.std.specs.Prelude.{◌≡◌, ◌⊎◌, ◌<◌, ◌∷◌, ℕ, [], IsSome, List, None, Option, Some, length, map, true}
+use Rattle.std.specs.Prelude.{◌≡◌, ◌⊎◌, ◌<◌, ◌++◌, ◌∷◌, ℕ, [], IsSome, List, None, Option, Some, length, map, true}
 use Rattle.std.specs.Io.KnownBytes.{Appends}
 use Rattle.csv.specs.Reading.{Ready, default_config, is_flexible, reader_config, reader_state, reader_trim, source_of}
 use Rattle.csv.specs.declared.reader.Trim.TheVariants.{None as untrimmed}
 use Rattle.rds_charset.specs.Told.{IsCalm, Traffic}
-use Rattle.rds_fields.specs.declared.head.Head.{Head}
+use Rattle.rds_world.specs.declared.world.Config.{Config}
 use Rattle.rds_world.specs.Event.{Event}
 use Rattle.rds_world.specs.Slots.{input_of}
 use Rattle.rds_world.specs.Standing as world
-use Rattle.rds_world.specs.State.{WorldState}
+use Rattle.rds_world.specs.State.{WorldState, distance}
 use Rattle.rds_receiver.specs.Shown.{ShownView}
 use Rattle.rds_log.specs.Asking.{bytes_of}
 use Rattle.rds_log.specs.Kept.{view_kept}
@@ -44,64 +44,76 @@ IsReadFault ReadFailed fault = (fault ≡ Memory) ⊎ ((fault ≡ Read) × ReadF
 abbrev pub AreKept : List ShownView → List ShownView → Type 0
 AreKept kept views = (i : ℕ) → view_at kept i ≡ view_at views i
 
--- the views are those of the first n receivers before the newest of these slots; the encoder's dwell is d
-abbrev pub WereShown : Head → ℕ → ℕ → ℕ → List Event → List ShownView → Type 0
-WereShown station m d n [] views = ⊥
-WereShown station m d n (e ∷ before) views =
-    (i : ℕ) → i < n → world.IsViewOfInput station m (input_of d i before) (view_at views i)
+-- the views are those of the first n receivers before the newest of these slots
+abbrev pub WereShown : Config → ℕ → List Event → List ShownView → Type 0
+WereShown config n [] views = ⊥
+WereShown config n (e ∷ before) views =
+    (i : ℕ) → i < n → world.IsViewOfInput config (input_of (distance config) i before) (view_at views i)
 
 -- the world of these slots, with so many receivers; before the first slot there may be none
-abbrev pub HasWorld : Head → ℕ → ℕ → ℕ → Option WorldState → List Event → Type 0
-HasWorld station m k receivers None events = events ≡ []
-HasWorld station m k receivers (Some w) events = world.StandsAt station m k w events × (length w.receivers ≡ receivers)
+abbrev pub HasWorld : Config → ℕ → Option WorldState → List Event → Type 0
+HasWorld config receivers None events = events ≡ []
+HasWorld config receivers (Some w) events = world.StandsAt config w events × (length w.receivers ≡ receivers)
 
--- the station played these rows, each with so many receivers, and gave the lines of their slots
-pub record PlayerStandsAt (form : Form) (station : Head) (m k receivers : ℕ) (p : Player) (records : List Record)
-    (written : List ℕ) : Type 0 where
-  pub form_is : p.form ≡ form
-  pub head : p.config.head ≡ station
-  pub dwell : p.config.dwell ≡ m
-  pub late : p.config.late ≡ k
-  pub allowed : IsAllowed form receivers
+-- what a player played: in which form, for which station, with how many receivers, which records, and the lines that
+-- it gave
+pub record Played : Type 0 where
+  pub form : Form
+  pub config : Config
+  pub receivers : ℕ
+  pub records : List Record
+  pub written : List ℕ
+
+-- before the first row
+abbrev pub nothing_played : Form → Config → Played
+nothing_played form config = record { form = form; config = config; receivers = 0; records = []; written = [] }
+
+-- and a row more, which gave these lines; the first row fixes the number of receivers
+abbrev pub with_row : ℕ → Record → List ℕ → Played → Played
+with_row receivers row lines played =
+    record played { receivers = receivers; records = row ∷ played.records; written = played.written ++ lines }
+
+-- the player played these rows, each with so many receivers, and gave the lines of their slots
+pub record PlayerStandsAt (p : Player) (played : Played) : Type 0 where
+  pub form_is : p.form ≡ played.form
+  pub config_is : p.config ≡ played.config
+  pub allowed : IsAllowed played.form played.receivers
   pub events : List Event
-  pub rows : AreRows k receivers records events
-  pub world : HasWorld station m k receivers p.world events
+  pub rows : AreRows played.config.late played.receivers played.records events
+  pub world : HasWorld played.config played.receivers p.world events
   pub outcomes : List Outcome
-  pub are : AreOutcomes station m k events outcomes
+  pub are : AreOutcomes played.config events outcomes
   pub slot : p.slot ≡ length outcomes
   pub shown : AreKept (map view_kept p.shown.items) (newest_views outcomes)
-  pub kept : length p.shown.items ≡ receivers
-  pub lines : written ≡ lines_of form outcomes
+  pub kept : length p.shown.items ≡ played.receivers
+  pub lines : played.written ≡ lines_of played.form outcomes
 
 -- wherever the player stands, this holds of what it played
-abbrev pub WherePlayerStands : Player → (Form → Head → ℕ → ℕ → ℕ → List Record → List ℕ → Type 0) → Type 0
-WherePlayerStands p Holds =
-    (form : Form) (station : Head) (m k receivers : ℕ) (records : List Record) (written : List ℕ)
-    → PlayerStandsAt form station m k receivers p records written → Holds form station m k receivers records written
+abbrev pub WherePlayerStands : Player → (Played → Type 0) → Type 0
+WherePlayerStands p Holds = (played : Played) → PlayerStandsAt p played → Holds played
 
--- the player goes on by a row
-abbrev pub PlaysRow : Form → Head → ℕ → ℕ → Player → List Record → List ℕ → Type 0
-PlaysRow form station m k p records written =
-    (receivers : ℕ) × PlayerStandsAt form station m k receivers p records written
+-- the player goes on by this row, and gives these lines
+abbrev pub PlaysRow : Player → Record → List ℕ → Played → Type 0
+PlaysRow p row lines before = (receivers : ℕ) × PlayerStandsAt p (with_row receivers row lines before)
 
 -- the player is to play a row with so many receivers: it has a world, and so many, but where it has played rows with
 -- others
-abbrev pub BeginsRow : Form → Head → ℕ → ℕ → ℕ → Player → List Record → List ℕ → Type 0
-BeginsRow form station m k asked p records written =
-    (receivers : ℕ) × PlayerStandsAt form station m k receivers p records written
-    × ((0 < length records) ⊎ (receivers ≡ asked)) × IsSome p.world
+abbrev pub BeginsRow : ℕ → Player → Played → Type 0
+BeginsRow asked p played =
+    (receivers : ℕ) × PlayerStandsAt p (record played { receivers = receivers })
+    × ((0 < length played.records) ⊎ (receivers ≡ asked)) × IsSome p.world
 
--- why the newest of these records is not played: not all are rows, or it is the first and there is no memory for a
--- world
-abbrev pub IsRowRefused : ℕ → Form → List Record → RowRefused → Type 0
-IsRowRefused k form records NoRow = AreNoRows k form records
-IsRowRefused k form records refused.Memory = length records ≡ 1
+-- why a record is not played after these: not all are rows, or it is the first and there is no memory for a world
+abbrev pub IsRowRefused : Played → Record → RowRefused → Type 0
+IsRowRefused played row NoRow = AreNoRows played.config.late played.form (row ∷ played.records)
+IsRowRefused played row refused.Memory = length played.records ≡ 0
 
 -- the station played these records, and their output was written
-pub record PlayedSoFar (form : Form) (station : Head) (m k : ℕ) (p : Player) (records : List Record)
+pub record PlayedSoFar (form : Form) (config : Config) (p : Player) (records : List Record)
     (w : Traffic) : Type 0 where
   pub receivers : ℕ
   pub written : List ℕ
-  pub player : PlayerStandsAt form station m k receivers p records written
+  pub player : PlayerStandsAt p
+      record { form = form; config = config; receivers = receivers; records = records; written = written }
   pub wrote : Appends w.before w.after written
   pub calm : IsCalm w

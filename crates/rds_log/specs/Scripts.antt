@@ -8,8 +8,9 @@ use Rattle.csv.specs.Reading.{AreRecords, Reached, default_config, strip_bom}
 use Rattle.csv.specs.declared.parser.State.{State}
 use Rattle.csv.specs.declared.parser.State.TheVariants.{StartRecord}
 use Rattle.rds_charset.specs.Told.{AppendsPrefix, HasFailed, IsCalm, Traffic}
-use Rattle.rds_fields.specs.declared.head.Head.{Head}
+use Rattle.rds_world.specs.declared.world.Config.{Config}
 use Rattle.rds_world.specs.Event.{Event}
+use Rattle.rds_log.specs.Failing.{SomeReadFailed}
 use Rattle.rds_log.specs.Rows.{AreNoRows, Record, RowsSay}
 use Rattle.rds_log.specs.Outcomes.{EventsWrite}
 use Rattle.rds_log.specs.declared.fault.LogFault.{LogFault}
@@ -32,65 +33,72 @@ HasAllRecords known records = (script : List ℕ) → known ≡ Some script
     × (next_record default_config state [] [] rest ≡ None)
 
 -- the records are rows, and write this
-pub record RowsWrite (form : Form) (station : Head) (m k : ℕ) (records : List Record) (written : List ℕ) : Type 0 where
+pub record RowsWrite (form : Form) (config : Config) (records : List Record) (written : List ℕ) : Type 0 where
   pub events : List Event
-  pub say : RowsSay k form records events
-  pub write : EventsWrite form station m k events written
+  pub say : RowsSay config.late form records events
+  pub write : EventsWrite form config events written
 
 -- the bytes of a script whose records are all rows write this
-pub record ScriptWrites (form : Form) (station : Head) (m k : ℕ) (script written : List ℕ) : Type 0 where
+pub record ScriptWrites (form : Form) (config : Config) (script written : List ℕ) : Type 0 where
   pub records : List Record
   pub are : AreRecords default_config StartRecord (strip_bom script) (reverse records)
-  pub write : RowsWrite form station m k records written
+  pub write : RowsWrite form config records written
 
 -- the output of the first records of the script was written
-pub record WroteRows (form : Form) (station : Head) (m k : ℕ) (known : Option (List ℕ)) (w : Traffic)
+pub record WroteRows (form : Form) (config : Config) (known : Option (List ℕ)) (w : Traffic)
     (records : List Record) : Type 0 where
   pub begins : HasRecords known records
   pub written : List ℕ
-  pub write : RowsWrite form station m k records written
+  pub write : RowsWrite form config records written
   pub wrote : Appends w.before w.after written
   pub calm : IsCalm w
 
 -- the record after these is no row, and their output was written
-pub record StopsAtBadRow (form : Form) (station : Head) (m k : ℕ) (known : Option (List ℕ)) (w : Traffic)
+pub record StopsAtBadRow (form : Form) (config : Config) (known : Option (List ℕ)) (w : Traffic)
     (n : ℕ) : Type 0 where
   pub records : List Record
   pub bad : List (List ℕ)
-  pub wrote : WroteRows form station m k known w records
+  pub wrote : WroteRows form config known w records
   pub begins : HasRecords known (bad ∷ records)
-  pub none : AreNoRows k form (bad ∷ records)
+  pub none : AreNoRows config.late form (bad ∷ records)
   pub number : n ≡ length records + 1
 
 -- the writer failed: a first part of the output of these records, no more than the bound, was written
-pub record StopsAtWrite (form : Form) (station : Head) (m k most : ℕ) (known : Option (List ℕ))
+pub record StopsAtWrite (form : Form) (config : Config) (most : ℕ) (known : Option (List ℕ))
     (w : Traffic) : Type 0 where
   pub records : List Record
   pub begins : HasRecords known records
   pub within : length records ≤ most
   pub written : List ℕ
-  pub write : RowsWrite form station m k records written
+  pub write : RowsWrite form config records written
   pub wrote : AppendsPrefix w.before w.after written
   pub failed : HasFailed w
 
 -- the script was read to its end, it has fewer records than the bound, and their output was written
-pub record PlaysAll (form : Form) (station : Head) (m k most : ℕ) (known : Option (List ℕ)) (w : Traffic) : Type 0 where
+pub record PlaysAll (form : Form) (config : Config) (most : ℕ) (known : Option (List ℕ)) (w : Traffic) : Type 0 where
   pub records : List Record
   pub all : HasAllRecords known records
   pub fewer : length records < most
-  pub wrote : WroteRows form station m k known w records
+  pub wrote : WroteRows form config known w records
+
+-- what is told of the reader of a script: the bytes that it has left, and that one of its reads failed
+pub record Reading : Type 1 where
+  pub known : Option (List ℕ)
+  pub Failed : Type 0
+
+abbrev pub reading : {R : Type 0} → (R → Option (List ℕ)) → (R → ℕ) → R → Reading
+reading remaining failures reader = record { known = remaining reader; Failed = SomeReadFailed failures }
 
 -- what playing a script did, with this bound of its records: each fault comes only for its cause. Where it ends well,
--- and at a failed read and for want of memory, the records are fewer than the bound; it is too long at as many.
--- ReadFailed says that a read of the reader failed
-abbrev pub Plays : Form → Head → ℕ → ℕ → ℕ → Option (List ℕ) → Type 0 → Traffic → Result (Unit {0}) LogFault → Type 0
-Plays form station m k most known ReadFailed w (Ok done) = PlaysAll form station m k most known w
-Plays form station m k most known ReadFailed w (Err (BadLine n)) = ⊥
-Plays form station m k most known ReadFailed w (Err (BadRow n)) = StopsAtBadRow form station m k known w n × (n ≤ most)
-Plays form station m k most known ReadFailed w (Err Read) =
-    (records : List Record) × WroteRows form station m k known w records × (length records < most) × ReadFailed
-Plays form station m k most known ReadFailed w (Err Memory) =
-    (records : List Record) × WroteRows form station m k known w records × (length records < most)
-Plays form station m k most known ReadFailed w (Err TooLong) =
-    (records : List Record) × WroteRows form station m k known w records × (length records ≡ most)
-Plays form station m k most known ReadFailed w (Err Write) = StopsAtWrite form station m k most known w
+-- and at a failed read and for want of memory, the records are fewer than the bound; it is too long at as many
+abbrev pub Plays : Form → Config → ℕ → Reading → Traffic → Result (Unit {0}) LogFault → Type 0
+Plays form config most r w (Ok done) = PlaysAll form config most r.known w
+Plays form config most r w (Err (BadLine n)) = ⊥
+Plays form config most r w (Err (BadRow n)) = StopsAtBadRow form config r.known w n × (n ≤ most)
+Plays form config most r w (Err Read) =
+    (records : List Record) × WroteRows form config r.known w records × (length records < most) × r.Failed
+Plays form config most r w (Err Memory) =
+    (records : List Record) × WroteRows form config r.known w records × (length records < most)
+Plays form config most r w (Err TooLong) =
+    (records : List Record) × WroteRows form config r.known w records × (length records ≡ most)
+Plays form config most r w (Err Write) = StopsAtWrite form config most r.known w

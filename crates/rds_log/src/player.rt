@@ -1,7 +1,7 @@
 //! A station that plays the rows of a script.
 ghost use Rattle.std.specs.Prelude.{◌≡◌, ◌⊎◌, ◌≤◌, ◌<◌, ◌+◌, ◌-◌, ◌^◌, ◌++◌, ◌∷◌, [], ℕ, List, IfErr, IfOk, IsSome, IsTrue, OnOk, length, map};
 ghost use Rattle.csv.specs.Records.{fields_of};
-ghost use Rattle.rds_fields.specs.declared.head.Head.{Head};
+ghost use Rattle.rds_world.specs.State.{distance};
 ghost use Rattle.rds_world.specs.Event.{Event};
 ghost use Rattle.rds_world.specs.Slots.{input_of};
 ghost use Rattle.rds_world.specs.Replies.{CanBeTaken};
@@ -11,7 +11,6 @@ ghost use Rattle.rds_log.specs.Outcomes.{receiver_changes, view_at};
 ghost use Rattle.rds_log.specs.Playing.{AreKept, WereShown};
 ghost use Rattle.rds_log.specs.Rows.{IsAllowed, Record, SaysEvent};
 ghost use Rattle.rds_log.specs.declared.player.RowRefused.TheVariants as refused;
-ghost use Rattle.rds_log.specs.declared.form.Form.{Form};
 
 use crate::answer_lines::push_answer;
 use crate::change::{SLOT, Stamp};
@@ -56,12 +55,12 @@ pub struct Player {
 }
 
 impl Player {
-    ghost use Rattle.rds_log.specs.Playing.{BeginsRow, IsRowRefused, PlayerStandsAt, PlaysRow, WherePlayerStands};
+    ghost use Rattle.rds_log.specs.Playing.{BeginsRow, IsRowRefused, Played, PlayerStandsAt, PlaysRow, WherePlayerStands, nothing_played, with_row};
 
     /// Before the first row, with no world yet.
     pub fn new(alloc: Global, form: Form, config: Config) -> Player
         ensures slot { result.slot ≡ 0 }
-        ensures stands { PlayerStandsAt form config.head config.dwell config.late 0 result [] [] }
+        ensures stands { PlayerStandsAt result (nothing_played form config) }
     {
         Player {
             alloc,
@@ -78,11 +77,10 @@ impl Player {
         requires slots { self.old.slot < 2 ^ 64 - 1 }
         requires empty { lines.old ≡ [] }
         ensures slot { OnOk result (self.new.slot ≡ self.old.slot + 1) }
-        ensures stands { WherePlayerStands self.old (λ form station m k receivers records written.
-            OnOk result (PlaysRow form station m k self.new (fields_of row.now ∷ records)
-            (written ++ lines.new))) }
-        ensures refused { WherePlayerStands self.old (λ form station m k receivers records written.
-            IfErr result (IsRowRefused k form (fields_of row.now ∷ records))) }
+        ensures stands { WherePlayerStands self.old (λ played.
+            OnOk result (PlaysRow self.new (fields_of row.now) lines.new played)) }
+        ensures refused { WherePlayerStands self.old (λ played.
+            IfErr result (IsRowRefused played (fields_of row.now))) }
     {
         // the law by which a record says one event
         text_is_read_one_way();
@@ -105,9 +103,8 @@ impl Player {
     fn begin(&mut self, receivers: usize) -> Result<(), RowRefused>
         requires { receivers ≤ 8 }
         ensures slot { self.new.slot ≡ self.old.slot }
-        ensures stands { WherePlayerStands self.old (λ form station m k before records written.
-            IsAllowed form receivers
-            → OnOk result (BeginsRow form station m k receivers self.new records written)) }
+        ensures stands { WherePlayerStands self.old (λ played. IsAllowed played.form receivers
+            → OnOk result (BeginsRow receivers self.new played)) }
         ensures memory { IfErr result (λ why. (why ≡ refused.Memory) × (self.old.slot ≡ 0)) }
     {
         if self.slot > 0 {
@@ -124,9 +121,8 @@ impl Player {
         requires few { receivers ≤ 8 }
         requires first { self.old.slot ≡ 0 }
         ensures slot { self.new.slot ≡ self.old.slot }
-        ensures stands { WherePlayerStands self.old (λ form station m k before records written.
-            IsAllowed form receivers
-            → OnOk result (BeginsRow form station m k receivers self.new records written)) }
+        ensures stands { WherePlayerStands self.old (λ played. IsAllowed played.form receivers
+            → OnOk result (BeginsRow receivers self.new played)) }
         ensures memory { IfErr result (λ why. why ≡ refused.Memory) }
     {
         self.world = Some(new_world(self.alloc, self.config, receivers)?);
@@ -139,13 +135,12 @@ impl Player {
         requires slots { self.old.slot < 2 ^ 64 - 1 }
         requires empty { lines.old ≡ [] }
         ensures slot { IsTrue result → self.new.slot ≡ self.old.slot + 1 }
-        ensures stands { WherePlayerStands self.old (λ form station m k receivers records written.
+        ensures stands { WherePlayerStands self.old (λ played.
             IsTrue result → (row : Record) → SaysEvent row event.now
-            → PlayerStandsAt form station m k receivers self.new (row ∷ records)
-            (written ++ lines.new)) }
-        ensures refused { (form : Form) (station : Head) (m k receivers : ℕ) (records : List Record)
-            (written : List ℕ) (s : PlayerStandsAt form station m k receivers self.old records written)
-            → IsSome self.old.world → IsTrue result ⊎ (CanBeTaken k receivers event.now s.events → ⊥) }
+            → PlayerStandsAt self.new (with_row played.receivers row lines.new played)) }
+        ensures refused { (played : Played) (s : PlayerStandsAt self.old played)
+            → IsSome self.old.world → IsTrue result
+            ⊎ (CanBeTaken played.config.late played.receivers event.now s.events → ⊥) }
     {
         let Some(world) = &mut self.world else {
             return false;
@@ -164,7 +159,7 @@ impl Player {
 fn new_world(alloc: Global, config: Config, receivers: usize) -> Result<World, RowRefused>
     requires { receivers ≤ 8 }
     ensures count { IfOk result (λ w. length w.receivers ≡ receivers) }
-    ensures stands { IfOk result (λ w. StandsAt config.head config.dwell config.late w []) }
+    ensures stands { IfOk result (λ w. StandsAt config w []) }
     ensures memory { IfErr result (λ why. why ≡ refused.Memory) }
 {
     match World::new(alloc, config, receivers) {
@@ -195,10 +190,10 @@ fn push_views(slot: u64, world: &World, shown: &mut [KeptView], lines: &mut RowL
         → lines.new ≡ lines.old ++ receiver_changes slot (length shown.old)
         (map view_kept shown.old) (map view_kept shown.new) }
     ensures views { length shown.old ≡ length world.now.receivers
-        → WhereItStands world.now (λ station m k events.
-        WereShown station m (m + k) (length shown.old) events (map view_kept shown.old)
+        → WhereItStands world.now (λ config events.
+        WereShown config (length shown.old) events (map view_kept shown.old)
         → (i : ℕ) → i < length shown.old
-        → IsViewOfInput station m (input_of (m + k) i events) (view_at (map view_kept shown.new) i)) }
+        → IsViewOfInput config (input_of (distance config) i events) (view_at (map view_kept shown.new) i)) }
     ensures count { length shown.new ≡ length shown.old }
 {
     for i in 0..shown.len() {

@@ -1,8 +1,7 @@
 //! Scripts that are played: each row is a slot of a station, and its output goes out before the next row is taken.
 ghost use Rattle.std.specs.Prelude.{◌≤◌, ◌^◌};
 ghost use Rattle.rds_charset.specs.Told.{traffic};
-ghost use Rattle.rds_log.specs.Failing.{SomeReadFailed};
-ghost use Rattle.rds_log.specs.Scripts.{Plays};
+ghost use Rattle.rds_log.specs.Scripts.{Plays, reading};
 ghost use Rattle.rds_log.specs.declared.form.Form.TheVariants as forms;
 
 use crate::LogFault;
@@ -32,8 +31,8 @@ pub fn simulate<R: TellingRead + Drop, W: TellingWrite>(
     writer: &mut W,
     config: Config,
 ) -> Result<(), LogFault>
-    ensures { Plays forms.Simulation config.head config.dwell config.late (2 ^ 32) (R.remaining reader)
-        (SomeReadFailed R.failures) (traffic W.contents W.failures writer.old writer.new) result }
+    ensures { Plays forms.Simulation config (2 ^ 32) (reading R.remaining R.failures reader)
+        (traffic W.contents W.failures writer.old writer.new) result }
 {
     simulate_within(alloc, reader, writer, config, MOST_RECORDS)
 }
@@ -47,8 +46,8 @@ pub fn simulate_within<R: TellingRead + Drop, W: TellingWrite>(
     records: u64,
 ) -> Result<(), LogFault>
     requires { records ≤ 2 ^ 32 }
-    ensures { Plays forms.Simulation config.head config.dwell config.late records (R.remaining reader)
-        (SomeReadFailed R.failures) (traffic W.contents W.failures writer.old writer.new) result }
+    ensures { Plays forms.Simulation config records (reading R.remaining R.failures reader)
+        (traffic W.contents W.failures writer.old writer.new) result }
 {
     play(Form::Simulation, alloc, reader, writer, config, records)
 }
@@ -65,8 +64,8 @@ pub fn encode<R: TellingRead + Drop, W: TellingWrite>(
     writer: &mut W,
     config: Config,
 ) -> Result<(), LogFault>
-    ensures { Plays forms.Log config.head config.dwell config.late (2 ^ 32) (R.remaining reader)
-        (SomeReadFailed R.failures) (traffic W.contents W.failures writer.old writer.new) result }
+    ensures { Plays forms.Log config (2 ^ 32) (reading R.remaining R.failures reader)
+        (traffic W.contents W.failures writer.old writer.new) result }
 {
     encode_within(alloc, reader, writer, config, MOST_RECORDS)
 }
@@ -80,8 +79,8 @@ pub fn encode_within<R: TellingRead + Drop, W: TellingWrite>(
     records: u64,
 ) -> Result<(), LogFault>
     requires { records ≤ 2 ^ 32 }
-    ensures { Plays forms.Log config.head config.dwell config.late records (R.remaining reader)
-        (SomeReadFailed R.failures) (traffic W.contents W.failures writer.old writer.new) result }
+    ensures { Plays forms.Log config records (reading R.remaining R.failures reader)
+        (traffic W.contents W.failures writer.old writer.new) result }
 {
     play(Form::Log, alloc, reader, writer, config, records)
 }
@@ -96,8 +95,8 @@ fn play<R: TellingRead + Drop, W: TellingWrite>(
     records: u64,
 ) -> Result<(), LogFault>
     requires { records ≤ 2 ^ 32 }
-    ensures { Plays form config.head config.dwell config.late records (R.remaining reader)
-        (SomeReadFailed R.failures) (traffic W.contents W.failures writer.old writer.new) result }
+    ensures { Plays form config records (reading R.remaining R.failures reader)
+        (traffic W.contents W.failures writer.old writer.new) result }
 {
     let mut script = Script::new(alloc, reader);
     let mut row = ByteRecord::new(alloc);

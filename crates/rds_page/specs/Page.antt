@@ -3,8 +3,7 @@ use Rattle.std.specs.Prelude.{◌≡◌, ◌⊎◌, ◌==◌, ℕ, List, [], Non
 use Rattle.std.specs.List.{slice_split}
 use Rattle.std.specs.Str.{IsUtf8}
 use Rattle.rds_charset.specs.Told.{PutsNothing, Traffic}
-use Rattle.rds_words.specs.CommandLine.{AreRefused, AskFor, AskForHelp, Asked, TakesWords, asked_in}
-use Rattle.rds_run.specs.Run.{Begins, IsPi, NoMemory, RefusesPi, TaskRuns}
+use Rattle.rds_run.specs.Run.{RunsWords}
 
 -- the words are the lines of a text
 abbrev pub words_in : List ℕ → List (List ℕ)
@@ -16,16 +15,9 @@ writing printed failures =
     record { before = Some []; after = Some printed; failures_before = 0; failures_after = failures }
 
 -- what the program prints over these words and this input, and its status: as `run` says, where no read fails
-pub record Prints (words : List (List ℕ)) (input : List ℕ) (w : Traffic) (status : ℕ) : Type 0 where
-  pub runs : (asked : Asked) (pi : ℕ) → AskFor words asked → IsPi asked.pi pi → (r : Traffic)
-      × Begins r (Some input) 0 × (NoMemory w status ⊎ TaskRuns asked.task pi asked.dwell r ⊥ w status)
-  pub fault_pi : (asked : Asked) → AskFor words asked → ((pi : ℕ) → IsPi asked.pi pi → ⊥)
-      → NoMemory w status ⊎ RefusesPi asked.task w status
-  pub nothing_asked : TakesWords words → asked_in words ≡ None
-      → NoMemory w status ⊎ ((status ≡ 2) × PutsNothing w)
-  pub help : AskForHelp words → NoMemory w status ⊎ (status ≡ 0)
-  pub refused : AreRefused words → NoMemory w status ⊎ (status ≡ 2)
-  pub not_taken : (TakesWords words → ⊥) → NoMemory w status ⊎ ((status ≡ 0) ⊎ (status ≡ 2))
+abbrev pub Prints : List (List ℕ) → List ℕ → Traffic → ℕ → Type 0
+Prints words input w status =
+    RunsWords words record { bytes = Some input; failures = 0; ReadFailed = ⊥ } w status
 
 -- words that are no text are refused, and nothing is printed
 abbrev pub Refuses : Traffic → ℕ → Type 0

@@ -1,18 +1,21 @@
 -- What the whole program does with its words. This is the project's own command line.
 -- r is what a call did to the reader, w what it did to the writer.
-use Rattle.std.specs.Prelude.{◌≡◌, ◌+◌, ◌^◌, ◌++◌, ℕ, Bool, List, [], codes, decimal, length, Option, Ok, Err, Result, if◌then◌else◌}
+use Rattle.std.specs.Prelude.{◌≡◌, ◌⊎◌, ◌+◌, ◌^◌, ◌++◌, ℕ, Bool, List, [], codes, decimal, length, None, Option, Ok, Err, Result, if◌then◌else◌}
 use Rattle.rds_charset.specs.Puts.{Puts}
 use Rattle.rds_charset.specs.Told.{PutsNothing, Traffic}
 use Rattle.rds_charset.specs.declared.output.WriteFault.{WriteFault}
-use Rattle.rds_fields.specs.declared.head.Head.{Head}
+use Rattle.rds_receiver.specs.Receipts.{Tuning}
+use Rattle.rds_world.specs.declared.world.Config.{Config}
 use Rattle.rds_log.specs.Auditing.{Audits}
-use Rattle.rds_log.specs.Decoding.{tuned}
 use Rattle.rds_log.specs.Digits.{HasWord}
 use Rattle.rds_log.specs.Engine.{Decodes}
-use Rattle.rds_log.specs.Scripts.{Plays}
+use Rattle.rds_log.specs.Decoding.{tuned}
+use Rattle.rds_log.specs.Failing.{SomeReadFailed}
+use Rattle.rds_log.specs.Scripts.{Plays, Reading}
 use Rattle.rds_log.specs.declared.fault.LogFault.{LogFault}
 use Rattle.rds_log.specs.declared.fault.LogFault.TheVariants.{BadLine, BadRow, Read, Write, TooLong, Memory}
 use Rattle.rds_log.specs.declared.form.Form.TheVariants.{Log, Simulation}
+use Rattle.rds_words.specs.CommandLine.{AreRefused, AskFor, AskForHelp, Asked, TakesWords, asked_in}
 use Rattle.rds_words.specs.declared.request.Programme.{Programme}
 use Rattle.rds_words.specs.declared.request.Task.{Task}
 use Rattle.rds_words.specs.declared.request.Task.TheVariants.{Audit, Decode, Encode, Simulate}
@@ -83,40 +86,31 @@ pub record Runs {X : Type 0} (Engine : Traffic → Result X LogFault → Type 0)
   pub ran : Engine (record w { after = mid; failures_after = failures }) outcome
   pub ended : EndsWith status_of task outcome (record w { before = mid; failures_before = failures }) status
 
--- a log is decoded to the end of the reader, for a programme and with a dwell
-abbrev pub DecodeRuns : ℕ → ℕ → Traffic → Traffic → ℕ → Type 0
-DecodeRuns pi dwell r w status = Runs (Decodes (tuned pi dwell) (2 ^ 32) r) done Decode w status
+-- the station of these receivers, for a programme and with groups no later than this
+abbrev pub station_of : Tuning → Programme → ℕ → Config
+station_of t programme late = record {
+  head = record { pi = t.programme; tp = programme.tp; pty = programme.pty };
+  dwell = t.dwell;
+  late = late;
+}
 
--- the head of every group of a station
-abbrev pub head_of : ℕ → Programme → Head
-head_of pi programme = record { pi = pi; tp = programme.tp; pty = programme.pty }
-
--- a script is played for its log; ReadFailed says that a read of the reader failed
-abbrev pub EncodeRuns : Programme → ℕ → ℕ → ℕ → Traffic → Type 0 → Traffic → ℕ → Type 0
-EncodeRuns programme late pi dwell r ReadFailed w status =
-    Runs (Plays Log (head_of pi programme) dwell late (2 ^ 32) r.before ReadFailed) done
-    (Encode programme late) w status
-
--- a script is played with its receivers
-abbrev pub SimulateRuns : Programme → ℕ → ℕ → ℕ → Traffic → Type 0 → Traffic → ℕ → Type 0
-SimulateRuns programme late pi dwell r ReadFailed w status =
-    Runs (Plays Simulation (head_of pi programme) dwell late (2 ^ 32) r.before ReadFailed) done
-    (Simulate programme late) w status
-
--- a log is audited, for a programme, with a dwell and a lateness
-abbrev pub AuditRuns : ℕ → ℕ → ℕ → Traffic → Traffic → ℕ → Type 0
-AuditRuns late pi dwell r w status = Runs (Audits pi (dwell + late) (2 ^ 32) r) answered (Audit late) w status
+-- what is told of the reader of a script, by what a call did to it
+abbrev pub script_in : Traffic → Type 0 → Reading
+script_in r ReadFailed = record { known = r.before; Failed = ReadFailed }
 
 -- ---- the whole program
 
--- the engine of the task ran
-abbrev pub TaskRuns : Task → ℕ → ℕ → Traffic → Type 0 → Traffic → ℕ → Type 0
-TaskRuns Decode pi dwell r ReadFailed w status = DecodeRuns pi dwell r w status
-TaskRuns (Encode programme late) pi dwell r ReadFailed w status =
-    EncodeRuns programme late pi dwell r ReadFailed w status
-TaskRuns (Simulate programme late) pi dwell r ReadFailed w status =
-    SimulateRuns programme late pi dwell r ReadFailed w status
-TaskRuns (Audit late) pi dwell r ReadFailed w status = AuditRuns late pi dwell r w status
+-- the engine of the task ran, with receivers that are tuned so; ReadFailed says that a read of the reader failed
+abbrev pub TaskRuns : Task → Tuning → Traffic → Type 0 → Traffic → ℕ → Type 0
+TaskRuns Decode t r ReadFailed w status = Runs (Decodes t (2 ^ 32) r) done Decode w status
+TaskRuns (Encode programme late) t r ReadFailed w status =
+    Runs (Plays Log (station_of t programme late) (2 ^ 32) (script_in r ReadFailed)) done
+    (Encode programme late) w status
+TaskRuns (Simulate programme late) t r ReadFailed w status =
+    Runs (Plays Simulation (station_of t programme late) (2 ^ 32) (script_in r ReadFailed)) done
+    (Simulate programme late) w status
+TaskRuns (Audit late) t r ReadFailed w status =
+    Runs (Audits t.programme (t.dwell + late) (2 ^ 32) r) answered (Audit late) w status
 
 -- the programme identification is refused
 pub record RefusesPi (task : Task) (w : Traffic) (status : ℕ) : Type 0 where
@@ -127,3 +121,33 @@ pub record RefusesPi (task : Task) (w : Traffic) (status : ℕ) : Type 0 where
 pub record NoMemory (w : Traffic) (status : ℕ) : Type 0 where
   pub status_is : status ≡ 1
   pub told : PutsLine (codes "fault memory\n") w
+
+-- a reader before a call: what it has left, how often it failed, and what says that one of its reads failed
+pub record ReaderState : Type 1 where
+  pub bytes : Option (List ℕ)
+  pub failures : ℕ
+  pub ReadFailed : Type 0
+
+abbrev pub reader_state : {R : Type 0} → (R → Option (List ℕ)) → (R → ℕ) → R → ReaderState
+reader_state remaining failures reader =
+    record { bytes = remaining reader; failures = failures reader; ReadFailed = SomeReadFailed failures }
+
+-- the engine of a task ran over a reader that was so
+abbrev pub RunsFrom : ReaderState → Traffic → ℕ → Task → Tuning → Type 0
+RunsFrom reader w status task t =
+    (r : Traffic) × Begins r reader.bytes reader.failures × TaskRuns task t r reader.ReadFailed w status
+
+-- what the program does over these words: where they ask for a task of a programme, its engine runs, or there is no
+-- memory; where they ask for another or for none, where they ask for help and where they are refused, it ends with
+-- this status. Rests holds wherever no engine ran
+pub record RunsWords (words : List (List ℕ)) (Engine : Task → Tuning → Type 0) (Rests : Type 0) (w : Traffic)
+    (status : ℕ) : Type 0 where
+  pub runs : (asked : Asked) (pi : ℕ) → AskFor words asked → IsPi asked.pi pi
+      → (NoMemory w status × Rests) ⊎ Engine asked.task (tuned pi asked.dwell)
+  pub fault_pi : (asked : Asked) → AskFor words asked → ((pi : ℕ) → IsPi asked.pi pi → ⊥)
+      → (NoMemory w status ⊎ RefusesPi asked.task w status) × Rests
+  pub nothing_asked : TakesWords words → asked_in words ≡ None
+      → (NoMemory w status ⊎ ((status ≡ 2) × PutsNothing w)) × Rests
+  pub help : AskForHelp words → (NoMemory w status ⊎ (status ≡ 0)) × Rests
+  pub refused : AreRefused words → (NoMemory w status ⊎ (status ≡ 2)) × Rests
+  pub not_taken : (TakesWords words → ⊥) → (NoMemory w status ⊎ ((status ≡ 0) ⊎ (status ≡ 2))) × Rests

@@ -2,13 +2,14 @@
 ghost use Rattle.std.specs.Prelude.{◌≡◌, ◌⊎◌, ◌≤◌, ◌+◌, ◌++◌, ℕ, IfSome, IfNone};
 ghost use Rattle.std.specs.Prelude.{None, codes, decimal, false, true, length, map};
 ghost use Rattle.rds_charset.specs.Told.{PutsNothing, Traffic, traffic};
+ghost use Rattle.rds_log.specs.Decoding.{tuned};
 ghost use Rattle.rds_log.specs.Failing.{SomeReadFailed};
 ghost use Rattle.clap.specs.Words.{kind_of};
 ghost use Rattle.rds_words.specs.CommandLine.{AreRefused, AskFor, AskForHelp, Asked};
 ghost use Rattle.rds_words.specs.CommandLine.{TakesWords, asked_in, is_shown};
-ghost use Rattle.rds_run.specs.Run.{AuditRuns, Begins, DecodeRuns, EncodeRuns, EndsWith, IsUntouched};
-ghost use Rattle.rds_run.specs.Run.{IsPi, NoMemory, PutsAfter, PutsLine};
-ghost use Rattle.rds_run.specs.Run.{RefusesPi, SimulateRuns, TaskRuns, TellsFault, done, head_of, mark_of};
+ghost use Rattle.rds_run.specs.Run as specs;
+ghost use Rattle.rds_run.specs.Run.{EndsWith, IsPi, IsUntouched, NoMemory, PutsAfter, PutsLine};
+ghost use Rattle.rds_run.specs.Run.{RefusesPi, RunsFrom, RunsWords, TaskRuns, TellsFault, done, mark_of, reader_state};
 
 use clap::Error;
 use clap::error::ErrorKind;
@@ -49,26 +50,10 @@ pub fn run<R: TellingRead + Drop, W: TellingWrite>(
     mut reader: R,
     writer: &mut W,
 ) -> u8
-    ensures runs { (asked : Asked) (pi : ℕ) → AskFor (map (λ w. w.now) words.entry.now) asked
-        → IsPi asked.pi pi → (r : Traffic) × Begins r (R.remaining reader) (R.failures reader)
-        × (NoMemory (traffic W.contents W.failures writer.old writer.new) result
-        ⊎ TaskRuns asked.task pi asked.dwell r (SomeReadFailed R.failures)
-        (traffic W.contents W.failures writer.old writer.new) result) }
-    ensures fault_pi { (asked : Asked) → AskFor (map (λ w. w.now) words.entry.now) asked
-        → ((pi : ℕ) → IsPi asked.pi pi → ⊥)
-        → NoMemory (traffic W.contents W.failures writer.old writer.new) result
-        ⊎ RefusesPi asked.task (traffic W.contents W.failures writer.old writer.new) result }
-    ensures nothing_asked { TakesWords (map (λ w. w.now) words.entry.now)
-        → asked_in (map (λ w. w.now) words.entry.now) ≡ None
-        → NoMemory (traffic W.contents W.failures writer.old writer.new) result
-        ⊎ ((result ≡ 2) × PutsNothing (traffic W.contents W.failures writer.old writer.new)) }
-    ensures help { AskForHelp (map (λ w. w.now) words.entry.now)
-        → NoMemory (traffic W.contents W.failures writer.old writer.new) result ⊎ (result ≡ 0) }
-    ensures refused { AreRefused (map (λ w. w.now) words.entry.now)
-        → NoMemory (traffic W.contents W.failures writer.old writer.new) result ⊎ (result ≡ 2) }
-    ensures not_taken { (TakesWords (map (λ w. w.now) words.entry.now) → ⊥)
-        → NoMemory (traffic W.contents W.failures writer.old writer.new) result
-        ⊎ ((result ≡ 0) ⊎ (result ≡ 2)) }
+    ensures { RunsWords (map (λ w. w.now) words.entry.now)
+        (RunsFrom (reader_state R.remaining R.failures reader)
+        (traffic W.contents W.failures writer.old writer.new) result) (Unit {0})
+        (traffic W.contents W.failures writer.old writer.new) result }
 {
     run_lent(alloc, words, &mut reader, writer)
 }
@@ -81,33 +66,11 @@ pub fn run_lent<R: TellingRead, W: TellingWrite>(
     reader: &mut R,
     writer: &mut W,
 ) -> u8
-    ensures runs { (asked : Asked) (pi : ℕ) → AskFor (map (λ w. w.now) words.entry.now) asked
-        → IsPi asked.pi pi
-        → (NoMemory (traffic W.contents W.failures writer.old writer.new) result
-        × IsUntouched R.remaining R.failures R.reads reader.old reader.new)
-        ⊎ TaskRuns asked.task pi asked.dwell
-        (traffic R.remaining R.failures reader.old reader.new) (SomeReadFailed R.failures)
+    ensures { RunsWords (map (λ w. w.now) words.entry.now)
+        (λ task t. TaskRuns task t (traffic R.remaining R.failures reader.old reader.new)
+        (SomeReadFailed R.failures) (traffic W.contents W.failures writer.old writer.new) result)
+        (IsUntouched R.remaining R.failures R.reads reader.old reader.new)
         (traffic W.contents W.failures writer.old writer.new) result }
-    ensures fault_pi { (asked : Asked) → AskFor (map (λ w. w.now) words.entry.now) asked
-        → ((pi : ℕ) → IsPi asked.pi pi → ⊥)
-        → (NoMemory (traffic W.contents W.failures writer.old writer.new) result
-        ⊎ RefusesPi asked.task (traffic W.contents W.failures writer.old writer.new) result)
-        × IsUntouched R.remaining R.failures R.reads reader.old reader.new }
-    ensures nothing_asked { TakesWords (map (λ w. w.now) words.entry.now)
-        → asked_in (map (λ w. w.now) words.entry.now) ≡ None
-        → (NoMemory (traffic W.contents W.failures writer.old writer.new) result
-        ⊎ ((result ≡ 2) × PutsNothing (traffic W.contents W.failures writer.old writer.new)))
-        × IsUntouched R.remaining R.failures R.reads reader.old reader.new }
-    ensures help { AskForHelp (map (λ w. w.now) words.entry.now)
-        → (NoMemory (traffic W.contents W.failures writer.old writer.new) result ⊎ (result ≡ 0))
-        × IsUntouched R.remaining R.failures R.reads reader.old reader.new }
-    ensures refused { AreRefused (map (λ w. w.now) words.entry.now)
-        → (NoMemory (traffic W.contents W.failures writer.old writer.new) result ⊎ (result ≡ 2))
-        × IsUntouched R.remaining R.failures R.reads reader.old reader.new }
-    ensures not_taken { (TakesWords (map (λ w. w.now) words.entry.now) → ⊥)
-        → (NoMemory (traffic W.contents W.failures writer.old writer.new) result
-        ⊎ ((result ≡ 0) ⊎ (result ≡ 2)))
-        × IsUntouched R.remaining R.failures R.reads reader.old reader.new }
 {
     match read_words(alloc, words) {
         Ok(Some(request)) => answer(alloc, request, reader, writer),
@@ -141,27 +104,54 @@ fn answer<R: TellingRead, W: TellingWrite>(
     writer: &mut W,
 ) -> u8
     ensures runs { (pi : ℕ) → IsPi request.entry.pi.now pi
-        → TaskRuns request.entry.task pi request.entry.dwell
+        → TaskRuns request.entry.task (tuned pi request.entry.dwell)
         (traffic R.remaining R.failures reader.old reader.new) (SomeReadFailed R.failures)
         (traffic W.contents W.failures writer.old writer.new) result }
     ensures fault_pi { ((pi : ℕ) → IsPi request.entry.pi.now pi → ⊥)
         → RefusesPi request.entry.task (traffic W.contents W.failures writer.old writer.new) result
         × IsUntouched R.remaining R.failures R.reads reader.old reader.new }
 {
-    let Request { task, pi, dwell } = request;
-    let Some(pi) = pi_of(pi) else {
-        tell_fault_text(task, b"fault pi", writer);
+    let Some(pi) = pi_of(request.pi) else {
+        tell_fault_text(request.task, b"fault pi", writer);
         return REFUSED;
     };
+    run_task(alloc, request.task, pi, request.dwell, reader, writer)
+}
+
+/// Runs the engine of the task for its programme, and tells its fault.
+fn run_task<R: TellingRead, W: TellingWrite>(
+    alloc: Global,
+    task: Task,
+    pi: u16,
+    dwell: Dwell,
+    reader: &mut R,
+    writer: &mut W,
+) -> u8
+    ensures { TaskRuns task (tuned pi dwell) (traffic R.remaining R.failures reader.old reader.new)
+        (SomeReadFailed R.failures) (traffic W.contents W.failures writer.old writer.new) result }
+{
+    // a copy by a name of its own: what is matched may not be given away
+    let asked = task;
     match task {
-        Task::Decode => run_decode(pi, dwell, reader, writer),
+        Task::Decode => {
+            let decoded = decode(reader, writer, pi, dwell);
+            end_with(asked, decoded, writer)
+        }
         Task::Encode(programme, late) => {
-            run_encode(alloc, programme, late, pi, dwell, reader, writer)
+            let station = station_of(pi, dwell, programme, late);
+            let encoded = encode(alloc, &mut *reader, writer, station);
+            end_with(asked, encoded, writer)
         }
         Task::Simulate(programme, late) => {
-            run_simulate(alloc, programme, late, pi, dwell, reader, writer)
+            let station = station_of(pi, dwell, programme, late);
+            let simulated = simulate(alloc, &mut *reader, writer, station);
+            end_with(asked, simulated, writer)
         }
-        Task::Audit(late) => run_audit(late, pi, dwell, reader, writer),
+        Task::Audit(late) => match audit(reader, writer, pi, dwell, late) {
+            Ok(true) => DONE,
+            Ok(false) => NO,
+            Err(fault) => fail_with(asked, fault, writer),
+        },
     }
 }
 
@@ -177,79 +167,9 @@ fn pi_of(given: &str) -> Option<u16>
     }
 }
 
-/// Decodes the log, and tells its fault.
-fn run_decode<R: TellingRead, W: TellingWrite>(
-    pi: u16,
-    dwell: Dwell,
-    reader: &mut R,
-    writer: &mut W,
-) -> u8
-    ensures { DecodeRuns pi dwell (traffic R.remaining R.failures reader.old reader.new)
-        (traffic W.contents W.failures writer.old writer.new) result }
-{
-    let outcome = decode(reader, writer, pi, dwell);
-    end_with(Task::Decode, outcome, writer)
-}
-
-/// Audits the log, and tells its fault.
-fn run_audit<R: TellingRead, W: TellingWrite>(
-    late: Late,
-    pi: u16,
-    dwell: Dwell,
-    reader: &mut R,
-    writer: &mut W,
-) -> u8
-    ensures { AuditRuns late pi dwell (traffic R.remaining R.failures reader.old reader.new)
-        (traffic W.contents W.failures writer.old writer.new) result }
-{
-    match audit(reader, writer, pi, dwell, late) {
-        Ok(true) => DONE,
-        Ok(false) => NO,
-        Err(fault) => fail_with(Task::Audit(late), fault, writer),
-    }
-}
-
-/// Plays the script for its log, and tells its fault.
-fn run_encode<R: TellingRead, W: TellingWrite>(
-    alloc: Global,
-    programme: Programme,
-    late: Late,
-    pi: u16,
-    dwell: Dwell,
-    reader: &mut R,
-    writer: &mut W,
-) -> u8
-    ensures { EncodeRuns programme late pi dwell (traffic R.remaining R.failures reader.old reader.new)
-        (SomeReadFailed R.failures) (traffic W.contents W.failures writer.old writer.new) result }
-{
-    let config = config_of(&programme, late, pi, dwell);
-    let outcome = encode(alloc, &mut *reader, writer, config);
-    end_with(Task::Encode(programme, late), outcome, writer)
-}
-
-/// Plays the script with its receivers, and tells its fault.
-fn run_simulate<R: TellingRead, W: TellingWrite>(
-    alloc: Global,
-    programme: Programme,
-    late: Late,
-    pi: u16,
-    dwell: Dwell,
-    reader: &mut R,
-    writer: &mut W,
-) -> u8
-    ensures { SimulateRuns programme late pi dwell (traffic R.remaining R.failures reader.old reader.new)
-        (SomeReadFailed R.failures) (traffic W.contents W.failures writer.old writer.new) result }
-{
-    let config = config_of(&programme, late, pi, dwell);
-    let outcome = simulate(alloc, &mut *reader, writer, config);
-    end_with(Task::Simulate(programme, late), outcome, writer)
-}
-
 /// The station that the words ask for.
-fn config_of(programme: &Programme, late: Late, pi: u16, dwell: Dwell) -> Config
-    ensures head { result.head ≡ head_of pi programme.now }
-    ensures dwell { result.dwell ≡ dwell }
-    ensures late { result.late ≡ late }
+fn station_of(pi: u16, dwell: Dwell, programme: Programme, late: Late) -> Config
+    ensures { result ≡ specs.station_of (tuned pi dwell) programme late }
 {
     Config {
         head: Head {

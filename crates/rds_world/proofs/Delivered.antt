@@ -4,7 +4,6 @@ use Rattle.std.proofs.lemmas.Bool.Decides.{nat_tests}
 use Rattle.std.proofs.lemmas.Bool.{cases_order}
 use Rattle.std.proofs.lemmas.List.{length-replicate}
 use Rattle.std.specs.Prelude.{slice_get}
-use Rattle.rds_fields.specs.declared.head.Head.{Head}
 use Rattle.rds_fields.specs.declared.message.Message.{Message}
 use Rattle.rds_fields.specs.declared.message.Message.TheVariants.{Text, Name}
 use Rattle.rds_assembly.specs.Body.{name_body, segment_count, segment_of, text_body}
@@ -28,7 +27,8 @@ use Rattle.rds_world.specs.Marks.{name_mark, text_mark}
 use Rattle.rds_world.specs.Plans.{AreLawful}
 use Rattle.rds_world.specs.Slots.{commanded, entries, input_of, log, plans_of}
 use Rattle.rds_world.specs.Standing.{Shows, StandsAt}
-use Rattle.rds_world.specs.State.{WorldState}
+use Rattle.rds_world.specs.State.{WorldState, distance}
+use Rattle.rds_world.specs.declared.world.Config.{Config}
 use Rattle.rds_world.specs.Station.{TheEncoderIsLawful}
 use Rattle.rds_world.proofs.Bytes.{name_service, text_service}
 use Rattle.rds_world.proofs.Entries.{one_origin}
@@ -105,18 +105,24 @@ module _ (laws : DeliveryLaws) (m : ℕ) (some : 0 < m) (newer : List Event) (ol
       record { segment = came_in w.at p; since = w.since; at = refl; is_in = in_segments pick input.first input.heard w.at message p w.heard is }
 
 -- what a receiver got of these slots, the oldest of which is free
-record Listened (station : Head) (m k : ℕ) (w : WorldState) (newer : List Event) (oldest : Event) (before : List Event) (i : ℕ) (r : ReceiverState) (view : ShownView) : Type 0 where
-  stands : StandsAt station m k w (newer ++ oldest ∷ before)
-  within : length (newer ++ oldest ∷ []) ≤ m
+record Listened (config : Config) (newer : List Event) (oldest : Event) (before : List Event) (view : ShownView) : Type 0 where
+  world : WorldState
+  stands : StandsAt config world (newer ++ oldest ∷ before)
+  within : length (newer ++ oldest ∷ []) ≤ config.dwell
   free : oldest.free ≡ true
-  there : slice_get w.receivers i ≡ Some r
-  got : GetsEachFree i (newer ++ oldest ∷ [])
-  shows : Shows r view
+  number : ℕ
+  receiver : ReceiverState
+  there : slice_get world.receivers number ≡ Some receiver
+  got : GetsEachFree number (newer ++ oldest ∷ [])
+  shows : Shows receiver view
 
-module _ (laws : DeliveryLaws) (station : Head) (m k : ℕ) (w : WorldState) (newer : List Event) (oldest : Event) (before : List Event) (i : ℕ) (r : ReceiverState) (view : ShownView) (number : ℕ) (b : Broadcast)
-    (listened : Listened station m k w newer oldest before i r view) (from : b.start ≤ length before) (to : length (newer ++ oldest ∷ before) ≤ b.end + 1) where
+module _ (laws : DeliveryLaws) (config : Config) (newer : List Event) (oldest : Event) (before : List Event) (view : ShownView) (number : ℕ) (b : Broadcast)
+    (listened : Listened config newer oldest before view) (from : b.start ≤ length before) (to : length (newer ++ oldest ∷ before) ≤ b.end + 1) where
   abbrev d : ℕ
-  d = m + k
+  d = distance config
+
+  abbrev i : ℕ
+  i = listened.number
 
   abbrev all_slots : List Event
   all_slots = newer ++ oldest ∷ before
@@ -130,19 +136,19 @@ module _ (laws : DeliveryLaws) (station : Head) (m k : ℕ) (w : WorldState) (ne
   some_recent : length before < length all_slots
   some_recent = omega (arith, length-append newer (oldest ∷ before))
 
-  soon : length all_slots - 1 < length before + m
+  soon : length all_slots - 1 < length before + config.dwell
   soon = omega (arith, some_recent, length-append newer (oldest ∷ before), length-append newer (oldest ∷ []), listened.within)
 
   last : length all_slots ≡ length all_slots - 1 + 1
   last = omega (arith, some_recent)
 
-  late : IsHeardLate k (log d all_slots) its_input
-  late = in_time d k i all_slots listened.stands.due
+  late : IsHeardLate config.late (log d all_slots) its_input
+  late = in_time d config.late i all_slots listened.stands.due
 
   -- what came since the oldest of these slots was sent since then
   fresh : (u s : ℕ) → length before ≤ u → CameFrom its_input u s → length before ≤ s
   fresh u s since came =
-      let earlier : IsHeardLate k (log d before) (input_of d i before) = in_time d k i before (due_before newer listened.stands.due) in
+      let earlier : IsHeardLate config.late (log d before) (input_of d i before) = in_time d config.late i before (due_before newer listened.stands.due) in
       let reached = input_reaches d i before in
       let long = earlier.order.beside in
       let own : CameFrom its_input (length before) (length before) = came_in_own d i newer oldest before listened.free listened.got (omega (arith, reached, long)) in
@@ -154,12 +160,12 @@ module _ (laws : DeliveryLaws) (station : Head) (m k : ℕ) (w : WorldState) (ne
         ]
       ]
     where
-      due_before : (xs : List Event) → AreDue k (xs ++ oldest ∷ before) → AreDue k before
+      due_before : (xs : List Event) → AreDue config.late (xs ++ oldest ∷ before) → AreDue config.late before
       due_before [] due = due.1
       due_before (x ∷ xs) due = due_before xs due.1
 
-  shown : ShowsView m its_input.first its_input.heard view
-  shown = shows_view station m its_input r view (listened.stands.receivers.each i r listened.there) listened.shows
+  shown : ShowsView config.dwell its_input.first its_input.heard view
+  shown = shows_view config its_input listened.receiver view (listened.stands.receivers.each i listened.receiver listened.there) listened.shows
 
   law : AreLawful d (plans_of d all_slots) (log d all_slots)
   law = laws.lawful d all_slots lasts listened.stands.values
@@ -169,8 +175,8 @@ module _ (laws : DeliveryLaws) (station : Head) (m k : ℕ) (w : WorldState) (ne
       let value : IsText b.bytes = law.text.values number b planned in
       let throughout = on_throughout laws d lasts newer oldest before IsText text_moves lawful.text_service (lawful.reaches IsText text_mark text_moves lawful.text_service) moves_of_texts number b planned from to in
       let free = free_told newer oldest in
-      shown_whole laws.plan m (length all_slots - 1) (length before) texts text_piece text_mark (plans_of d all_slots).text (log d all_slots) its_input number b
-      text_pieces_marked k law.text late (input_reaches d i all_slots ∙ last) fresh planned from (omega (arith, to, some_recent)) soon
+      shown_whole laws.plan config.dwell (length all_slots - 1) (length before) texts text_piece text_mark (plans_of d all_slots).text (log d all_slots) its_input number b
+      text_pieces_marked config.late law.text late (input_reaches d i all_slots ∙ last) fresh planned from (omega (arith, to, some_recent)) soon
       IsWholeText text_service (λ cells held. all_text cells b.bytes value held) ((some_segments b.bytes value).0)
       (λ a within.
       let bytes = segment_of (text_body b.bytes) a in
@@ -184,8 +190,8 @@ module _ (laws : DeliveryLaws) (station : Head) (m k : ℕ) (w : WorldState) (ne
       let throughout = on_throughout laws d lasts newer oldest before IsName name_moves lawful.name_service (lawful.reaches IsName name_mark name_moves lawful.name_service) moves_of_names number b planned from to in
       let free = free_told newer oldest in
       let two = two_segments b.bytes value in
-      shown_whole laws.plan m (length all_slots - 1) (length before) names name_piece name_mark (plans_of d all_slots).name (log d all_slots) its_input number b
-      name_pieces_marked k law.name late (input_reaches d i all_slots ∙ last) fresh planned from (omega (arith, to, some_recent)) soon
+      shown_whole laws.plan config.dwell (length all_slots - 1) (length before) names name_piece name_mark (plans_of d all_slots).name (log d all_slots) its_input number b
+      name_pieces_marked config.late law.name late (input_reaches d i all_slots ∙ last) fresh planned from (omega (arith, to, some_recent)) soon
       IsWholeName name_service (λ cells held. all_name cells b.bytes value held) (omega (arith, two))
       (λ a within.
       let bytes = segment_of (name_body b.bytes) a in
@@ -226,64 +232,67 @@ got_without i (e ∷ newer) oldest older got = (got.0, got_without i newer oldes
 parts : (newer : List Event) (oldest : Event) (older before : List Event) → (newer ++ oldest ∷ older) ++ before ≡ newer ++ oldest ∷ (older ++ before)
 parts newer oldest older before = append_assoc newer (oldest ∷ older) before
 
-listened_to : (station : Head) (m k : ℕ) (w : WorldState) (newer : List Event) (oldest : Event) (older before : List Event) (i : ℕ) (r : ReceiverState) (view : ShownView) → oldest.free ≡ true
-    → GotRecently station m k w (newer ++ oldest ∷ older) before i r view → Listened station m k w newer oldest (older ++ before) i r view
-listened_to station m k w newer oldest older before i r view free got = record {
-  stands = subst (λ (events : List Event). StandsAt station m k w events) (parts newer oldest older before) got.stands;
+listened_to : (config : Config) (newer : List Event) (oldest : Event) (older before : List Event) (view : ShownView) → oldest.free ≡ true
+    → GotRecently config (newer ++ oldest ∷ older) before view → Listened config newer oldest (older ++ before) view
+listened_to config newer oldest older before view free got = record {
+  world = got.world;
+  stands = subst (λ (events : List Event). StandsAt config got.world events) (parts newer oldest older before) got.stands;
   within = (let within = got.within in omega (arith, within, length-append newer (oldest ∷ older), length-append newer (oldest ∷ [])));
   free = free;
+  number = got.number;
+  receiver = got.receiver;
   there = got.there;
-  got = got_without i newer oldest older got.got;
+  got = got_without got.number newer oldest older got.got;
   shows = got.shows;
 }
 
-module _ (laws : DeliveryLaws) (station : Head) (m k : ℕ) (w : WorldState) (before : List Event) (i : ℕ) (r : ReceiverState) (view : ShownView) (b : Broadcast) where
-  text_of : (newer : List Event) (oldest : Event) (older : List Event) → oldest.free ≡ true → free_slots older ≡ 0 → GotRecently station m k w (newer ++ oldest ∷ older) before i r view
-      → LieIn (plans_of (m + k) ((newer ++ oldest ∷ older) ++ before)).text (newer ++ oldest ∷ older) before b
+module _ (laws : DeliveryLaws) (config : Config) (before : List Event) (view : ShownView) (b : Broadcast) where
+  text_of : (newer : List Event) (oldest : Event) (older : List Event) → oldest.free ≡ true → free_slots older ≡ 0 → GotRecently config (newer ++ oldest ∷ older) before view
+      → LieIn (plans_of (distance config) ((newer ++ oldest ∷ older) ++ before)).text (newer ++ oldest ∷ older) before b
       → 2 * segment_count (text_body b.bytes) ≤ free_slots (newer ++ oldest ∷ older) → view.text ≡ Some b.bytes
   text_of newer oldest older free none got lies enough =
       let e = parts newer oldest older before in
       let from = lies.from in
-      text_shown laws station m k w newer oldest (older ++ before) i r view lies.number b (listened_to station m k w newer oldest older before i r view free got)
+      text_shown laws config newer oldest (older ++ before) view lies.number b (listened_to config newer oldest older before view free got)
       (omega (arith, from, length-append older before))
-      (subst (λ (events : List Event). length events ≤ b.end + 1) e lies.to) (subst (λ (events : List Event). HasNumber (plans_of (m + k) events).text lies.number b) e lies.planned)
+      (subst (λ (events : List Event). length events ≤ b.end + 1) e lies.to) (subst (λ (events : List Event). HasNumber (plans_of (distance config) events).text lies.number b) e lies.planned)
       (omega (arith, enough, free_without newer oldest older none))
 
-  name_of : (newer : List Event) (oldest : Event) (older : List Event) → oldest.free ≡ true → free_slots older ≡ 0 → GotRecently station m k w (newer ++ oldest ∷ older) before i r view
-      → LieIn (plans_of (m + k) ((newer ++ oldest ∷ older) ++ before)).name (newer ++ oldest ∷ older) before b
+  name_of : (newer : List Event) (oldest : Event) (older : List Event) → oldest.free ≡ true → free_slots older ≡ 0 → GotRecently config (newer ++ oldest ∷ older) before view
+      → LieIn (plans_of (distance config) ((newer ++ oldest ∷ older) ++ before)).name (newer ++ oldest ∷ older) before b
       → 8 ≤ free_slots (newer ++ oldest ∷ older) → view.name ≡ Some b.bytes
   name_of newer oldest older free none got lies enough =
       let e = parts newer oldest older before in
       let from = lies.from in
-      name_shown laws station m k w newer oldest (older ++ before) i r view lies.number b (listened_to station m k w newer oldest older before i r view free got)
+      name_shown laws config newer oldest (older ++ before) view lies.number b (listened_to config newer oldest older before view free got)
       (omega (arith, from, length-append older before))
-      (subst (λ (events : List Event). length events ≤ b.end + 1) e lies.to) (subst (λ (events : List Event). HasNumber (plans_of (m + k) events).name lies.number b) e lies.planned)
+      (subst (λ (events : List Event). length events ≤ b.end + 1) e lies.to) (subst (λ (events : List Event). HasNumber (plans_of (distance config) events).name lies.number b) e lies.planned)
       (omega (arith, enough, free_without newer oldest older none))
 
 -- a planned text is a text
-planned_text : DeliveryLaws → (station : Head) (m k : ℕ) (w : WorldState) (recent before : List Event) (i : ℕ) (r : ReceiverState) (view : ShownView) (b : Broadcast)
-    → GotRecently station m k w recent before i r view → LieIn (plans_of (m + k) (recent ++ before)).text recent before b → IsText b.bytes
-planned_text laws station m k w recent before i r view b got lies =
-    (let lasts = got.stands.lasts in (laws.lawful (m + k) (recent ++ before) (omega arith) got.stands.values).text.values lies.number b lies.planned)
+planned_text : DeliveryLaws → (config : Config) (recent before : List Event) (view : ShownView) (b : Broadcast)
+    → GotRecently config recent before view → LieIn (plans_of (distance config) (recent ++ before)).text recent before b → IsText b.bytes
+planned_text laws config recent before view b got lies =
+    (let lasts = got.stands.lasts in (laws.lawful (distance config) (recent ++ before) (omega arith) got.stands.values).text.values lies.number b lies.planned)
 
 pub text_delivered : DeliveryLaws → ATextIsDelivered
-text_delivered laws station m k w recent before i r view b got lies enough =
-    let value = planned_text laws station m k w recent before i r view b got lies in
+text_delivered laws config recent before view b got lies enough =
+    let value = planned_text laws config recent before view b got lies in
     let o = has_oldest recent (omega (arith, enough, (some_segments b.bytes value).0)) in
-    text_of laws station m k w before i r view b o.newer o.oldest o.older o.free o.others
-    (subst (λ (slots : List Event). GotRecently station m k w slots before i r view) o.is got)
-    (subst (λ (slots : List Event). LieIn (plans_of (m + k) (slots ++ before)).text slots before b) o.is lies)
+    text_of laws config before view b o.newer o.oldest o.older o.free o.others
+    (subst (λ (slots : List Event). GotRecently config slots before view) o.is got)
+    (subst (λ (slots : List Event). LieIn (plans_of (distance config) (slots ++ before)).text slots before b) o.is lies)
     (subst (λ (slots : List Event). 2 * segment_count (text_body b.bytes) ≤ free_slots slots) o.is enough)
 
 pub any_text_delivered : DeliveryLaws → AnyTextIsDelivered
-any_text_delivered laws station m k w recent before i r view b got lies enough =
-    let value = planned_text laws station m k w recent before i r view b got lies in
-    text_delivered laws station m k w recent before i r view b got lies (omega (arith, enough, (some_segments b.bytes value).1))
+any_text_delivered laws config recent before view b got lies enough =
+    let value = planned_text laws config recent before view b got lies in
+    text_delivered laws config recent before view b got lies (omega (arith, enough, (some_segments b.bytes value).1))
 
 pub name_delivered : DeliveryLaws → ANameIsDelivered
-name_delivered laws station m k w recent before i r view b got lies enough =
+name_delivered laws config recent before view b got lies enough =
     let o = has_oldest recent (omega (arith, enough)) in
-    name_of laws station m k w before i r view b o.newer o.oldest o.older o.free o.others
-    (subst (λ (slots : List Event). GotRecently station m k w slots before i r view) o.is got)
-    (subst (λ (slots : List Event). LieIn (plans_of (m + k) (slots ++ before)).name slots before b) o.is lies)
+    name_of laws config before view b o.newer o.oldest o.older o.free o.others
+    (subst (λ (slots : List Event). GotRecently config slots before view) o.is got)
+    (subst (λ (slots : List Event). LieIn (plans_of (distance config) (slots ++ before)).name slots before b) o.is lies)
     (subst (λ (slots : List Event). 8 ≤ free_slots slots) o.is enough)

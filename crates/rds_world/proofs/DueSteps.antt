@@ -14,6 +14,7 @@ use Rattle.rds_world.specs.Event.{Event}
 use Rattle.rds_world.specs.Slots.{sent_back}
 use Rattle.rds_receiver.specs.OneView.{same_heard_in}
 use Rattle.rds_world.specs.Standing.{AreLastSent, IsHeardOfSome}
+use Rattle.rds_world.specs.declared.world.Config.{Config}
 use Rattle.rds_world.proofs.Received.{hears_sent}
 
 -- below the reach what was sent is due, and nothing else is
@@ -43,13 +44,13 @@ pub after_got : (k slot : ℕ) (last : Option ℕ) (back : ℕ) → IsDueBack k 
 after_got k slot last back due = (let soon = due.soon in let there = due.there in omega (arith, soon, there))
 
 -- what is kept after one more slot
-pub one_more_sent : (station : Head) (k : ℕ) (sent : Option Message) (group : Option Group) (message : Option Message) (before messages : List (Option Message)) → IsSent station sent group
-    → Hears station.pi group message → AreLastSent station.pi k before messages → AreLastSent station.pi k (sent ∷ before) (take (k + 1) (message ∷ messages))
-one_more_sent station k sent group message before messages now hears kept back within =
-    let at = by back within in (get_or-take (k + 1) (message ∷ messages) back None (omega (arith, within)) ∙ at.0, at.1)
+pub one_more_sent : (config : Config) (sent : Option Message) (group : Option Group) (message : Option Message) (before messages : List (Option Message)) → IsSent config.head sent group
+    → Hears config.head.pi group message → AreLastSent config before messages → AreLastSent config (sent ∷ before) (take (config.late + 1) (message ∷ messages))
+one_more_sent config sent group message before messages now hears kept back within =
+    let at = by back within in (get_or-take (config.late + 1) (message ∷ messages) back None (omega (arith, within)) ∙ at.0, at.1)
   where
-    by : (back : ℕ) → back ≤ k → (slice_index_or (message ∷ messages) back None ≡ sent_back back (sent ∷ before)) × IsHeardOfSome station.pi (sent_back back (sent ∷ before))
-    by zero within = (same_heard_in station.pi group message sent hears (hears_sent station sent group now), (group, hears_sent station sent group now))
+    by : (back : ℕ) → back ≤ config.late → (slice_index_or (message ∷ messages) back None ≡ sent_back back (sent ∷ before)) × IsHeardOfSome config.head.pi (sent_back back (sent ∷ before))
+    by zero within = (same_heard_in config.head.pi group message sent hears (hears_sent config sent group now), (group, hears_sent config sent group now))
     by (suc back) within = kept back (omega (arith, within))
 
 -- a reception that is there is that of the event

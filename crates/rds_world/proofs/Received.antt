@@ -3,7 +3,6 @@ use Rattle.std.proofs.Common.{◌≡◌, ◌≢◌, ◌<◌, ℕ, zero, suc, Boo
 use Rattle.std.specs.List.{AllByRecursion}
 use Rattle.std.specs.Prelude.{slice_get, slice_index_or, slice_set}
 use Rattle.rds_block.specs.declared.group.Group.{Group}
-use Rattle.rds_fields.specs.declared.head.Head.{Head}
 use Rattle.rds_fields.specs.declared.message.Message.{Message}
 use Rattle.rds_encoder.specs.Sent.{IsSent}
 use Rattle.rds_receiver.specs.Receipts.{Hears}
@@ -13,44 +12,45 @@ use Rattle.rds_receiver.specs.Standing.{StandsAt, WhereItStands}
 use Rattle.rds_receiver.specs.State.{ReceiverState}
 use Rattle.rds_world.specs.Late.{Input}
 use Rattle.rds_world.specs.Standing.{HasHeard, IsNew, StaysShown, tuned_to}
+use Rattle.rds_world.specs.declared.world.Config.{Config}
 
 -- what the station sends, its receivers hear
-pub hears_sent : (station : Head) (sent : Option Message) (group : Option Group) → IsSent station sent group → Hears station.pi group sent
-hears_sent station None None s = refl
-hears_sent station None (Some group) s = absurd s
-hears_sent station (Some message) None s = absurd s
-hears_sent station (Some message) (Some group) s = inl (s.head.pi, s.spelled)
+pub hears_sent : (config : Config) (sent : Option Message) (group : Option Group) → IsSent config.head sent group → Hears config.head.pi group sent
+hears_sent config None None s = refl
+hears_sent config None (Some group) s = absurd s
+hears_sent config (Some message) None s = absurd s
+hears_sent config (Some message) (Some group) s = inl (s.head.pi, s.spelled)
 
 abbrev input_from : ℕ → List (Option Message) → List (Option ℕ) → Input
 input_from first heard origins = record { first = first; heard = heard; origins = origins }
 
 -- one more group was handled, and it was heard so
-pub hears_more : (station : Head) (m : ℕ) (input : Input) (old new : ReceiverState) (group : Option Group) (heard : Option Message) (origin : Option ℕ)
-    → Hears station.pi group heard → WhereItStands old (λ t groups. (g : Option Group) → Hears t.programme g heard → StandsAt t new (g ∷ groups))
-    → HasHeard station m input old → HasHeard station m (input_from input.first (heard ∷ input.heard) (origin ∷ input.origins)) new
-hears_more station m input old new group heard origin hears goes_on has = record {
+pub hears_more : (config : Config) (input : Input) (old new : ReceiverState) (group : Option Group) (heard : Option Message) (origin : Option ℕ)
+    → Hears config.head.pi group heard → WhereItStands old (λ t groups. (g : Option Group) → Hears t.programme g heard → StandsAt t new (g ∷ groups))
+    → HasHeard config input old → HasHeard config (input_from input.first (heard ∷ input.heard) (origin ∷ input.origins)) new
+hears_more config input old new group heard origin hears goes_on has = record {
   groups = group ∷ has.groups;
   spelled = (hears, has.spelled);
-  stands = goes_on record { programme = station.pi; dwell = m; first = input.first } has.groups has.stands group hears;
+  stands = goes_on record { programme = config.head.pi; dwell = config.dwell; first = input.first } has.groups has.stands group hears;
 }
 
 -- one more group was handled, and what is shown stays
-pub stays_shown : (station : Head) (m : ℕ) (input : Input) (old : ReceiverState) (group : Option Group) (heard : Option Message) (origin : Option ℕ)
-    → Hears station.pi group heard → ((view : ShownView) → WhereItStands old (λ t groups. (g : Option Group) → Hears t.programme g heard → IsView t groups view → IsView t (g ∷ groups) view))
-    → HasHeard station m input old → StaysShown station m input (input_from input.first (heard ∷ input.heard) (origin ∷ input.origins))
-stays_shown station m input old group heard origin hears stays has view shown =
+pub stays_shown : (config : Config) (input : Input) (old : ReceiverState) (group : Option Group) (heard : Option Message) (origin : Option ℕ)
+    → Hears config.head.pi group heard → ((view : ShownView) → WhereItStands old (λ t groups. (g : Option Group) → Hears t.programme g heard → IsView t groups view → IsView t (g ∷ groups) view))
+    → HasHeard config input old → StaysShown config input (input_from input.first (heard ∷ input.heard) (origin ∷ input.origins))
+stays_shown config input old group heard origin hears stays has view shown =
     let (other, are, shows) = shown.is in
-    let same : other ≡ input.heard = same_heard station.pi shown.groups other input.heard are shown.spelled in
-    let by_own : IsView (tuned_to station m input) has.groups view = (input.heard, has.spelled, subst (λ (x : List (Option Message)). ShowsView m input.first x view) same shows) in
+    let same : other ≡ input.heard = same_heard config.head.pi shown.groups other input.heard are shown.spelled in
+    let by_own : IsView (tuned_to config input) has.groups view = (input.heard, has.spelled, subst (λ (x : List (Option Message)). ShowsView config.dwell input.first x view) same shows) in
     record {
       groups = group ∷ has.groups;
       spelled = (hears, has.spelled);
-      is = stays view (tuned_to station m input) has.groups has.stands group hears by_own;
+      is = stays view (tuned_to config input) has.groups has.stands group hears by_own;
     }
 
-pub heard_nothing : (station : Head) (m first : ℕ) (r : ReceiverState) → IsNew station m r
-    → HasHeard station m (input_from first [] []) r
-heard_nothing station m first r begins = record { groups = []; spelled = tt; stands = begins first }
+pub heard_nothing : (config : Config) (first : ℕ) (r : ReceiverState) → IsNew config r
+    → HasHeard config (input_from first [] []) r
+heard_nothing config first r begins = record { groups = []; spelled = tt; stands = begins first }
 
 -- one of a list was written
 pub other_kept : {X : Type 0} (rs : List X) (i k : ℕ) (r : X) → k ≢ i → slice_get (slice_set rs i r) k ≡ slice_get rs k
@@ -79,9 +79,9 @@ of_first (suc n) (y ∷ xs) zero x e = (omega arith, e)
 of_first (suc n) (y ∷ xs) (suc i) x e = (let later = of_first n xs i x e in (omega (arith, later.0), later.1))
 
 -- a receiver that stands has a dwell of some slots
-pub some_slots : (station : Head) (m : ℕ) (rs : List ReceiverState) → AllByRecursion (IsNew station m) rs → 0 < length rs → 0 < m
-some_slots station m [] all some = absurd (omega (arith, some))
-some_slots station m (r ∷ rs) all some = (all.0 0).holds.lasts
+pub some_slots : (config : Config) (rs : List ReceiverState) → AllByRecursion (IsNew config) rs → 0 < length rs → 0 < config.dwell
+some_slots config [] all some = absurd (omega (arith, some))
+some_slots config (r ∷ rs) all some = (all.0 0).holds.lasts
 
 -- one of a list of marks was written
 pub other_marked : {X : Type 0} (xs : List X) (i k : ℕ) (x d : X) → k ≢ i → slice_index_or (slice_set xs i x) k d ≡ slice_index_or xs k d

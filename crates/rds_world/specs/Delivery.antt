@@ -3,7 +3,6 @@
 -- first.
 use Rattle.std.specs.Prelude.{◌≡◌, ◌+◌, ◌*◌, ◌≤◌, ℕ, Bool, true, false, List, [], ◌∷◌, ◌++◌, Some, length, slice_get, slice_index_or}
 use Rattle.std.specs.List.{AllByRecursion}
-use Rattle.rds_fields.specs.declared.head.Head.{Head}
 use Rattle.rds_assembly.specs.Body.{segment_count, text_body}
 use Rattle.rds_encoder.specs.Plan.{Broadcast, HasNumber}
 use Rattle.rds_encoder.specs.Sent.{one_if}
@@ -14,7 +13,8 @@ use Rattle.rds_world.specs.declared.event.Reception.TheVariants.{Got, Lost, Rest
 use Rattle.rds_world.specs.Event.{Event}
 use Rattle.rds_world.specs.Slots.{plans_of}
 use Rattle.rds_world.specs.Standing.{Shows, StandsAt}
-use Rattle.rds_world.specs.State.{WorldState}
+use Rattle.rds_world.specs.State.{WorldState, distance}
+use Rattle.rds_world.specs.declared.world.Config.{Config}
 
 -- how many of these slots are free
 abbrev pub free_slots : List Event → ℕ
@@ -41,39 +41,38 @@ pub record LieIn (plan : List Broadcast) (recent before : List Event) (b : Broad
   pub from : b.start ≤ length before
   pub to : length (recent ++ before) ≤ b.end + 1
 
--- in a world that stands at the recent slots and those before, receiver i, of state r, got each free one of the
--- recent slots, which are no more than its dwell, and shows this
-pub record GotRecently (station : Head) (m k : ℕ) (w : WorldState) (recent before : List Event) (i : ℕ)
-    (r : ReceiverState) (view : ShownView) : Type 0 where
-  pub stands : StandsAt station m k w (recent ++ before)
-  pub within : length recent ≤ m
-  pub there : slice_get w.receivers i ≡ Some r
-  pub got : GetsEachFree i recent
-  pub shows : Shows r view
+-- in a world that stands at the recent slots and those before, a receiver got each free one of the recent slots, which
+-- are no more than its dwell, and shows this
+pub record GotRecently (config : Config) (recent before : List Event) (view : ShownView) : Type 0 where
+  pub world : WorldState
+  pub stands : StandsAt config world (recent ++ before)
+  pub within : length recent ≤ config.dwell
+  pub number : ℕ
+  pub receiver : ReceiverState
+  pub there : slice_get world.receivers number ≡ Some receiver
+  pub got : GetsEachFree number recent
+  pub shows : Shows receiver view
 
 -- a text of n segments is shown after 2 n free slots of its broadcast
 abbrev pub ATextIsDelivered : Type 0
 ATextIsDelivered =
-    (station : Head) (m k : ℕ) (w : WorldState) (recent before : List Event) (i : ℕ) (r : ReceiverState)
-    (view : ShownView) (b : Broadcast)
-    → GotRecently station m k w recent before i r view
-    → LieIn (plans_of (m + k) (recent ++ before)).text recent before b
+    (config : Config) (recent before : List Event) (view : ShownView) (b : Broadcast)
+    → GotRecently config recent before view
+    → LieIn (plans_of (distance config) (recent ++ before)).text recent before b
     → 2 * segment_count (text_body b.bytes) ≤ free_slots recent → view.text ≡ Some b.bytes
 
 -- and any text after 32
 abbrev pub AnyTextIsDelivered : Type 0
 AnyTextIsDelivered =
-    (station : Head) (m k : ℕ) (w : WorldState) (recent before : List Event) (i : ℕ) (r : ReceiverState)
-    (view : ShownView) (b : Broadcast)
-    → GotRecently station m k w recent before i r view
-    → LieIn (plans_of (m + k) (recent ++ before)).text recent before b
+    (config : Config) (recent before : List Event) (view : ShownView) (b : Broadcast)
+    → GotRecently config recent before view
+    → LieIn (plans_of (distance config) (recent ++ before)).text recent before b
     → 32 ≤ free_slots recent → view.text ≡ Some b.bytes
 
 -- a name is shown after eight
 abbrev pub ANameIsDelivered : Type 0
 ANameIsDelivered =
-    (station : Head) (m k : ℕ) (w : WorldState) (recent before : List Event) (i : ℕ) (r : ReceiverState)
-    (view : ShownView) (b : Broadcast)
-    → GotRecently station m k w recent before i r view
-    → LieIn (plans_of (m + k) (recent ++ before)).name recent before b
+    (config : Config) (recent before : List Event) (view : ShownView) (b : Broadcast)
+    → GotRecently config recent before view
+    → LieIn (plans_of (distance config) (recent ++ before)).name recent before b
     → 8 ≤ free_slots recent → view.name ≡ Some b.bytes

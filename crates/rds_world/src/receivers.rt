@@ -14,7 +14,7 @@ use rds_receiver::Receiver;
 
 /// Eight receivers that heard nothing yet.
 pub(crate) fn eight_receivers(config: &Config) -> [Receiver; 8]
-    ensures { AllByRecursion (IsNew config.now.head config.now.dwell) result }
+    ensures { AllByRecursion (IsNew config.now) result }
 {
     let pi = config.head.pi;
     let dwell = config.dwell;
@@ -42,17 +42,17 @@ pub(crate) fn hand_out(
     requires few { length receivers.old ≤ 8 }
     ensures count { length receivers.new ≡ length receivers.old }
     ensures heard { (slot : ℕ) (sent : List (Option Message)) (inputs : ℕ → Input)
-        (last : ℕ → Option ℕ) → AreLastSent config.now.head.pi config.now.late sent recent.now.items
+        (last : ℕ → Option ℕ) → AreLastSent config.now sent recent.now.items
         → ((i : ℕ) → IsDue config.now.late slot (last i) (slice_index_or receptions.now i Lost))
-        → AllHaveHeard config.now.head config.now.dwell inputs receivers.old
-        → AllHaveHeard config.now.head config.now.dwell
+        → AllHaveHeard config.now inputs receivers.old
+        → AllHaveHeard config.now
         (λ i. received (slice_index_or receptions.now i Lost) slot sent (inputs i)) receivers.new }
     ensures stays { (slot : ℕ) (sent : List (Option Message)) (inputs : ℕ → Input)
-        (last : ℕ → Option ℕ) → AreLastSent config.now.head.pi config.now.late sent recent.now.items
+        (last : ℕ → Option ℕ) → AreLastSent config.now sent recent.now.items
         → ((i : ℕ) → IsDue config.now.late slot (last i) (slice_index_or receptions.now i Lost))
-        → AllHaveHeard config.now.head config.now.dwell inputs receivers.old
+        → AllHaveHeard config.now inputs receivers.old
         → (i : ℕ) → slice_index_or result i false ≡ true
-        → StaysShown config.now.head config.now.dwell (inputs i)
+        → StaysShown config.now (inputs i)
         (received (slice_index_or receptions.now i Lost) slot sent (inputs i)) }
 {
     let mut stays = [false; 8];
@@ -66,16 +66,15 @@ pub(crate) fn hand_out(
 /// before.
 fn receive(receiver: &mut Receiver, config: &Config, reception: Reception, recent: &Recent) -> bool
     ensures heard { (slot : ℕ) (sent : List (Option Message)) (input : Input) (last : Option ℕ)
-        → AreLastSent config.now.head.pi config.now.late sent recent.now.items
+        → AreLastSent config.now sent recent.now.items
         → IsDue config.now.late slot last reception
-        → HasHeard config.now.head config.now.dwell input receiver.old
-        → HasHeard config.now.head config.now.dwell
-        (received reception slot sent input) receiver.new }
+        → HasHeard config.now input receiver.old
+        → HasHeard config.now (received reception slot sent input) receiver.new }
     ensures stays { (slot : ℕ) (sent : List (Option Message)) (input : Input) (last : Option ℕ)
-        → AreLastSent config.now.head.pi config.now.late sent recent.now.items
+        → AreLastSent config.now sent recent.now.items
         → IsDue config.now.late slot last reception
-        → HasHeard config.now.head config.now.dwell input receiver.old → IsTrue result
-        → StaysShown config.now.head config.now.dwell input (received reception slot sent input) }
+        → HasHeard config.now input receiver.old → IsTrue result
+        → StaysShown config.now input (received reception slot sent input) }
 {
     match reception {
         Reception::Got(back) => !receiver.slot_message(recent.back(back)),

@@ -29,10 +29,10 @@ pub fn play(
     events: &[SlotEvent],
 ) -> Result<World, PlayRefused>
     ensures stands { IfOk result (λ w.
-        StandsAt config.head config.dwell config.late w (reverse events.now)) }
+        StandsAt config w (reverse events.now)) }
     ensures count { IfOk result (λ w. length w.receivers ≡ receivers) }
     ensures safe { IfOk result (λ w.
-        OnlyWhatWasOnAirIsShown config.dwell config.late (reverse events.now) w.receivers) }
+        OnlyWhatWasOnAirIsShown config (reverse events.now) w.receivers) }
     ensures taken { IsOk result → CanBePlayed config.late receivers events.now }
     ensures refused { IfErr result (IsPlayRefused config.late receivers events.now) }
 {

@@ -1,9 +1,10 @@
 //! The encoder's part of a slot.
-ghost use Rattle.std.specs.Prelude.{◌≡◌, ◌+◌, List};
+ghost use Rattle.std.specs.Prelude.{◌≡◌, List};
 ghost use Rattle.rds_encoder.specs.Entries.{Entry};
 ghost use Rattle.rds_encoder.specs.Standing.{StandsAt};
 ghost use Rattle.rds_world.specs.Replies.{answered, reply_at};
 ghost use Rattle.rds_world.specs.Slots.{SetsAValue, commanded};
+ghost use Rattle.rds_world.specs.State.{distance};
 
 use crate::{Command, Config, Reply};
 use rds_encoder::{Encoder, Refusal};
@@ -12,11 +13,11 @@ use rds_encoder::{Encoder, Refusal};
 pub(crate) fn obey(encoder: &mut Encoder, config: &Config, command: &Command) -> Reply
     ensures value { SetsAValue command.now }
     ensures reply { (entries : List Entry)
-        → StandsAt config.now.head (config.now.dwell + config.now.late) encoder.old entries
-        → result ≡ reply_at (config.now.dwell + config.now.late) command.now entries }
+        → StandsAt config.now.head (distance config.now) encoder.old entries
+        → result ≡ reply_at (distance config.now) command.now entries }
     ensures stands { (entries : List Entry)
-        → StandsAt config.now.head (config.now.dwell + config.now.late) encoder.old entries
-        → StandsAt config.now.head (config.now.dwell + config.now.late) encoder.new (commanded command.now entries) }
+        → StandsAt config.now.head (distance config.now) encoder.old entries
+        → StandsAt config.now.head (distance config.now) encoder.new (commanded command.now entries) }
 {
     match *command {
         Command::Quiet => Reply::Quiet,

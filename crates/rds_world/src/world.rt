@@ -8,6 +8,7 @@ ghost use Rattle.rds_receiver.specs.Shown.{ShownView};
 ghost use Rattle.rds_world.specs.Replies.{CanBeTaken, IsStepRefused, reply_at};
 ghost use Rattle.rds_world.specs.SafeSlots.{OnlyWhatWasOnAirIsShown};
 ghost use Rattle.rds_world.specs.Slots.{entries, input_of, sent_at};
+ghost use Rattle.rds_world.specs.State.{distance};
 ghost use Rattle.rds_world.specs.Standing.{HasHeard, IsViewOfInput, Shows, ShowsStill, StandsAt, WhereItStands};
 
 use crate::reach::{Reach, reaches_after};
@@ -56,9 +57,7 @@ impl Model for World {
     ghost coded = { Prim.hlevel (codes, receiver_code) };
 
     ghost view = { λ w. record {
-      head = w.config.head;
-      dwell = w.config.dwell;
-      late = w.config.late;
+      config = w.config;
       encoder = w.encoder;
       receivers = take w.count w.receivers;
       stays = w.stays;
@@ -78,7 +77,7 @@ impl World {
         ensures few { IsOk result → receivers ≤ 8 }
         ensures count { IfOk result (λ w. length w.receivers ≡ receivers) }
         ensures stands { IfOk result (λ w.
-            StandsAt config.head config.dwell config.late w []) }
+            StandsAt config w []) }
     {
         if receivers > 8 {
             return Err(WorldRefused::TooManyReceivers);
@@ -102,19 +101,19 @@ impl World {
     pub fn step(&mut self, event: &SlotEvent) -> Result<Answer, StepRefused>
         ensures counted { IsErrOf result StepRefused.ReceiverCount
             ↔ (length event.now.receptions ≢ length self.old.receivers) }
-        ensures refused { WhereItStands self.old (λ _ _ k events. MatchResult result
-            (λ _. CanBeTaken k (length self.old.receivers) event.now events)
-            (IsStepRefused k (length self.old.receivers) event.now events)) }
+        ensures refused { WhereItStands self.old (λ config events. MatchResult result
+            (λ _. CanBeTaken config.late (length self.old.receivers) event.now events)
+            (IsStepRefused config.late (length self.old.receivers) event.now events)) }
         ensures kept { OnErr result (self.new ≡ self.old) }
         ensures count { length self.new.receivers ≡ length self.old.receivers }
-        ensures reply { WhereItStands self.old (λ _ m k events. IfOk result (λ answer.
-            answer.reply ≡ reply_at (m + k) event.now.command (entries events))) }
-        ensures sent { WhereItStands self.old (λ station m k events. IfOk result (λ answer.
-            IsSent station (sent_at (m + k) event.now events) answer.sent)) }
-        ensures stands { WhereItStands self.old (λ station m k events.
-            OnOk result (StandsAt station m k self.new (event.now ∷ events))) }
-        ensures safe { WhereItStands self.old (λ _ m k events.
-            OnOk result (OnlyWhatWasOnAirIsShown m k (event.now ∷ events) self.new.receivers)) }
+        ensures reply { WhereItStands self.old (λ config events. IfOk result (λ answer.
+            answer.reply ≡ reply_at (distance config) event.now.command (entries events))) }
+        ensures sent { WhereItStands self.old (λ config events. IfOk result (λ answer.
+            IsSent config.head (sent_at (distance config) event.now events) answer.sent)) }
+        ensures stands { WhereItStands self.old (λ config events.
+            OnOk result (StandsAt config self.new (event.now ∷ events))) }
+        ensures safe { WhereItStands self.old (λ config events.
+            OnOk result (OnlyWhatWasOnAirIsShown config (event.now ∷ events) self.new.receivers)) }
     {
         // the law by which `safe` holds
         only_what_was_on_air_is_shown();
@@ -143,10 +142,10 @@ impl World {
 
     /// The text and the name on air, lent: up to 64 bytes, and eight; `None` where none is.
     pub fn on_air(&self) -> (Option<&[u8]>, Option<&[u8]>)
-        ensures text { WhereItStands self.now (λ _ m k events. option_copied result.0
-            ≡ option_map bytes_of (on_air (m + k) (text_moves (entries events)))) }
-        ensures name { WhereItStands self.now (λ _ m k events. option_copied result.1
-            ≡ option_map bytes_of (on_air (m + k) (name_moves (entries events)))) }
+        ensures text { WhereItStands self.now (λ config events. option_copied result.0
+            ≡ option_map bytes_of (on_air (distance config) (text_moves (entries events)))) }
+        ensures name { WhereItStands self.now (λ config events. option_copied result.1
+            ≡ option_map bytes_of (on_air (distance config) (name_moves (entries events)))) }
     {
         (self.encoder.text(), self.encoder.name())
     }
@@ -155,11 +154,11 @@ impl World {
     pub fn receiver(&self, i: usize) -> Option<&Receiver>
         ensures there { IsSome result ↔ (i < length self.now.receivers) }
         ensures same { option_copied result ≡ slice_get self.now.receivers i }
-        ensures heard { WhereItStands self.now (λ station m k events.
-            IfSome result (λ r. HasHeard station m (input_of (m + k) i events) r.now)) }
-        ensures shows { WhereItStands self.now (λ station m k events.
+        ensures heard { WhereItStands self.now (λ config events.
+            IfSome result (λ r. HasHeard config (input_of (distance config) i events) r.now)) }
+        ensures shows { WhereItStands self.now (λ config events.
             IfSome result (λ r. (view : ShownView) → Shows r.now view
-            → IsViewOfInput station m (input_of (m + k) i events) view)) }
+            → IsViewOfInput config (input_of (distance config) i events) view)) }
     {
         self.receivers[..self.count].get(i)
     }
@@ -167,7 +166,7 @@ impl World {
     /// Whether receiver i is known to show what it showed before the last slot.
     pub fn stays(&self, i: usize) -> bool
         ensures { IsTrue result → WhereItStands self.now
-            (λ station m k events. ShowsStill station m (m + k) i events) }
+            (λ config events. ShowsStill config i events) }
     {
         match self.stays.get(i) {
             Some(stays) => *stays,

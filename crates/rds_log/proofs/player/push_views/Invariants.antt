@@ -1,6 +1,7 @@
 use Rattle.std.proofs.Common.{◌≡◌, ◌≤◌, ◌<◌, ◌+◌, ◌*◌, ◌++◌, ℕ, length, map}
 use Rattle.rds_world.specs.Slots.{input_of}
 use Rattle.rds_world.specs.Standing.{IsViewOfInput, WhereItStands}
+use Rattle.rds_world.specs.State.{distance}
 use Rattle.rds_log.specs.Kept.{view_kept}
 use Rattle.rds_log.specs.Outcomes.{receiver_changes, view_at}
 use Rattle.rds_log.specs.Playing.{WereShown}
@@ -11,6 +12,6 @@ invariant-loop-i l = record {
   count : length l.shown ≡ length l.initial.shown;
   room : length l.lines ≤ length l.initial.lines + l.i * 1720;
   lines : l.lines ≡ l.initial.lines ++ receiver_changes l.slot l.i (map view_kept l.initial.shown) (map view_kept l.shown);
-  views : WhereItStands l.world (λ station m k events. WereShown station m (m + k) (length l.initial.shown) events (map view_kept l.initial.shown) → (i : ℕ) → i < l.i → IsViewOfInput station m (input_of (m + k) i events) (view_at (map view_kept l.shown) i));
+  views : WhereItStands l.world (λ config events. WereShown config (length l.initial.shown) events (map view_kept l.initial.shown) → (i : ℕ) → i < l.i → IsViewOfInput config (input_of (distance config) i events) (view_at (map view_kept l.shown) i));
   later : (i : ℕ) → l.i ≤ i → view_at (map view_kept l.shown) i ≡ view_at (map view_kept l.initial.shown) i;
 }

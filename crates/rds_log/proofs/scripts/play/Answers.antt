@@ -3,7 +3,7 @@ use Rattle.std.proofs.lemmas.Result.{err_from_is_err_and}
 use Rattle.csv.proofs.ReadFacts.{on-ok}
 use Rattle.csv.specs.Records.{fields_of}
 use Rattle.rds_charset.specs.Told.{traffic}
-use Rattle.rds_log.specs.Failing.{SomeReadFailed}
+use Rattle.rds_log.specs.Scripts.{reading}
 use Rattle.rds_log.proofs.Plays.{ends_by_read, ends_by_row, ends_by_write, played_on, wrote_rows}
 use Rattle.rds_log.proofs.scripts.play.Goals as goal
 
@@ -11,7 +11,7 @@ pub returns-in_err-next : goal.returns-in_err-next
 returns-in_err-next g c =
     let (records, stands, count, played) = c.loop-turn.invariant.played in
     let p = err_from_is_err_and c.from_residual.result c.from_residual.ensures.1 in
-    rw (p.1, p.2) (ends_by_read g.R.Read.remaining c.args.form c.args.config.head c.args.config.dwell c.args.config.late c.args.records (g.R.Read.remaining c.args.reader) (SomeReadFailed g.R.TellingRead.failures) (traffic g.W.Write.contents g.W.TellingWrite.failures c.args.writer.now c.loop-turn.writer)
+    rw (p.1, p.2) (ends_by_read g.R.Read.remaining c.args.form c.args.config c.args.records (reading g.R.Read.remaining g.R.TellingRead.failures c.args.reader) (traffic g.W.Write.contents g.W.TellingWrite.failures c.args.writer.now c.loop-turn.writer)
     c.loop-turn.script c.loop-turn.player records c.in_err-next.field-0.0 stands played (omega (arith, count, c.loop-turn-test.true)) c.in_err-next.ensures.fault)
 
 pub returns-then-not-branch : goal.returns-then-not-branch
@@ -22,7 +22,7 @@ returns-then-not-branch g c =
       records = records;
       all = rw none at (c.in_ok-next.ensures.found (g.R.Read.remaining c.args.reader) records stands);
       fewer = omega (arith, count, c.loop-turn-test.true);
-      wrote = wrote_rows g.R.Read.remaining c.args.form c.args.config.head c.args.config.dwell c.args.config.late (g.R.Read.remaining c.args.reader) (traffic g.W.Write.contents g.W.TellingWrite.failures c.args.writer.now c.loop-turn.writer)
+      wrote = wrote_rows g.R.Read.remaining c.args.form c.args.config (g.R.Read.remaining c.args.reader) (traffic g.W.Write.contents g.W.TellingWrite.failures c.args.writer.now c.loop-turn.writer)
           c.loop-turn.script c.loop-turn.player records stands played;
     }
 
@@ -31,15 +31,15 @@ returns-in-Err-NoRow g c =
     let (records, stands, count, played) = c.loop-turn.invariant.played in
     let some : c.in_ok-next.field-0 ≡ true = search rules in
     let after = rw some at (c.in_ok-next.ensures.found (g.R.Read.remaining c.args.reader) records stands) in
-    ends_by_row g.R.Read.remaining c.args.form c.args.config.head c.args.config.dwell c.args.config.late c.args.records (g.R.Read.remaining c.args.reader) (SomeReadFailed g.R.TellingRead.failures) (traffic g.W.Write.contents g.W.TellingWrite.failures c.args.writer.now c.loop-turn.writer)
+    ends_by_row g.R.Read.remaining c.args.form c.args.config c.args.records (reading g.R.Read.remaining g.R.TellingRead.failures c.args.reader) (traffic g.W.Write.contents g.W.TellingWrite.failures c.args.writer.now c.loop-turn.writer)
     c.loop-turn.script c.next.new.self c.loop-turn.player (fields_of c.next.new.row) records c.loop-turn.turn stands after played
-    (rw c.in-Err-NoRow.field-0-is at (c.in-Err-NoRow.ensures.refused c.args.form c.args.config.head c.args.config.dwell c.args.config.late played.receivers records played.written played.player)) count c.loop-turn-test.true
+    (rw c.in-Err-NoRow.field-0-is at (c.in-Err-NoRow.ensures.refused _ played.player)) count c.loop-turn-test.true
 
 pub returns-in-Err-Memory : goal.returns-in-Err-Memory
 returns-in-Err-Memory g c =
     let (records, stands, count, played) = c.loop-turn.invariant.played in (
       records,
-      wrote_rows g.R.Read.remaining c.args.form c.args.config.head c.args.config.dwell c.args.config.late (g.R.Read.remaining c.args.reader) (traffic g.W.Write.contents g.W.TellingWrite.failures c.args.writer.now c.loop-turn.writer)
+      wrote_rows g.R.Read.remaining c.args.form c.args.config (g.R.Read.remaining c.args.reader) (traffic g.W.Write.contents g.W.TellingWrite.failures c.args.writer.now c.loop-turn.writer)
           c.loop-turn.script c.loop-turn.player records stands played,
       omega (arith, count, c.loop-turn-test.true),
     )
@@ -49,10 +49,10 @@ returns-in_err-put g c =
     let (records, stands, count, played) = c.loop-turn.invariant.played in
     let some : c.in_ok-next.field-0 ≡ true = search rules in
     let after = rw some at (c.in_ok-next.ensures.found (g.R.Read.remaining c.args.reader) records stands) in
-    let plays = on-ok c.row-in-loop-turn.result (search rules) (c.row-in-loop-turn.ensures.stands c.args.form c.args.config.head c.args.config.dwell c.args.config.late played.receivers records played.written played.player) in
+    let plays = on-ok c.row-in-loop-turn.result (search rules) (c.row-in-loop-turn.ensures.stands _ played.player) in
     let p = err_from_is_err_and c.from_residual-in_err-put.result c.from_residual-in_err-put.ensures.1 in
-    rw (p.1, p.2) (ends_by_write g.R.Read.remaining c.args.form c.args.config.head c.args.config.dwell c.args.config.late c.args.records (g.R.Read.remaining c.args.reader) (SomeReadFailed g.R.TellingRead.failures) c.next.new.self c.row-in-loop-turn.new.self
-    (fields_of c.next.new.row ∷ records) (g.W.Write.contents c.args.writer.now) (g.W.Write.contents c.loop-turn.writer) (g.W.Write.contents c.put.new.writer)
+    rw (p.1, p.2) (ends_by_write g.R.Read.remaining c.args.form c.args.config c.args.records (reading g.R.Read.remaining g.R.TellingRead.failures c.args.reader) c.next.new.self c.row-in-loop-turn.new.self
+    (fields_of c.next.new.row) records played.receivers (g.W.Write.contents c.args.writer.now) (g.W.Write.contents c.loop-turn.writer) (g.W.Write.contents c.put.new.writer)
     (g.W.TellingWrite.failures c.args.writer.now) (g.W.TellingWrite.failures c.loop-turn.writer) (g.W.TellingWrite.failures c.put.new.writer) played.written c.row-in-loop-turn.new.lines
     after (omega (arith, count, c.loop-turn-test.true)) plays played.wrote played.calm (rw c.bytes.ensures at c.in_err-put.ensures.0) c.in_err-put.ensures.1)
 
@@ -61,7 +61,7 @@ loop-turn-preserved g c =
     let (records, stands, count, played) = c.loop-turn.invariant.played in
     let some : c.in_ok-next.field-0 ≡ true = search rules in
     let after = rw some at (c.in_ok-next.ensures.found (g.R.Read.remaining c.args.reader) records stands) in
-    let plays = on-ok c.row-in-loop-turn.result (search rules) (c.row-in-loop-turn.ensures.stands c.args.form c.args.config.head c.args.config.dwell c.args.config.late played.receivers records played.written played.player) in
+    let plays = on-ok c.row-in-loop-turn.result (search rules) (c.row-in-loop-turn.ensures.stands _ played.player) in
     let slot = on-ok c.row-in-loop-turn.result (search rules) c.row-in-loop-turn.ensures.slot in
     record {
       empty = c.clear.ensures;
@@ -70,7 +70,7 @@ loop-turn-preserved g c =
         fields_of c.next.new.row ∷ records,
         after,
         omega (arith, count),
-        played_on c.args.form c.args.config.head c.args.config.dwell c.args.config.late c.row-in-loop-turn.new.self (fields_of c.next.new.row ∷ records) (g.W.Write.contents c.args.writer.now) (g.W.Write.contents c.loop-turn.writer) (g.W.Write.contents c.put.new.writer)
+        played_on c.args.form c.args.config c.row-in-loop-turn.new.self (fields_of c.next.new.row) records played.receivers (g.W.Write.contents c.args.writer.now) (g.W.Write.contents c.loop-turn.writer) (g.W.Write.contents c.put.new.writer)
             (g.W.TellingWrite.failures c.args.writer.now) (g.W.TellingWrite.failures c.loop-turn.writer) (g.W.TellingWrite.failures c.put.new.writer) played.written c.row-in-loop-turn.new.lines
             plays played.wrote played.calm (rw c.bytes.ensures at c.in_ok-put.ensures.0) c.in_ok-put.ensures.1,
       );
@@ -80,7 +80,7 @@ pub returns : goal.returns
 returns g c =
     let (records, stands, count, played) = c.loop-turn.invariant.played in (
       records,
-      wrote_rows g.R.Read.remaining c.args.form c.args.config.head c.args.config.dwell c.args.config.late (g.R.Read.remaining c.args.reader) (traffic g.W.Write.contents g.W.TellingWrite.failures c.args.writer.now c.loop-turn.writer)
+      wrote_rows g.R.Read.remaining c.args.form c.args.config (g.R.Read.remaining c.args.reader) (traffic g.W.Write.contents g.W.TellingWrite.failures c.args.writer.now c.loop-turn.writer)
           c.loop-turn.script c.loop-turn.player records stands played,
       omega (arith, count, c.loop-turn-test.false, c.loop-turn.auto),
     )

@@ -9,5 +9,5 @@ invariant-loop-turn g l = record {
   empty : l.lines ≡ [];
   slot : l.player.slot ≡ l.turn;
   played : (records : List Record) × ScriptStandsAt g.R.Read.remaining (g.R.Read.remaining l.fn.reader) l.script records × (length records ≡ l.turn)
-      × PlayedSoFar l.fn.form l.fn.config.head l.fn.config.dwell l.fn.config.late l.player records (traffic g.W.Write.contents g.W.TellingWrite.failures l.initial.writer l.writer);
+      × PlayedSoFar l.fn.form l.fn.config l.player records (traffic g.W.Write.contents g.W.TellingWrite.failures l.initial.writer l.writer);
 }

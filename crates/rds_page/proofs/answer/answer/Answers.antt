@@ -1,4 +1,5 @@
 use Rattle.std.proofs.Common.{◌≡◌, List, ℕ, None, Some, inl, inr, map, refl, rules, subst, sym}
+use Rattle.rds_log.specs.Decoding.{tuned}
 use Rattle.rds_words.specs.CommandLine.{AreRefused, AskFor, AskForHelp, TakesWords, asked_in}
 use Rattle.rds_page.specs.Page.{words_in}
 use Rattle.rds_page.proofs.Calm.{calm_task, none_failed}
@@ -29,7 +30,7 @@ returns-clause-text g c text =
             record { bytes_are = search rules; failures_are = search rules },
             elim ran [
               | inl memory ↦ inl memory
-              | inr did ↦ inr (calm_task none_failed asked.task pi asked.dwell r _ c.run.result did)
+              | inr did ↦ inr (calm_task none_failed asked.task (tuned pi asked.dwell) r _ c.run.result did)
             ],
           );
       fault_pi = λ asked given none. did.fault_pi asked (subst (λ (ws : List (List ℕ)). AskFor ws asked) (sym words) given) none;

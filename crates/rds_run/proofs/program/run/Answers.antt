@@ -2,15 +2,21 @@ use Rattle.std.proofs.Common.{inl, inr, refl}
 use Rattle.rds_charset.specs.Told.{traffic}
 use Rattle.rds_run.proofs.program.run.Goals as goal
 
-pub returns-clause-runs : goal.returns-clause-runs
-returns-clause-runs g c asked pi given is = (
-  traffic g.R.Read.remaining g.R.TellingRead.failures c.args.reader c.run_lent.new.reader,
-  record { bytes_are = refl; failures_are = refl },
-  elim (c.run_lent.ensures.runs asked pi given is) [
-    | inl memory ↦ inl memory.0
-    | inr ran ↦ inr ran
-  ],
-)
-
-pub returns-clause-fault_pi : goal.returns-clause-fault_pi
-returns-clause-fault_pi g c asked given none = (c.run_lent.ensures.fault_pi asked given none).0
+pub returns : goal.returns
+returns g c =
+    let did = c.run_lent.ensures in
+    record {
+      runs = λ asked pi given is. elim (did.runs asked pi given is) [
+        | inl memory ↦ inl (memory.0, tt)
+        | inr ran ↦ inr (
+          traffic g.R.Read.remaining g.R.TellingRead.failures c.args.reader c.run_lent.new.reader,
+          record { bytes_are = refl; failures_are = refl },
+          ran,
+        )
+      ];
+      fault_pi = λ asked given none. ((did.fault_pi asked given none).0, tt);
+      nothing_asked = λ takes none. ((did.nothing_asked takes none).0, tt);
+      help = λ asks. ((did.help asks).0, tt);
+      refused = λ are. ((did.refused are).0, tt);
+      not_taken = λ untaken. ((did.not_taken untaken).0, tt);
+    }

@@ -37,8 +37,7 @@ loop-i-preserved c =
     let rs = c.loop-i.receivers in
     let i = c.loop-i.i in
     let new = c.receive.new.receiver in
-    let station = c.args.config.now.head in
-    let m = c.args.config.now.dwell in
+    let config = c.args.config.now in
     let long : length rs ≡ length c.args.receivers.now = c.loop-i.invariant.count in
     let given : length c.args.receptions.now ≡ length c.args.receivers.now = c.requires.same in
     let at : slice_get rs i ≡ Some c.index-receivers-i.result = slice_get_read rs (length rs) i c.index-receivers-i.result refl (omega arith) c.index-receivers-i.is in
@@ -50,12 +49,12 @@ loop-i-preserved c =
         | inl less ↦ c.loop-i.invariant.done slot sent inputs last kept due all k r less (sym (other_kept rs i k new (omega arith)) ∙ e)
         | inr more ↦ (
             let here : k ≡ i = omega arith in
-            let old : HasHeard station m (inputs i) c.index-receivers-i.result = all.each i c.index-receivers-i.result (sym (c.loop-i.invariant.rest i (omega arith)) ∙ at) in
+            let old : HasHeard config (inputs i) c.index-receivers-i.result = all.each i c.index-receivers-i.result (sym (c.loop-i.invariant.rest i (omega arith)) ∙ at) in
             let has = c.receive.ensures.heard slot sent (inputs i) (last i) kept (subst (λ (x : Reception). IsDue c.args.config.now.late slot (last i) x) told (due i)) (rw (← c.index-receivers-i.is) old) in
             let same : new ≡ r = written rs i new r (subst (λ n. slice_get (slice_set rs i new) n ≡ Some r) here e) in
-            subst (λ n. HasHeard station m (received (slice_index_or c.args.receptions.now n Lost) slot sent (inputs n)) r) (sym here)
-            (subst (λ (x : ReceiverState). HasHeard station m (received (slice_index_or c.args.receptions.now i Lost) slot sent (inputs i)) x) same
-            (subst (λ (x : Reception). HasHeard station m (received x slot sent (inputs i)) new) (sym told) has))
+            subst (λ n. HasHeard config (received (slice_index_or c.args.receptions.now n Lost) slot sent (inputs n)) r) (sym here)
+            (subst (λ (x : ReceiverState). HasHeard config (received (slice_index_or c.args.receptions.now i Lost) slot sent (inputs i)) x) same
+            (subst (λ (x : Reception). HasHeard config (received x slot sent (inputs i)) new) (sym told) has))
             )
       ];
       later = λ k h. other_marked c.loop-i.stays i k c.receive.result false (omega (arith, h)) ∙ c.loop-i.invariant.later k (omega (arith, h));
@@ -63,11 +62,11 @@ loop-i-preserved c =
         | inl less ↦ c.loop-i.invariant.stays slot sent inputs last kept due all k less (sym (other_marked c.loop-i.stays i k c.receive.result false (omega (arith, less))) ∙ is)
         | inr more ↦ (
             let here : k ≡ i = omega (arith, h, more) in
-            let old : HasHeard station m (inputs i) c.index-receivers-i.result = all.each i c.index-receivers-i.result (sym (c.loop-i.invariant.rest i (omega arith)) ∙ at) in
+            let old : HasHeard config (inputs i) c.index-receivers-i.result = all.each i c.index-receivers-i.result (sym (c.loop-i.invariant.rest i (omega arith)) ∙ at) in
             let yes : c.receive.result ≡ true = marked c.loop-i.stays i c.receive.result (subst (λ n. slice_index_or (slice_set c.loop-i.stays i c.receive.result) n false ≡ true) here is) in
             let stay = c.receive.ensures.stays slot sent (inputs i) (last i) kept (subst (λ (x : Reception). IsDue c.args.config.now.late slot (last i) x) told (due i)) (rw (← c.index-receivers-i.is) old) yes in
-            subst (λ n. StaysShown station m (inputs n) (received (slice_index_or c.args.receptions.now n Lost) slot sent (inputs n))) (sym here)
-            (subst (λ (x : Reception). StaysShown station m (inputs i) (received x slot sent (inputs i))) (sym told) stay)
+            subst (λ n. StaysShown config (inputs n) (received (slice_index_or c.args.receptions.now n Lost) slot sent (inputs n))) (sym here)
+            (subst (λ (x : Reception). StaysShown config (inputs i) (received x slot sent (inputs i))) (sym told) stay)
             )
       ];
     }

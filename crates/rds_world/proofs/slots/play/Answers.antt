@@ -15,21 +15,19 @@ one_later xs i x h e =
 
 pub loop-i-preserved : goal.loop-i-preserved
 loop-i-preserved c =
-    let station = c.args.config.head in
-    let m = c.args.config.dwell in
-    let k = c.args.config.late in
+    let config = c.args.config in
     let i = c.loop-i.i in
     let events = c.args.events.now in
     let before = reverse (take i events) in
     let e = c.index-events-i.result in
     let later = one_later events i e c.loop-i-test.true c.index-events-i.is in
     let step = c.in-Ok-step.ensures in
-    let taken : CanBeTaken k c.args.receivers e before =
-    subst (λ (n : ℕ). CanBeTaken k n e before) c.loop-i.invariant.count (step.refused station m k before c.loop-i.invariant.stands) in
+    let taken : CanBeTaken config.late c.args.receivers e before =
+    subst (λ (n : ℕ). CanBeTaken config.late n e before) c.loop-i.invariant.count (step.refused config before c.loop-i.invariant.stands) in
     let at : slice_get events i ≡ Some e = slice_get_read events (length events) i e refl c.loop-i-test.true c.index-events-i.is in
     record {
-      stands = subst (λ (xs : List Event). StandsAt station m k c.step.new.self xs) later (step.stands station m k before c.loop-i.invariant.stands);
-      safe = subst (λ (xs : List Event). OnlyWhatWasOnAirIsShown m k xs c.step.new.self.receivers) later (step.safe station m k before c.loop-i.invariant.stands);
+      stands = subst (λ (xs : List Event). StandsAt config c.step.new.self xs) later (step.stands config before c.loop-i.invariant.stands);
+      safe = subst (λ (xs : List Event). OnlyWhatWasOnAirIsShown config xs c.step.new.self.receivers) later (step.safe config before c.loop-i.invariant.stands);
       count = step.count ∙ c.loop-i.invariant.count;
       few = c.loop-i.invariant.few;
       good = below_more _ _ c.loop-i.invariant.good (rw at taken);

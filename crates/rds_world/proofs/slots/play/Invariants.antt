@@ -6,8 +6,8 @@ use Rattle.rds_world.proofs.slots.play.Given as goal
 
 abbrev pub invariant-loop-i : goal.invariant-loop-i
 invariant-loop-i l = record {
-  stands : StandsAt l.fn.config.head l.fn.config.dwell l.fn.config.late l.world (reverse (take l.i l.events));
-  safe : OnlyWhatWasOnAirIsShown l.fn.config.dwell l.fn.config.late (reverse (take l.i l.events)) l.world.receivers;
+  stands : StandsAt l.fn.config l.world (reverse (take l.i l.events));
+  safe : OnlyWhatWasOnAirIsShown l.fn.config (reverse (take l.i l.events)) l.world.receivers;
   count : length l.world.receivers ≡ l.fn.receivers;
   few : l.fn.receivers ≤ 8;
   good : (place : ℕ) → place < l.i → IsTaken l.fn.config.late l.fn.receivers l.events place;

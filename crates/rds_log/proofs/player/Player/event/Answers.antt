@@ -3,7 +3,7 @@ use Rattle.std.proofs.lemmas.List.{length-map, take_at}
 use Rattle.rds_world.specs.Event.{Event}
 use Rattle.rds_world.specs.Slots.{input_of}
 use Rattle.rds_world.specs.Standing.{IsViewOfInput}
-use Rattle.rds_world.specs.State.{WorldState}
+use Rattle.rds_world.specs.State.{WorldState, distance}
 use Rattle.rds_log.specs.Kept.{view_kept}
 use Rattle.rds_log.specs.Outcomes.{view_at}
 use Rattle.rds_log.specs.Playing.{HasWorld, WereShown}
@@ -12,26 +12,26 @@ use Rattle.rds_log.proofs.Playing.{shown_now, slot_written}
 use Rattle.rds_log.proofs.player.Player.event.Goals as goal
 
 pub returns-clause-stands : goal.returns-clause-stands
-returns-clause-stands c form station m k receivers records written s t row says =
+returns-clause-stands c played s t row says =
+    let config = played.config in
+    let receivers = played.receivers in
     let views = map view_kept c.push_views.new.shown in
     let command : c.event.inside.command ≡ c.args.event.now.command = ap (λ (e : Event). e.command) c.event.view_is in
-    let had : HasWorld station m k receivers (Some c.in-Some.world) s.events = subst (λ (w : Option WorldState). HasWorld station m k receivers w s.events) c.in-Some.is s.world in
-    let taken = c.in-Ok.ensures.refused station m k s.events had.0 in
+    let had : HasWorld config receivers (Some c.in-Some.world) s.events = subst (λ (w : Option WorldState). HasWorld config receivers w s.events) c.in-Some.is s.world in
+    let taken = c.in-Ok.ensures.refused config s.events had.0 in
     let joined : length c.args.event.now.receptions ≡ length c.in-Some.world.receivers = taken.count in
     let world_count : length c.step.new.self.receivers ≡ length c.in-Some.world.receivers = c.in-Ok.ensures.count in
     let as_many : length c.args.self.now.shown.items ≡ length c.step.new.self.receivers = s.kept ∙ sym had.1 ∙ sym world_count in
-    let world = c.in-Ok.ensures.stands station m k s.events had.0 in
+    let world = c.in-Ok.ensures.stands config s.events had.0 in
     let lent = c.as_mut_slice.ensures.value in
     let kept : length c.push_views.new.shown ≡ length c.args.self.now.shown.items = c.push_views.ensures.count ∙ ap length lent in
     let shown : length views ≡ length c.args.self.now.shown.items = length-map c.push_views.new.shown view_kept ∙ kept in
-    let were : WereShown station m (m + k) (length c.args.self.now.shown.items) (c.args.event.now ∷ s.events) (map view_kept c.args.self.now.shown.items) =
-    λ i within. subst (IsViewOfInput station m (input_of (m + k) i s.events)) (sym (s.shown i)) (shown_now station m k receivers records s.events s.outcomes s.rows s.are i (omega (arith, within, s.kept))) in
+    let were : WereShown config (length c.args.self.now.shown.items) (c.args.event.now ∷ s.events) (map view_kept c.args.self.now.shown.items) =
+    λ i within. subst (IsViewOfInput config (input_of (distance config) i s.events)) (sym (s.shown i)) (shown_now config receivers played.records s.events s.outcomes s.rows s.are i (omega (arith, within, s.kept))) in
     let back = take_at c.push_views.new.shown (drop (length c.push_views.new.shown) c.args.self.now.shown.items) (length c.args.self.now.shown.items) kept in
     record {
       form_is = s.form_is;
-      head = s.head;
-      dwell = s.dwell;
-      late = s.late;
+      config_is = s.config_is;
       allowed = s.allowed;
       events = c.args.event.now ∷ s.events;
       rows = (says, rw had.1 at taken, s.rows);
@@ -40,16 +40,16 @@ returns-clause-stands c form station m k receivers records written s t row says 
       are = (
         record {
           command = command;
-          reply = c.in-Ok.ensures.reply station m k s.events had.0;
-          sent = c.in-Ok.ensures.sent station m k s.events had.0;
+          reply = c.in-Ok.ensures.reply config s.events had.0;
+          sent = c.in-Ok.ensures.sent config s.events had.0;
           receivers = shown ∙ s.kept ∙ sym had.1 ∙ sym joined;
-          views = λ i within. c.push_views.ensures.views (ap length lent ∙ as_many) station m k (c.args.event.now ∷ s.events) world (rw lent were) i (omega (arith, within, shown, ap length lent));
+          views = λ i within. c.push_views.ensures.views (ap length lent ∙ as_many) config (c.args.event.now ∷ s.events) world (rw lent were) i (omega (arith, within, shown, ap length lent));
         },
         s.are,
       );
       slot = ap (λ (n : ℕ). n + 1) s.slot ∙ add-one (length s.outcomes);
       shown = λ i. ap (λ (l : List KeptView). view_at (map view_kept l) i) back;
       kept = ap length back ∙ kept ∙ s.kept;
-      lines = slot_written form c.args.self.now.slot (length c.args.self.now.shown.items) c.event.inside.command c.in-Ok.answer.reply c.in-Ok.answer.sent (map view_kept c.args.self.now.shown.items) views s.outcomes written
+      lines = slot_written played.form c.args.self.now.slot (length c.args.self.now.shown.items) c.event.inside.command c.in-Ok.answer.reply c.in-Ok.answer.sent (map view_kept c.args.self.now.shown.items) views s.outcomes played.written
           c.push_answer.new.lines c.push_views.new.lines s.lines s.slot s.shown (sym shown) (search rules) (rw lent at (c.push_views.ensures.lines (ap length lent ∙ as_many)));
     }

@@ -8,26 +8,22 @@ use Rattle.rds_world.proofs.world.World.new.Goals as goal
 
 pub returns-clause-stands : goal.returns-clause-stands
 returns-clause-stands c =
-    let station = c.args.config.head in
-    let m = c.args.config.dwell in
-    let k = c.args.config.late in
+    let config = c.args.config in
     let made = c.eight_receivers.result in
     let one = c.new-3.ensures in
     record {
-      head = refl;
-      dwell = refl;
-      late = refl;
-      lasts = some_slots station m made c.eight_receivers.ensures (omega (arith, c.eight_receivers.type_inv));
+      is_set = refl;
+      lasts = some_slots config made c.eight_receivers.ensures (omega (arith, c.eight_receivers.type_inv));
       values = tt;
       due = tt;
       encoder = c.new-2.ensures.first;
       receivers = record {
-        each = λ i r e. heard_nothing station m 0 r
-            (one_of_first (IsNew station m) c.args.receivers made i r c.eight_receivers.ensures e);
+        each = λ i r e. heard_nothing config 0 r
+            (one_of_first (IsNew config) c.args.receivers made i r c.eight_receivers.ensures e);
       };
       reaches = record {
-        each = λ i reach e. one_of_first (λ n. n ≡ 1) c.args.receivers _ i reach (one, (one, (one, (one, (one, (one, (one, (one, tt)))))))) e ∙ at_first k;
+        each = λ i reach e. one_of_first (λ n. n ≡ 1) c.args.receivers _ i reach (one, (one, (one, (one, (one, (one, (one, (one, tt)))))))) e ∙ at_first config.late;
       };
-      sent = subst (λ (b : Buffer (Option Message)). AreLastSent station.pi k [] b.items) (sym c.in-Ok.ensures) (λ back within. (refl, (None, refl)));
+      sent = subst (λ (b : Buffer (Option Message)). AreLastSent config [] b.items) (sym c.in-Ok.ensures) (λ back within. (refl, (None, refl)));
       stay = λ i is. tt;
     }

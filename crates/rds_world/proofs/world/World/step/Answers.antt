@@ -10,20 +10,20 @@ use Rattle.rds_world.specs.Event.{Event}
 use Rattle.rds_world.specs.Late.{Input}
 use Rattle.rds_world.specs.Slots.{commanded, entries, input_of, log, received, sent_at}
 use Rattle.rds_world.specs.Standing.{AllHaveHeard, AreLastSent, HaveReaches, StandsAt}
-use Rattle.rds_world.specs.State.{WorldState}
+use Rattle.rds_world.specs.State.{WorldState, distance}
 use Rattle.rds_world.proofs.DueSteps.{one_more_sent}
 use Rattle.rds_world.proofs.Stepped.{by_own, front_is, stepped}
 use Rattle.std.proofs.lemmas.List.{length-take-le}
 use Rattle.rds_world.proofs.world.World.step.Goals as goal
 
 pub returns-clause-stands : goal.returns-clause-stands
-returns-clause-stands c station m k events st =
+returns-clause-stands c config events st =
     let at = rw (← c.self.view_is) at st in
-    let own = by_own station m k _ events at in
+    let own = by_own config _ events at in
     let world = c.self.inside in
-    let head = world.config.head in
-    let dwell = world.config.dwell in
-    let late = world.config.late in
+    let set = world.config in
+    let late = set.late in
+    let apart = distance set in
     let before = entries events in
     let e : Event = c.args.event.now in
     let now : Event = record { command = c.event.inside.command; free = c.event.inside.free; receptions = c.event.inside.receptions.items } in
@@ -31,39 +31,37 @@ returns-clause-stands c station m k events st =
     let due : IsDueToAll late e events = c.in-Ok.ensures.due events own.reaches in
     let due_now : IsDueToAll late now events = subst (λ (x : Event). IsDueToAll late x events) (sym same) due in
     let done = c.obey-reply.ensures.stands before own.encoder in
-    let ticked = c.tick-sent.ensures.stands head (dwell + late) (commanded now.command before) done in
-    let sent = c.tick-sent.ensures.sent head (dwell + late) (commanded now.command before) done in
-    let all_sent = log (dwell + late) (now ∷ events) in
-    let kept : AreLastSent head.pi late all_sent c.push.new.self.items =
-    subst (λ (b : Buffer (Option Message)). AreLastSent head.pi late all_sent b.items) (sym c.push.ensures)
-    (subst (λ (n : ℕ). AreLastSent head.pi late all_sent (take n (c.heard.result ∷ world.recent.items))) (sym c.self.invariant.3)
-    (one_more_sent head late (sent_at (dwell + late) now events) c.tick-sent.result c.heard.result (log (dwell + late) events) world.recent.items sent c.heard.ensures own.sent)) in
+    let ticked = c.tick-sent.ensures.stands set.head apart (commanded now.command before) done in
+    let sent = c.tick-sent.ensures.sent set.head apart (commanded now.command before) done in
+    let all_sent = log apart (now ∷ events) in
+    let kept : AreLastSent set all_sent c.push.new.self.items =
+    subst (λ (b : Buffer (Option Message)). AreLastSent set all_sent b.items) (sym c.push.ensures)
+    (subst (λ (n : ℕ). AreLastSent set all_sent (take n (c.heard.result ∷ world.recent.items))) (sym c.self.invariant.3)
+    (one_more_sent set (sent_at apart now events) c.tick-sent.result c.heard.result (log apart events) world.recent.items sent c.heard.ensures own.sent)) in
     let told = sym c.as_slice-receptions.ensures.value in
     let due_told = subst (λ (xs : List Reception). (i : ℕ) → IsDue late (length events) (last_named i events) (slice_index_or xs i Lost)) told due_now in
-    let heard = c.hand_out-self-inside.ensures.heard (length events) all_sent (λ i. input_of (dwell + late) i events) (λ i. last_named i events) kept due_told own.receivers in
-    let old : WorldState = record { head = head; dwell = dwell; late = late; encoder = world.encoder; receivers = take world.count world.receivers; stays = world.stays; reaches = take world.count world.reaches; sent = world.recent.items } in
+    let heard = c.hand_out-self-inside.ensures.heard (length events) all_sent (λ i. input_of apart i events) (λ i. last_named i events) kept due_told own.receivers in
+    let old : WorldState = record { config = set; encoder = world.encoder; receivers = take world.count world.receivers; stays = world.stays; reaches = take world.count world.reaches; sent = world.recent.items } in
     let new : WorldState = record {
-      head = head;
-      dwell = dwell;
-      late = late;
+      config = set;
       encoder = c.tick-sent.new.self;
       receivers = take world.count (c.hand_out-self-inside.new.receivers ++ drop world.count world.receivers);
       stays = c.hand_out-self-inside.result;
       reaches = take world.count c.in-Ok.reaches;
       sent = c.push.new.self.items;
     } in
-    let inputs : ℕ → Input = λ i. received (slice_index_or now.receptions i Lost) (length events) all_sent (input_of (dwell + late) i events) in
-    let all : AllHaveHeard head dwell inputs new.receivers =
-    subst (λ (rs : List ReceiverState). AllHaveHeard head dwell inputs rs)
+    let inputs : ℕ → Input = λ i. received (slice_index_or now.receptions i Lost) (length events) all_sent (input_of apart i events) in
+    let all : AllHaveHeard set inputs new.receivers =
+    subst (λ (rs : List ReceiverState). AllHaveHeard set inputs rs)
     (front_is c.hand_out-self-inside.new.receivers world.receivers world.count c.hand_out-self-inside.ensures.count c.self.invariant.0 c.self.invariant.1)
     (rw c.as_slice-receptions.ensures.value at heard) in
     let many : length (take world.count world.reaches) ≡ world.count = length-take-le world.count world.reaches (omega (arith, c.self.invariant.0, c.self.invariant.2)) in
     let reaches : HaveReaches late (now ∷ events) new.reaches =
     subst (λ (x : Event). HaveReaches late (x ∷ events) new.reaches) (sym same)
     (subst (λ (n : ℕ). HaveReaches late (e ∷ events) (take n c.in-Ok.reaches)) many (c.in-Ok.ensures.reaches events own.reaches)) in
-    let stay = rw c.as_slice-receptions.ensures.value at (c.hand_out-self-inside.ensures.stays (length events) all_sent (λ i. input_of (dwell + late) i events) (λ i. last_named i events) kept due_told own.receivers) in
-    subst (λ (x : Event). StandsAt station m k new (x ∷ events)) same
-    (stepped station m k old new events now at refl refl refl c.obey-reply.ensures.value due_now ticked all reaches kept stay)
+    let stay = rw c.as_slice-receptions.ensures.value at (c.hand_out-self-inside.ensures.stays (length events) all_sent (λ i. input_of apart i events) (λ i. last_named i events) kept due_told own.receivers) in
+    subst (λ (x : Event). StandsAt config new (x ∷ events)) same
+    (stepped config old new events now at refl c.obey-reply.ensures.value due_now ticked all reaches kept stay)
 
 pub returns-clause-safe : goal.returns-clause-safe
-returns-clause-safe c station m k events st = c.only_what_was_on_air_is_shown.ensures station m k _ _ (returns-clause-stands c station m k events st)
+returns-clause-safe c config events st = c.only_what_was_on_air_is_shown.ensures config _ _ (returns-clause-stands c config events st)

@@ -1,0 +1,35 @@
+use Rattle.std.proofs.Common.{◌^◌}
+use Rattle.rds_charset.specs.Told.{traffic}
+use Rattle.rds_log.specs.LentReads.{failed_behind, plays_by}
+use Rattle.rds_log.specs.declared.form.Form.TheVariants.{Log, Simulation}
+use Rattle.rds_run.proofs.program.run_task.Goals as goal
+
+pub returns-in-Encode : goal.returns-in-Encode
+returns-in-Encode g c =
+    let station = c.station_of-station.result in
+    let engine = c.encode-encoded in
+    let script = g.R.Read.remaining c.args.reader.now in
+    let w = traffic g.W.Write.contents g.W.TellingWrite.failures c.args.writer.now engine.new.writer in
+    let played = plays_by (failed_behind (λ r. r.now) g.R.TellingRead.failures) Log station (2 ^ 32) script w engine.result engine.ensures in
+    rw c.in-Encode.is record {
+      outcome = engine.result;
+      mid = g.W.Write.contents engine.new.writer;
+      failures = g.W.TellingWrite.failures engine.new.writer;
+      ran = rw c.station_of-station.ensures at played;
+      ended = rw c.in-Encode.is at c.end_with-in-Encode.ensures;
+    }
+
+pub returns-in-Simulate : goal.returns-in-Simulate
+returns-in-Simulate g c =
+    let station = c.station_of-station-in-Simulate.result in
+    let engine = c.simulate-simulated in
+    let script = g.R.Read.remaining c.args.reader.now in
+    let w = traffic g.W.Write.contents g.W.TellingWrite.failures c.args.writer.now engine.new.writer in
+    let played = plays_by (failed_behind (λ r. r.now) g.R.TellingRead.failures) Simulation station (2 ^ 32) script w engine.result engine.ensures in
+    rw c.in-Simulate.is record {
+      outcome = engine.result;
+      mid = g.W.Write.contents engine.new.writer;
+      failures = g.W.TellingWrite.failures engine.new.writer;
+      ran = rw c.station_of-station-in-Simulate.ensures at played;
+      ended = rw c.in-Simulate.is at c.end_with-in-Simulate.ensures;
+    }
