@@ -10,7 +10,7 @@ use Rattle.rds_charset.specs.Puts.{AppendsPrefix-append}
 use Rattle.rds_receiver.specs.Receipts.{Tuning}
 use Rattle.rds_log.specs.LogLines.{Line, line_feed, text_of}
 use Rattle.rds_log.specs.Decoding.{LinesWrite}
-use Rattle.rds_log.specs.Standing.{DecoderStandsAt, Ends, FailsIn, GoesOn, IsBadAt}
+use Rattle.rds_log.specs.Standing.{DecoderStandsAt, Ends, FailsIn, GoesOn, IsBadAt, decoded}
 use Rattle.rds_log.specs.Engine.{Decodes, EndsWith, Feeds, Finishes, GoesThrough, StopsAtBadLine, StopsAtWrite, StopsBetween}
 use Rattle.rds_log.specs.declared.decoder.Decoder.{Decoder}
 use Rattle.rds_log.specs.declared.fault.BadLine as fault
@@ -40,7 +40,7 @@ feeds_none t d closed begun written a f s = record {
 
 -- n bytes more, of which the output was written
 pub feeds_more : (t : Tuning) (d after : Decoder) (text bytes written out : List ℕ) (i n : ℕ) (a b c : Option (List ℕ)) (f g h : ℕ) (gone : GoesThrough t d (text ++ take i bytes) (from a b f g) written)
-    → GoesOn t after gone.lines gone.line (take n (drop i bytes)) (written ++ gone.added) [] out → Appends b c out → h ≡ g
+    → GoesOn after (decoded t gone.lines gone.line (written ++ gone.added)) (take n (drop i bytes)) [] out → Appends b c out → h ≡ g
     → GoesThrough t after (text ++ take (i + n) bytes) (from a c f h) written
 feeds_more t d after text bytes written out i n a b c f g h gone step put calm = record {
   lines = step.lines;
@@ -59,7 +59,7 @@ rest_cut text bytes before i cut =
 
 -- a bad line, after whose lines before the output was written
 pub feeds_bad : (t : Tuning) (d : Decoder) (text bytes written out : List ℕ) (i number : ℕ) (a b c : Option (List ℕ)) (f g h : ℕ) (gone : GoesThrough t d (text ++ take i bytes) (from a b f g) written)
-    → FailsIn t number gone.lines gone.line (drop i bytes) (written ++ gone.added) [] out → Appends b c out → h ≡ g
+    → FailsIn number (decoded t gone.lines gone.line (written ++ gone.added)) (drop i bytes) [] out → Appends b c out → h ≡ g
     → (left : Option (List ℕ)) → StopsAtBadLine t number (text ++ bytes) left (from a c f h) written
 feeds_bad t d text bytes written out i number a b c f g h gone fails put calm left = record {
   lines = fails.lines;
@@ -76,8 +76,8 @@ feeds_bad t d text bytes written out i number a b c f g h gone fails put calm le
 -- the output went out in part
 pub feeds_cut : (t : Tuning) (d after : Decoder) (text bytes written out : List ℕ) (i : ℕ) (fed : Result ℕ fault.BadLine) (a b c : Option (List ℕ)) (f g h : ℕ)
     (gone : GoesThrough t d (text ++ take i bytes) (from a b f g) written)
-    → MatchResult fed (λ n. GoesOn t after gone.lines gone.line (take n (drop i bytes)) (written ++ gone.added) [] out)
-    (λ bad. FailsIn t bad.number gone.lines gone.line (drop i bytes) (written ++ gone.added) [] out)
+    → MatchResult fed (λ n. GoesOn after (decoded t gone.lines gone.line (written ++ gone.added)) (take n (drop i bytes)) [] out)
+    (λ bad. FailsIn bad.number (decoded t gone.lines gone.line (written ++ gone.added)) (drop i bytes) [] out)
     → AppendsPrefix b c out → Failed g h → (left : Option (List ℕ)) → StopsAtWrite t (text ++ bytes) left (from a c f h) written
 feeds_cut t d after text bytes written out i (Ok n) a b c f g h gone step part failed left =
     let n_more : text_of gone.lines gone.line ++ drop i bytes ≡ text_of step.lines step.line ++ drop n (drop i bytes) = rest_cut (text_of gone.lines gone.line) (drop i bytes) (text_of step.lines step.line) n step.text in
@@ -100,7 +100,7 @@ feeds_cut t d after text bytes written out i (Err bad) a b c f g h gone fails pa
 
 -- the end of the bytes, of which the output was written
 pub finishes : (t : Tuning) (d after : Decoder) (closed : List Line) (begun : Line) (written out : List ℕ) (a b : Option (List ℕ)) (f g : ℕ) → DecoderStandsAt t d closed begun written
-    → Ends t after closed begun written [] out → Appends a b out → g ≡ f → Finishes t (text_of closed begun) (from a b f g) written
+    → Ends after (decoded t closed begun written) [] out → Appends a b out → g ≡ f → Finishes t (text_of closed begun) (from a b f g) written
 finishes t d after closed begun written out a b f g s (inl (empty, none, u)) put calm = record {
   added = [];
   write = record { cut = closed; are = (closed, begun, refl, s.cutter.lines, s.cutter.line, inl (empty, refl)); write = rw (append-nil written) (lines_write t after closed [] written u) };
@@ -133,7 +133,7 @@ finishes_bad t d number closed begun written out a b f g s (none, bad) put calm 
 -- the last output went out in part
 pub finishes_cut : (t : Tuning) (d after : Decoder) (closed : List Line) (begun : Line) (written out : List ℕ) (finished : Result (Unit {0}) fault.BadLine) (a b : Option (List ℕ)) (f g : ℕ)
     → DecoderStandsAt t d closed begun written
-    → MatchResult finished (λ _. Ends t after closed begun written [] out) (λ bad. (out ≡ []) × IsBadAt t bad.number closed begun written)
+    → MatchResult finished (λ _. Ends after (decoded t closed begun written) [] out) (λ bad. (out ≡ []) × IsBadAt t bad.number closed begun written)
     → AppendsPrefix a b out → Failed f g → (left : Option (List ℕ)) → IsAtEnd left → StopsAtWrite t (text_of closed begun) left (from a b f g) written
 finishes_cut t d after closed begun written out (Ok done) a b f g s (inl (empty, none, u)) part failed left end = record {
   lines = closed;

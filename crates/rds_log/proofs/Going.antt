@@ -6,14 +6,14 @@ use Rattle.rds_receiver.specs.Receipts.{Tuning}
 use Rattle.rds_log.specs.LogLines.{EndsAt, Line, text_of}
 use Rattle.rds_log.specs.Cutting.{Closes, CutterStandsAt, IsBadLine}
 use Rattle.rds_log.specs.Viewing.{ViewsStandAt}
-use Rattle.rds_log.specs.Standing.{DecoderStandsAt, FailsIn, GivesLine, GoesOn, IsBadAt}
+use Rattle.rds_log.specs.Standing.{DecoderStandsAt, FailsIn, GivesLine, GoesOn, IsBadAt, decoded}
 use Rattle.rds_log.specs.declared.decoder.Decoder.{Decoder}
 use Rattle.rds_log.specs.declared.log_line.LogLine.TheVariants.{Skip, Slot}
 use Rattle.rds_log.proofs.Cutting.{text_of-end, text_of-line, text_of-rest}
 
 -- the end of a line that is skipped
 pub closes_skip : (t : Tuning) (d after : Decoder) (closed : List Line) (begun line : Line) (written output : List ℕ) → DecoderStandsAt t d closed begun written
-    → Closes after.cutter closed line Skip → after.views ≡ d.views → GivesLine t after closed line written output output
+    → Closes after.cutter closed line Skip → after.views ≡ d.views → GivesLine after (decoded t closed begun written) line output output
 closes_skip t d after closed begun line written output s c views = record {
   added = [];
   output = sym (append-nil output);
@@ -29,7 +29,7 @@ closes_skip t d after closed begun line written output s c views = record {
 pub closes_slot : (t : Tuning) (d after : Decoder) (closed : List Line) (begun line : Line) (written before now : List ℕ) (slot : Option Group) (s : DecoderStandsAt t d closed begun written)
     → Closes after.cutter closed line (Slot slot)
     → (added : List ℕ) × (now ≡ before ++ added) × ViewsStandAt t after.views (slot ∷ s.slots) (written ++ added)
-    → GivesLine t after closed line written before now
+    → GivesLine after (decoded t closed begun written) line before now
 closes_slot t d after closed begun line written before now slot s c (added, output, views) = record {
   added = added;
   output = output;
@@ -50,7 +50,7 @@ fails_bad t d closed begun line written n s bad = record {
 }
 
 -- nothing was taken yet
-pub goes_none : (t : Tuning) (d : Decoder) (closed : List Line) (begun : Line) (written output : List ℕ) → DecoderStandsAt t d closed begun written → GoesOn t d closed begun [] written output output
+pub goes_none : (t : Tuning) (d : Decoder) (closed : List Line) (begun : Line) (written output : List ℕ) → DecoderStandsAt t d closed begun written → GoesOn d (decoded t closed begun written) [] output output
 goes_none t d closed begun written output s = record {
   lines = closed;
   line = begun;
@@ -62,9 +62,9 @@ goes_none t d closed begun written output s = record {
 
 -- a whole line more
 pub goes_line : (t : Tuning) (d after : Decoder) (closed : List Line) (begun : Line) (bytes written first before now : List ℕ) (i n : ℕ)
-    → EndsAt (drop i bytes) n → GoesOn t d closed begun (take i bytes) written first before
-    → ((lines : List Line) (line : Line) (given : List ℕ) → DecoderStandsAt t d lines line given → GivesLine t after lines (line ++ take n (drop i bytes)) given before now)
-    → GoesOn t after closed begun (take (i + (n + 1)) bytes) written first now
+    → EndsAt (drop i bytes) n → GoesOn d (decoded t closed begun written) (take i bytes) first before
+    → ((lines : List Line) (line : Line) (given : List ℕ) → DecoderStandsAt t d lines line given → GivesLine after (decoded t lines line given) (line ++ take n (drop i bytes)) before now)
+    → GoesOn after (decoded t closed begun written) (take (i + (n + 1)) bytes) first now
 goes_line t d after closed begun bytes written first before now i n ends gone step =
     let next = step gone.lines gone.line (written ++ gone.added) gone.stands in
     record {
@@ -79,7 +79,7 @@ goes_line t d after closed begun bytes written first before now i n ends gone st
 -- the bytes after the last line feed
 pub goes_rest : (t : Tuning) (d after : Decoder) (closed : List Line) (begun : Line) (bytes written first before : List ℕ) (i : ℕ)
     → ((lines : List Line) (line : Line) → CutterStandsAt d.cutter lines line → CutterStandsAt after.cutter lines (line ++ drop i bytes)) → after.views ≡ d.views
-    → GoesOn t d closed begun (take i bytes) written first before → GoesOn t after closed begun bytes written first before
+    → GoesOn d (decoded t closed begun written) (take i bytes) first before → GoesOn after (decoded t closed begun written) bytes first before
 goes_rest t d after closed begun bytes written first before i cuts views gone = record {
   lines = gone.lines;
   line = gone.line ++ drop i bytes;
@@ -96,9 +96,9 @@ goes_rest t d after closed begun bytes written first before i cuts views gone = 
 
 -- a line that ends in these bytes is bad
 pub fails_line : (t : Tuning) (d : Decoder) (number : ℕ) (closed : List Line) (begun : Line) (bytes written first before now : List ℕ) (i n : ℕ)
-    → EndsAt (drop i bytes) n → GoesOn t d closed begun (take i bytes) written first before
+    → EndsAt (drop i bytes) n → GoesOn d (decoded t closed begun written) (take i bytes) first before
     → ((lines : List Line) (line : Line) (given : List ℕ) → DecoderStandsAt t d lines line given → (now ≡ before) × IsBadAt t number lines (line ++ take n (drop i bytes)) given)
-    → FailsIn t number closed begun bytes written first now
+    → FailsIn number (decoded t closed begun written) bytes first now
 fails_line t d number closed begun bytes written first before now i n ends gone step =
     let (same, bad) = step gone.lines gone.line (written ++ gone.added) gone.stands in
     record {

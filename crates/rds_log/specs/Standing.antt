@@ -17,18 +17,27 @@ pub record DecoderStandsAt (t : Tuning) (d : Decoder) (closed : List Line) (begu
   pub say : AreSlots closed slots
   pub views : ViewsStandAt t d.views slots written
 
--- wherever the decoder stands, this holds of what it took and gave
-abbrev pub WhereItStands : Decoder → (Tuning → List Line → Line → List ℕ → Type 0) → Type 0
-WhereItStands d Holds =
-    (t : Tuning) (closed : List Line) (begun : Line) (written : List ℕ) → DecoderStandsAt t d closed begun written
-    → Holds t closed begun written
+-- what a decoder took and gave: how its receiver is tuned, the closed lines, the bytes of the begun one, and the output
+-- of the closed ones
+pub record Decoded : Type 0 where
+  pub tuning : Tuning
+  pub closed : List Line
+  pub begun : Line
+  pub written : List ℕ
 
--- the line was closed, and its output came to what waits
-pub record GivesLine (t : Tuning) (d : Decoder) (closed : List Line) (line : Line)
-    (written before after : List ℕ) : Type 0 where
+abbrev pub decoded : Tuning → List Line → Line → List ℕ → Decoded
+decoded t closed begun written = record { tuning = t; closed = closed; begun = begun; written = written }
+
+-- wherever the decoder stands, this holds of what it took and gave
+abbrev pub WhereItStands : Decoder → (Decoded → Type 0) → Type 0
+WhereItStands d Holds =
+    (was : Decoded) → DecoderStandsAt was.tuning d was.closed was.begun was.written → Holds was
+
+-- after these lines this one was closed, and its output came to what waits
+pub record GivesLine (d : Decoder) (was : Decoded) (line : Line) (before after : List ℕ) : Type 0 where
   pub added : List ℕ
   pub output : after ≡ before ++ added
-  pub stands : DecoderStandsAt t d (line ∷ closed) [] (written ++ added)
+  pub stands : DecoderStandsAt was.tuning d (line ∷ was.closed) [] (was.written ++ added)
 
 -- the line after the closed ones is bad, which the closed ones are not
 pub record IsBadAt (t : Tuning) (n : ℕ) (closed : List Line) (line : Line) (written : List ℕ) : Type 0 where
@@ -36,28 +45,26 @@ pub record IsBadAt (t : Tuning) (n : ℕ) (closed : List Line) (line : Line) (wr
   pub write : LinesWrite t closed written
 
 -- the decoder went on by these bytes
-pub record GoesOn (t : Tuning) (d : Decoder) (closed : List Line) (begun : Line)
-    (bytes written before after : List ℕ) : Type 0 where
+pub record GoesOn (d : Decoder) (was : Decoded) (bytes before after : List ℕ) : Type 0 where
   pub lines : List Line
   pub line : Line
   pub added : List ℕ
-  pub text : text_of closed begun ++ bytes ≡ text_of lines line
+  pub text : text_of was.closed was.begun ++ bytes ≡ text_of lines line
   pub output : after ≡ before ++ added
-  pub stands : DecoderStandsAt t d lines line (written ++ added)
+  pub stands : DecoderStandsAt was.tuning d lines line (was.written ++ added)
 
 -- a line that these bytes close is bad
-pub record FailsIn (t : Tuning) (n : ℕ) (closed : List Line) (begun : Line)
-    (bytes written before after : List ℕ) : Type 0 where
+pub record FailsIn (n : ℕ) (was : Decoded) (bytes before after : List ℕ) : Type 0 where
   pub lines : List Line
   pub line : Line
   pub rest : List ℕ
   pub added : List ℕ
-  pub text : text_of closed begun ++ bytes ≡ text_of lines line ++ line_feed ∷ rest
+  pub text : text_of was.closed was.begun ++ bytes ≡ text_of lines line ++ line_feed ∷ rest
   pub output : after ≡ before ++ added
-  pub bad : IsBadAt t n lines line (written ++ added)
+  pub bad : IsBadAt was.tuning n lines line (was.written ++ added)
 
 -- the bytes ended, with no line begun or with one, which was closed
-abbrev pub Ends : Tuning → Decoder → List Line → Line → List ℕ → List ℕ → List ℕ → Type 0
-Ends t d closed begun written before after =
-    ((begun ≡ []) × (after ≡ before) × DecoderStandsAt t d closed [] written)
-    ⊎ ((begun ≢ []) × GivesLine t d closed begun written before after)
+abbrev pub Ends : Decoder → Decoded → List ℕ → List ℕ → Type 0
+Ends d was before after =
+    ((was.begun ≡ []) × (after ≡ before) × DecoderStandsAt was.tuning d was.closed [] was.written)
+    ⊎ ((was.begun ≢ []) × GivesLine d was was.begun before after)

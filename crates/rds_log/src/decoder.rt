@@ -48,9 +48,9 @@ impl Decoder {
         ensures slots { IfOk result (λ taken. self.new.views.slot ≤ self.old.views.slot + taken) }
         ensures within { IfOk result (λ taken. taken ≤ length piece.now) }
         ensures some { output.old ≡ [] → 0 < length piece.now → IfOk result (λ taken. 0 < taken) }
-        ensures step { WhereItStands self.old (λ t closed begun written. MatchResult result
-            (λ taken. GoesOn t self.new closed begun (take taken piece.now) written output.old output.new)
-            (λ bad. FailsIn t bad.number closed begun piece.now written output.old output.new)) }
+        ensures step { WhereItStands self.old (λ was. MatchResult result
+            (λ taken. GoesOn self.new was (take taken piece.now) output.old output.new)
+            (λ bad. FailsIn bad.number was piece.now output.old output.new)) }
     {
         let mut at = 0;
         while let Some(count) = line_end(&piece[at..]) {
@@ -70,9 +70,10 @@ impl Decoder {
         requires lines { self.old.cutter.lines < 2 ^ 64 - 1 }
         requires slots { self.old.views.slot < 2 ^ 64 - 1 }
         requires room { length output.old + 1720 ≤ 8192 }
-        ensures { WhereItStands self.old (λ t closed begun written. MatchResult result
-            (λ _. Ends t self.new closed begun written output.old output.new)
-            (λ bad. (output.new ≡ output.old) × IsBadAt t bad.number closed begun written)) }
+        ensures { WhereItStands self.old (λ was. MatchResult result
+            (λ _. Ends self.new was output.old output.new)
+            (λ bad. (output.new ≡ output.old)
+            × IsBadAt was.tuning bad.number was.closed was.begun was.written)) }
     {
         if self.cutter.is_between() {
             return Ok(());
@@ -89,10 +90,10 @@ impl Decoder {
         requires line { IsLine last.now }
         ensures lines { self.new.cutter.lines ≤ self.old.cutter.lines + 1 }
         ensures slots { self.new.views.slot ≤ self.old.views.slot + 1 }
-        ensures step { WhereItStands self.old (λ t closed begun written. MatchResult result
-            (λ _. GivesLine t self.new closed (begun ++ last.now) written output.old output.new)
+        ensures step { WhereItStands self.old (λ was. MatchResult result
+            (λ _. GivesLine self.new was (was.begun ++ last.now) output.old output.new)
             (λ bad. (output.new ≡ output.old)
-            × IsBadAt t bad.number closed (begun ++ last.now) written)) }
+            × IsBadAt was.tuning bad.number was.closed (was.begun ++ last.now) was.written)) }
     {
         match self.cutter.close(last)? {
             LogLine::Skip => {}

@@ -80,9 +80,9 @@ fn feed<W: TellingWrite>(
     ensures lines { OnOk result (decoder.new.cutter.lines ≤ decoder.old.cutter.lines + length piece.now) }
     ensures slots { OnOk result (decoder.new.views.slot ≤ decoder.old.views.slot + length piece.now) }
     ensures empty { OnOk result (output.new ≡ []) }
-    ensures step { WhereItStands decoder.old (λ t closed begun written. Feeds t decoder.new
-        (text_of closed begun ++ piece.now) (traffic W.contents W.failures writer.old writer.new)
-        written result) }
+    ensures step { WhereItStands decoder.old (λ was. Feeds was.tuning decoder.new
+        (text_of was.closed was.begun ++ piece.now)
+        (traffic W.contents W.failures writer.old writer.new) was.written result) }
     ensures other_fault { result ≢ Err faults.TooLong }
 {
     let mut at = 0;
@@ -104,8 +104,9 @@ fn finish<W: TellingWrite>(
     requires lines { decoder.old.cutter.lines < 2 ^ 64 - 1 }
     requires slots { decoder.old.views.slot < 2 ^ 64 - 1 }
     requires empty { output.old ≡ [] }
-    ensures ends { WhereItStands decoder.old (λ t closed begun written. EndsWith t
-        (text_of closed begun) (traffic W.contents W.failures writer.old writer.new) written result) }
+    ensures ends { WhereItStands decoder.old (λ was. EndsWith was.tuning
+        (text_of was.closed was.begun) (traffic W.contents W.failures writer.old writer.new)
+        was.written result) }
     ensures other_fault { result ≢ Err faults.TooLong }
 {
     let finished = decoder.finish(output);

@@ -3,7 +3,7 @@ use Rattle.std.specs.Prelude.{◌≡◌, ◌⊎◌, ◌==◌, ℕ, List, [], Non
 use Rattle.std.specs.List.{slice_split}
 use Rattle.std.specs.Str.{IsUtf8}
 use Rattle.rds_charset.specs.Told.{PutsNothing, Traffic}
-use Rattle.rds_run.specs.Run.{RunsWords}
+use Rattle.rds_run.specs.Run.{RunsFrom, RunsWords}
 
 -- the words are the lines of a text
 abbrev pub words_in : List ℕ → List (List ℕ)
@@ -17,7 +17,7 @@ writing printed failures =
 -- what the program prints over these words and this input, and its status: as `run` says, where no read fails
 abbrev pub Prints : List (List ℕ) → List ℕ → Traffic → ℕ → Type 0
 Prints words input w status =
-    RunsWords words record { bytes = Some input; failures = 0; ReadFailed = ⊥ } w status
+    RunsWords words (RunsFrom record { bytes = Some input; failures = 0; ReadFailed = ⊥ } w status) (Unit {0}) w status
 
 -- words that are no text are refused, and nothing is printed
 abbrev pub Refuses : Traffic → ℕ → Type 0

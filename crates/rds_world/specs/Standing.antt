@@ -7,10 +7,12 @@ use Rattle.rds_receiver.specs.Receipts.{AreHeard, Hears, Tuning}
 use Rattle.rds_receiver.specs.Shown.{IsView, ShownView}
 use Rattle.rds_receiver.specs.Standing as receiver
 use Rattle.rds_receiver.specs.State.{ReceiverState}
-use Rattle.rds_world.specs.Due.{AreDue, last_named, reach_of}
+use Rattle.rds_world.specs.declared.event.Reception.{Reception}
+use Rattle.rds_world.specs.declared.event.Reception.TheVariants.{Lost}
+use Rattle.rds_world.specs.Due.{AreDue, IsDue, last_named, reach_of}
 use Rattle.rds_world.specs.Event.{Event}
 use Rattle.rds_world.specs.Late.{Input}
-use Rattle.rds_world.specs.Slots.{SetValues, entries, input_of, log, sent_back}
+use Rattle.rds_world.specs.Slots.{SetValues, entries, input_of, log, received, sent_back}
 use Rattle.rds_world.specs.State.{WorldState, distance}
 use Rattle.rds_world.specs.declared.world.Config.{Config}
 
@@ -43,6 +45,19 @@ abbrev pub AreLastSent : Config → List (Option Message) → List (Option Messa
 AreLastSent config sent messages =
     (back : ℕ) → back ≤ config.late → (slice_index_or messages back None ≡ sent_back back sent)
     × IsHeardOfSome config.head.pi (sent_back back sent)
+
+-- the inputs of all receivers after one more slot, up to which this was sent
+abbrev pub all_received : List Reception → ℕ → List (Option Message) → (ℕ → Input) → ℕ → Input
+all_received receptions slot sent inputs i = received (slice_index_or receptions i Lost) slot sent (inputs i)
+
+-- wherever these receivers may be handed these receptions, of what is kept in a slot up to which this was sent, this
+-- holds of their inputs before
+abbrev pub WhereTheyListen : Config → List Reception → List (Option Message) → List ReceiverState
+    → (ℕ → List (Option Message) → (ℕ → Input) → Type 0) → Type 0
+WhereTheyListen config receptions kept receivers Holds =
+    (slot : ℕ) (sent : List (Option Message)) (inputs : ℕ → Input) (last : ℕ → Option ℕ) → AreLastSent config sent kept
+    → ((i : ℕ) → IsDue config.late slot (last i) (slice_index_or receptions i Lost))
+    → AllHaveHeard config inputs receivers → Holds slot sent inputs
 
 -- this is how many slots back each receiver may be handed what was sent
 pub record HaveReaches (k : ℕ) (events : List Event) (reaches : List ℕ) : Type 0 where

@@ -1,5 +1,6 @@
--- What a world holds: how the station is set, its encoder, and by its number each receiver, whether it shows what it showed before the newest slot, and how many slots back it may be
--- handed what was sent; and the messages of the last slots, the newest first.
+-- What a world holds: how the station is set, its encoder, and by its number each receiver, whether it shows what it
+-- showed before the newest slot, and how many slots back it may be handed what was sent; and the messages of the last
+-- slots, the newest first.
 use Rattle.std.specs.Prelude.{ℕ, ◌+◌, Bool, List, Option}
 use Rattle.rds_fields.specs.declared.message.Message.{Message}
 use Rattle.rds_encoder.specs.State.{EncoderState}

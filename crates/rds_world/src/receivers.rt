@@ -6,7 +6,7 @@ ghost use Rattle.rds_world.specs.declared.event.Reception.TheVariants.{Lost};
 ghost use Rattle.rds_world.specs.Due.{IsDue};
 ghost use Rattle.rds_world.specs.Late.{Input};
 ghost use Rattle.rds_world.specs.Slots.{received};
-ghost use Rattle.rds_world.specs.Standing.{AllHaveHeard, AreLastSent, HasHeard, IsNew, StaysShown};
+ghost use Rattle.rds_world.specs.Standing.{AllHaveHeard, AreLastSent, HasHeard, IsNew, StaysShown, WhereTheyListen, all_received};
 
 use crate::recent::Recent;
 use crate::{Config, Reception};
@@ -41,19 +41,12 @@ pub(crate) fn hand_out(
     requires same { length receptions.now ≡ length receivers.old }
     requires few { length receivers.old ≤ 8 }
     ensures count { length receivers.new ≡ length receivers.old }
-    ensures heard { (slot : ℕ) (sent : List (Option Message)) (inputs : ℕ → Input)
-        (last : ℕ → Option ℕ) → AreLastSent config.now sent recent.now.items
-        → ((i : ℕ) → IsDue config.now.late slot (last i) (slice_index_or receptions.now i Lost))
-        → AllHaveHeard config.now inputs receivers.old
-        → AllHaveHeard config.now
-        (λ i. received (slice_index_or receptions.now i Lost) slot sent (inputs i)) receivers.new }
-    ensures stays { (slot : ℕ) (sent : List (Option Message)) (inputs : ℕ → Input)
-        (last : ℕ → Option ℕ) → AreLastSent config.now sent recent.now.items
-        → ((i : ℕ) → IsDue config.now.late slot (last i) (slice_index_or receptions.now i Lost))
-        → AllHaveHeard config.now inputs receivers.old
-        → (i : ℕ) → slice_index_or result i false ≡ true
-        → StaysShown config.now (inputs i)
-        (received (slice_index_or receptions.now i Lost) slot sent (inputs i)) }
+    ensures heard { WhereTheyListen config.now receptions.now recent.now.items receivers.old
+        (λ slot sent inputs. AllHaveHeard config.now
+        (all_received receptions.now slot sent inputs) receivers.new) }
+    ensures stays { WhereTheyListen config.now receptions.now recent.now.items receivers.old
+        (λ slot sent inputs. (i : ℕ) → slice_index_or result i false ≡ true
+        → StaysShown config.now (inputs i) (all_received receptions.now slot sent inputs i)) }
 {
     let mut stays = [false; 8];
     for i in 0..receivers.len() {

@@ -5,6 +5,7 @@ use Rattle.rds_charset.specs.Told.{count_next, count_none}
 use Rattle.rds_log.specs.Decoding.{tuned}
 use Rattle.rds_log.specs.declared.fault.LogFault.TheVariants.{Read, TooLong}
 use Rattle.std.specs.Prelude.{Err}
+use Rattle.rds_log.specs.Standing.{decoded}
 use Rattle.rds_log.proofs.CountedReads.{stops_in_read}
 use Rattle.rds_log.proofs.Ending.{ends_log, reads_piece, stops_in_piece}
 use Rattle.rds_log.proofs.engine.decode_within.Goals as goal
@@ -16,7 +17,7 @@ returns-in-Some-eq0-clause-decodes g c =
     ends_log (tuned c.args.pi c.args.dwell) c.args.reads (g.R.Read.remaining c.args.reader.now) (g.R.Read.remaining c.loop-turn.reader) (g.R.Read.remaining c.read_one.new.self) (g.W.Write.contents c.args.writer.now) (g.W.Write.contents c.loop-turn.writer) (g.W.Write.contents c.finish.new.writer)
     (g.R.TellingRead.failures c.args.reader.now) (g.R.TellingRead.failures c.read_one.new.self) (g.W.TellingWrite.failures c.args.writer.now) (g.W.TellingWrite.failures c.loop-turn.writer) (g.W.TellingWrite.failures c.finish.new.writer)
     c.loop-turn.decoder c.finish.result c.loop-turn._turn s (rw c.in-Some-eq0.field-0-test at gave) (end c.in-Some-eq0.field-0-test (omega (arith, c.read_one.auto.buf)))
-    (calm ∙ c.loop-turn.invariant.read_calm) c.loop-turn.invariant.write_calm (c.finish.ensures.ends (tuned c.args.pi c.args.dwell) s.closed s.begun s.written s.stands)
+    (calm ∙ c.loop-turn.invariant.read_calm) c.loop-turn.invariant.write_calm (c.finish.ensures.ends (decoded (tuned c.args.pi c.args.dwell) s.closed s.begun s.written) s.stands)
 
 pub returns-in_err-feed-in-Some-clause-decodes : goal.returns-in_err-feed-in-Some-clause-decodes
 returns-in_err-feed-in-Some-clause-decodes g c =
@@ -26,7 +27,7 @@ returns-in_err-feed-in-Some-clause-decodes g c =
     rw (p.1, p.2) (stops_in_piece (tuned c.args.pi c.args.dwell) c.args.reads (g.R.Read.remaining c.args.reader.now) (g.R.Read.remaining c.loop-turn.reader) (g.R.Read.remaining c.read_one.new.self) (g.W.Write.contents c.args.writer.now) (g.W.Write.contents c.loop-turn.writer) (g.W.Write.contents c.feed.new.writer)
     (g.R.TellingRead.failures c.args.reader.now) (g.R.TellingRead.failures c.read_one.new.self) (g.W.TellingWrite.failures c.args.writer.now) (g.W.TellingWrite.failures c.loop-turn.writer) (g.W.TellingWrite.failures c.feed.new.writer)
     c.loop-turn.decoder c.feed.new.decoder c.in_err-feed-in-Some.field-0.0 c.loop-turn._turn _ s gave
-    (calm ∙ c.loop-turn.invariant.read_calm) c.loop-turn.invariant.write_calm (c.in_err-feed-in-Some.ensures.step (tuned c.args.pi c.args.dwell) s.closed s.begun s.written s.stands))
+    (calm ∙ c.loop-turn.invariant.read_calm) c.loop-turn.invariant.write_calm (c.in_err-feed-in-Some.ensures.step (decoded (tuned c.args.pi c.args.dwell) s.closed s.begun s.written) s.stands))
 
 pub loop-turn-preserved : goal.loop-turn-preserved
 loop-turn-preserved g c =
@@ -35,7 +36,7 @@ loop-turn-preserved g c =
     let size : length (take c.in-Some.count c.read_one.new.buf) ≡ c.in-Some.count = omega (arith, within, length-take c.in-Some.count c.read_one.new.buf) in
     let some = c.in-Some.count-test.1 in
     let fed = c.in_ok-feed-in-Some.ensures in
-    let gone = fed.step (tuned c.args.pi c.args.dwell) s.closed s.begun s.written s.stands in
+    let gone = fed.step (decoded (tuned c.args.pi c.args.dwell) s.closed s.begun s.written) s.stands in
     record {
       lines = omega (arith, fed.lines, c.loop-turn.invariant.lines, size, within, c.read_one.auto.buf);
       slots = omega (arith, fed.slots, c.loop-turn.invariant.slots, size, within, c.read_one.auto.buf);

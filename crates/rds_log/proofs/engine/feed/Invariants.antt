@@ -11,8 +11,8 @@ invariant-loop-at g l = record {
   empty : l.output ≡ [];
   lines : l.decoder.cutter.lines ≤ l.initial.decoder.cutter.lines + l.at;
   slots : l.decoder.views.slot ≤ l.initial.decoder.views.slot + l.at;
-  goes : WhereItStands l.initial.decoder (λ t closed begun written. GoesThrough t l.decoder (text_of closed begun ++ take l.at l.piece)
-      (traffic g.W.Write.contents g.W.TellingWrite.failures l.initial.writer l.writer) written);
+  goes : WhereItStands l.initial.decoder (λ was. GoesThrough was.tuning l.decoder (text_of was.closed was.begun ++ take l.at l.piece)
+      (traffic g.W.Write.contents g.W.TellingWrite.failures l.initial.writer l.writer) was.written);
 }
 
 abbrev pub decreases-loop-at : goal.decreases-loop-at

@@ -7,16 +7,12 @@ use Rattle.rds_page.proofs.answer.answer.Goals as goal
 
 pub returns-in_default-words_in-clause-text : goal.returns-in_default-words_in-clause-text
 returns-in_default-words_in-clause-text g c text = record {
-  runs = λ asked pi given is. (
-    record { before = Some c.args.input.now; after = Some c.args.input.now; failures_before = 0; failures_after = 0 },
-    record { bytes_are = refl; failures_are = refl },
-    inl (record { status_is = refl; told = (c.put.result, c.put.ensures) }),
-  );
-  fault_pi = λ asked given none. inl (record { status_is = refl; told = (c.put.result, c.put.ensures) });
-  nothing_asked = λ takes none. inl (record { status_is = refl; told = (c.put.result, c.put.ensures) });
-  help = λ asks. inl (record { status_is = refl; told = (c.put.result, c.put.ensures) });
-  refused = λ refused. inl (record { status_is = refl; told = (c.put.result, c.put.ensures) });
-  not_taken = λ untaken. inl (record { status_is = refl; told = (c.put.result, c.put.ensures) });
+  runs = λ asked pi given is. inl (record { status_is = refl; told = (c.put.result, c.put.ensures) }, tt);
+  fault_pi = λ asked given none. (inl (record { status_is = refl; told = (c.put.result, c.put.ensures) }), tt);
+  nothing_asked = λ takes none. (inl (record { status_is = refl; told = (c.put.result, c.put.ensures) }), tt);
+  help = λ asks. (inl (record { status_is = refl; told = (c.put.result, c.put.ensures) }), tt);
+  refused = λ refused. (inl (record { status_is = refl; told = (c.put.result, c.put.ensures) }), tt);
+  not_taken = λ untaken. (inl (record { status_is = refl; told = (c.put.result, c.put.ensures) }), tt);
 }
 
 pub returns-clause-text : goal.returns-clause-text
@@ -24,15 +20,14 @@ returns-clause-text g c text =
     let words : map (λ w. w.now) c.as_slice.result.now ≡ words_in c.args.words.now = search rules in
     let did = c.run.ensures in
     record {
-      runs = λ asked pi given is.
-          let (r, begins, ran) = did.runs asked pi (subst (λ (ws : List (List ℕ)). AskFor ws asked) (sym words) given) is in (
+      runs = λ asked pi given is. elim (did.runs asked pi (subst (λ (ws : List (List ℕ)). AskFor ws asked) (sym words) given) is) [
+        | inl memory ↦ inl memory
+        | inr (r, begins, ran) ↦ inr (
             r,
             record { bytes_are = search rules; failures_are = search rules },
-            elim ran [
-              | inl memory ↦ inl memory
-              | inr did ↦ inr (calm_task none_failed asked.task (tuned pi asked.dwell) r _ c.run.result did)
-            ],
-          );
+            calm_task none_failed asked.task (tuned pi asked.dwell) r _ c.run.result ran,
+          )
+      ];
       fault_pi = λ asked given none. did.fault_pi asked (subst (λ (ws : List (List ℕ)). AskFor ws asked) (sym words) given) none;
       nothing_asked = λ takes none.
           did.nothing_asked (subst (λ (ws : List (List ℕ)). TakesWords ws) (sym words) takes) (subst (λ (ws : List (List ℕ)). asked_in ws ≡ None) (sym words) none);

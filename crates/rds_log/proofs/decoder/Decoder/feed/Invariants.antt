@@ -8,7 +8,7 @@ invariant-loop-count l = record {
   lines : l.self.cutter.lines ≤ l.initial.self.cutter.lines + l.at;
   slots : l.self.views.slot ≤ l.initial.self.views.slot + l.at;
   first : l.at ≡ 0 → l.output ≡ l.initial.output;
-  goes : WhereItStands l.initial.self (λ t closed begun written. GoesOn t l.self closed begun (take l.at l.piece) written l.initial.output l.output);
+  goes : WhereItStands l.initial.self (λ was. GoesOn l.self was (take l.at l.piece) l.initial.output l.output);
 }
 
 abbrev pub decreases-loop-count : goal.decreases-loop-count
