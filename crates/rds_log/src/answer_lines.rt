@@ -3,6 +3,7 @@ ghost use Rattle.std.specs.Prelude.{◌≡◌, ◌≢◌, ◌≤◌, ◌+◌, �
 ghost use Rattle.rds_block.specs.declared.group.Group.{Group};
 ghost use Rattle.rds_world.specs.declared.reply.Reply.TheVariants as replies;
 ghost use Rattle.rds_log.specs.Outcomes.{answer_lines, block_digits, log_line, number_of_tag, refusal_content, reply_content, reply_line, reply_thing, sent_line, spaced_digits, thing_set};
+ghost use Rattle.rds_log.specs.declared.answer_lines.TheConstants.{ANSWER_ROOM, GROUP_ROOM, REPLY_ROOM};
 
 use crate::change::Stamp;
 use crate::form::Form;
@@ -13,6 +14,15 @@ use rds_encoder::Refusal;
 use rds_fields::Which;
 use rds_world::{Answer, Command, Reply};
 
+/// Room for the line of a reply.
+const REPLY_ROOM: usize = 96;
+
+/// Room for the line of the group that was sent.
+const GROUP_ROOM: usize = 96;
+
+/// Room for both lines.
+pub const ANSWER_ROOM: usize = REPLY_ROOM + GROUP_ROOM;
+
 /// Appends the line of the reply, where there was a command, and then that of the group.
 pub fn push_answer<const N: usize>(
     form: Form,
@@ -21,10 +31,10 @@ pub fn push_answer<const N: usize>(
     answer: Answer,
     lines: &mut Lines<N>,
 )
-    requires { length lines.old + 192 ≤ N }
+    requires { length lines.old + ANSWER_ROOM ≤ N }
     ensures lines { lines.new
         ≡ lines.old ++ answer_lines form slot command.now answer.reply answer.sent }
-    ensures room { length lines.new ≤ length lines.old + 192 }
+    ensures room { length lines.new ≤ length lines.old + ANSWER_ROOM }
 {
     match form {
         Form::Simulation => {
@@ -48,9 +58,9 @@ fn push_reply<const N: usize>(
     lines: &mut Lines<N>,
 )
     requires mark { length mark.now ≤ 2 }
-    requires room { length lines.old + 96 ≤ N }
+    requires room { length lines.old + REPLY_ROOM ≤ N }
     ensures line { lines.new ≡ lines.old ++ reply_line mark.now slot command.now reply }
-    ensures room { length lines.new ≤ length lines.old + 96 }
+    ensures room { length lines.new ≤ length lines.old + REPLY_ROOM }
 {
     if reply != Reply::Quiet {
         push_reply_line(mark, slot, command, reply, lines);
@@ -67,9 +77,9 @@ fn push_reply_line<const N: usize>(
 )
     requires told { reply ≢ replies.Quiet }
     requires mark { length mark.now ≤ 2 }
-    requires room { length lines.old + 96 ≤ N }
+    requires room { length lines.old + REPLY_ROOM ≤ N }
     ensures line { lines.new ≡ lines.old ++ reply_line mark.now slot command.now reply }
-    ensures room { length lines.new ≤ length lines.old + 96 }
+    ensures room { length lines.new ≤ length lines.old + REPLY_ROOM }
 {
     lines.push(mark);
     Stamp::Slot(slot).push(lines);
@@ -150,9 +160,9 @@ fn number_of_tag(which: Which) -> &'static [u8]
 
 /// Appends the line of the group, where one was sent.
 fn push_sent<const N: usize>(slot: u64, sent: Option<Group>, lines: &mut Lines<N>)
-    requires { length lines.old + 96 ≤ N }
+    requires { length lines.old + GROUP_ROOM ≤ N }
     ensures line { lines.new ≡ lines.old ++ sent_line slot sent }
-    ensures room { length lines.new ≤ length lines.old + 96 }
+    ensures room { length lines.new ≤ length lines.old + GROUP_ROOM }
 {
     if let Some(group) = sent {
         Stamp::Slot(slot).push(lines);
@@ -164,9 +174,9 @@ fn push_sent<const N: usize>(slot: u64, sent: Option<Group>, lines: &mut Lines<N
 
 /// Appends the slot as a line of a log.
 fn push_log_line<const N: usize>(sent: Option<Group>, lines: &mut Lines<N>)
-    requires { length lines.old + 96 ≤ N }
+    requires { length lines.old + GROUP_ROOM ≤ N }
     ensures line { lines.new ≡ lines.old ++ log_line sent }
-    ensures room { length lines.new ≤ length lines.old + 96 }
+    ensures room { length lines.new ≤ length lines.old + GROUP_ROOM }
 {
     match sent {
         Some(group) => push_blocks(&group, lines),

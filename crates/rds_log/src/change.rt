@@ -3,6 +3,7 @@ ghost use Rattle.std.specs.Prelude.{◌≡◌, ◌≤◌, ◌+◌, ◌++◌, IfS
 ghost use Rattle.std.specs.Option.{ForSome, option_copied};
 ghost use Rattle.rds_receiver.specs.Lent.{tag_lent};
 ghost use Rattle.rds_log.specs.Output.{bit_content, change, class_name, item_content, name_or_number, quoted, tag_content, text_content};
+ghost use Rattle.rds_log.specs.declared.change.TheConstants.{LINE_ROOM, SLOT_ROOM};
 
 use crate::lines::Lines;
 use rds_receiver::View;
@@ -12,10 +13,10 @@ use rds_receiver::View;
 pub const CONTENT: usize = 290;
 
 /// Room for the line of a part.
-pub const LINE: usize = 344;
+pub const LINE_ROOM: usize = 344;
 
 /// Room for the lines of a slot, one for each of the five parts.
-pub const SLOT: usize = 5 * LINE;
+pub const SLOT_ROOM: usize = 5 * LINE_ROOM;
 
 /// What an output line begins with.
 #[derive(Clone, Copy)]
@@ -161,9 +162,9 @@ fn push_change<const N: usize>(
 )
     requires name { length name.now ≡ 4 }
     requires short { IsShortPart now }
-    requires room { length lines.old + 344 ≤ N }
+    requires room { length lines.old + LINE_ROOM ≤ N }
     ensures change { lines.new ≡ lines.old ++ part_change (stamp_of stamp) name.now before.entry now.entry }
-    ensures room { length lines.new ≤ length lines.old + 344 }
+    ensures room { length lines.new ≤ length lines.old + LINE_ROOM }
 {
     if before.is_same(now) {
         return;
@@ -183,10 +184,10 @@ pub fn push_changes<const N: usize>(
     now: View<'_>,
     lines: &mut Lines<N>,
 )
-    requires { length lines.old + 1720 ≤ N }
+    requires { length lines.old + SLOT_ROOM ≤ N }
     ensures changes { lines.new ≡ lines.old ++ change (stamp_of stamp) (view_lent before.entry)
         (view_lent now.entry) }
-    ensures room { length lines.new ≤ length lines.old + 1720 }
+    ensures room { length lines.new ≤ length lines.old + SLOT_ROOM }
 {
     push_change(
         stamp,

@@ -1,8 +1,10 @@
 //! The bytes of a log, and the output of its lines.
 ghost use Rattle.std.specs.Prelude.{◌≡◌, ◌⊎◌, ◌≤◌, ◌<◌, ◌+◌, ◌-◌, ◌^◌, ◌++◌, ◌∷◌, [], ℕ, List, IfOk, MatchResult, length, take};
 ghost use Rattle.rds_log.specs.LogLines.{IsLine};
+ghost use Rattle.rds_log.specs.declared.change.TheConstants.{SLOT_ROOM};
+ghost use Rattle.rds_log.specs.declared.decoder.TheConstants.{OUTPUT_ROOM};
 
-use crate::change::SLOT;
+use crate::change::SLOT_ROOM;
 use crate::cutter::{Cutter, line_end};
 use crate::fault::BadLine;
 use crate::lines::Lines;
@@ -11,10 +13,10 @@ use crate::view_lines::ViewLines;
 use rds_fields::Dwell;
 
 /// How many bytes of output are put together before they are written.
-pub const OUTPUT: usize = 8192;
+pub const OUTPUT_ROOM: usize = 8192;
 
 /// The output that waits to be written.
-pub type Output = Lines<OUTPUT>;
+pub type Output = Lines<OUTPUT_ROOM>;
 
 /// Takes the bytes of a log, however they are cut, and gives the output of each line that is closed.
 #[derive(Drop)]
@@ -54,7 +56,7 @@ impl Decoder {
     {
         let mut at = 0;
         while let Some(count) = line_end(&piece[at..]) {
-            if !output.has_room(SLOT) {
+            if !output.has_room(SLOT_ROOM) {
                 return Ok(at);
             }
             let end = at + count;
@@ -69,7 +71,7 @@ impl Decoder {
     pub fn finish(&mut self, output: &mut Output) -> Result<(), BadLine>
         requires lines { self.old.cutter.lines < 2 ^ 64 - 1 }
         requires slots { self.old.views.slot < 2 ^ 64 - 1 }
-        requires room { length output.old + 1720 ≤ 8192 }
+        requires room { length output.old + SLOT_ROOM ≤ OUTPUT_ROOM }
         ensures { WhereItStands self.old (λ was. MatchResult result
             (λ _. Ends self.new was output.old output.new)
             (λ bad. (output.new ≡ output.old)
@@ -86,7 +88,7 @@ impl Decoder {
     fn close(&mut self, last: &[u8], output: &mut Output) -> Result<(), BadLine>
         requires lines { self.old.cutter.lines < 2 ^ 64 - 1 }
         requires slots { self.old.views.slot < 2 ^ 64 - 1 }
-        requires room { length output.old + 1720 ≤ 8192 }
+        requires room { length output.old + SLOT_ROOM ≤ OUTPUT_ROOM }
         requires line { IsLine last.now }
         ensures lines { self.new.cutter.lines ≤ self.old.cutter.lines + 1 }
         ensures slots { self.new.views.slot ≤ self.old.views.slot + 1 }

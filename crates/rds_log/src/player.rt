@@ -11,9 +11,10 @@ ghost use Rattle.rds_log.specs.Outcomes.{receiver_changes, view_at};
 ghost use Rattle.rds_log.specs.Playing.{AreKept, WereShown};
 ghost use Rattle.rds_log.specs.Rows.{IsAllowed, Record, SaysEvent};
 ghost use Rattle.rds_log.specs.declared.player.RowRefused.TheVariants as refused;
+ghost use Rattle.rds_log.specs.declared.answer_lines.TheConstants.{ANSWER_ROOM};
 
-use crate::answer_lines::push_answer;
-use crate::change::{SLOT, Stamp};
+use crate::answer_lines::{ANSWER_ROOM, push_answer};
+use crate::change::{SLOT_ROOM, Stamp};
 use crate::form::Form;
 use crate::kept::KeptView;
 use crate::lines::Lines;
@@ -29,10 +30,10 @@ use std::alloc::Global;
 const RECEIVERS: usize = 8;
 
 /// Room for the output of a row: the reply, the group, and what changed at each receiver.
-pub const ROW: usize = RECEIVERS * SLOT + 192;
+pub const ROW_ROOM: usize = RECEIVERS * SLOT_ROOM + ANSWER_ROOM;
 
 /// The output of a row.
-pub type RowLines = Lines<ROW>;
+pub type RowLines = Lines<ROW_ROOM>;
 
 /// Why a record is not played.
 #[derive(Clone, Copy, Debug, PartialEq, Eq)]
@@ -185,7 +186,7 @@ fn nothing_shown(receivers: usize) -> ArrayVec<KeptView, RECEIVERS>
 /// slot before, nothing of it is looked at.
 fn push_views(slot: u64, world: &World, shown: &mut [KeptView], lines: &mut RowLines)
     requires few { length shown.old ≤ 8 }
-    requires room { length lines.old ≤ 192 }
+    requires room { length lines.old ≤ ANSWER_ROOM }
     ensures lines { length shown.old ≡ length world.now.receivers
         → lines.new ≡ lines.old ++ receiver_changes slot (length shown.old)
         (map view_kept shown.old) (map view_kept shown.new) }

@@ -1,6 +1,7 @@
 //! The output lines for what a receiver shows.
 ghost use Rattle.std.specs.Prelude.{◌≡◌, ◌≤◌, ◌<◌, ◌+◌, ◌-◌, ◌^◌, ◌++◌, ℕ, List, [], ◌∷◌, Option, length};
 ghost use Rattle.rds_block.specs.declared.group.Group.{Group};
+ghost use Rattle.rds_log.specs.declared.change.TheConstants.{SLOT_ROOM};
 
 use crate::change::{Stamp, push_changes};
 use crate::kept::KeptView;
@@ -37,9 +38,9 @@ impl ViewLines {
     #[inline(always)]
     pub fn slot<const N: usize>(&mut self, group: Option<Group>, lines: &mut Lines<N>)
         requires slots { self.old.slot < 2 ^ 64 - 1 }
-        requires room { length lines.old + 1720 ≤ N }
+        requires room { length lines.old + SLOT_ROOM ≤ N }
         ensures count { self.new.slot ≡ self.old.slot + 1 }
-        ensures room { length lines.new ≤ length lines.old + 1720 }
+        ensures room { length lines.new ≤ length lines.old + SLOT_ROOM }
         ensures change { GivesChange self.old self.new group lines.old lines.new }
     {
         if !self.receiver.slot(group) {
@@ -72,11 +73,11 @@ pub fn show<const N: usize>(
     receiver: &Receiver,
     lines: &mut Lines<N>,
 )
-    requires { length lines.old + 1720 ≤ N }
+    requires { length lines.old + SLOT_ROOM ≤ N }
     ensures changes { lines.new
         ≡ lines.old ++ change (stamp_of stamp) (view_kept shown.old) (view_kept shown.new) }
     ensures shows { WhereItStands receiver.now (λ t input. IsView t input (view_kept shown.new)) }
-    ensures room { length lines.new ≤ length lines.old + 1720 }
+    ensures room { length lines.new ≤ length lines.old + SLOT_ROOM }
 {
     let now = receiver.view();
     push_changes(stamp, shown.lent(), now, lines);

@@ -23,10 +23,10 @@ returns-clause-text g c text =
       runs = λ asked pi given is. elim (did.runs asked pi (subst (λ (ws : List (List ℕ)). AskFor ws asked) (sym words) given) is) [
         | inl memory ↦ inl memory
         | inr (r, begins, ran) ↦ inr (
-            r,
-            record { bytes_are = search rules; failures_are = search rules },
-            calm_task none_failed asked.task (tuned pi asked.dwell) r _ c.run.result ran,
-          )
+          r,
+          record { bytes_are = search rules; failures_are = search rules },
+          calm_task none_failed asked.task (tuned pi asked.dwell) r _ c.run.result ran,
+        )
       ];
       fault_pi = λ asked given none. did.fault_pi asked (subst (λ (ws : List (List ℕ)). AskFor ws asked) (sym words) given) none;
       nothing_asked = λ takes none.
