@@ -83,8 +83,8 @@ fn audited_late(
             Some((first, fault)) if first <= slot => Err(fault),
             _ => Ok(()),
         };
-        same(rt, (slot, answer), (slot, wanted));
-        same(rt, (slot, audit.passed()), (slot, wanted.is_ok()));
+        let passed = audit.passed();
+        same(rt, (slot, answer, passed), (slot, wanted, wanted.is_ok()));
     }
     Ok(audit)
 }
@@ -271,10 +271,8 @@ impl Answers {
 
     /// Each answer was given, and not only once.
     fn all_given(&self, rt: &impl Abort) {
-        assert!(rt; self.passed > 9, "{} passed", self.passed);
-        for (number, count) in self.faults.iter().enumerate() {
-            assert!(rt; *count > 9, "fault {number}: {count}");
-        }
+        let rare = self.faults.iter().position(|count| *count < 10);
+        same(rt, (self.passed > 9, rare), (true, None));
     }
 }
 

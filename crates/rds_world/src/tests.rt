@@ -437,22 +437,21 @@ fn late_group_refused(rt: HostRuntime) -> Result<(), Fail> {
     Ok(())
 }
 
-/// What one receiver of a world with groups up to two slots late is handed, slot by slot, and the first slot that
-/// is refused: before the first slot, more than two slots late, the same slot again, also after the receiver or
-/// the encoder restarted, and an earlier one.
+/// What one receiver of a world with groups up to two slots late is handed, slot by slot (a digit tells how late the
+/// group comes, `-` that none does, `r` a restart), and the first slot that is refused: before the first slot, more than
+/// two slots late, the same slot again, also after the receiver or the encoder restarted, and an earlier one.
 #[test]
 fn receptions_in_order(rt: HostRuntime) -> Result<(), Fail> {
-    let again = Reception::Restart;
-    let cases: [(&[Reception], Option<usize>); 9] = [
-        (&[GOT, GOT, GOT], None),
-        (&[LOST, LOST, Reception::Got(2), Reception::Got(2)], None),
-        (&[Reception::Got(1)], Some(0)),
-        (&[LOST, LOST, LOST, Reception::Got(3)], Some(3)),
-        (&[GOT, Reception::Got(1)], Some(1)),
-        (&[LOST, GOT, again, Reception::Got(2)], Some(3)),
-        (&[LOST, GOT, again, Reception::Got(1)], None),
-        (&[LOST, LOST, GOT, Reception::Got(2)], Some(3)),
-        (&[GOT, LOST, LOST, LOST, LOST, Reception::Got(2)], None),
+    let cases: [(&[u8], Option<usize>); 9] = [
+        (b"000", None),
+        (b"--22", None),
+        (b"1", Some(0)),
+        (b"---3", Some(3)),
+        (b"01", Some(1)),
+        (b"-0r2", Some(3)),
+        (b"-0r1", None),
+        (b"--02", Some(3)),
+        (b"0----2", None),
     ];
     for (receptions, wanted) in cases.iter() {
         let quiet = first_refused(rt.alloc(), Command::Quiet, receptions)?;
@@ -466,16 +465,25 @@ fn receptions_in_order(rt: HostRuntime) -> Result<(), Fail> {
 fn first_refused(
     alloc: Global,
     command: Command,
-    receptions: &[Reception],
+    receptions: &[u8],
 ) -> Result<Option<usize>, Fail> {
     let mut world = World::new(alloc, late_config(2)?, 1).ok().ok_or("world")?;
-    for (slot, reception) in receptions.iter().enumerate() {
-        let event = slot_event(command, true, &[*reception])?;
+    for (slot, letter) in receptions.iter().enumerate() {
+        let event = slot_event(command, true, &[reception(*letter)])?;
         if world.step(&event).is_err() {
             return Ok(Some(slot));
         }
     }
     Ok(None)
+}
+
+/// What a receiver is handed, by its letter in such a case.
+fn reception(letter: u8) -> Reception {
+    match letter {
+        b'-' => LOST,
+        b'r' => Reception::Restart,
+        digit => Reception::Got(u16::from(digit.wrapping_sub(b'0'))),
+    }
 }
 
 /// A name is sent in two turns; a receiver that restarts between them does not show it.
@@ -540,42 +548,21 @@ fn refused_words(rt: HostRuntime) -> Result<(), Fail> {
     Ok(())
 }
 
-/// Slots in one call, and those that are not played.
+/// Slots that are not played: for nine receivers, and one with another number of receptions.
 #[test]
-fn played_slots(rt: HostRuntime) -> Result<(), Fail> {
-    let both = [GOT, Reception::default()];
+fn slots_not_played(rt: HostRuntime) -> Result<(), Fail> {
     let events = [
-        slot_event(Command::Quiet, true, &both)?,
+        slot_event(Command::Quiet, true, &[GOT, LOST])?,
         slot_event(Command::Quiet, true, &[GOT])?,
     ];
-    let nine = PlayRefused::TooManyReceivers;
-    same(
-        &rt,
-        play(rt.alloc(), config()?, 9, &events).err(),
-        Some(nine),
-    );
-    let second = PlayRefused::ReceiverCount(1);
-    same(
-        &rt,
-        play(rt.alloc(), config()?, 2, &events).err(),
-        Some(second),
-    );
-    let hi = set_text(b"HI")?;
-    let slots = [
-        slot_event(Command::Quiet, true, &both)?,
-        slot_event(Command::Quiet, true, &both)?,
-        slot_event(Command::Quiet, true, &both)?,
-        slot_event(Command::Quiet, true, &both)?,
-        slot_event(hi, true, &both)?,
+    let refusals = [
+        (9, PlayRefused::TooManyReceivers),
+        (2, PlayRefused::ReceiverCount(1)),
     ];
-    let world = play(rt.alloc(), config()?, 2, &slots).ok().ok_or("played")?;
-    same(&rt, world.on_air().0, Some(b"HI".as_slice()));
-    same(
-        &rt,
-        world.receiver(0).ok_or("receiver")?.text(),
-        Some(b"HI".as_slice()),
-    );
-    same(&rt, world.receiver(1).ok_or("receiver")?.text(), None);
+    for (receivers, why) in refusals.iter() {
+        let refused = play(rt.alloc(), config()?, *receivers, &events).err();
+        same(&rt, refused, Some(*why));
+    }
     Ok(())
 }
 
