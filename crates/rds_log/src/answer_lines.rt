@@ -21,10 +21,10 @@ const REPLY_ROOM: usize = 96;
 const GROUP_ROOM: usize = 96;
 
 /// Room for both lines.
-pub const ANSWER_ROOM: usize = REPLY_ROOM + GROUP_ROOM;
+pub(crate) const ANSWER_ROOM: usize = REPLY_ROOM + GROUP_ROOM;
 
 /// Appends the line of the reply, where there was a command, and then that of the group.
-pub fn push_answer<const N: usize>(
+pub(crate) fn push_answer<const N: usize>(
     form: Form,
     slot: u64,
     command: &Command,

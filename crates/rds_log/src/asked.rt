@@ -7,7 +7,7 @@ use std::io::{self, ErrorKind, Read};
 
 /// Asks a reader by its counted reads, and remembers whether one of them failed.
 #[derive(Drop)]
-pub struct Asked<R: TellingRead> {
+pub(crate) struct Asked<R: TellingRead> {
     inner: R,
     failed: bool,
     ghost told: { failed ≡ true → SomeReadFailed R.failures },
@@ -18,7 +18,7 @@ impl<R: TellingRead> Asked<R> {
     ghost use Rattle.rds_log.specs.Asking.{has_failed, inner_of};
 
     /// A reader of which no read failed yet.
-    pub fn new(inner: R) -> Asked<R>
+    pub(crate) fn new(inner: R) -> Asked<R>
         ensures inner { inner_of result ≡ inner }
         ensures calm { has_failed result ≡ false }
     {
@@ -29,7 +29,7 @@ impl<R: TellingRead> Asked<R> {
     }
 
     /// Whether a read failed.
-    pub fn failed(&self) -> bool
+    pub(crate) fn failed(&self) -> bool
         ensures is { result ≡ has_failed self.now }
         ensures told { result ≡ true → SomeReadFailed R.failures }
     {

@@ -12,7 +12,7 @@ use rds_world::{Audit, AuditFault};
 
 /// Why an audit ends before the log does.
 #[derive(Clone, Copy, Debug, PartialEq, Eq)]
-pub enum Stop {
+pub(crate) enum Stop {
     /// This line of the log, counted from 1, is no log line.
     BadLine(u64),
     /// The slots up to this one do not pass, and this is why.
@@ -32,10 +32,10 @@ impl From<BadLine> for Stop {
 
 /// Takes the bytes of a log, however they are cut, and audits its slots until one does not pass.
 #[derive(Drop)]
-pub struct Auditor {
-    pub cutter: Cutter,
+pub(crate) struct Auditor {
+    pub(crate) cutter: Cutter,
     /// How many slots were taken.
-    pub slots: u64,
+    pub(crate) slots: u64,
     audit: Audit,
 }
 
@@ -44,7 +44,7 @@ impl Auditor {
     ghost use Rattle.rds_log.specs.AuditorStanding.{AuditorStandsAt, GoesOn, StopsAtLine, WhereItAudits};
 
     /// At the start of a log.
-    pub fn new(pi: u16, dwell: Dwell, late: Late) -> Auditor
+    pub(crate) fn new(pi: u16, dwell: Dwell, late: Late) -> Auditor
         ensures lines { result.cutter.lines ≡ 0 }
         ensures slots { result.slots ≡ 0 }
         ensures stands { AuditorStandsAt pi (dwell + late) result [] [] }
@@ -57,7 +57,7 @@ impl Auditor {
     }
 
     /// Takes the next bytes, up to the first line that is bad or whose slot does not pass.
-    pub fn feed(&mut self, piece: &[u8]) -> Result<(), Stop>
+    pub(crate) fn feed(&mut self, piece: &[u8]) -> Result<(), Stop>
         requires lines { self.old.cutter.lines + length piece.now < 2 ^ 64 }
         requires slots { self.old.slots + length piece.now < 2 ^ 64 }
         ensures lines { IfOk result (λ _. self.new.cutter.lines ≤ self.old.cutter.lines + length piece.now) }
@@ -78,7 +78,7 @@ impl Auditor {
 
     /// Takes the end of the bytes: what follows the last line feed is a line where it is not empty. Gives how
     /// many slots there were.
-    pub fn finish(&mut self) -> Result<u64, Stop>
+    pub(crate) fn finish(&mut self) -> Result<u64, Stop>
         requires lines { self.old.cutter.lines < 2 ^ 64 - 1 }
         requires slots { self.old.slots < 2 ^ 64 - 1 }
         ensures { WhereItAudits self.old (λ pi d closed begun. MatchResult result

@@ -10,17 +10,17 @@ use rds_receiver::View;
 
 /// Room for what stands behind the name of a part: the name of a class, and a text of 64 bytes, each
 /// of them printed as four.
-pub const CONTENT: usize = 290;
+pub(crate) const CONTENT: usize = 290;
 
 /// Room for the line of a part.
-pub const LINE_ROOM: usize = 344;
+pub(crate) const LINE_ROOM: usize = 344;
 
 /// Room for the lines of a slot, one for each of the five parts.
-pub const SLOT_ROOM: usize = 5 * LINE_ROOM;
+pub(crate) const SLOT_ROOM: usize = 5 * LINE_ROOM;
 
 /// What an output line begins with.
 #[derive(Clone, Copy)]
-pub enum Stamp {
+pub(crate) enum Stamp {
     /// The slot, where there is one receiver.
     Slot(u64),
     /// The slot, and one of several receivers by its number from 0.
@@ -31,7 +31,7 @@ impl Stamp {
     ghost use Rattle.rds_log.specs.Parts.{stamp_of};
 
     /// Appends it, and a space.
-    pub fn push<const N: usize>(self, lines: &mut Lines<N>)
+    pub(crate) fn push<const N: usize>(self, lines: &mut Lines<N>)
         requires { length lines.old + 43 ≤ N }
         ensures stamp { lines.new ≡ lines.old ++ stamp_of self }
         ensures room { length lines.new ≤ length lines.old + 43 }
@@ -50,7 +50,7 @@ impl Stamp {
 
 /// A part of a view.
 #[derive(Clone, Copy)]
-pub enum Part<'a> {
+pub(crate) enum Part<'a> {
     /// A text or a name.
     Text(Option<&'a [u8]>),
     /// The item bits.
@@ -178,7 +178,7 @@ fn push_change<const N: usize>(
 ghost use Rattle.rds_receiver.specs.Lent.{view_lent};
 
 /// Appends the line of each part of a view that differs from the slot before.
-pub fn push_changes<const N: usize>(
+pub(crate) fn push_changes<const N: usize>(
     stamp: Stamp,
     before: View<'_>,
     now: View<'_>,

@@ -12,17 +12,17 @@ use memchr::memchr;
 ///
 /// Of a line that is begun it keeps the first bytes, which decide what the line says.
 #[derive(Drop)]
-pub struct Cutter {
+pub(crate) struct Cutter {
     kept: ArrayVec<u8, DECIDING>,
     /// How many lines were closed.
-    pub lines: u64,
+    pub(crate) lines: u64,
 }
 
 impl Cutter {
     ghost use Rattle.rds_log.specs.Cutting.{Closes, CutterStandsAt, IsBadLine, WhereItCuts};
 
     /// At the start of a log.
-    pub fn new() -> Cutter
+    pub(crate) fn new() -> Cutter
         ensures lines { result.lines ≡ 0 }
         ensures stands { CutterStandsAt result [] [] }
     {
@@ -33,7 +33,7 @@ impl Cutter {
     }
 
     /// Whether no line is begun.
-    pub fn is_between(&self) -> bool
+    pub(crate) fn is_between(&self) -> bool
         ensures { WhereItCuts self.now (λ _ begun. IsTrue result ↔ (begun ≡ [])) }
     {
         self.kept.is_empty()
@@ -41,7 +41,7 @@ impl Cutter {
 
     /// Takes the last bytes of the line that is begun, and its end; gives what the line says.
     #[inline(always)]
-    pub fn close(&mut self, last: &[u8]) -> Result<LogLine, BadLine>
+    pub(crate) fn close(&mut self, last: &[u8]) -> Result<LogLine, BadLine>
         requires lines { self.old.lines < 2 ^ 64 - 1 }
         requires line { IsLine last.now }
         ensures lines { self.new.lines ≤ self.old.lines + 1 }
@@ -60,7 +60,7 @@ impl Cutter {
     }
 
     /// Takes bytes of the line that is begun, and keeps those of them that decide what it says.
-    pub fn keep(&mut self, bytes: &[u8])
+    pub(crate) fn keep(&mut self, bytes: &[u8])
         ensures kept { self.new.kept.items ≡ take deciding (self.old.kept.items ++ bytes.now) }
         ensures lines { self.new.lines ≡ self.old.lines }
         ensures stands { IsLine bytes.now → WhereItCuts self.old (λ closed begun.
@@ -90,7 +90,7 @@ impl Cutter {
 
 /// Where the first line feed stands.
 #[inline(always)]
-pub fn line_end(bytes: &[u8]) -> Option<usize>
+pub(crate) fn line_end(bytes: &[u8]) -> Option<usize>
     ensures some { IfSome result (EndsAt bytes.now) }
     ensures none { IfNone result (IsLine bytes.now) }
 {

@@ -13,16 +13,16 @@ use crate::view_lines::ViewLines;
 use rds_fields::Dwell;
 
 /// How many bytes of output are put together before they are written.
-pub const OUTPUT_ROOM: usize = 8192;
+pub(crate) const OUTPUT_ROOM: usize = 8192;
 
 /// The output that waits to be written.
-pub type Output = Lines<OUTPUT_ROOM>;
+pub(crate) type Output = Lines<OUTPUT_ROOM>;
 
 /// Takes the bytes of a log, however they are cut, and gives the output of each line that is closed.
 #[derive(Drop)]
-pub struct Decoder {
-    pub cutter: Cutter,
-    pub views: ViewLines,
+pub(crate) struct Decoder {
+    pub(crate) cutter: Cutter,
+    pub(crate) views: ViewLines,
 }
 
 impl Decoder {
@@ -30,7 +30,7 @@ impl Decoder {
     ghost use Rattle.rds_log.specs.Standing.{DecoderStandsAt, Ends, FailsIn, GivesLine, GoesOn, IsBadAt, WhereItStands};
 
     /// At the start of a log.
-    pub fn new(pi: u16, dwell: Dwell) -> Decoder
+    pub(crate) fn new(pi: u16, dwell: Dwell) -> Decoder
         ensures lines { result.cutter.lines ≡ 0 }
         ensures slots { result.views.slot ≡ 0 }
         ensures stands { DecoderStandsAt (tuned pi dwell) result [] [] [] }
@@ -43,7 +43,7 @@ impl Decoder {
 
     /// Takes the next bytes while there is room for the output of a slot, and tells how many it took:
     /// all of them, or those up to the end of a line.
-    pub fn feed(&mut self, piece: &[u8], output: &mut Output) -> Result<usize, BadLine>
+    pub(crate) fn feed(&mut self, piece: &[u8], output: &mut Output) -> Result<usize, BadLine>
         requires lines { self.old.cutter.lines + length piece.now < 2 ^ 64 }
         requires slots { self.old.views.slot + length piece.now < 2 ^ 64 }
         ensures lines { IfOk result (λ taken. self.new.cutter.lines ≤ self.old.cutter.lines + taken) }
@@ -68,7 +68,7 @@ impl Decoder {
     }
 
     /// Takes the end of the bytes: what follows the last line feed is a line where it is not empty.
-    pub fn finish(&mut self, output: &mut Output) -> Result<(), BadLine>
+    pub(crate) fn finish(&mut self, output: &mut Output) -> Result<(), BadLine>
         requires lines { self.old.cutter.lines < 2 ^ 64 - 1 }
         requires slots { self.old.views.slot < 2 ^ 64 - 1 }
         requires room { length output.old + SLOT_ROOM ≤ OUTPUT_ROOM }

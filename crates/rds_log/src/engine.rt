@@ -13,10 +13,10 @@ use rds_charset::{TellingRead, TellingWrite, put};
 use rds_fields::Dwell;
 
 /// How many bytes one read asks for.
-pub const PIECE: usize = 65536;
+pub(crate) const PIECE: usize = 65536;
 
 /// How many reads are made before a log is too long.
-pub const MOST_READS: u64 = 1 << 32;
+pub(crate) const MOST_READS: u64 = 1 << 32;
 
 /// Writes what a receiver of this programme and this dwell shows while it hears the log.
 ///

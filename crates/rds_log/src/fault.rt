@@ -7,8 +7,8 @@ use thiserror::Error;
 
 /// This line of a log, counted from 1 over all of them, is no log line.
 #[derive(Clone, Copy, Debug, PartialEq, Eq)]
-pub struct BadLine {
-    pub number: u64,
+pub(crate) struct BadLine {
+    pub(crate) number: u64,
 }
 
 /// Why a log or a script was not taken to its end.

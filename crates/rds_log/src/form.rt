@@ -14,7 +14,7 @@ impl Form {
     ghost use Rattle.rds_log.specs.Rows.{IsAllowed};
 
     /// Whether a row may name so many receivers, of the eight that a world can have.
-    pub fn allows(self, receivers: usize) -> bool
+    pub(crate) fn allows(self, receivers: usize) -> bool
         requires { receivers ≤ 8 }
         ensures { IsTrue result ↔ IsAllowed self receivers }
     {

@@ -42,7 +42,7 @@ pub fn word_at(text: &[u8], place: usize) -> Option<u16>
 /// The words of the four blocks of a line, at the places 0, 5, 10 and 15, where all are digits. All sixteen are tested
 /// by one comparison.
 #[inline(always)]
-pub fn four_words(text: &[u8]) -> Option<[u16; 4]>
+pub(crate) fn four_words(text: &[u8]) -> Option<[u16; 4]>
     requires { 19 ≤ length text.now }
     ensures four { IfSome result (λ words. length words ≡ 4) }
     ensures first { IfSome result (λ words. HasWord text.now 0 (slice_index words 0)) }
@@ -100,7 +100,7 @@ fn values() -> &'static [u32]
 }
 
 /// The four digits of a word, with A to F for 10 to 15.
-pub fn digits_of(word: u16) -> [u8; 4]
+pub(crate) fn digits_of(word: u16) -> [u8; 4]
     ensures { result ≡ word_digits word }
 {
     [

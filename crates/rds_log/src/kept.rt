@@ -11,16 +11,16 @@ use rds_receiver::View;
 const LONGEST: usize = 64;
 
 /// A copy of the bytes of a text, a name or a piece.
-pub type Bytes = ArrayVec<u8, LONGEST>;
+pub(crate) type Bytes = ArrayVec<u8, LONGEST>;
 
 /// A copy of a view.
 #[derive(Default, Drop)]
-pub struct KeptView {
-    pub text: Option<Bytes>,
-    pub name: Option<Bytes>,
-    pub item: Option<(bool, bool)>,
-    pub one: Option<(u8, Bytes)>,
-    pub two: Option<(u8, Bytes)>,
+pub(crate) struct KeptView {
+    pub(crate) text: Option<Bytes>,
+    pub(crate) name: Option<Bytes>,
+    pub(crate) item: Option<(bool, bool)>,
+    pub(crate) one: Option<(u8, Bytes)>,
+    pub(crate) two: Option<(u8, Bytes)>,
 }
 
 impl KeptView {
@@ -29,7 +29,7 @@ impl KeptView {
     ghost use Rattle.rds_receiver.specs.Lent.{view_lent};
 
     /// Nothing is shown.
-    pub fn new() -> KeptView
+    pub(crate) fn new() -> KeptView
         ensures { view_kept result ≡ nothing_shown }
     {
         KeptView {
@@ -42,7 +42,7 @@ impl KeptView {
     }
 
     /// A copy of this view.
-    pub fn of(view: View<'_>) -> KeptView
+    pub(crate) fn of(view: View<'_>) -> KeptView
         ensures { view_kept result ≡ view_lent view.entry }
     {
         KeptView {
@@ -55,7 +55,7 @@ impl KeptView {
     }
 
     /// The view that was copied.
-    pub fn lent(&self) -> View<'_>
+    pub(crate) fn lent(&self) -> View<'_>
         ensures { view_lent result ≡ view_kept self.now }
     {
         View {

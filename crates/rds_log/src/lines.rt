@@ -8,7 +8,7 @@ use rds_charset::push_text;
 use std::marker::Model;
 
 /// The characters of the longest number.
-pub const DIGITS: usize = 20;
+pub(crate) const DIGITS: usize = 20;
 
 /// Lines of output, of `N` bytes at most. Callers see the bytes.
 #[derive(Drop)]

@@ -14,11 +14,11 @@ const BLOCKS: usize = 19;
 
 /// How many bytes decide what a line says: the blocks, the byte after them, and one more, since a
 /// carriage return is dropped only at the end of a line.
-pub const DECIDING: usize = 21;
+pub(crate) const DECIDING: usize = 21;
 
 /// What a line says.
 #[derive(Clone, Copy, Debug, PartialEq, Eq)]
-pub enum LogLine {
+pub(crate) enum LogLine {
     /// The line is no slot.
     Skip,
     /// The line is a slot with this group, or with none received.
@@ -27,7 +27,7 @@ pub enum LogLine {
 
 /// A block of a slot line.
 #[derive(Clone, Copy, Debug, PartialEq, Eq)]
-pub enum Block {
+pub(crate) enum Block {
     /// Four hexadecimal digits.
     Word(u16),
     /// Four dashes.
@@ -47,7 +47,7 @@ impl Block {
 
 /// What the line says, from its first bytes; `None` for a bad line.
 #[inline(always)]
-pub fn said_by(line: &[u8]) -> Option<LogLine>
+pub(crate) fn said_by(line: &[u8]) -> Option<LogLine>
     ensures some { IfSome result (LineSays line.now) }
     ensures none { IfNone result (IsBad line.now) }
 {

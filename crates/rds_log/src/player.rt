@@ -30,14 +30,14 @@ use std::alloc::Global;
 const RECEIVERS: usize = 8;
 
 /// Room for the output of a row: the reply, the group, and what changed at each receiver.
-pub const ROW_ROOM: usize = RECEIVERS * SLOT_ROOM + ANSWER_ROOM;
+pub(crate) const ROW_ROOM: usize = RECEIVERS * SLOT_ROOM + ANSWER_ROOM;
 
 /// The output of a row.
-pub type RowLines = Lines<ROW_ROOM>;
+pub(crate) type RowLines = Lines<ROW_ROOM>;
 
 /// Why a record is not played.
 #[derive(Clone, Copy, Debug, PartialEq, Eq)]
-pub enum RowRefused {
+pub(crate) enum RowRefused {
     /// It is no row.
     NoRow,
     /// There was no memory for the world.
@@ -46,20 +46,20 @@ pub enum RowRefused {
 
 /// Plays the rows of a script, and gives the lines of each slot. The first row fixes the number of receivers.
 #[derive(Drop)]
-pub struct Player {
+pub(crate) struct Player {
     alloc: Global,
     form: Form,
     config: Config,
     world: Option<World>,
     shown: ArrayVec<KeptView, RECEIVERS>,
-    pub slot: u64,
+    pub(crate) slot: u64,
 }
 
 impl Player {
     ghost use Rattle.rds_log.specs.Playing.{BeginsRow, IsRowRefused, Played, PlayerStandsAt, PlaysRow, WherePlayerStands, nothing_played, with_row};
 
     /// Before the first row, with no world yet.
-    pub fn new(alloc: Global, form: Form, config: Config) -> Player
+    pub(crate) fn new(alloc: Global, form: Form, config: Config) -> Player
         ensures slot { result.slot ≡ 0 }
         ensures stands { PlayerStandsAt result (nothing_played form config) }
     {
@@ -74,7 +74,7 @@ impl Player {
     }
 
     /// Plays one record more, and gives the lines of its slot.
-    pub fn row(&mut self, row: &ByteRecord, lines: &mut RowLines) -> Result<(), RowRefused>
+    pub(crate) fn row(&mut self, row: &ByteRecord, lines: &mut RowLines) -> Result<(), RowRefused>
         requires slots { self.old.slot < 2 ^ 64 - 1 }
         requires empty { lines.old ≡ [] }
         ensures slot { OnOk result (self.new.slot ≡ self.old.slot + 1) }

@@ -36,7 +36,7 @@ enum Verb {
 }
 
 /// What happens in the slot of a row; `None` for a record that is no row.
-pub fn event_of(row: &ByteRecord) -> Option<SlotEvent>
+pub(crate) fn event_of(row: &ByteRecord) -> Option<SlotEvent>
     ensures some { IfSome result (λ e. SaysEvent (fields_of row.now) e) }
     ensures none { IfNone result ((e : Event) → length e.receptions ≤ 8
         → SaysEvent (fields_of row.now) e → ⊥) }

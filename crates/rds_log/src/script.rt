@@ -14,13 +14,13 @@ use std::alloc::Global;
 
 /// A script, read record by record: fields between commas, in quotes or not, no header row, any number of fields.
 #[derive(Drop)]
-pub struct Script<R: TellingRead> {
+pub(crate) struct Script<R: TellingRead> {
     reader: Reader<Asked<R>>,
 }
 
 impl<R: TellingRead> Script<R> {
     /// Before its first record.
-    pub fn new(alloc: Global, reader: R) -> Script<R>
+    pub(crate) fn new(alloc: Global, reader: R) -> Script<R>
         ensures { ScriptStandsAt R.remaining (R.remaining reader) result [] }
     {
         Script {
@@ -36,7 +36,7 @@ impl<R: TellingRead> Script<R> {
     /// # Errors
     ///
     /// `Read` where a read of the reader failed, else `Memory`.
-    pub fn next(&mut self, row: &mut ByteRecord) -> Result<bool, LogFault>
+    pub(crate) fn next(&mut self, row: &mut ByteRecord) -> Result<bool, LogFault>
         ensures found { (known : Option (List ℕ)) (records : List Record)
             → ScriptStandsAt R.remaining known self.old records
             → IfOk result (λ found. MatchBool found

@@ -75,8 +75,8 @@ fn output_longer_than_its_room(rt: HostRuntime) -> Result<(), Fail> {
 
 /// Gives the same line for ever, and counts the reads.
 #[derive(Drop)]
-pub struct Endless<'a> {
-    pub reads: &'a Cell<u64>,
+pub(crate) struct Endless<'a> {
+    pub(crate) reads: &'a Cell<u64>,
 }
 
 impl Read for Endless<'_> {

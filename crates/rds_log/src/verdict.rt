@@ -6,11 +6,11 @@ use crate::lines::Lines;
 use rds_world::AuditFault;
 
 /// Room for the line of a verdict.
-pub const ANSWER: usize = 64;
+pub(crate) const ANSWER: usize = 64;
 
 /// What the audit of a log comes to.
 #[derive(Clone, Copy, Debug, PartialEq, Eq)]
-pub enum Verdict {
+pub(crate) enum Verdict {
     /// All slots pass; this is their number.
     Yes(u64),
     /// The slots up to this one do not pass, and this is why.
@@ -19,7 +19,7 @@ pub enum Verdict {
 
 impl Verdict {
     /// Whether all slots pass.
-    pub fn is_yes(self) -> bool
+    pub(crate) fn is_yes(self) -> bool
         ensures { IsTrue result ↔ IsYes self }
     {
         match self {
@@ -29,7 +29,7 @@ impl Verdict {
     }
 
     /// Appends its line.
-    pub fn push(self, lines: &mut Lines<ANSWER>)
+    pub(crate) fn push(self, lines: &mut Lines<ANSWER>)
         requires { length lines.old + 36 ≤ 64 }
         ensures { lines.new ≡ lines.old ++ verdict_line self }
     {

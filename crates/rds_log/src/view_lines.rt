@@ -12,9 +12,9 @@ use rds_receiver::Receiver;
 
 /// Feeds a receiver slot by slot, and gives a line for each part of its view that changed.
 #[derive(Drop)]
-pub struct ViewLines {
+pub(crate) struct ViewLines {
     receiver: Receiver,
-    pub slot: u64,
+    pub(crate) slot: u64,
     shown: KeptView,
 }
 
@@ -23,7 +23,7 @@ impl ViewLines {
     ghost use Rattle.rds_log.specs.Viewing.{GivesChange, ViewsStandAt};
 
     /// At the start: no slot was handled, and nothing is shown.
-    pub fn new(pi: u16, dwell: Dwell) -> ViewLines
+    pub(crate) fn new(pi: u16, dwell: Dwell) -> ViewLines
         ensures count { result.slot ≡ 0 }
         ensures stands { ViewsStandAt (tuned pi dwell) result [] [] }
     {
@@ -36,7 +36,7 @@ impl ViewLines {
 
     /// Handles what one slot brought, and appends the line of each changed part.
     #[inline(always)]
-    pub fn slot<const N: usize>(&mut self, group: Option<Group>, lines: &mut Lines<N>)
+    pub(crate) fn slot<const N: usize>(&mut self, group: Option<Group>, lines: &mut Lines<N>)
         requires slots { self.old.slot < 2 ^ 64 - 1 }
         requires room { length lines.old + SLOT_ROOM ≤ N }
         ensures count { self.new.slot ≡ self.old.slot + 1 }
@@ -67,7 +67,7 @@ ghost use Rattle.rds_log.specs.Parts.{stamp_of};
 ///
 /// Few slots come here. It stands apart so that the others pay nothing for its copies.
 #[inline(never)]
-pub fn show<const N: usize>(
+pub(crate) fn show<const N: usize>(
     stamp: Stamp,
     shown: &mut KeptView,
     receiver: &Receiver,
