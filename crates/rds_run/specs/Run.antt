@@ -137,9 +137,9 @@ abbrev pub RunsFrom : ReaderState → Traffic → ℕ → Task → Tuning → Ty
 RunsFrom reader w status task t =
     (r : Traffic) × Begins r reader.bytes reader.failures × TaskRuns task t r reader.ReadFailed w status
 
--- what the program does over these words: where they ask for a task of a programme, its engine runs, or there is no
--- memory; where they ask for another or for none, where they ask for help and where they are refused, it ends with
--- this status. Rests holds wherever no engine ran
+-- what the program does over these words: the engine of the task that they ask for runs, or the programme's number is
+-- told to be none; where they ask for nothing, ask for help, are refused or are not taken, this is its status. In each
+-- case there may be no memory in place of it. Rests holds wherever no engine ran
 pub record RunsWords (words : List (List ℕ)) (Engine : Task → Tuning → Type 0) (Rests : Type 0) (w : Traffic)
     (status : ℕ) : Type 0 where
   pub runs : (asked : Asked) (pi : ℕ) → AskFor words asked → IsPi asked.pi pi
