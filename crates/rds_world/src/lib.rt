@@ -43,14 +43,4 @@ pub use stored::{StoredAudit, StoredCell, StoredReigns};
 pub use world::{Config, World};
 
 #[cfg(test)]
-mod audit_tests;
-#[cfg(test)]
-mod plain_plans;
-#[cfg(test)]
-mod plain_rules;
-#[cfg(test)]
-mod plain_tests;
-#[cfg(test)]
-mod stored_tests;
-#[cfg(test)]
 mod tests;

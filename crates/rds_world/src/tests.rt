@@ -1,5 +1,11 @@
 //! Worked rows of a station and its receivers: what each slot answers and sends, and what is shown at its end.
 
+mod audits;
+mod plain;
+mod plain_plans;
+mod plain_rules;
+mod stored_audit;
+
 use super::*;
 use arrayvec::ArrayVec;
 use rds_assembly::{Name, Text};

@@ -1,11 +1,11 @@
 //! Logs that are audited: worked rows, many short logs beside a plain search for plans and a plain check of the
 //! rules, and what encoders send.
 
-use crate::plain_plans::{Mark, SLOTS, has_plan};
-use crate::plain_rules::Rules;
-use crate::plain_tests::Dice;
+use super::plain::Dice;
+use super::plain_plans::{Mark, SLOTS, has_plan};
+use super::plain_rules::Rules;
+use super::{config, same};
 use crate::station::obey;
-use crate::tests::{config, same};
 use crate::{
     Audit, AuditFault, Config, broadcasts_are_the_reigns, one_fault, passes_by_plans,
     what_passes_is_safe,

@@ -2,8 +2,8 @@
 //! late, in which what receivers show is looked up in a diary of all that was on air; and so for receivers that count
 //! slots by clocks of their own.
 
+use super::{config, late_config, same, slot_event};
 use crate::station::obey;
-use crate::tests::{config, late_config, same, slot_event};
 use crate::{Command, Config, Reception, Reply, SlotEvent, StepRefused, World};
 use rds_assembly::{Name, Text};
 use rds_block::Group;
