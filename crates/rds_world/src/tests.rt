@@ -572,6 +572,25 @@ fn slots_not_played(rt: HostRuntime) -> Result<(), Fail> {
     Ok(())
 }
 
+/// Slots in one call: what is on air after them, and what is shown by a receiver that got them and by one that got none.
+#[test]
+fn played_slots(rt: HostRuntime) -> Result<(), Fail> {
+    let both = [GOT, Reception::default()];
+    let slots = [
+        slot_event(Command::Quiet, true, &both)?,
+        slot_event(Command::Quiet, true, &both)?,
+        slot_event(Command::Quiet, true, &both)?,
+        slot_event(Command::Quiet, true, &both)?,
+        slot_event(set_text(b"HI")?, true, &both)?,
+    ];
+    let hi = Some(b"HI".as_slice());
+    let world = play(rt.alloc(), config()?, 2, &slots).ok().ok_or("played")?;
+    same(&rt, world.on_air().0, hi);
+    same(&rt, world.receiver(0).ok_or("receiver")?.text(), hi);
+    same(&rt, world.receiver(1).ok_or("receiver")?.text(), None);
+    Ok(())
+}
+
 /// A world of this programme, dwell and lateness, with so many receivers: it is made, and plays some hundreds of slots;
 /// a slot late in the list with another number of receptions is told by its place, and so is one with a group that is
 /// not due, with its receiver.
