@@ -1,9 +1,9 @@
 -- How the cutter of a log goes on: what it keeps, and the lines that its bytes make.
-use Rattle.std.proofs.Common.{◌≡◌, ◌≢◌, ◌⊎◌, ◌+◌, ◌<◌, ◌≤◌, min, ℕ, List, [], ◌∷◌, ◌++◌, take, drop, length, length-drop, ◌-◌, append_assoc, ap, sym, ◌∙◌, refl, arith, inl, inr, add-one}
-use Rattle.std.proofs.lemmas.List.{length-take, take-append-le, take_all, take-append-drop, take_more}
+use Rattle.std.proofs.Common.{◌≡◌, ◌≢◌, ◌⊎◌, ◌+◌, ◌<◌, ◌≤◌, min, ℕ, List, [], ◌∷◌, ◌++◌, take, length, append_assoc, ap, sym, ◌∙◌, refl, arith, inl, inr}
+use Rattle.std.proofs.lemmas.List.{length-take, take-append-le, take_all}
 use Rattle.std.proofs.lemmas.List.Elements.{All-append, All-cons, All-nil}
-use Rattle.std.proofs.Math.Seq.{drop-cons, take-add, take-append-add, take-length}
-use Rattle.rds_log.specs.LogLines.{EndsAt, IsLine, Line, line_feed, text_of}
+use Rattle.std.proofs.Math.Seq.{take-append-add}
+use Rattle.rds_log.specs.LogLines.{IsLine, Line, line_feed, text_of}
 use Rattle.rds_log.specs.LineSays.{IsBad, LineSays}
 use Rattle.rds_log.specs.Cutting.{Closes, CutterStandsAt, IsBadLine}
 use Rattle.rds_log.specs.declared.cutter.Cutter.{Cutter}
@@ -88,38 +88,3 @@ closes_bad c closed begun last s line bad =
       number = omega (arith, count);
       bad = bad;
     }
-
--- the rest of a slice, as the code's range has it
-pub rest_of : (bytes : List ℕ) (i : ℕ) → take (length bytes - i) (drop i bytes) ≡ drop i bytes
-rest_of bytes i = rw (← length-drop i bytes) (take-length (drop i bytes))
-
--- the text up to the end of the next line
-pub text_of-line : (text : List ℕ) (lines : List Line) (line : Line) (bytes : List ℕ) (i n : ℕ) → EndsAt (drop i bytes) n
-    → text ++ take i bytes ≡ text_of lines line → text ++ take (i + (n + 1)) bytes ≡ text_of ((line ++ take n (drop i bytes)) ∷ lines) []
-text_of-line text lines line bytes i n ends cut =
-    let run = take n (drop i bytes) in
-    let one : take (n + 1) (drop i bytes) ≡ run ++ line_feed ∷ [] = take_more (drop i bytes) n 0 ends.within ∙ ap (λ (b : ℕ). run ++ b ∷ []) ends.feed in
-    ap (λ (l : List ℕ). text ++ l) (take-add i (n + 1) bytes ∙ ap (λ (l : List ℕ). take i bytes ++ l) one)
-    ∙ sym (append_assoc text (take i bytes) (run ++ line_feed ∷ []))
-    ∙ ap (λ (l : List ℕ). l ++ (run ++ line_feed ∷ [])) cut
-    ∙ sym (append_assoc (text_of lines line) run (line_feed ∷ []))
-    ∙ ap (λ (l : List ℕ). l ++ line_feed ∷ []) (text_of-more lines line run)
-
--- the text after the last line feed
-pub text_of-rest : (text : List ℕ) (lines : List Line) (line : Line) (bytes : List ℕ) (i : ℕ)
-    → text ++ take i bytes ≡ text_of lines line → text ++ bytes ≡ text_of lines (line ++ drop i bytes)
-text_of-rest text lines line bytes i cut =
-    ap (λ (l : List ℕ). text ++ l) (sym (take-append-drop i bytes)) ∙ sym (append_assoc text (take i bytes) (drop i bytes))
-    ∙ ap (λ (l : List ℕ). l ++ drop i bytes) cut ∙ text_of-more lines line (drop i bytes)
-
--- the whole text, where a line ends in it
-pub text_of-end : (text : List ℕ) (lines : List Line) (line : Line) (bytes : List ℕ) (i n : ℕ) → EndsAt (drop i bytes) n
-    → text ++ take i bytes ≡ text_of lines line → text ++ bytes ≡ text_of lines (line ++ take n (drop i bytes)) ++ line_feed ∷ drop (n + 1) (drop i bytes)
-text_of-end text lines line bytes i n ends cut =
-    let run = take n (drop i bytes) in
-    let rest = drop (n + 1) (drop i bytes) in
-    let feed = ends.feed in
-    let whole : run ++ (line_feed ∷ rest) ≡ drop i bytes = rw (← feed, add-one, ← drop-cons (drop i bytes) n 0 ends.within) (take-append-drop n (drop i bytes)) in
-    ap (λ (l : List ℕ). text ++ l) (sym (take-append-drop i bytes)) ∙ sym (append_assoc text (take i bytes) (drop i bytes))
-    ∙ ap (λ (l : List ℕ). l ++ drop i bytes) cut ∙ ap (λ (l : List ℕ). text_of lines line ++ l) (sym whole)
-    ∙ sym (append_assoc (text_of lines line) run (line_feed ∷ rest)) ∙ ap (λ (l : List ℕ). l ++ (line_feed ∷ rest)) (text_of-more lines line run)

@@ -3,11 +3,9 @@ pub mod FirstBytes
 pub mod SaidLemmas
 pub mod Views
 pub mod Cutting
-pub mod Going
-pub mod CountedReads
-pub mod Ending
-pub mod Judging
-pub mod JudgingReads
+pub mod Reading
+pub mod Decodes
+pub mod Audits
 pub mod WholeBytes
 pub mod OneOutput
 pub mod OneVerdict

@@ -14,9 +14,9 @@ use Rattle.rds_world.specs.AuditLaws.{ALogHasOneFault, WhatHasAFaultDoesNotPass}
 use Rattle.rds_world.specs.Rules.{IsFaultOf}
 use Rattle.rds_world.specs.declared.audit_fault.AuditFault.{AuditFault}
 use Rattle.rds_log.specs.Alike.{WriteAlike}
-use Rattle.rds_log.specs.Auditing.{AnswersVerdictOf, Audits, IsVerdictOf, IsYes, SlotsFail, SlotsPass, StopsAtSlot, WholePasses, verdict_line}
+use Rattle.rds_log.specs.Audit.{AnswersVerdictOf, Audits, IsVerdictOf, IsYes, SlotsFail, SlotsPass, StopsAtSlot, WholePasses, verdict_line}
 use Rattle.rds_log.specs.Decoding.{AreSlots}
-use Rattle.rds_log.specs.Engine.{BeginsWith}
+use Rattle.rds_log.specs.Reads.{BeginsWith}
 use Rattle.rds_log.specs.LogLines.{AreLines, IsLine, Line, line_feed, text_of}
 use Rattle.rds_log.specs.declared.verdict.Verdict.{Verdict}
 use Rattle.rds_log.specs.declared.verdict.Verdict.TheVariants.{No, Yes}

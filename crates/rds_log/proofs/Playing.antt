@@ -1,7 +1,6 @@
 -- How a station goes on by a row, and why a record is no row.
-use Rattle.std.proofs.Common.{◌≡◌, ◌<◌, ◌≤◌, ◌+◌, ◌∙◌, ◌∷◌, ◌++◌, [], ℕ, suc, List, None, Option, Some, ap, ap₂, arith, inl, inr, length, refl, subst, sym}
+use Rattle.std.proofs.Common.{◌≡◌, ◌<◌, ◌≤◌, ◌∙◌, ◌∷◌, ◌++◌, [], ℕ, suc, List, None, Option, Some, ap, ap₂, arith, inl, inr, length, refl, subst, sym}
 use Rattle.std.specs.Prelude.{IsSome}
-use Rattle.rds_fields.specs.declared.head.Head.{Head}
 use Rattle.rds_world.specs.Event.{Event}
 use Rattle.rds_world.specs.State.{WorldState, distance}
 use Rattle.rds_block.specs.declared.group.Group.{Group}

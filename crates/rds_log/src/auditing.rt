@@ -1,22 +1,21 @@
-//! The audit over a reader and a writer.
-ghost use Rattle.std.specs.Prelude.{◌≡◌, ◌≤◌, ◌<◌, ◌+◌, ◌-◌, ◌^◌, ℕ, List, Option};
+//! Whether what a station sent passes.
+ghost use Rattle.std.specs.Prelude.{◌≤◌, ◌+◌, ◌^◌, ℕ, List, Option};
 ghost use Rattle.rds_block.specs.declared.group.Group.{Group};
 ghost use Rattle.rds_charset.specs.Told.{traffic};
 ghost use Rattle.rds_world.specs.declared.audit_fault.AuditFault.{AuditFault};
-ghost use Rattle.rds_log.specs.Auditing.{AreSafe, Audits, Concludes, HaveNoPlans, Judges, SlotsFail, SlotsPass, stopped};
-ghost use Rattle.rds_log.specs.AuditorStanding.{WhereItAudits};
-ghost use Rattle.rds_log.specs.LogLines.{text_of};
-ghost use Rattle.rds_log.specs.Engine.{MadeReads};
+ghost use Rattle.rds_log.specs.Audit.{AreSafe, Audits, HaveNoPlans, Judges, SlotsFail, SlotsPass};
+ghost use Rattle.rds_log.specs.Reads.{MadeReads};
 
 use crate::LogFault;
-use crate::auditor::{Auditor, Stop};
-use crate::engine::{MOST_READS, PIECE};
+use crate::decoding::MOST_READS;
 use crate::lines::Lines;
+use crate::log_line::LogLine;
+use crate::source::Source;
 use crate::verdict::Verdict;
 use rds_charset::{TellingRead, TellingWrite, put};
 use rds_encoder::Late;
 use rds_fields::Dwell;
-use rds_world::{one_fault, passes_by_plans, what_passes_is_safe};
+use rds_world::{Audit, one_fault, passes_by_plans, what_passes_is_safe};
 
 /// Audits a log of what a station sent, a slot a line, and writes the answer line: `yes` with the number of
 /// slots, or `no` with the first slot up to which they do not pass and the name of the fault.
@@ -89,40 +88,19 @@ fn judge<R: TellingRead>(
     ensures judges { Judges pi (dwell + late) reads (traffic R.remaining R.failures reader.old reader.new) result }
     ensures reads { MadeReads reads (R.reads reader.old) (R.reads reader.new) result }
 {
-    let mut auditor = Auditor::new(pi, dwell, late);
-    let mut piece = [0u8; PIECE];
-    for _turn in 0..reads {
-        match reader.read_one(&mut piece) {
-            None => return Err(LogFault::Read),
-            Some(0) => return conclude(&mut auditor),
-            Some(count) => {
-                if let Err(stop) = auditor.feed(&piece[..count]) {
-                    return stopped(stop);
-                }
-            }
+    let mut source = Source::new(reads);
+    let mut audit = Audit::new(pi, dwell, late);
+    let mut slots = 0;
+    let mut said = LogLine::Skip;
+    while source.next(reader, &mut said)? {
+        let line = said;
+        let LogLine::Slot(group) = line else {
+            continue;
+        };
+        if let Err(fault) = audit.slot(group) {
+            return Ok(Verdict::No(slots, fault));
         }
+        slots += 1;
     }
-    Err(LogFault::TooLong)
-}
-
-/// What an audit comes to at the end of its log.
-fn conclude(auditor: &mut Auditor) -> Result<Verdict, LogFault>
-    requires lines { auditor.old.cutter.lines < 2 ^ 64 - 1 }
-    requires slots { auditor.old.slots < 2 ^ 64 - 1 }
-    ensures { WhereItAudits auditor.old (λ pi d closed begun. Concludes pi d (text_of closed begun) result) }
-{
-    match auditor.finish() {
-        Ok(slots) => Ok(Verdict::Yes(slots)),
-        Err(stop) => stopped(stop),
-    }
-}
-
-/// What an audit comes to that stopped.
-fn stopped(stop: Stop) -> Result<Verdict, LogFault>
-    ensures { result ≡ stopped stop }
-{
-    match stop {
-        Stop::BadLine(number) => Err(LogFault::BadLine(number)),
-        Stop::No(slot, fault) => Ok(Verdict::No(slot, fault)),
-    }
+    Ok(Verdict::Yes(slots))
 }

@@ -43,9 +43,8 @@ impl Cutter {
     #[inline(always)]
     pub(crate) fn close(&mut self, last: &[u8]) -> Result<LogLine, BadLine>
         requires lines { self.old.lines < 2 ^ 64 - 1 }
-        requires line { IsLine last.now }
         ensures lines { self.new.lines ≤ self.old.lines + 1 }
-        ensures closes { WhereItCuts self.old (λ closed begun. MatchResult result
+        ensures closes { IsLine last.now → WhereItCuts self.old (λ closed begun. MatchResult result
             (Closes self.new closed (begun ++ last.now))
             (λ bad. IsBadLine bad.number closed (begun ++ last.now))) }
     {

@@ -1,106 +1,83 @@
-//! The bytes of a log, and the output of its lines.
-ghost use Rattle.std.specs.Prelude.{◌≡◌, ◌⊎◌, ◌≤◌, ◌<◌, ◌+◌, ◌-◌, ◌^◌, ◌++◌, ◌∷◌, [], ℕ, List, IfOk, MatchResult, length, take};
-ghost use Rattle.rds_log.specs.LogLines.{IsLine};
+//! What the lines of a log write.
+ghost use Rattle.std.specs.Prelude.{◌≡◌, ◌≤◌, ◌<◌, ◌+◌, ◌-◌, ◌^◌, ◌∷◌, ◌↔◌, [], List, IsOk, IsTrue, MatchResult, OnOk, length};
+ghost use Rattle.rds_charset.specs.Told.{IsCalm, Traffic, traffic};
+ghost use Rattle.rds_receiver.specs.Receipts.{Tuning};
+ghost use Rattle.rds_log.specs.LogLines.{Line};
+ghost use Rattle.rds_log.specs.LineSays.{LineSays};
 ghost use Rattle.rds_log.specs.declared.change.TheConstants.{SLOT_ROOM};
 ghost use Rattle.rds_log.specs.declared.decoder.TheConstants.{OUTPUT_ROOM};
 
 use crate::change::SLOT_ROOM;
-use crate::cutter::{Cutter, line_end};
-use crate::fault::BadLine;
 use crate::lines::Lines;
 use crate::log_line::LogLine;
 use crate::view_lines::ViewLines;
+use rds_charset::{TellingWrite, WriteFault, put};
 use rds_fields::Dwell;
 
 /// How many bytes of output are put together before they are written.
-pub(crate) const OUTPUT_ROOM: usize = 8192;
+const OUTPUT_ROOM: usize = 8192;
 
-/// The output that waits to be written.
-pub(crate) type Output = Lines<OUTPUT_ROOM>;
-
-/// Takes the bytes of a log, however they are cut, and gives the output of each line that is closed.
+/// Takes the lines of a log, and puts their output together until it is written.
 #[derive(Drop)]
 pub(crate) struct Decoder {
-    pub(crate) cutter: Cutter,
     pub(crate) views: ViewLines,
+    output: Lines<OUTPUT_ROOM>,
 }
 
 impl Decoder {
+    ghost use Rattle.rds_log.specs.Decode.{WrotePart};
+    ghost use Rattle.rds_log.specs.Decoder.{HasDecoded};
     ghost use Rattle.rds_log.specs.Decoding.{tuned};
-    ghost use Rattle.rds_log.specs.Standing.{DecoderStandsAt, Ends, FailsIn, GivesLine, GoesOn, IsBadAt, WhereItStands};
 
     /// At the start of a log.
     pub(crate) fn new(pi: u16, dwell: Dwell) -> Decoder
-        ensures lines { result.cutter.lines ≡ 0 }
         ensures slots { result.views.slot ≡ 0 }
-        ensures stands { DecoderStandsAt (tuned pi dwell) result [] [] [] }
+        ensures empty { result.output ≡ [] }
+        ensures decoded { (w : Traffic) → w.after ≡ w.before → IsCalm w → HasDecoded (tuned pi dwell) result w [] }
     {
         Decoder {
-            cutter: Cutter::new(),
             views: ViewLines::new(pi, dwell),
+            output: Lines::new(),
         }
     }
 
-    /// Takes the next bytes while there is room for the output of a slot, and tells how many it took:
-    /// all of them, or those up to the end of a line.
-    pub(crate) fn feed(&mut self, piece: &[u8], output: &mut Output) -> Result<usize, BadLine>
-        requires lines { self.old.cutter.lines + length piece.now < 2 ^ 64 }
-        requires slots { self.old.views.slot + length piece.now < 2 ^ 64 }
-        ensures lines { IfOk result (λ taken. self.new.cutter.lines ≤ self.old.cutter.lines + taken) }
-        ensures slots { IfOk result (λ taken. self.new.views.slot ≤ self.old.views.slot + taken) }
-        ensures within { IfOk result (λ taken. taken ≤ length piece.now) }
-        ensures some { output.old ≡ [] → 0 < length piece.now → IfOk result (λ taken. 0 < taken) }
-        ensures step { WhereItStands self.old (λ was. MatchResult result
-            (λ taken. GoesOn self.new was (take taken piece.now) output.old output.new)
-            (λ bad. FailsIn bad.number was piece.now output.old output.new)) }
+    /// Whether there is room for the output of one line more.
+    pub(crate) fn has_room(&self) -> bool
+        ensures { IsTrue result ↔ (length self.now.output + SLOT_ROOM ≤ OUTPUT_ROOM) }
     {
-        let mut at = 0;
-        while let Some(count) = line_end(&piece[at..]) {
-            if !output.has_room(SLOT_ROOM) {
-                return Ok(at);
-            }
-            let end = at + count;
-            self.close(&piece[at..end], output)?;
-            at = end + 1;
-        }
-        self.cutter.keep(&piece[at..]);
-        Ok(piece.len())
+        self.output.has_room(SLOT_ROOM)
     }
 
-    /// Takes the end of the bytes: what follows the last line feed is a line where it is not empty.
-    pub(crate) fn finish(&mut self, output: &mut Output) -> Result<(), BadLine>
-        requires lines { self.old.cutter.lines < 2 ^ 64 - 1 }
+    /// Takes what a line says.
+    #[inline(always)]
+    pub(crate) fn line(&mut self, said: LogLine)
         requires slots { self.old.views.slot < 2 ^ 64 - 1 }
-        requires room { length output.old + SLOT_ROOM ≤ OUTPUT_ROOM }
-        ensures { WhereItStands self.old (λ was. MatchResult result
-            (λ _. Ends self.new was output.old output.new)
-            (λ bad. (output.new ≡ output.old)
-            × IsBadAt was.tuning bad.number was.closed was.begun was.written)) }
+        requires room { length self.old.output + SLOT_ROOM ≤ OUTPUT_ROOM }
+        ensures slots { self.new.views.slot ≤ self.old.views.slot + 1 }
+        ensures decoded { (t : Tuning) (w : Traffic) (lines : List Line) (line : Line) → LineSays line said
+            → HasDecoded t self.old w lines → HasDecoded t self.new w (line ∷ lines) }
     {
-        if self.cutter.is_between() {
+        match said {
+            LogLine::Skip => {}
+            LogLine::Slot(group) => self.views.slot(group, &mut self.output),
+        }
+    }
+
+    /// Writes the output that waits.
+    pub(crate) fn write<W: TellingWrite>(&mut self, writer: &mut W) -> Result<(), WriteFault>
+        ensures empty { OnOk result (self.new.output ≡ []) }
+        ensures slots { self.new.views ≡ self.old.views }
+        ensures nothing { self.old.output ≡ [] → IsOk result }
+        ensures wrote { (t : Tuning) (start : W) (lines : List Line)
+            → HasDecoded t self.old (traffic W.contents W.failures start writer.old) lines
+            → MatchResult result (λ _. HasDecoded t self.new (traffic W.contents W.failures start writer.new) lines)
+            (λ _. WrotePart t (traffic W.contents W.failures start writer.new) lines) }
+    {
+        if self.output.bytes().is_empty() {
             return Ok(());
         }
-        self.close(&[], output)
-    }
-
-    /// Takes the last bytes of the line that is begun, and its end.
-    #[inline(always)]
-    fn close(&mut self, last: &[u8], output: &mut Output) -> Result<(), BadLine>
-        requires lines { self.old.cutter.lines < 2 ^ 64 - 1 }
-        requires slots { self.old.views.slot < 2 ^ 64 - 1 }
-        requires room { length output.old + SLOT_ROOM ≤ OUTPUT_ROOM }
-        requires line { IsLine last.now }
-        ensures lines { self.new.cutter.lines ≤ self.old.cutter.lines + 1 }
-        ensures slots { self.new.views.slot ≤ self.old.views.slot + 1 }
-        ensures step { WhereItStands self.old (λ was. MatchResult result
-            (λ _. GivesLine self.new was (was.begun ++ last.now) output.old output.new)
-            (λ bad. (output.new ≡ output.old)
-            × IsBadAt was.tuning bad.number was.closed (was.begun ++ last.now) was.written)) }
-    {
-        match self.cutter.close(last)? {
-            LogLine::Skip => {}
-            LogLine::Slot(group) => self.views.slot(group, output),
-        }
+        put(self.output.bytes(), writer)?;
+        self.output.clear();
         Ok(())
     }
 }

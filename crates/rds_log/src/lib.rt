@@ -18,11 +18,10 @@
 mod answer_lines;
 mod asked;
 mod auditing;
-mod auditor;
 mod change;
 mod cutter;
 mod decoder;
-mod engine;
+mod decoding;
 mod fault;
 mod form;
 mod hexadecimal;
@@ -34,11 +33,12 @@ mod player;
 mod row;
 mod script;
 mod scripts;
+mod source;
 mod verdict;
 mod view_lines;
 
 pub use auditing::{audit, audit_within};
-pub use engine::{decode, decode_within};
+pub use decoding::{decode, decode_within};
 pub use fault::LogFault;
 pub use hexadecimal::word_at;
 pub use laws::{

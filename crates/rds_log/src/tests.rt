@@ -1,9 +1,8 @@
 //! Long lines and much output, and readers and writers that are slow, or fail. Worked logs are tests of rds_run.
 
-use crate::engine::decode_within;
 use crate::{
-    LogFault, bytes_have_one_verdict, bytes_write_one_output, decode, rows_write_one_output,
-    script_writes_one_output,
+    LogFault, bytes_have_one_verdict, bytes_write_one_output, decode, decode_within,
+    rows_write_one_output, script_writes_one_output,
 };
 use rds_charset::{TellingRead, Told};
 use rds_fields::Dwell;

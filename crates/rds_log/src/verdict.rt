@@ -1,6 +1,6 @@
 //! What the audit of a log comes to, and its line.
 ghost use Rattle.std.specs.Prelude.{◌≡◌, ◌≤◌, ◌+◌, ◌++◌, ◌↔◌, IsTrue, length};
-ghost use Rattle.rds_log.specs.Auditing.{IsYes, fault_name, verdict_line};
+ghost use Rattle.rds_log.specs.Audit.{IsYes, fault_name, verdict_line};
 
 use crate::lines::Lines;
 use rds_world::AuditFault;

@@ -6,9 +6,9 @@ use Rattle.rds_charset.specs.Told.{PutsNothing, Traffic}
 use Rattle.rds_charset.specs.declared.output.WriteFault.{WriteFault}
 use Rattle.rds_receiver.specs.Receipts.{Tuning}
 use Rattle.rds_world.specs.declared.world.Config.{Config}
-use Rattle.rds_log.specs.Auditing.{Audits}
+use Rattle.rds_log.specs.Audit.{Audits}
 use Rattle.rds_log.specs.Digits.{HasWord}
-use Rattle.rds_log.specs.Engine.{Decodes}
+use Rattle.rds_log.specs.Decode.{Decodes}
 use Rattle.rds_log.specs.Decoding.{tuned}
 use Rattle.rds_log.specs.Failing.{SomeReadFailed}
 use Rattle.rds_log.specs.Scripts.{Plays, Reading}

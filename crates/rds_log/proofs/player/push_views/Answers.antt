@@ -1,4 +1,4 @@
-use Rattle.std.proofs.Common.{◌≡◌, ◌<◌, ◌+◌, ◌∙◌, ℕ, arith, inl, inr, length, map, refl, set, subst, sym}
+use Rattle.std.proofs.Common.{◌≡◌, ◌<◌, ◌∙◌, ℕ, arith, inl, inr, length, map, refl, set, subst, sym}
 use Rattle.std.proofs.lemmas.Grind.{common_steps}
 use Rattle.rds_world.specs.Slots.{input_of}
 use Rattle.rds_world.specs.Standing.{IsViewOfInput}

@@ -1,0 +1,124 @@
+-- How decoding goes on and ends: what the source gives, and what the decoder writes of it.
+use Rattle.std.proofs.Common.{◌≡◌, ◌≢◌, ℕ, List, [], ◌∷◌, ◌++◌, Bool, Option, None, append_assoc, Err, ap, sym, ◌∙◌, refl, true, false, inl, inr}
+use Rattle.std.specs.Prelude.{MatchBool}
+use Rattle.std.proofs.lemmas.List.{append-nil}
+use Rattle.std.proofs.KnownBytes.{Appends-trans}
+use Rattle.std.specs.Io.KnownBytes.{Appends, Consumes}
+use Rattle.rds_block.specs.declared.group.Group.{Group}
+use Rattle.rds_charset.specs.Told.{AppendsPrefix, Failed, Traffic}
+use Rattle.rds_charset.specs.Puts.{AppendsPrefix-append}
+use Rattle.rds_receiver.specs.Receipts.{Tuning}
+use Rattle.rds_log.specs.LogLines.{Line}
+use Rattle.rds_log.specs.LineSays.{LineSays}
+use Rattle.rds_log.specs.Decoding.{AreSlots, LinesWrite}
+use Rattle.rds_log.specs.Viewing.{GivesChange, ViewsStandAt}
+use Rattle.rds_log.specs.Reads.{BeginsWith}
+use Rattle.rds_log.specs.Source.{HasNoNext, IsBadLineFault, IsInside, IsThrough, ReaderState, SourceStandsAt, since}
+use Rattle.rds_log.specs.Decode.{Decodes, WroteLines, WrotePart}
+use Rattle.rds_log.specs.Decoder.{HasDecoded}
+use Rattle.rds_log.specs.declared.decoder.Decoder.{Decoder}
+use Rattle.rds_log.specs.declared.fault.LogFault.{LogFault}
+use Rattle.rds_log.specs.declared.fault.LogFault.TheVariants.{BadLine, BadRow, Read, Write, TooLong, Memory}
+use Rattle.rds_log.specs.declared.log_line.LogLine.TheVariants.{Slot}
+use Rattle.rds_log.specs.declared.source.Source.{Source}
+use Rattle.rds_log.specs.declared.view_lines.ViewLines.{ViewLines}
+
+-- the output of the lines
+lines_write : (t : Tuning) (v : ViewLines) (lines : List Line) (slots : List (Option Group)) (written : List ℕ) → AreSlots lines slots → ViewsStandAt t v slots written → LinesWrite t lines written
+lines_write t v lines slots written say views = record { slots = slots; say = say; write = record { views = views.views; are = views.are; changes = views.changes } }
+
+-- ---- the decoder
+
+-- a line that is a slot
+pub takes_slot : (t : Tuning) (d after : Decoder) (w : Traffic) (lines : List Line) (line : Line) (slot : Option Group) → LineSays line (Slot slot)
+    → GivesChange d.views after.views slot d.output after.output → HasDecoded t d w lines → HasDecoded t after w (line ∷ lines)
+takes_slot t d after w lines line slot says gives s =
+    let (added, output, views) = gives t s.slots (s.written ++ d.output) s.views in
+    let all : (s.written ++ d.output) ++ added ≡ s.written ++ after.output = append_assoc s.written d.output added ∙ ap (λ (l : List ℕ). s.written ++ l) (sym output) in
+    record {
+      slots = slot ∷ s.slots;
+      say = inr (slot, s.slots, says, refl, s.say);
+      written = s.written;
+      views = rw all at views;
+      wrote = s.wrote;
+      calm = s.calm;
+    }
+
+-- what the decoder did, from a to b, with failures from f to g
+abbrev pub from : Option (List ℕ) → Option (List ℕ) → ℕ → ℕ → Traffic
+from a b f g = record { before = a; after = b; failures_before = f; failures_after = g }
+
+-- the output that waits was written
+pub writes_all : (t : Tuning) (d after : Decoder) (lines : List Line) (a b c : Option (List ℕ)) (f g h : ℕ) → HasDecoded t d (from a b f g) lines → after.views ≡ d.views → after.output ≡ []
+    → Appends b c d.output → h ≡ g → HasDecoded t after (from a c f h) lines
+writes_all t d after lines a b c f g h s views none put calm = record {
+  slots = s.slots;
+  say = s.say;
+  written = s.written ++ d.output;
+  views = rw (views, none, append-nil (s.written ++ d.output)) s.views;
+  wrote = Appends-trans a b c s.written d.output s.wrote put;
+  calm = calm ∙ s.calm;
+}
+
+-- or a first part of it
+pub writes_part : (t : Tuning) (d : Decoder) (lines : List Line) (a b c : Option (List ℕ)) (f g h : ℕ) → HasDecoded t d (from a b f g) lines → AppendsPrefix b c d.output → Failed g h
+    → WrotePart t (from a c f h) lines
+writes_part t d lines a b c f g h s part failed = record {
+  written = s.written ++ d.output;
+  write = lines_write t d.views lines s.slots (s.written ++ d.output) s.say s.views;
+  wrote = AppendsPrefix-append a b c s.written d.output s.wrote part;
+  failed = rw s.calm at failed;
+}
+
+-- ---- the ends
+
+-- nothing waits: all output was written
+pub wrote_lines : (t : Tuning) (d : Decoder) (w : Traffic) (lines : List Line) → HasDecoded t d w lines → d.output ≡ [] → WroteLines t w lines
+wrote_lines t d w lines s none =
+    let all : s.written ++ d.output ≡ s.written = ap (λ (l : List ℕ). s.written ++ l) none ∙ append-nil s.written in
+    record {
+      written = s.written;
+      write = rw all at (lines_write t d.views lines s.slots (s.written ++ d.output) s.say s.views);
+      wrote = s.wrote;
+      calm = s.calm;
+    }
+
+-- the text that was read begins with the lines that the source gave
+pub begins_with : (s : Source) (most : ℕ) (start now : ReaderState) (lines : List Line) → SourceStandsAt s most start now lines
+    → (text : List ℕ) × Consumes start.left now.left text × BeginsWith text now.left lines
+begins_with s most start now lines stands = by_end s.ended stands.where_it_is
+  where
+    by_end : (b : Bool) → MatchBool b (IsThrough start now lines × (s.line ≡ None)) (IsInside s most start now lines)
+        → (text : List ℕ) × Consumes start.left now.left text × BeginsWith text now.left lines
+    by_end true (is, none) = (is.text, is.read, inr (is.end, is.are))
+    by_end false is = (is.text, is.read, inl (is.holds.begun, _, is.holds.cut, is.holds.cutter.lines, is.holds.cutter.line))
+
+-- the source had no further line, and the output was written
+pub ends_by_fault : (t : Tuning) (d : Decoder) (reads : ℕ) (start now : ReaderState) (w : Traffic) (lines : List Line) (fault : LogFault) → HasNoNext reads start now lines fault
+    → HasDecoded t d w lines → d.output ≡ [] → Decodes t reads (since start now) w (Err fault)
+ends_by_fault t d reads start now w lines (BadLine n) (text, read, bad, calm) h none = (text, read, record { lines = lines; next = bad; wrote = wrote_lines t d w lines h none }, calm)
+ends_by_fault t d reads start now w lines Read (up_to, failed) h none = (record { closed = lines; reads = up_to; wrote = wrote_lines t d w lines h none }, failed)
+ends_by_fault t d reads start now w lines TooLong (up_to, calm) h none = (record { closed = lines; reads = up_to; wrote = wrote_lines t d w lines h none }, calm)
+ends_by_fault t d reads start now w lines (BadRow n) gives h none = absurd gives
+ends_by_fault t d reads start now w lines Write gives h none = absurd gives
+ends_by_fault t d reads start now w lines Memory gives h none = absurd gives
+
+-- the writer failed after a line
+pub ends_by_write : (t : Tuning) (s : Source) (reads : ℕ) (start now : ReaderState) (w : Traffic) (lines : List Line) → SourceStandsAt s reads start now lines → WrotePart t w lines
+    → Decodes t reads (since start now) w (Err Write)
+ends_by_write t s reads start now w lines stands part =
+    let (text, read, begins) = begins_with s reads start now lines stands in
+    (text, read, record { lines = lines; begins = begins; wrote = part }, stands.reads.calm)
+
+-- the writer failed at a bad line
+pub ends_at_bad_line : (t : Tuning) (reads n : ℕ) (start now : ReaderState) (w : Traffic) (lines : List Line) → HasNoNext reads start now lines (BadLine n) → WrotePart t w lines
+    → Decodes t reads (since start now) w (Err Write)
+ends_at_bad_line t reads n start now w lines (text, read, bad, calm) part =
+    (text, read, record { lines = lines; begins = inl (bad.line, bad.rest, bad.cut, bad.bad.lines, bad.bad.is_line); wrote = part }, calm)
+
+-- the writer failed after the source had no further line: only a bad one was there, since else nothing waited
+pub ends_at_fault : (t : Tuning) (line : Option ℕ) (reads : ℕ) (start now : ReaderState) (w : Traffic) (lines : List Line) (fault : LogFault) → (line ≢ None → IsBadLineFault fault)
+    → line ≢ None → HasNoNext reads start now lines fault → WrotePart t w lines → Decodes t reads (since start now) w (Err Write)
+ends_at_fault t line reads start now w lines fault there some gives part =
+    let (n, is) = there some in
+    ends_at_bad_line t reads n start now w lines (rw is at gives) part

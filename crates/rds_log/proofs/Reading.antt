@@ -1,0 +1,303 @@
+-- How a source of lines goes on: from line to line, and from piece to piece.
+use Rattle.std.proofs.Common.{◌≡◌, ◌≢◌, ◌+◌, ◌-◌, ◌<◌, ◌≤◌, ℕ, Bool, List, [], ◌∷◌, ◌++◌, take, drop, length, length-append, Option, Some, None, Ok, Err, true, false, append_assoc, add-one, ap, sym, ◌∙◌, refl, arith, inl, inr}
+use Rattle.std.specs.Prelude.{IfNone, IfSome, MatchBool, MatchOption, MatchResult, Result}
+use Rattle.std.proofs.lemmas.List.{append-nil, drop-drop, drop-take, take-append-drop, take-take}
+use Rattle.std.proofs.lemmas.List.Elements.{All-append}
+use Rattle.std.proofs.Math.Seq.{drop-cons}
+use Rattle.std.proofs.KnownBytes.{Consumes-kept, Consumes-trans}
+use Rattle.std.specs.Io.KnownBytes.{Consumes, IsAtEnd, Keeps}
+use Rattle.rds_charset.specs.Told.{count_next, next_count}
+use Rattle.rds_log.specs.LogLines.{EndsAt, IsLine, Line, line_feed, text_of}
+use Rattle.rds_log.specs.LineSays.{LineSays}
+use Rattle.rds_log.specs.Cutting.{Closes, CutterStandsAt, IsBadLine}
+use Rattle.rds_log.specs.Reads.{MadeReads, ReadsUpTo}
+use Rattle.rds_log.specs.Source.{EndsWith, GivesNext, HasLine, HasNoNext, HasMade, IsAtLast, IsInside, IsThrough, ReaderState, SourceStandsAt, since, waiting}
+use Rattle.rds_log.specs.declared.fault.BadLine as fault
+use Rattle.rds_log.specs.declared.fault.LogFault.{LogFault}
+use Rattle.rds_log.specs.declared.fault.LogFault.TheVariants.{BadLine, TooLong}
+use Rattle.rds_log.specs.declared.log_line.LogLine.{LogLine}
+use Rattle.rds_log.specs.declared.source.Source.{Source}
+use Rattle.rds_log.proofs.Cutting.{text_of-more}
+
+-- where the next line ends in the bytes, or that it does not
+pub line_told : (bytes : List ℕ) (o : Option ℕ) → IfNone o (IsLine bytes) → IfSome o (EndsAt bytes) → MatchOption o (IsLine bytes) (EndsAt bytes)
+line_told bytes None none some = none
+line_told bytes (Some n) none some = some
+
+no_end : (bytes : List ℕ) (o : Option ℕ) → o ≡ None → MatchOption o (IsLine bytes) (EndsAt bytes) → IsLine bytes
+no_end bytes None e h = h
+no_end bytes (Some n) e h = absurd (cc)
+
+an_end : (bytes : List ℕ) (o : Option ℕ) (n : ℕ) → o ≡ Some n → MatchOption o (IsLine bytes) (EndsAt bytes) → EndsAt bytes n
+an_end bytes None n e h = absurd (cc)
+an_end bytes (Some m) n e h = (let same : m ≡ n = (cc) in rw same at h)
+
+-- a source that is not at its end
+inside : (s : Source) (most : ℕ) (start now : ReaderState) (lines : List Line) → s.ended ≡ false → SourceStandsAt s most start now lines → IsInside s most start now lines
+inside s most start now lines not_ended stands = by_end s.ended not_ended stands.where_it_is
+  where
+    by_end : (b : Bool) → b ≡ false → MatchBool b (IsThrough start now lines × (s.line ≡ None)) (IsInside s most start now lines) → IsInside s most start now lines
+    by_end true e h = absurd (cc)
+    by_end false e h = h
+
+from_inside : (s : Source) (most : ℕ) (start now : ReaderState) (lines : List Line) (b : Bool) → b ≡ false → IsInside s most start now lines
+    → MatchBool b (IsThrough start now lines × (s.line ≡ None)) (IsInside s most start now lines)
+from_inside s most start now lines true e is = absurd (cc)
+from_inside s most start now lines false e is = is
+
+-- one that is
+from_through : (s : Source) (most : ℕ) (start now : ReaderState) (lines : List Line) (b : Bool) → b ≡ true → IsThrough start now lines → s.line ≡ None
+    → MatchBool b (IsThrough start now lines × (s.line ≡ None)) (IsInside s most start now lines)
+from_through s most start now lines true e through none = (through, none)
+from_through s most start now lines false e through none = absurd (cc)
+
+-- a source that knows of a line is not at its end
+goes_on : (s : Source) (most n : ℕ) (start now : ReaderState) (lines : List Line) → s.line ≡ Some n → SourceStandsAt s most start now lines → s.ended ≡ false
+goes_on s most n start now lines e stands = by_end s.ended stands.where_it_is
+  where
+    by_end : (b : Bool) → MatchBool b (IsThrough start now lines × (s.line ≡ None)) (IsInside s most start now lines) → b ≡ false
+    by_end true (through, none) = absurd (let both : Some n ≡ None = sym e ∙ none in cc)
+    by_end false is = refl
+
+-- no read more
+made_so_far : (s after : Source) (most : ℕ) (start now : ReaderState) → after.left ≡ s.left → HasMade s most start now → HasMade after most start now
+made_so_far s after most start now left m =
+    let leaves = m.leaves in
+    record { made = m.made; leaves = omega (arith, leaves, left); counted = m.counted; calm = m.calm }
+
+-- the text, cut at the end of the next line
+pub cut_line : (lines : List Line) (begun : Line) (bytes : List ℕ) (n : ℕ) → EndsAt bytes n
+    → text_of lines begun ++ bytes ≡ text_of ((begun ++ take n bytes) ∷ lines) (drop (n + 1) bytes)
+cut_line lines begun bytes n ends =
+    let run = take n bytes in
+    let rest = drop (n + 1) bytes in
+    let feed = ends.feed in
+    let whole : run ++ (line_feed ∷ rest) ≡ bytes = rw (← feed, add-one, ← drop-cons bytes n 0 ends.within) (take-append-drop n bytes) in
+    ap (λ (l : List ℕ). text_of lines begun ++ l) (sym whole) ∙ sym (append_assoc (text_of lines begun) run (line_feed ∷ rest))
+    ∙ ap (λ (l : List ℕ). l ++ (line_feed ∷ rest)) (text_of-more lines begun run)
+
+-- what waits after a line and its end
+pub wait_on : (piece : List ℕ) (at count n : ℕ) → at + n < count
+    → take (count - (at + n + 1)) (drop (at + n + 1) piece) ≡ drop (n + 1) (take (count - at) (drop at piece))
+wait_on piece at count n less =
+    let size : n + 1 + (count - (at + n + 1)) ≡ count - at = omega (arith, less) in
+    let place : at + (n + 1) ≡ at + n + 1 = omega arith in
+    ap (λ (m : ℕ). take (count - (at + n + 1)) (drop m piece)) (sym place)
+    ∙ ap (λ (l : List ℕ). take (count - (at + n + 1)) l) (sym (drop-drop (n + 1) at piece))
+    ∙ sym (drop-take (n + 1) (count - (at + n + 1)) (drop at piece))
+    ∙ ap (λ (m : ℕ). drop (n + 1) (take m (drop at piece))) size
+
+-- the line that ends so many bytes on, as the code's range has it
+pub line_of : (piece : List ℕ) (at count n : ℕ) → at + n < count → take n (take (count - at) (drop at piece)) ≡ take (at + n - at) (drop at piece)
+line_of piece at count n less =
+    let size : n ≡ at + n - at = omega arith in
+    take-take n (count - at) (drop at piece) (omega (arith, less)) ∙ ap (λ (m : ℕ). take m (drop at piece)) size
+
+-- the next line was closed, and says this
+gives_line : (s after : Source) (most n : ℕ) (start now : ReaderState) (lines : List Line) (said : LogLine) → SourceStandsAt s most start now lines → s.line ≡ Some n
+    → s.at + n < s.count → ((begun : Line) → CutterStandsAt s.cutter lines begun → IsLine (take n (waiting s)) → Closes after.cutter lines (begun ++ take n (waiting s)) said)
+    → after.piece ≡ s.piece → after.at ≡ s.at + n + 1 → after.count ≡ s.count → after.left ≡ s.left → after.ended ≡ s.ended
+    → MatchOption after.line (IsLine (waiting after)) (EndsAt (waiting after)) → GivesNext after most start now lines said (Ok true)
+gives_line s after most n start now lines said stands line less closes piece at count left ended next =
+    let not_ended = goes_on s most n start now lines line stands in
+    let is = inside s most start now lines not_ended stands in
+    let ends = an_end (waiting s) s.line n line is.holds.line in
+    let closed = closes is.holds.begun is.holds.cutter ends.line in
+    let whole = is.holds.begun ++ take n (waiting s) in
+    let rest : waiting after ≡ drop (n + 1) (waiting s) =
+    ap (λ (l : List ℕ). take (after.count - after.at) (drop after.at l)) piece ∙ ap (λ (m : ℕ). take (after.count - m) (drop m s.piece)) at
+    ∙ ap (λ (m : ℕ). take (m - (s.at + n + 1)) (drop (s.at + n + 1) s.piece)) count ∙ wait_on s.piece s.at s.count n less in
+    let reads = stands.reads in
+    let enough = is.enough in (
+      whole,
+      closed.says,
+      record {
+        reads = made_so_far s after most start now left reads;
+        where_it_is = from_inside after most start now (whole ∷ lines) after.ended (ended ∙ not_ended) record {
+          text = is.text;
+          read = is.read;
+          enough = omega (arith, enough, left);
+          holds = record {
+            begun = [];
+            cut = is.holds.cut ∙ cut_line lines is.holds.begun (waiting s) n ends ∙ sym (text_of-more (whole ∷ lines) [] (drop (n + 1) (waiting s)))
+                ∙ ap (λ (l : List ℕ). text_of (whole ∷ lines) [] ++ l) (sym rest);
+            cutter = closed.stands;
+            line = next;
+          };
+        };
+      },
+    )
+
+-- the next line is bad
+gives_bad : (s : Source) (most n number : ℕ) (start now : ReaderState) (lines : List Line) → SourceStandsAt s most start now lines → s.line ≡ Some n
+    → ((begun : Line) → CutterStandsAt s.cutter lines begun → IsLine (take n (waiting s)) → IsBadLine number lines (begun ++ take n (waiting s)))
+    → HasNoNext most start now lines (BadLine number)
+gives_bad s most n number start now lines stands line bad =
+    let is = inside s most start now lines (goes_on s most n start now lines line stands) stands in
+    let ends = an_end (waiting s) s.line n line is.holds.line in (
+      is.text,
+      is.read,
+      record {
+        line = is.holds.begun ++ take n (waiting s);
+        rest = line_feed ∷ drop (n + 1) (waiting s);
+        cut = is.holds.cut ∙ cut_line lines is.holds.begun (waiting s) n ends;
+        ends = refl;
+        bad = bad is.holds.begun is.holds.cutter ends.line;
+      },
+      stands.reads.calm,
+    )
+
+-- the next line, whatever it is
+pub gives_either : (s after : Source) (most n : ℕ) (start now : ReaderState) (lines : List Line) (result : Result LogLine fault.BadLine) → SourceStandsAt s most start now lines → s.line ≡ Some n
+    → s.at + n < s.count → ((begun : Line) → CutterStandsAt s.cutter lines begun → IsLine (take n (waiting s))
+    → MatchResult result (Closes after.cutter lines (begun ++ take n (waiting s))) (λ bad. IsBadLine bad.number lines (begun ++ take n (waiting s))))
+    → after.piece ≡ s.piece → after.at ≡ s.at + n + 1 → after.count ≡ s.count → after.left ≡ s.left → after.ended ≡ s.ended
+    → MatchOption after.line (IsLine (waiting after)) (EndsAt (waiting after))
+    → MatchResult result (λ said. GivesNext after most start now lines said (Ok true)) (λ bad. HasNoNext most start now lines (BadLine bad.number))
+gives_either s after most n start now lines (Ok said) stands line less closes piece at count left ended next =
+    gives_line s after most n start now lines said stands line less closes piece at count left ended next
+gives_either s after most n start now lines (Err bad) stands line less closes piece at count left ended next = gives_bad s most n bad.number start now lines stands line closes
+
+-- all of the piece is of the line that is begun
+pub takes_rest : (s : Source) (lines : List Line) (text : List ℕ) (h : HasLine s lines text) → s.line ≡ None → (text ≡ text_of lines (h.begun ++ waiting s)) × IsLine (waiting s)
+takes_rest s lines text h none = (h.cut ∙ text_of-more lines h.begun (waiting s), no_end (waiting s) s.line none h.line)
+
+-- no line is there, and the lines so far are told
+pub reads_up_to : (s : Source) (most least : ℕ) (start now after : ReaderState) (lines : List Line) → SourceStandsAt s most start now lines → s.ended ≡ false → s.line ≡ None
+    → Keeps now.left after.left → least + s.left ≤ most → ReadsUpTo (since start after) least lines
+reads_up_to s most least start now after lines stands not_ended none keeps less =
+    let is = inside s most start now lines not_ended stands in
+    let (cut, rest) = takes_rest s lines is.text is.holds none in
+    let enough = is.enough in
+    let size : length is.text ≡ length (text_of lines (is.holds.begun ++ waiting s)) = ap length cut in
+    record {
+      begun = is.holds.begun ++ waiting s;
+      read = Consumes-kept start.left now.left after.left _ (rw cut at is.read) keeps;
+      enough = omega (arith, enough, size, less);
+      lines_are = is.holds.cutter.lines;
+      line_is = All-append (λ x. x ≢ line_feed) is.holds.begun (waiting s) is.holds.cutter.line rest;
+    }
+
+-- one read more
+pub made_more : (s after : Source) (most : ℕ) (start now later : ReaderState) → HasMade s most start now → after.left + 1 ≡ s.left → later.reads ≡ next_count now.reads
+    → later.failures ≡ now.failures → HasMade after most start later
+made_more s after most start now later m fewer counts calm =
+    let leaves = m.leaves in
+    record {
+      made = m.made + 1;
+      leaves = omega (arith, leaves, fewer);
+      counted = count_next start.reads m.made now.reads later.reads m.counted counts;
+      calm = calm ∙ m.calm;
+    }
+
+-- a read that failed
+pub made_in_vain : {X : Type 0} (s : Source) (most : ℕ) (start now : ReaderState) (after : ℕ) (result : Result X LogFault) → HasMade s most start now → 0 < s.left
+    → after ≡ next_count now.reads → result ≢ Err TooLong → MadeReads most start.reads after result
+made_in_vain s most start now after result m some counts other =
+    let leaves = m.leaves in
+    record {
+      made = m.made + 1;
+      at_most = omega (arith, leaves, some);
+      counted = count_next start.reads m.made now.reads after m.counted counts;
+      gave_up = λ e. absurd (other e);
+    }
+
+-- all reads were made
+pub made_all : {X : Type 0} (s : Source) (most : ℕ) (start now : ReaderState) (result : Result X LogFault) → HasMade s most start now → s.left ≡ 0 → MadeReads most start.reads now.reads result
+made_all s most start now result m none =
+    let leaves = m.leaves in
+    record { made = m.made; at_most = omega (arith, leaves, none); counted = m.counted; gave_up = λ e. omega (arith, leaves, none) }
+
+-- a read that gave nothing
+pub reads_none : (s after : Source) (most : ℕ) (start now later : ReaderState) (lines : List Line) → SourceStandsAt s most start now lines → s.ended ≡ false → s.line ≡ None
+    → (IsLine (waiting s) → (closed : List Line) (begun : Line) → CutterStandsAt s.cutter closed begun → CutterStandsAt after.cutter closed (begun ++ waiting s))
+    → after.left + 1 ≡ s.left → later.reads ≡ next_count now.reads → later.failures ≡ now.failures → Consumes now.left later.left [] → IsAtEnd later.left
+    → IsAtLast after most start later lines
+reads_none s after most start now later lines stands not_ended none keeps fewer counts calm gave end =
+    let is = inside s most start now lines not_ended stands in
+    let (cut, rest) = takes_rest s lines is.text is.holds none in
+    record {
+      reads = made_more s after most start now later stands.reads fewer counts calm;
+      begun = is.holds.begun ++ waiting s;
+      read = rw (append-nil _) at (Consumes-trans start.left now.left later.left _ [] (rw cut at is.read) gave);
+      end = end;
+      cutter = keeps rest lines is.holds.begun is.holds.cutter;
+    }
+
+-- a read that gave bytes
+pub reads_more : (s after : Source) (most : ℕ) (start now later : ReaderState) (lines : List Line) → SourceStandsAt s most start now lines → s.ended ≡ false → s.line ≡ None
+    → (IsLine (waiting s) → (closed : List Line) (begun : Line) → CutterStandsAt s.cutter closed begun → CutterStandsAt after.cutter closed (begun ++ waiting s))
+    → after.left + 1 ≡ s.left → after.ended ≡ false → later.reads ≡ next_count now.reads → later.failures ≡ now.failures → Consumes now.left later.left (waiting after) → 0 < length (waiting after)
+    → MatchOption after.line (IsLine (waiting after)) (EndsAt (waiting after)) → SourceStandsAt after most start later lines
+reads_more s after most start now later lines stands not_ended none keeps fewer still counts calm gave some next =
+    let is = inside s most start now lines not_ended stands in
+    let (cut, rest) = takes_rest s lines is.text is.holds none in
+    let enough = is.enough in
+    record {
+      reads = made_more s after most start now later stands.reads fewer counts calm;
+      where_it_is = from_inside after most start later lines after.ended still record {
+        text = is.text ++ waiting after;
+        read = Consumes-trans start.left now.left later.left is.text (waiting after) is.read gave;
+        enough = omega (arith, enough, fewer, some, length-append is.text (waiting after));
+        holds = record {
+          begun = is.holds.begun ++ waiting s;
+          cut = ap (λ (l : List ℕ). l ++ waiting after) cut;
+          cutter = keeps rest lines is.holds.begun is.holds.cutter;
+          line = next;
+        };
+      };
+    }
+
+-- the end, where no line is begun
+pub ends_between : (s after : Source) (most : ℕ) (start now : ReaderState) (lines : List Line) (last : IsAtLast s most start now lines) → last.begun ≡ [] → after.left ≡ s.left
+    → after.ended ≡ true → after.line ≡ None → EndsWith after most start now lines None
+ends_between s after most start now lines last empty left ended none =
+    let through : IsThrough start now lines = record {
+      text = text_of lines last.begun;
+      read = last.read;
+      end = last.end;
+      are = (lines, last.begun, refl, last.cutter.lines, last.cutter.line, inl (empty, refl));
+    } in
+    let reads = last.reads in (
+      record {
+        reads = made_so_far s after most start now left reads;
+        where_it_is = from_through after most start now lines after.ended ended through none;
+      },
+      through,
+    )
+
+-- the end, which closes a line
+pub ends_line : (s after : Source) (most : ℕ) (start now : ReaderState) (lines : List Line) (said : LogLine) (last : IsAtLast s most start now lines) → last.begun ≢ []
+    → Closes after.cutter lines (last.begun ++ []) said → after.left ≡ s.left → after.ended ≡ true → after.line ≡ None → EndsWith after most start now lines (Some said)
+ends_line s after most start now lines said last some closed left ended none =
+    let says : LineSays last.begun said = rw (append-nil last.begun) at closed.says in
+    let through : IsThrough start now (last.begun ∷ lines) = record {
+      text = text_of lines last.begun;
+      read = last.read;
+      end = last.end;
+      are = (lines, last.begun, refl, last.cutter.lines, last.cutter.line, inr (some, refl));
+    } in
+    let reads = last.reads in (
+      last.begun,
+      says,
+      record {
+        reads = made_so_far s after most start now left reads;
+        where_it_is = from_through after most start now (last.begun ∷ lines) after.ended ended through none;
+      },
+    )
+
+-- the end closes a bad line
+pub ends_bad : (s : Source) (most number : ℕ) (start now : ReaderState) (lines : List Line) (last : IsAtLast s most start now lines) → IsBadLine number lines (last.begun ++ [])
+    → HasNoNext most start now lines (BadLine number)
+ends_bad s most number start now lines last bad = (
+  text_of lines last.begun,
+  last.read,
+  record {
+    line = last.begun;
+    rest = [];
+    cut = sym (append-nil (text_of lines last.begun));
+    ends = last.end;
+    bad = rw (append-nil last.begun) at bad;
+  },
+  last.reads.calm,
+)

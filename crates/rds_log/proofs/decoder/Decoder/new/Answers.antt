@@ -1,5 +1,0 @@
-use Rattle.std.proofs.Common.{[], refl}
-use Rattle.rds_log.proofs.decoder.Decoder.new.Goals as goal
-
-pub returns-clause-stands : goal.returns-clause-stands
-returns-clause-stands c = record { cutter = c.new.ensures.stands; slots = []; say = refl; views = c.new-2.ensures.stands }

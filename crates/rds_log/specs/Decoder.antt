@@ -1,0 +1,19 @@
+-- What the decoder of a log holds after these lines, the newest first; w is what it did to the writer.
+use Rattle.std.specs.Prelude.{◌++◌, ℕ, List, Option}
+use Rattle.std.specs.Io.KnownBytes.{Appends}
+use Rattle.rds_block.specs.declared.group.Group.{Group}
+use Rattle.rds_charset.specs.Told.{IsCalm, Traffic}
+use Rattle.rds_receiver.specs.Receipts.{Tuning}
+use Rattle.rds_log.specs.LogLines.{Line}
+use Rattle.rds_log.specs.Decoding.{AreSlots}
+use Rattle.rds_log.specs.Viewing.{ViewsStandAt}
+use Rattle.rds_log.specs.declared.decoder.Decoder.{Decoder}
+
+-- the decoder took these lines; of their output, some was written, and the rest waits
+pub record HasDecoded (t : Tuning) (d : Decoder) (w : Traffic) (lines : List Line) : Type 0 where
+  pub slots : List (Option Group)
+  pub say : AreSlots lines slots
+  pub written : List ℕ
+  pub views : ViewsStandAt t d.views slots (written ++ d.output)
+  pub wrote : Appends w.before w.after written
+  pub calm : IsCalm w

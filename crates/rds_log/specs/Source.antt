@@ -1,0 +1,120 @@
+-- What a source of lines holds after the lines that it gave, and what it gives next. Lists of lines have the newest
+-- first. A source may make so many reads at most: `most`. Its reader stood at `start` before the first of them.
+use Rattle.std.specs.Prelude.{◌≡◌, ◌≤◌, ◌+◌, ◌-◌, ◌++◌, ◌∷◌, ℕ, Bool, List, MatchBool, MatchOption, None, Ok, Err, Option, Result, Some, drop, false, length, take, true}
+use Rattle.std.specs.Io.KnownBytes.{Consumes, IsAtEnd}
+use Rattle.rds_charset.specs.Told.{HasFailed, IsCalm, Traffic, count_after}
+use Rattle.rds_log.specs.LogLines.{AreLines, EndsAt, IsLine, Line, text_of}
+use Rattle.rds_log.specs.LineSays.{LineSays}
+use Rattle.rds_log.specs.Cutting.{CutterStandsAt}
+use Rattle.rds_log.specs.Reads.{NextIsBad, ReadsUpTo, to_come}
+use Rattle.rds_log.specs.declared.fault.LogFault.{LogFault}
+use Rattle.rds_log.specs.declared.fault.LogFault.TheVariants.{BadLine, BadRow, Read, Write, TooLong, Memory}
+use Rattle.rds_log.specs.declared.log_line.LogLine.{LogLine}
+use Rattle.rds_log.specs.declared.source.Source.{Source}
+
+-- how a reader stands: the bytes that it has left, its failures and its counted reads
+pub record ReaderState : Type 0 where
+  pub left : Option (List ℕ)
+  pub failures : ℕ
+  pub reads : ℕ
+
+abbrev pub state_of : {R : Type 0} → (R → Option (List ℕ)) → (R → ℕ) → (R → ℕ) → R → ReaderState
+state_of remaining failures reads reader =
+    record { left = remaining reader; failures = failures reader; reads = reads reader }
+
+-- what was done to the reader between these
+abbrev pub since : ReaderState → ReaderState → Traffic
+since start now = record {
+  before = start.left;
+  after = now.left;
+  failures_before = start.failures;
+  failures_after = now.failures;
+}
+
+-- the bytes of the piece that no line was closed with yet
+abbrev pub waiting : Source → List ℕ
+waiting s = take (s.count - s.at) (drop s.at s.piece)
+
+-- how many bytes wait and may yet come, and the end
+abbrev pub budget : Source → ℕ
+budget s = to_come s.at s.count s.left s.ended
+
+-- the text is of these lines, of the bytes of the next one that the cutter took, and of those that wait; the source
+-- knows where that line ends in them
+pub record HasLine (s : Source) (lines : List Line) (text : List ℕ) : Type 0 where
+  pub begun : Line
+  pub cut : text ≡ text_of lines begun ++ waiting s
+  pub cutter : CutterStandsAt s.cutter lines begun
+  pub line : MatchOption s.line (IsLine (waiting s)) (EndsAt (waiting s))
+
+-- so many reads were made of those that may be, and none failed
+pub record HasMade (s : Source) (most : ℕ) (start now : ReaderState) : Type 0 where
+  pub made : ℕ
+  pub leaves : made + s.left ≡ most
+  pub counted : now.reads ≡ count_after start.reads made
+  pub calm : now.failures ≡ start.failures
+
+-- the reader is not at its end: each read gave at least one byte
+pub record IsInside (s : Source) (most : ℕ) (start now : ReaderState) (lines : List Line) : Type 0 where
+  pub text : List ℕ
+  pub read : Consumes start.left now.left text
+  pub enough : most ≤ length text + s.left
+  pub holds : HasLine s lines text
+
+-- the reader was read to its end, and these are its lines
+pub record IsThrough (start now : ReaderState) (lines : List Line) : Type 0 where
+  pub text : List ℕ
+  pub read : Consumes start.left now.left text
+  pub end : IsAtEnd now.left
+  pub are : AreLines text lines
+
+-- the source gave these lines
+pub record SourceStandsAt (s : Source) (most : ℕ) (start now : ReaderState) (lines : List Line) : Type 0 where
+  pub reads : HasMade s most start now
+  pub where_it_is :
+      MatchBool s.ended (IsThrough start now lines × (s.line ≡ None)) (IsInside s most start now lines)
+
+-- the reader is at its end, and the last line may be begun
+pub record IsAtLast (s : Source) (most : ℕ) (start now : ReaderState) (lines : List Line) : Type 0 where
+  pub reads : HasMade s most start now
+  pub begun : Line
+  pub read : Consumes start.left now.left (text_of lines begun)
+  pub end : IsAtEnd now.left
+  pub cutter : CutterStandsAt s.cutter lines begun
+
+-- why there is no further line
+abbrev pub HasNoNext : ℕ → ReaderState → ReaderState → List Line → LogFault → Type 0
+HasNoNext most start now lines (BadLine n) =
+    (text : List ℕ) × Consumes start.left now.left text × NextIsBad n lines text now.left × IsCalm (since start now)
+HasNoNext most start now lines Read = ReadsUpTo (since start now) 0 lines × HasFailed (since start now)
+HasNoNext most start now lines TooLong = ReadsUpTo (since start now) most lines × IsCalm (since start now)
+HasNoNext most start now lines (BadRow n) = ⊥
+HasNoNext most start now lines Write = ⊥
+HasNoNext most start now lines Memory = ⊥
+
+-- the source gives what the line after these says, or tells why there is none
+abbrev pub GivesNext : Source → ℕ → ReaderState → ReaderState → List Line → LogLine → Result Bool LogFault → Type 0
+GivesNext s most start now lines said (Ok true) =
+    (line : Line) × LineSays line said × SourceStandsAt s most start now (line ∷ lines)
+GivesNext s most start now lines said (Ok false) = SourceStandsAt s most start now lines × IsThrough start now lines
+GivesNext s most start now lines said (Err fault) = HasNoNext most start now lines fault
+
+-- the reader's end closed a line, or none was begun
+abbrev pub EndsWith : Source → ℕ → ReaderState → ReaderState → List Line → Option LogLine → Type 0
+EndsWith s most start now lines None = SourceStandsAt s most start now lines × IsThrough start now lines
+EndsWith s most start now lines (Some said) =
+    (line : Line) × LineSays line said × SourceStandsAt s most start now (line ∷ lines)
+
+-- a piece was read, or the reader is at its end
+abbrev pub ReadsOn : Source → ℕ → ReaderState → ReaderState → List Line → Result Bool LogFault → Type 0
+ReadsOn s most start now lines (Ok true) = SourceStandsAt s most start now lines
+ReadsOn s most start now lines (Ok false) = IsAtLast s most start now lines
+ReadsOn s most start now lines (Err fault) = HasNoNext most start now lines fault
+
+abbrev pub IsBadLineFault : LogFault → Type 0
+IsBadLineFault fault = (n : ℕ) × (fault ≡ BadLine n)
+
+-- wherever the source and its reader stand, this holds of the lines that it gave
+abbrev pub WhereItReads : Source → ReaderState → (ℕ → ReaderState → List Line → Type 0) → Type 0
+WhereItReads s now Holds = (most : ℕ) (start : ReaderState) (lines : List Line)
+    → SourceStandsAt s most start now lines → Holds most start lines

@@ -1,0 +1,173 @@
+//! The lines of a log.
+ghost use Rattle.std.specs.Prelude.{◌≡◌, ◌≢◌, ◌≤◌, ◌<◌, ◌+◌, ◌-◌, ◌*◌, ◌^◌, ◌↔◌, [], ℕ, List, None, Ok, Some, IfErr, IfOk, IsTrue, MatchResult, OnOk, false, true};
+ghost use Rattle.rds_log.specs.LogLines.{Line};
+ghost use Rattle.rds_log.specs.Reads.{MadeReads, to_come};
+ghost use Rattle.rds_log.specs.declared.fault.LogFault.TheVariants as faults;
+
+use crate::LogFault;
+use crate::cutter::{Cutter, line_end};
+use crate::fault::BadLine;
+use crate::log_line::LogLine;
+use rds_charset::TellingRead;
+
+/// How many bytes one read asks for.
+const PIECE: usize = 65536;
+
+/// A log, read line by line: the twin of a script's records.
+#[derive(Drop)]
+pub(crate) struct Source {
+    /// The bytes of the last read.
+    piece: [u8; PIECE],
+    /// Where those of them begin that no line was closed with,
+    at: usize,
+    /// and where they end.
+    count: usize,
+    /// How many of these bytes end the next line; `None` where it does not end in them.
+    line: Option<usize>,
+    /// The lines so far, and the bytes of a line that went on from piece to piece.
+    cutter: Cutter,
+    /// How many reads may be made yet.
+    left: u64,
+    /// Whether the reader is at its end.
+    ended: bool,
+    ghost within: { at ≤ count },
+    ghost room: { count ≤ 65536 },
+    ghost held: { (n : ℕ) → line ≡ Some n → at + n < count },
+    ghost few: { cutter.lines + to_come at count left ended ≤ 2 ^ 48 + 1 },
+}
+
+impl Source {
+    ghost use Rattle.rds_log.specs.Source.{EndsWith, GivesNext, HasNoNext, IsAtLast, IsBadLineFault, ReadsOn, ReaderState, SourceStandsAt, WhereItReads, budget, state_of};
+
+    /// At the start of a log, of which so many reads are made at most.
+    pub(crate) fn new(reads: u64) -> Source
+        requires { reads ≤ 2 ^ 32 }
+        ensures budget { budget result ≤ 2 ^ 48 + 1 }
+        ensures no_line { result.line ≡ None }
+        ensures stands { (start : ReaderState) → SourceStandsAt result reads start start [] }
+    {
+        Source {
+            piece: [0; PIECE],
+            at: 0,
+            count: 0,
+            line: None,
+            cutter: Cutter::new(),
+            left: reads,
+            ended: false,
+        }
+    }
+
+    /// Whether the next line is there without a read.
+    pub(crate) fn has_line(&self) -> bool
+        ensures { IsTrue result ↔ (self.now.line ≢ None) }
+    {
+        self.line.is_some()
+    }
+
+    /// Gives what the next line says; `false` where there is none.
+    ///
+    /// # Errors
+    ///
+    /// A bad line, a read that failed, or no end within the reads that may be made.
+    #[inline(always)]
+    pub(crate) fn next<R: TellingRead>(
+        &mut self,
+        reader: &mut R,
+        said: &mut LogLine,
+    ) -> Result<bool, LogFault>
+        ensures budget { IfOk result (λ given. given ≡ true → budget self.new < budget self.old) }
+        ensures there { self.old.line ≢ None → MatchResult result (λ given. given ≡ true) IsBadLineFault }
+        ensures reads { WhereItReads self.old (state_of R.remaining R.failures R.reads reader.old)
+            (λ most start _. MadeReads most start.reads (R.reads reader.new) result) }
+        ensures gives { WhereItReads self.old (state_of R.remaining R.failures R.reads reader.old)
+            (λ most start lines. GivesNext self.new most start
+            (state_of R.remaining R.failures R.reads reader.new) lines said.new result) }
+    {
+        loop {
+            if let Some(count) = self.line {
+                *said = self.close(count)?;
+                return Ok(true);
+            }
+            if self.ended {
+                return Ok(false);
+            }
+            if !self.read(reader)? {
+                let Some(last) = self.last()? else {
+                    return Ok(false);
+                };
+                *said = last;
+                return Ok(true);
+            }
+        }
+    }
+
+    /// What the line says that ends after so many of the bytes that wait.
+    #[inline(always)]
+    fn close(&mut self, count: usize) -> Result<LogLine, BadLine>
+        requires { self.old.line ≡ Some count }
+        ensures budget { budget self.new < budget self.old }
+        ensures gives { (now : ReaderState) → WhereItReads self.old now (λ most start lines.
+            MatchResult result (λ said. GivesNext self.new most start now lines said (Ok true))
+            (λ bad. HasNoNext most start now lines (faults.BadLine bad.number))) }
+    {
+        let end = self.at + count;
+        let piece: &[u8] = &self.piece;
+        let last = &piece[self.at..end];
+        self.at = end + 1;
+        self.line = line_end(&piece[self.at..self.count]);
+        self.cutter.close(last)
+    }
+
+    /// Reads the next piece; `false` at the reader's end.
+    #[inline(never)]
+    fn read<R: TellingRead>(&mut self, reader: &mut R) -> Result<bool, LogFault>
+        requires line { self.old.line ≡ None }
+        requires inside { self.old.ended ≡ false }
+        ensures budget { OnOk result (budget self.new ≤ budget self.old) }
+        ensures fewer { OnOk result (self.new.left < self.old.left) }
+        ensures at_end { IfOk result (λ more. more ≡ false → self.new.line ≡ None) }
+        ensures inside { OnOk result (self.new.ended ≡ false) }
+        ensures reads { WhereItReads self.old (state_of R.remaining R.failures R.reads reader.old)
+            (λ most start _. MadeReads most start.reads (R.reads reader.new) result) }
+        ensures reads_on { WhereItReads self.old (state_of R.remaining R.failures R.reads reader.old)
+            (λ most start lines. ReadsOn self.new most start
+            (state_of R.remaining R.failures R.reads reader.new) lines result) }
+    {
+        if self.left == 0 {
+            return Err(LogFault::TooLong);
+        }
+        let piece: &[u8] = &self.piece;
+        self.cutter.keep(&piece[self.at..self.count]);
+        self.left -= 1;
+        match reader.read_one(&mut self.piece) {
+            None => Err(LogFault::Read),
+            Some(0) => Ok(false),
+            Some(count) => {
+                self.at = 0;
+                self.count = count;
+                let piece: &[u8] = &self.piece;
+                self.line = line_end(&piece[..count]);
+                Ok(true)
+            }
+        }
+    }
+
+    /// What the line says that the reader's end closes; `None` where no line is begun.
+    #[inline(never)]
+    fn last(&mut self) -> Result<Option<LogLine>, BadLine>
+        requires line { self.old.line ≡ None }
+        requires inside { self.old.ended ≡ false }
+        ensures budget { budget self.new < budget self.old }
+        ensures gives { (most : ℕ) (start now : ReaderState) (lines : List Line)
+            → IsAtLast self.old most start now lines → MatchResult result
+            (λ given. EndsWith self.new most start now lines given)
+            (λ bad. HasNoNext most start now lines (faults.BadLine bad.number)) }
+    {
+        self.ended = true;
+        if self.cutter.is_between() {
+            return Ok(None);
+        }
+        let said = self.cutter.close(&[])?;
+        Ok(Some(said))
+    }
+}
