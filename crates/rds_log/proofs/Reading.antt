@@ -11,7 +11,7 @@ use Rattle.rds_log.specs.LogLines.{EndsAt, IsLine, Line, line_feed, text_of}
 use Rattle.rds_log.specs.LineSays.{LineSays}
 use Rattle.rds_log.specs.Cutting.{Closes, CutterStandsAt, IsBadLine}
 use Rattle.rds_log.specs.Reads.{MadeReads, ReadsUpTo}
-use Rattle.rds_log.specs.Source.{EndsWith, GivesNext, HasLine, HasNoNext, HasMade, IsAtLast, IsInside, IsThrough, ReaderState, SourceStandsAt, since, waiting}
+use Rattle.rds_log.specs.Source.{GivesNext, HasLine, HasNoNext, HasMade, IsAtLast, IsInside, IsThrough, ReaderState, SourceStandsAt, since, waiting}
 use Rattle.rds_log.specs.declared.fault.BadLine as fault
 use Rattle.rds_log.specs.declared.fault.LogFault.{LogFault}
 use Rattle.rds_log.specs.declared.fault.LogFault.TheVariants.{BadLine, TooLong}
@@ -97,7 +97,7 @@ line_of piece at count n less =
 gives_line : (s after : Source) (most n : ℕ) (start now : ReaderState) (lines : List Line) (said : LogLine) → SourceStandsAt s most start now lines → s.line ≡ Some n
     → s.at + n < s.count → ((begun : Line) → CutterStandsAt s.cutter lines begun → IsLine (take n (waiting s)) → Closes after.cutter lines (begun ++ take n (waiting s)) said)
     → after.piece ≡ s.piece → after.at ≡ s.at + n + 1 → after.count ≡ s.count → after.left ≡ s.left → after.ended ≡ s.ended
-    → MatchOption after.line (IsLine (waiting after)) (EndsAt (waiting after)) → GivesNext after most start now lines said (Ok true)
+    → MatchOption after.line (IsLine (waiting after)) (EndsAt (waiting after)) → GivesNext after most start now lines (Some said)
 gives_line s after most n start now lines said stands line less closes piece at count left ended next =
     let not_ended = goes_on s most n start now lines line stands in
     let is = inside s most start now lines not_ended stands in
@@ -153,7 +153,7 @@ pub gives_either : (s after : Source) (most n : ℕ) (start now : ReaderState) (
     → MatchResult result (Closes after.cutter lines (begun ++ take n (waiting s))) (λ bad. IsBadLine bad.number lines (begun ++ take n (waiting s))))
     → after.piece ≡ s.piece → after.at ≡ s.at + n + 1 → after.count ≡ s.count → after.left ≡ s.left → after.ended ≡ s.ended
     → MatchOption after.line (IsLine (waiting after)) (EndsAt (waiting after))
-    → MatchResult result (λ said. GivesNext after most start now lines said (Ok true)) (λ bad. HasNoNext most start now lines (BadLine bad.number))
+    → MatchResult result (λ said. GivesNext after most start now lines (Some said)) (λ bad. HasNoNext most start now lines (BadLine bad.number))
 gives_either s after most n start now lines (Ok said) stands line less closes piece at count left ended next =
     gives_line s after most n start now lines said stands line less closes piece at count left ended next
 gives_either s after most n start now lines (Err bad) stands line less closes piece at count left ended next = gives_bad s most n bad.number start now lines stands line closes
@@ -250,7 +250,7 @@ reads_more s after most start now later lines stands not_ended none keeps fewer 
 
 -- the end, where no line is begun
 pub ends_between : (s after : Source) (most : ℕ) (start now : ReaderState) (lines : List Line) (last : IsAtLast s most start now lines) → last.begun ≡ [] → after.left ≡ s.left
-    → after.ended ≡ true → after.line ≡ None → EndsWith after most start now lines None
+    → after.ended ≡ true → after.line ≡ None → GivesNext after most start now lines None
 ends_between s after most start now lines last empty left ended none =
     let through : IsThrough start now lines = record {
       text = text_of lines last.begun;
@@ -268,7 +268,7 @@ ends_between s after most start now lines last empty left ended none =
 
 -- the end, which closes a line
 pub ends_line : (s after : Source) (most : ℕ) (start now : ReaderState) (lines : List Line) (said : LogLine) (last : IsAtLast s most start now lines) → last.begun ≢ []
-    → Closes after.cutter lines (last.begun ++ []) said → after.left ≡ s.left → after.ended ≡ true → after.line ≡ None → EndsWith after most start now lines (Some said)
+    → Closes after.cutter lines (last.begun ++ []) said → after.left ≡ s.left → after.ended ≡ true → after.line ≡ None → GivesNext after most start now lines (Some said)
 ends_line s after most start now lines said last some closed left ended none =
     let says : LineSays last.begun said = rw (append-nil last.begun) at closed.says in
     let through : IsThrough start now (last.begun ∷ lines) = record {

@@ -92,18 +92,16 @@ HasNoNext most start now lines (BadRow n) = ⊥
 HasNoNext most start now lines Write = ⊥
 HasNoNext most start now lines Memory = ⊥
 
--- the source gives what the line after these says, or tells why there is none
-abbrev pub GivesNext : Source → ℕ → ReaderState → ReaderState → List Line → LogLine → Result Bool LogFault → Type 0
-GivesNext s most start now lines said (Ok true) =
+-- what the line after these says; there is none where the log ends with them
+abbrev pub GivesNext : Source → ℕ → ReaderState → ReaderState → List Line → Option LogLine → Type 0
+GivesNext s most start now lines None = SourceStandsAt s most start now lines × IsThrough start now lines
+GivesNext s most start now lines (Some said) =
     (line : Line) × LineSays line said × SourceStandsAt s most start now (line ∷ lines)
-GivesNext s most start now lines said (Ok false) = SourceStandsAt s most start now lines × IsThrough start now lines
-GivesNext s most start now lines said (Err fault) = HasNoNext most start now lines fault
 
--- the reader's end closed a line, or none was begun
-abbrev pub EndsWith : Source → ℕ → ReaderState → ReaderState → List Line → Option LogLine → Type 0
-EndsWith s most start now lines None = SourceStandsAt s most start now lines × IsThrough start now lines
-EndsWith s most start now lines (Some said) =
-    (line : Line) × LineSays line said × SourceStandsAt s most start now (line ∷ lines)
+-- what is given, if anything is
+abbrev pub given_if : Bool → LogLine → Option LogLine
+given_if true said = Some said
+given_if false said = None
 
 -- a piece was read, or the reader is at its end
 abbrev pub ReadsOn : Source → ℕ → ReaderState → ReaderState → List Line → Result Bool LogFault → Type 0

@@ -1,5 +1,5 @@
 //! The lines of a log.
-ghost use Rattle.std.specs.Prelude.{◌≡◌, ◌≢◌, ◌≤◌, ◌<◌, ◌+◌, ◌-◌, ◌*◌, ◌^◌, ◌↔◌, [], ℕ, List, None, Ok, Some, IfErr, IfOk, IsTrue, MatchResult, OnOk, false, true};
+ghost use Rattle.std.specs.Prelude.{◌≡◌, ◌≢◌, ◌≤◌, ◌<◌, ◌+◌, ◌-◌, ◌*◌, ◌^◌, ◌↔◌, [], ℕ, List, None, Some, IfErr, IfOk, IsTrue, MatchResult, OnOk, false, true};
 ghost use Rattle.rds_log.specs.LogLines.{Line};
 ghost use Rattle.rds_log.specs.Reads.{MadeReads, to_come};
 ghost use Rattle.rds_log.specs.declared.fault.LogFault.TheVariants as faults;
@@ -37,7 +37,7 @@ pub(crate) struct Source {
 }
 
 impl Source {
-    ghost use Rattle.rds_log.specs.Source.{EndsWith, GivesNext, HasNoNext, IsAtLast, IsBadLineFault, ReadsOn, ReaderState, SourceStandsAt, WhereItReads, budget, state_of};
+    ghost use Rattle.rds_log.specs.Source.{GivesNext, HasNoNext, IsAtLast, IsBadLineFault, ReadsOn, ReaderState, SourceStandsAt, WhereItReads, budget, given_if, state_of};
 
     /// At the start of a log, of which so many reads are made at most.
     pub(crate) fn new(reads: u64) -> Source
@@ -80,8 +80,10 @@ impl Source {
         ensures reads { WhereItReads self.old (state_of R.remaining R.failures R.reads reader.old)
             (λ most start _. MadeReads most start.reads (R.reads reader.new) result) }
         ensures gives { WhereItReads self.old (state_of R.remaining R.failures R.reads reader.old)
-            (λ most start lines. GivesNext self.new most start
-            (state_of R.remaining R.failures R.reads reader.new) lines said.new result) }
+            (λ most start lines. MatchResult result
+            (λ given. GivesNext self.new most start (state_of R.remaining R.failures R.reads reader.new) lines
+            (given_if given said.new))
+            (HasNoNext most start (state_of R.remaining R.failures R.reads reader.new) lines)) }
     {
         loop {
             if let Some(count) = self.line {
@@ -107,7 +109,7 @@ impl Source {
         requires { self.old.line ≡ Some count }
         ensures budget { budget self.new < budget self.old }
         ensures gives { (now : ReaderState) → WhereItReads self.old now (λ most start lines.
-            MatchResult result (λ said. GivesNext self.new most start now lines said (Ok true))
+            MatchResult result (λ said. GivesNext self.new most start now lines (Some said))
             (λ bad. HasNoNext most start now lines (faults.BadLine bad.number))) }
     {
         let end = self.at + count;
@@ -160,7 +162,7 @@ impl Source {
         ensures budget { budget self.new < budget self.old }
         ensures gives { (most : ℕ) (start now : ReaderState) (lines : List Line)
             → IsAtLast self.old most start now lines → MatchResult result
-            (λ given. EndsWith self.new most start now lines given)
+            (GivesNext self.new most start now lines)
             (λ bad. HasNoNext most start now lines (faults.BadLine bad.number)) }
     {
         self.ended = true;

@@ -1,4 +1,4 @@
-use Rattle.std.proofs.Common.{[], ◌≡◌, ◌+◌, ◌∷◌, arith, refl, rules, true}
+use Rattle.std.proofs.Common.{[], ◌≡◌, ◌+◌, ◌∷◌, arith, inl, refl, rules, true}
 use Rattle.rds_log.specs.Source.{state_of}
 use Rattle.rds_log.proofs.Audits.{audits_slot, stops_at_slot}
 use Rattle.rds_log.proofs.auditing.judge.Goals as goal
@@ -35,5 +35,21 @@ loop-line-preserved g c =
         line ∷ lines,
         further,
         audits_slot c.args.pi (c.args.dwell + c.args.late) c.loop-line.audit c.slot.new.self c.loop-line.slots lines line c.in-Slot.group says audited after c.in_default-slot.ensures.fault,
+      );
+    }
+
+pub loop-line-preserved-in_default : goal.loop-line-preserved-in_default
+loop-line-preserved-in_default g c =
+    let (lines, stands, audited) = c.loop-line.invariant.stands in
+    let some : c.in_ok-next.field-0 ≡ true = search rules in
+    let (line, says, further) = rw (some, c.in_default.is) at (c.in_ok-next.ensures.gives _ _ lines stands) in
+    let less = c.in_ok-next.ensures.budget some in
+    let before = c.loop-line.invariant.slots in
+    record {
+      slots = omega (arith, before, less);
+      stands = (
+        line ∷ lines,
+        further,
+        record { slots = audited.slots; say = inl (says, audited.say); count = audited.count; audit = audited.audit; passed = audited.passed },
       );
     }
