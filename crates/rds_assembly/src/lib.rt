@@ -31,10 +31,10 @@ mod type_name;
 
 pub use assembly::Assembly;
 pub use name::Name;
-pub use radio_text::RadioText;
+pub use radio_text::{CARRIAGE_RETURN, RadioText};
 pub use refused::TextRefused;
 pub use service::Service;
-pub use text::Text;
+pub use text::{Text, is_text_byte};
 pub use type_name::TypeName;
 
 #[cfg(test)]

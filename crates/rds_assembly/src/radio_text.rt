@@ -8,7 +8,7 @@ use crate::Service;
 use crate::lanes::{returns_in, spread};
 
 /// The byte that ends a text of fewer than 64 bytes (IEC 62106, RadioText).
-pub(crate) const CARRIAGE_RETURN: u8 = 0x0D;
+pub const CARRIAGE_RETURN: u8 = 0x0D;
 
 /// The text of group 2A (IEC 62106, RadioText).
 #[derive(Clone, Copy, Debug, PartialEq, Eq)]

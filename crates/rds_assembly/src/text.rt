@@ -45,7 +45,7 @@ impl Text {
         if bytes.len() > LONGEST {
             return Err(TextRefused::TooLong);
         }
-        if let Some(place) = bytes.iter().position(|byte| !may_stand(*byte)) {
+        if let Some(place) = bytes.iter().position(|byte| !is_text_byte(*byte)) {
             return Err(TextRefused::BadByte(place));
         }
         let mut buffer = [0; 64];
@@ -107,8 +107,9 @@ impl Text {
     }
 }
 
-/// Whether the byte may stand in a text.
-fn may_stand(byte: u8) -> bool
+/// Whether the byte may stand in a text: it is no control character but three, of which none is the carriage return
+/// (IEC 62106, RadioText).
+pub fn is_text_byte(byte: u8) -> bool
     ensures { result ≡ is_text_byte byte }
 {
     matches!(byte, 0x0A | 0x0B | 0x1F | 0x20..)

@@ -1,6 +1,7 @@
 pub mod Faults
 pub mod Laws
 pub mod Printed
+pub mod Digits
 pub mod ReadAs
 pub mod Stretches
 pub mod Table

@@ -10,7 +10,9 @@
 //!     write_text(&[0x43, 0x61, 0x66, 0x82], &mut Told::new(writer))    // Café
 #![tactic(auto)]
 
+mod hexadecimal;
 mod laws;
+mod lines;
 mod output;
 mod printing;
 mod reading;
@@ -19,7 +21,9 @@ mod table;
 mod tests;
 mod told;
 
+pub use hexadecimal::{digits_of, four_words, word_at};
 pub use laws::{printed_is_read_back, printed_is_text, printed_takes_four, text_is_read_one_way};
+pub use lines::Lines;
 pub use output::{WriteFault, put};
 pub use printing::{push_text, upper_digit, write_text};
 pub use reading::{TextFault, read_text};

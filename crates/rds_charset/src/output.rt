@@ -4,9 +4,11 @@ ghost use Rattle.rds_charset.specs.Puts.{Puts};
 ghost use Rattle.rds_charset.specs.Told.{traffic};
 
 use crate::told::TellingWrite;
+use thiserror::Error;
 
 /// The writer failed before all of the bytes were out.
-#[derive(Clone, Copy, Debug, PartialEq, Eq)]
+#[derive(Clone, Copy, Debug, PartialEq, Eq, Error)]
+#[error("the writer failed")]
 pub struct WriteFault;
 
 /// Writes all of the bytes, in as many writes as the writer asks for.

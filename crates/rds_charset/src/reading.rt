@@ -9,17 +9,21 @@ ghost use Rattle.rds_charset.specs.ReadAs.{HasBadEscape, HasNoRoom, HasUnknownCh
 ghost use Rattle.rds_charset.specs.ReadAs.{IsReadAs, StopsAt};
 
 use crate::table::byte_of;
+use thiserror::Error;
 
 /// Why a text can't be read. Places are counted in bytes from the start of the text.
-#[derive(Clone, Copy, Debug, PartialEq, Eq)]
+#[derive(Clone, Copy, Debug, PartialEq, Eq, Error)]
 pub enum TextFault {
     /// The backslash at this place begins no escape.
+    #[error("the backslash at byte {0} begins no escape")]
     BadEscape(usize),
 
     /// The character that begins at this place isn't in the table.
+    #[error("the character at byte {0} is not in the table")]
     NoSuchCharacter(usize),
 
     /// The text can be read, and gives more bytes than the slice has.
+    #[error("the text gives too many bytes")]
     NoRoom,
 }
 

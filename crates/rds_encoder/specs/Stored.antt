@@ -45,6 +45,7 @@ pub record IsTextStored (t : StoredText) : Type 0 where
 -- the numbers are ones that an encoder is stored as
 pub record IsStored (e : StoredEncoder) : Type 0 where
   pub pty : e.pty < 32
+  pub some : 0 < e.distance
   pub distance : e.distance ≤ 66559
   pub round : e.round < 8
   pub text : IsTrue (is_set e.text.is_on_air) → IsTextStored e.text

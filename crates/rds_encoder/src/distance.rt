@@ -1,5 +1,5 @@
 //! How far broadcasts stand apart.
-ghost use Rattle.std.specs.Prelude.{◌≡◌, ◌+◌, ◌≤◌};
+ghost use Rattle.std.specs.Prelude.{◌≡◌, ◌+◌, ◌<◌, ◌≤◌};
 
 use crate::Late;
 use rds_fields::Dwell;
@@ -7,26 +7,26 @@ use std::marker::Model;
 
 /// The dwell and the lateness together, in slots: after so many no receiver joins a group to one that was sent
 /// before (this project's own rule).
-#[derive(Clone, Copy)]
-pub(crate) struct Distance {
+#[derive(Clone, Copy, Debug, PartialEq, Eq)]
+pub struct Distance {
     slots: u32,
 }
 
 impl Model for Distance {
-    ghost use Rattle.std.specs.Prelude.{ℕ, ◌≤◌};
+    ghost use Rattle.std.specs.Prelude.{ℕ, ◌<◌, ◌≤◌};
 
     ghost Value = { ℕ };
 
     ghost view = { λ s. s.slots };
 
-    ghost invariant = { λ s. s.slots ≤ 66559 };
+    ghost invariant = { λ s. (0 < s.slots) × (s.slots ≤ 66559) };
 
     ghost inverse = { λ n. record { slots = n } };
 }
 
 impl Distance {
     /// The distance for receivers of this dwell, whose groups come no later than this.
-    pub(crate) fn new(dwell: Dwell, late: Late) -> Distance
+    pub fn new(dwell: Dwell, late: Late) -> Distance
         ensures { result ≡ dwell + late }
     {
         Distance {
@@ -34,18 +34,19 @@ impl Distance {
         }
     }
 
-    /// The distance of this many slots, and the greatest where it is above.
-    pub(crate) fn restore(slots: u32) -> Distance
-        ensures { slots ≤ 66559 → result ≡ slots }
+    /// The distance of this many slots; the least, 1, for none, and the greatest, 66559, where there are more.
+    pub fn restore(slots: u32) -> Distance
+        ensures { 0 < slots → slots ≤ 66559 → result ≡ slots }
     {
         Distance {
-            slots: slots.min(66559),
+            slots: slots.clamp(1, 66559),
         }
     }
 
     /// The number of slots.
-    pub(crate) fn get(self) -> u32
+    pub fn get(self) -> u32
         ensures value { result ≡ self }
+        ensures some { 0 < result }
         ensures most { result ≤ 66559 }
     {
         self.slots

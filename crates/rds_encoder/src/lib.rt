@@ -26,6 +26,7 @@ mod track;
 mod turn;
 mod wait;
 
+pub use distance::Distance;
 pub use encoder::Encoder;
 pub use late::Late;
 pub use laws::{

@@ -2,6 +2,7 @@
 ghost use Rattle.std.specs.Prelude.{◌≡◌, ℕ, ◌+◌, ◌*◌, ◌^◌, ◌<◌, ◌≤◌, ◌↔◌, IsOk, IfOk, IfErr};
 
 use crate::tag::{Tag, TagRefused};
+use std::fmt;
 use std::marker::Model;
 
 /// One of the two tags of a pair.
@@ -9,6 +10,16 @@ use std::marker::Model;
 pub enum Which {
     One,
     Two,
+}
+
+/// The word for its place in the pair.
+impl fmt::Display for Which {
+    fn fmt<W: fmt::Write>(&self, f: &mut fmt::Formatter<W>) -> fmt::Result {
+        f.write_str(match self {
+            Which::One => "first",
+            Which::Two => "second",
+        })
+    }
 }
 
 /// Two tags, and the two bits of the item that they are of (IEC 62106-6, RadioText Plus).

@@ -2,35 +2,25 @@
 ghost use Rattle.std.specs.Prelude.{◌≡◌, ℕ, ◌+◌, ◌<◌, ◌≤◌, ◌⊎◌, ◌↔◌, IfOk, IfSome, length};
 ghost use Rattle.std.specs.Option.{option_copied};
 
-use std::error::Error;
-use std::fmt;
 use std::marker::Model;
+use thiserror::Error;
 
 /// Why a tag or a pair of tags is no such thing.
-#[derive(Clone, Copy, Debug, PartialEq, Eq)]
+#[derive(Clone, Copy, Debug, PartialEq, Eq, Error)]
 pub enum TagRefused {
     /// The class is over 63.
+    #[error("the class is over 63")]
     Class,
     /// The start is over 63.
+    #[error("the start is over 63")]
     Start,
     /// The length marker is over 63, or over 31 in the second tag of a pair.
+    #[error("the length marker is over its bits")]
     Extra,
     /// The class is 0, and the start or the length marker is not.
+    #[error("class 0 with a start or a length marker")]
     DummyNotZero,
 }
-
-impl fmt::Display for TagRefused {
-    fn fmt<W: fmt::Write>(&self, f: &mut fmt::Formatter<W>) -> fmt::Result {
-        f.write_str(match self {
-            TagRefused::Class => "the class is over 63",
-            TagRefused::Start => "the start is over 63",
-            TagRefused::Extra => "the length marker is over its bits",
-            TagRefused::DummyNotZero => "class 0 with a start or a length marker",
-        })
-    }
-}
-
-impl Error for TagRefused {}
 
 /// A class, and the piece of the text that it names (IEC 62106-6, RadioText Plus). Class 0 is the
 /// dummy, which names no piece: its other fields are 0.
@@ -120,7 +110,7 @@ impl Tag {
     pub fn ends_in(self, length: usize) -> bool
         ensures { result ≡ ends_in length self }
     {
-        self.class == 0 || self.end() <= length
+        self.class == 0 || usize::from(self.end()) <= length
     }
 
     /// The piece that the tag names in the text, lent; `None` for the dummy, and where the tag does
@@ -133,14 +123,15 @@ impl Tag {
         if self.class == 0 {
             return None;
         }
-        text.get(usize::from(self.start)..self.end())
+        text.get(usize::from(self.start)..usize::from(self.end()))
     }
 
-    /// Where the piece ends: the place behind its last character.
-    fn end(self) -> usize
+    /// Where the piece ends: the place behind its last character, at most 127. The dummy, which names no piece, ends
+    /// at 1.
+    pub fn end(self) -> u8
         ensures { result ≡ end_of self }
     {
-        usize::from(self.start) + usize::from(self.extra) + 1
+        self.start + self.extra + 1
     }
 
     /// The tag that three received fields spell: of class 0 there is one, whatever the others hold.

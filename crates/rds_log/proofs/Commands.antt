@@ -2,8 +2,8 @@
 use Rattle.std.proofs.Common.{◌≡◌, ◌≢◌, ◌<◌, ◌∙◌, ℕ, zero, suc, Bor, List, [], ◌∷◌, Option, Some, None, ap, arith, get_or, length, sym}
 use Rattle.std.specs.Prelude.{option_map}
 use Rattle.csv.specs.Records.{field_at}
-use Rattle.rds_world.specs.declared.event.Command.{Command}
-use Rattle.rds_world.specs.declared.event.Command.TheVariants.{Quiet, Restart, SetText, SetName, SetTags}
+use Rattle.rds_world.specs.declared.world.event.Command.{Command}
+use Rattle.rds_world.specs.declared.world.event.Command.TheVariants.{Quiet, Restart, SetText, SetName, SetTags}
 use Rattle.rds_log.specs.Rows.{IsNameArgument, SaysCommand}
 use Rattle.rds_log.specs.Verbs.{word_of}
 use Rattle.rds_log.specs.declared.row.Verb.{Verb}

@@ -1,4 +1,3 @@
-pub mod Digits
 pub mod FirstBytes
 pub mod SaidLemmas
 pub mod Views

@@ -4,9 +4,9 @@ use Rattle.std.specs.Int.{from_bool}
 use Rattle.rds_charset.specs.Laws.{TextIsReadOneWay}
 use Rattle.rds_fields.specs.Tag.{PairFields, TagFields}
 use Rattle.rds_assembly.specs.Body.{name_body}
-use Rattle.rds_world.specs.declared.event.Command.{Command}
-use Rattle.rds_world.specs.declared.event.Command.TheVariants.{Quiet, Restart, SetText, SetName, SetTags}
-use Rattle.rds_world.specs.Event.{Event}
+use Rattle.rds_world.specs.declared.world.event.Command.{Command}
+use Rattle.rds_world.specs.declared.world.event.Command.TheVariants.{Quiet, Restart, SetText, SetName, SetTags}
+use Rattle.rds_world.specs.World.Event.{Event}
 use Rattle.rds_log.specs.Rows.{AreRows, IsNameArgument, Record, SaysCommand, SaysEvent, free_field, numbers_of_pair}
 use Rattle.rds_log.specs.Receptions.{AreReceptions}
 use Rattle.rds_log.proofs.Receptions.{same_receptions}

@@ -12,11 +12,11 @@ use Rattle.rds_encoder.specs.Known.{sent_is_known as sent_is_known_in}
 use Rattle.rds_encoder.specs.Sent.{IsSent}
 use Rattle.rds_receiver.specs.OneView.{same_heard, same_view}
 use Rattle.rds_receiver.specs.Shown.{ShownView, ShowsView}
-use Rattle.rds_world.specs.Event.{Event}
-use Rattle.rds_world.specs.Late.{Input}
-use Rattle.rds_world.specs.Slots.{commanded, entries, input_of, sent_at}
-use Rattle.rds_world.specs.Standing.{IsViewOfInput, tuned_to}
-use Rattle.rds_world.specs.State.{distance}
+use Rattle.rds_world.specs.World.Event.{Event}
+use Rattle.rds_world.specs.Safety.Late.{Input}
+use Rattle.rds_world.specs.World.Slots.{commanded, entries, input_of, sent_at}
+use Rattle.rds_world.specs.World.Standing.{IsViewOfInput, tuned_to}
+use Rattle.rds_world.specs.World.State.{distance}
 use Rattle.rds_log.specs.Rows.{Record}
 use Rattle.rds_log.specs.Scripts.{RowsWrite}
 use Rattle.rds_log.proofs.OneEvent.{same_events}

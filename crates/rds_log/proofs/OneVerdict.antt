@@ -10,9 +10,9 @@ use Rattle.rds_charset.specs.Told.{Traffic}
 use Rattle.rds_fields.specs.declared.message.Message.{Message}
 use Rattle.rds_receiver.specs.OneView.{same_heard}
 use Rattle.rds_receiver.specs.Receipts.{AreHeard}
-use Rattle.rds_world.specs.AuditLaws.{ALogHasOneFault, WhatHasAFaultDoesNotPass}
-use Rattle.rds_world.specs.Rules.{IsFaultOf}
-use Rattle.rds_world.specs.declared.audit_fault.AuditFault.{AuditFault}
+use Rattle.rds_world.specs.Audit.AuditLaws.{ALogHasOneFault, WhatHasAFaultDoesNotPass}
+use Rattle.rds_world.specs.Audit.Rules.{IsFaultOf}
+use Rattle.rds_world.specs.declared.audit.audit_fault.AuditFault.{AuditFault}
 use Rattle.rds_log.specs.Alike.{WriteAlike}
 use Rattle.rds_log.specs.Audit.{AnswersVerdictOf, Audits, IsVerdictOf, IsYes, SlotsFail, SlotsPass, StopsAtSlot, WholePasses, verdict_line}
 use Rattle.rds_log.specs.Decoding.{AreSlots}

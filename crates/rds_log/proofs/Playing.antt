@@ -1,23 +1,23 @@
 -- How a station goes on by a row, and why a record is no row.
 use Rattle.std.proofs.Common.{◌≡◌, ◌<◌, ◌≤◌, ◌∙◌, ◌∷◌, ◌++◌, [], ℕ, suc, List, None, Option, Some, ap, ap₂, arith, inl, inr, length, refl, subst, sym}
 use Rattle.std.specs.Prelude.{IsSome}
-use Rattle.rds_world.specs.Event.{Event}
-use Rattle.rds_world.specs.State.{WorldState, distance}
+use Rattle.rds_world.specs.World.Event.{Event}
+use Rattle.rds_world.specs.World.State.{WorldState, distance}
 use Rattle.rds_block.specs.declared.group.Group.{Group}
 use Rattle.rds_receiver.specs.Shown.{ShownView}
-use Rattle.rds_world.specs.declared.event.Command.{Command}
-use Rattle.rds_world.specs.declared.reply.Reply.{Reply}
+use Rattle.rds_world.specs.declared.world.event.Command.{Command}
+use Rattle.rds_world.specs.declared.world.reply.Reply.{Reply}
 use Rattle.rds_log.proofs.Changes.{changes_same}
 use Rattle.rds_log.proofs.Views.{view_of_none}
-use Rattle.rds_world.specs.Slots.{input_of}
-use Rattle.rds_world.specs.Standing.{IsViewOfInput, ShowsStill, tuned_to}
+use Rattle.rds_world.specs.World.Slots.{input_of}
+use Rattle.rds_world.specs.World.Standing.{IsViewOfInput, ShowsStill, tuned_to}
 use Rattle.rds_log.specs.Outcomes.{AreOutcomes, Outcome, answer_lines, lines_of, newest_views, receiver_changes, view_at}
 use Rattle.rds_log.specs.Playing.{AreKept, BeginsRow, HasWorld, Played, PlayerStandsAt, WereShown}
 use Rattle.rds_log.specs.declared.player.Player.{Player}
 use Rattle.rds_charset.specs.Laws.{TextIsReadOneWay}
-use Rattle.rds_world.specs.Replies.{CanBeTaken, IsStepRefused}
-use Rattle.rds_world.specs.declared.reply.StepRefused.{StepRefused}
-use Rattle.rds_world.specs.declared.reply.StepRefused.TheVariants.{Late, ReceiverCount}
+use Rattle.rds_world.specs.World.Replies.{CanBeTaken, IsStepRefused}
+use Rattle.rds_world.specs.declared.world.reply.StepRefused.{StepRefused}
+use Rattle.rds_world.specs.declared.world.reply.StepRefused.TheVariants.{Late, ReceiverCount}
 use Rattle.rds_log.specs.Receptions.{AreReceptions}
 use Rattle.rds_log.specs.Rows.{AreNoRows, AreRows, IsAllowed, Record, SaysEvent}
 use Rattle.rds_log.proofs.OneEvent.{same_event, same_events}

@@ -8,8 +8,8 @@ use Rattle.std.proofs.lemmas.Str.Parse.{digit_from_value}
 use Rattle.std.proofs.Math.Nat.{pow-le-pow_right}
 use Rattle.std.specs.Char.{IsAsciiDigit, IsNotAsciiDigit, digit_value}
 use Rattle.std.specs.Str.Parse.{AllDigits, digits_value}
-use Rattle.rds_world.specs.declared.event.Reception.{Reception}
-use Rattle.rds_world.specs.declared.event.Reception.TheVariants.{Got, Lost, Restart}
+use Rattle.rds_world.specs.declared.world.event.Reception.{Reception}
+use Rattle.rds_world.specs.declared.world.event.Reception.TheVariants.{Got, Lost, Restart}
 use Rattle.rds_log.specs.Receptions.{AreReceptions, HasDigits, letter}
 
 -- the text is empty or begins with another byte than a digit

@@ -1,4 +1,3 @@
-pub mod Digits
 pub mod LogLines
 pub mod LineSays
 pub mod Output

@@ -3,7 +3,7 @@
 use Rattle.std.specs.Prelude.{◌≡◌, ◌⊎◌, ◌≤◌, ◌+◌, ℕ, [], ◌∷◌, Option, Some, None, slice_index}
 use Rattle.rds_block.specs.declared.group.Group.{Group}
 use Rattle.rds_block.specs.Words.{AreWordsOf}
-use Rattle.rds_log.specs.Digits.{HasWord}
+use Rattle.rds_charset.specs.Digits.{HasWord}
 use Rattle.rds_log.specs.LogLines.{Line, content_length}
 use Rattle.rds_log.specs.declared.log_line.Block.{Block}
 use Rattle.rds_log.specs.declared.log_line.Block.TheVariants.{Word, Missing}

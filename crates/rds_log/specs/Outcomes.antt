@@ -5,7 +5,7 @@
 use Rattle.std.specs.Prelude.{◌≡◌, ◌<◌, ◌++◌, ℕ, zero, suc, List, [], ◌∷◌, Option, Some, None, codes, decimal, length, slice_index_or}
 use Rattle.rds_block.specs.declared.group.Group.{Group}
 use Rattle.rds_block.specs.Words.{second_word_of}
-use Rattle.rds_world.specs.State.{distance}
+use Rattle.rds_world.specs.World.State.{distance}
 use Rattle.rds_world.specs.declared.world.Config.{Config}
 use Rattle.rds_fields.specs.declared.pair.Which.{Which}
 use Rattle.rds_fields.specs.declared.pair.Which.TheVariants.{One, Two}
@@ -13,16 +13,16 @@ use Rattle.rds_encoder.specs.Sent.{IsSent}
 use Rattle.rds_encoder.specs.declared.refusal.Refusal.{Refusal}
 use Rattle.rds_encoder.specs.declared.refusal.Refusal.TheVariants.{Silent, Held, NoText, OutOfText}
 use Rattle.rds_receiver.specs.Shown.{ShownView}
-use Rattle.rds_world.specs.declared.event.Command.{Command}
-use Rattle.rds_world.specs.declared.event.Command.TheVariants.{Quiet, Restart, SetText, SetName, SetTags}
-use Rattle.rds_world.specs.declared.reply.Reply.{Reply}
-use Rattle.rds_world.specs.declared.reply.Reply.TheVariants.{Restarted, Done, Refused}
-use Rattle.rds_world.specs.declared.reply.Reply.TheVariants as reply
-use Rattle.rds_world.specs.Event.{Event}
-use Rattle.rds_world.specs.Replies.{reply_at}
-use Rattle.rds_world.specs.Slots.{entries, input_of, sent_at}
-use Rattle.rds_world.specs.Standing.{IsViewOfInput}
-use Rattle.rds_log.specs.Digits.{word_digits}
+use Rattle.rds_world.specs.declared.world.event.Command.{Command}
+use Rattle.rds_world.specs.declared.world.event.Command.TheVariants.{Quiet, Restart, SetText, SetName, SetTags}
+use Rattle.rds_world.specs.declared.world.reply.Reply.{Reply}
+use Rattle.rds_world.specs.declared.world.reply.Reply.TheVariants.{Restarted, Done, Refused}
+use Rattle.rds_world.specs.declared.world.reply.Reply.TheVariants as reply
+use Rattle.rds_world.specs.World.Event.{Event}
+use Rattle.rds_world.specs.World.Replies.{reply_at}
+use Rattle.rds_world.specs.World.Slots.{entries, input_of, sent_at}
+use Rattle.rds_world.specs.World.Standing.{IsViewOfInput}
+use Rattle.rds_charset.specs.Digits.{word_digits}
 use Rattle.rds_log.specs.Output.{change, line_of, nothing_shown, receiver_stamp, slot_stamp}
 use Rattle.rds_log.specs.declared.form.Form.{Form}
 use Rattle.rds_log.specs.declared.form.Form.TheVariants.{Simulation, Log}

@@ -6,10 +6,10 @@ use Rattle.csv.specs.Reading.{Ready, default_config, is_flexible, reader_config,
 use Rattle.csv.specs.declared.reader.Trim.TheVariants.{None as untrimmed}
 use Rattle.rds_charset.specs.Told.{IsCalm, Traffic}
 use Rattle.rds_world.specs.declared.world.Config.{Config}
-use Rattle.rds_world.specs.Event.{Event}
-use Rattle.rds_world.specs.Slots.{input_of}
-use Rattle.rds_world.specs.Standing as world
-use Rattle.rds_world.specs.State.{WorldState, distance}
+use Rattle.rds_world.specs.World.Event.{Event}
+use Rattle.rds_world.specs.World.Slots.{input_of}
+use Rattle.rds_world.specs.World.Standing as world
+use Rattle.rds_world.specs.World.State.{WorldState, distance}
 use Rattle.rds_receiver.specs.Shown.{ShownView}
 use Rattle.rds_log.specs.Asking.{bytes_of}
 use Rattle.rds_log.specs.Kept.{view_kept}

@@ -3,8 +3,8 @@
 -- number of slots that the group comes late; no digit says 0. This is the project's own format.
 use Rattle.std.specs.Prelude.{◌≡◌, ◌≤◌, ◌++◌, ℕ, List, [], ◌∷◌, length}
 use Rattle.std.specs.Str.Parse.{AllDigits, digits_value}
-use Rattle.rds_world.specs.declared.event.Reception.{Reception}
-use Rattle.rds_world.specs.declared.event.Reception.TheVariants.{Got, Lost, Restart}
+use Rattle.rds_world.specs.declared.world.event.Reception.{Reception}
+use Rattle.rds_world.specs.declared.world.event.Reception.TheVariants.{Got, Lost, Restart}
 
 -- the letter of what a receiver gets
 abbrev pub letter : Reception → ℕ

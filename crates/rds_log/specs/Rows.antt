@@ -7,10 +7,10 @@ use Rattle.rds_charset.specs.ReadAs.{IsReadAs}
 use Rattle.rds_fields.specs.Tag.{IsPair, PairFields, TagFields}
 use Rattle.rds_assembly.specs.Body.{name_body}
 use Rattle.rds_assembly.specs.Value.{IsGivenName, IsText}
-use Rattle.rds_world.specs.declared.event.Command.{Command}
-use Rattle.rds_world.specs.declared.event.Command.TheVariants.{Quiet, Restart, SetText, SetName, SetTags}
-use Rattle.rds_world.specs.Event.{Event}
-use Rattle.rds_world.specs.Replies.{CanBeTaken}
+use Rattle.rds_world.specs.declared.world.event.Command.{Command}
+use Rattle.rds_world.specs.declared.world.event.Command.TheVariants.{Quiet, Restart, SetText, SetName, SetTags}
+use Rattle.rds_world.specs.World.Event.{Event}
+use Rattle.rds_world.specs.World.Replies.{CanBeTaken}
 use Rattle.rds_log.specs.Receptions.{AreReceptions}
 use Rattle.rds_log.specs.LineSays.{space}
 use Rattle.rds_log.specs.Verbs.{word_of}

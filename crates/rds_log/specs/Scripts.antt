@@ -9,7 +9,7 @@ use Rattle.csv.specs.declared.parser.State.{State}
 use Rattle.csv.specs.declared.parser.State.TheVariants.{StartRecord}
 use Rattle.rds_charset.specs.Told.{AppendsPrefix, HasFailed, IsCalm, Traffic}
 use Rattle.rds_world.specs.declared.world.Config.{Config}
-use Rattle.rds_world.specs.Event.{Event}
+use Rattle.rds_world.specs.World.Event.{Event}
 use Rattle.rds_log.specs.Failing.{SomeReadFailed}
 use Rattle.rds_log.specs.Rows.{AreNoRows, Record, RowsSay}
 use Rattle.rds_log.specs.Outcomes.{EventsWrite}

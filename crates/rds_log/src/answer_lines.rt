@@ -1,15 +1,14 @@
 //! The lines of a command's reply and of the group that was sent.
 ghost use Rattle.std.specs.Prelude.{◌≡◌, ◌≢◌, ◌≤◌, ◌+◌, ◌++◌, Option, length};
 ghost use Rattle.rds_block.specs.declared.group.Group.{Group};
-ghost use Rattle.rds_world.specs.declared.reply.Reply.TheVariants as replies;
+ghost use Rattle.rds_world.specs.declared.world.reply.Reply.TheVariants as replies;
 ghost use Rattle.rds_log.specs.Outcomes.{answer_lines, block_digits, log_line, number_of_tag, refusal_content, reply_content, reply_line, reply_thing, sent_line, spaced_digits, thing_set};
 ghost use Rattle.rds_log.specs.declared.answer_lines.TheConstants.{ANSWER_ROOM, GROUP_ROOM, REPLY_ROOM};
 
 use crate::change::Stamp;
 use crate::form::Form;
-use crate::hexadecimal::digits_of;
-use crate::lines::Lines;
 use rds_block::Group;
+use rds_charset::{Lines, digits_of};
 use rds_encoder::Refusal;
 use rds_fields::Which;
 use rds_world::{Answer, Command, Reply};

@@ -2,17 +2,16 @@
 ghost use Rattle.std.specs.Prelude.{◌≤◌, ◌+◌, ◌^◌, ℕ, List, Option};
 ghost use Rattle.rds_block.specs.declared.group.Group.{Group};
 ghost use Rattle.rds_charset.specs.Told.{traffic};
-ghost use Rattle.rds_world.specs.declared.audit_fault.AuditFault.{AuditFault};
+ghost use Rattle.rds_world.specs.declared.audit.audit_fault.AuditFault.{AuditFault};
 ghost use Rattle.rds_log.specs.Audit.{AreSafe, Audits, HaveNoPlans, Judges, SlotsFail, SlotsPass};
 ghost use Rattle.rds_log.specs.Reads.{MadeReads};
 
 use crate::LogFault;
 use crate::decoding::MOST_READS;
-use crate::lines::Lines;
 use crate::log_line::LogLine;
 use crate::source::Source;
 use crate::verdict::Verdict;
-use rds_charset::{TellingRead, TellingWrite, put};
+use rds_charset::{Lines, TellingRead, TellingWrite, put};
 use rds_encoder::Late;
 use rds_fields::Dwell;
 use rds_world::{Audit, one_fault, passes_by_plans, what_passes_is_safe};

@@ -5,7 +5,7 @@ ghost use Rattle.rds_receiver.specs.Lent.{tag_lent};
 ghost use Rattle.rds_log.specs.Output.{bit_content, change, class_name, item_content, name_or_number, quoted, tag_content, text_content};
 ghost use Rattle.rds_log.specs.declared.change.TheConstants.{LINE_ROOM, SLOT_ROOM};
 
-use crate::lines::Lines;
+use rds_charset::Lines;
 use rds_receiver::View;
 
 /// Room for what stands behind the name of a part: the name of a class, and a text of 64 bytes, each

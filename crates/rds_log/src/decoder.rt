@@ -8,10 +8,9 @@ ghost use Rattle.rds_log.specs.declared.change.TheConstants.{SLOT_ROOM};
 ghost use Rattle.rds_log.specs.declared.decoder.TheConstants.{OUTPUT_ROOM};
 
 use crate::change::SLOT_ROOM;
-use crate::lines::Lines;
 use crate::log_line::LogLine;
 use crate::view_lines::ViewLines;
-use rds_charset::{TellingWrite, WriteFault, put};
+use rds_charset::{Lines, TellingWrite, WriteFault, put};
 use rds_fields::Dwell;
 
 /// How many bytes of output are put together before they are written.

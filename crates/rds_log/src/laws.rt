@@ -15,7 +15,7 @@ ghost use Rattle.rds_log.specs.declared.form.Form.{Form};
 ghost use Rattle.rds_log.specs.declared.log_line.LogLine.{LogLine};
 ghost use Rattle.rds_log.specs.declared.verdict.Verdict.{Verdict};
 ghost use Rattle.rds_world.specs.declared.world.Config.{Config};
-ghost use Rattle.rds_world.specs.Event.{Event};
+ghost use Rattle.rds_world.specs.World.Event.{Event};
 
 use rds_charset::text_is_read_one_way;
 use rds_fields::one_group;

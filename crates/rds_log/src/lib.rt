@@ -24,10 +24,8 @@ mod decoder;
 mod decoding;
 mod fault;
 mod form;
-mod hexadecimal;
 mod kept;
 mod laws;
-mod lines;
 mod log_line;
 mod player;
 mod row;
@@ -40,11 +38,9 @@ mod view_lines;
 pub use auditing::{audit, audit_within};
 pub use decoding::{decode, decode_within};
 pub use fault::LogFault;
-pub use hexadecimal::word_at;
 pub use laws::{
     bytes_have_one_verdict, bytes_write_one_output, rows_write_one_output, script_writes_one_output,
 };
-pub use lines::Lines;
 pub use scripts::{encode, encode_within, simulate, simulate_within};
 
 #[cfg(test)]

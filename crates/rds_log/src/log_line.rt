@@ -6,8 +6,8 @@ ghost use Rattle.rds_log.specs.declared.log_line.LogLine.{LogLine};
 ghost use Rattle.rds_log.specs.LogLines.{content_length};
 ghost use Rattle.rds_log.specs.LineSays.{Carry, HasDashes, IsBad, IsBlock, IsLaidOut, IsSkipped, LineSays, SaysSlot, word_of};
 
-use crate::hexadecimal::{four_words, word_at};
 use rds_block::Group;
+use rds_charset::{four_words, word_at};
 
 /// How many bytes the four blocks of a slot line and the spaces between them take.
 const BLOCKS: usize = 19;

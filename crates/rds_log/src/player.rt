@@ -1,11 +1,11 @@
 //! A station that plays the rows of a script.
 ghost use Rattle.std.specs.Prelude.{◌≡◌, ◌⊎◌, ◌≤◌, ◌<◌, ◌+◌, ◌-◌, ◌^◌, ◌++◌, ◌∷◌, [], ℕ, List, IfErr, IfOk, IsSome, IsTrue, OnOk, length, map};
 ghost use Rattle.csv.specs.Records.{fields_of};
-ghost use Rattle.rds_world.specs.State.{distance};
-ghost use Rattle.rds_world.specs.Event.{Event};
-ghost use Rattle.rds_world.specs.Slots.{input_of};
-ghost use Rattle.rds_world.specs.Replies.{CanBeTaken};
-ghost use Rattle.rds_world.specs.Standing.{IsViewOfInput, StandsAt, WhereItStands};
+ghost use Rattle.rds_world.specs.World.State.{distance};
+ghost use Rattle.rds_world.specs.World.Event.{Event};
+ghost use Rattle.rds_world.specs.World.Slots.{input_of};
+ghost use Rattle.rds_world.specs.World.Replies.{CanBeTaken};
+ghost use Rattle.rds_world.specs.World.Standing.{IsViewOfInput, StandsAt, WhereItStands};
 ghost use Rattle.rds_log.specs.Kept.{view_kept};
 ghost use Rattle.rds_log.specs.Outcomes.{receiver_changes, view_at};
 ghost use Rattle.rds_log.specs.Playing.{AreKept, WereShown};
@@ -17,12 +17,11 @@ use crate::answer_lines::{ANSWER_ROOM, push_answer};
 use crate::change::{SLOT_ROOM, Stamp};
 use crate::form::Form;
 use crate::kept::KeptView;
-use crate::lines::Lines;
 use crate::row::event_of;
 use crate::view_lines::show;
 use arrayvec::ArrayVec;
 use csv::ByteRecord;
-use rds_charset::text_is_read_one_way;
+use rds_charset::{Lines, text_is_read_one_way};
 use rds_world::{Config, SlotEvent, World};
 use std::alloc::Global;
 

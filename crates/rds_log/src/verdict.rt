@@ -2,7 +2,7 @@
 ghost use Rattle.std.specs.Prelude.{◌≡◌, ◌≤◌, ◌+◌, ◌++◌, ◌↔◌, IsTrue, length};
 ghost use Rattle.rds_log.specs.Audit.{IsYes, fault_name, verdict_line};
 
-use crate::lines::Lines;
+use rds_charset::Lines;
 use rds_world::AuditFault;
 
 /// Room for the line of a verdict.

@@ -5,8 +5,8 @@ ghost use Rattle.rds_log.specs.declared.change.TheConstants.{SLOT_ROOM};
 
 use crate::change::{Stamp, push_changes};
 use crate::kept::KeptView;
-use crate::lines::Lines;
 use rds_block::Group;
+use rds_charset::Lines;
 use rds_fields::Dwell;
 use rds_receiver::Receiver;
 

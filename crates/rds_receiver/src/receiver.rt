@@ -283,22 +283,12 @@ impl Receiver {
         ensures same { IsFalse result → ShowsAlike self.old self.new }
     {
         if self.knows_rtplus && self.text.is_held(self.dwell.get()) {
-            if is_this(self.pair, pair) {
+            if self.pair == Some(pair) {
                 return false;
             }
             self.pair = Some(pair);
             return true;
         }
         false
-    }
-}
-
-/// Whether this pair of tags is held.
-fn is_this(held: Option<TagPair>, pair: TagPair) -> bool
-    ensures { IsTrue result ↔ (held ≡ Some pair) }
-{
-    match held {
-        Some(held) => held == pair,
-        None => false,
     }
 }

@@ -2,7 +2,7 @@
 ghost use Rattle.rds_receiver.specs.Shown.{IsShort};
 
 /// What a receiver shows at the end of a slot. `None` is a part that is not shown.
-#[derive(Clone, Copy)]
+#[derive(Clone, Copy, Debug, PartialEq)]
 pub struct View<'a> {
     /// The text: up to 64 bytes. `Some` of no bytes is the empty text.
     pub text: Option<&'a [u8]>,

@@ -7,7 +7,7 @@ use Rattle.rds_charset.specs.declared.output.WriteFault.{WriteFault}
 use Rattle.rds_receiver.specs.Receipts.{Tuning}
 use Rattle.rds_world.specs.declared.world.Config.{Config}
 use Rattle.rds_log.specs.Audit.{Audits}
-use Rattle.rds_log.specs.Digits.{HasWord}
+use Rattle.rds_charset.specs.Digits.{HasWord}
 use Rattle.rds_log.specs.Decode.{Decodes}
 use Rattle.rds_log.specs.Decoding.{tuned}
 use Rattle.rds_log.specs.Failing.{SomeReadFailed}

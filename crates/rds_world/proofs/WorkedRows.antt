@@ -6,14 +6,14 @@ use Rattle.rds_encoder.specs.Entries.{Entry, Restart, SetText, SetName, SetTags,
 use Rattle.rds_encoder.specs.Plan.{Broadcast, Covers, HasNumber, plan_of}
 use Rattle.rds_encoder.specs.Sent.{sent_in}
 use Rattle.rds_receiver.specs.Receipts.{Segment}
-use Rattle.rds_world.specs.declared.event.Reception.TheVariants.{Got}
-use Rattle.rds_world.specs.Due.{IsDueBack}
-use Rattle.rds_world.specs.Slots.{received}
-use Rattle.rds_world.specs.Late.{CameFrom, HasEntry, Input, IsHeardLate, IsHeardOnTime}
-use Rattle.rds_world.specs.Safe.{NamesPiece, WasOnAir}
-use Rattle.rds_world.specs.Source.{IsSource, text_run}
-use Rattle.rds_world.proofs.Entries.{before_end}
-use Rattle.rds_world.proofs.OnTime.{nothing_heard, one_more}
+use Rattle.rds_world.specs.declared.world.event.Reception.TheVariants.{Got}
+use Rattle.rds_world.specs.World.Due.{IsDueBack}
+use Rattle.rds_world.specs.World.Slots.{received}
+use Rattle.rds_world.specs.Safety.Late.{CameFrom, HasEntry, Input, IsHeardLate, IsHeardOnTime}
+use Rattle.rds_world.specs.Safety.Safe.{NamesPiece, WasOnAir}
+use Rattle.rds_world.specs.Safety.Source.{IsSource, text_run}
+use Rattle.rds_world.proofs.SafetyLemmas.Entries.{before_end}
+use Rattle.rds_world.proofs.SafetyLemmas.OnTime.{nothing_heard, one_more}
 
 -- what each slot that ended sent, by an encoder of dwell m
 abbrev sent : ℕ → List Entry → List (Option Message)

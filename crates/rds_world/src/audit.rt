@@ -2,19 +2,28 @@
 ghost use Rattle.std.specs.Prelude.{◌≡◌, ◌+◌, ◌<◌, ◌≤◌, ◌↔◌, ℕ, List, [], ◌∷◌, Option, Some, None, Ok, Err, IsErr, IsTrue, IfOk, IfErr, MatchResult};
 ghost use Rattle.rds_block.specs.declared.group.Group.{Group};
 ghost use Rattle.rds_fields.specs.declared.message.Message.{Message};
-ghost use Rattle.rds_world.specs.declared.audit_fault.AuditFault.{AuditFault};
-ghost use Rattle.rds_world.specs.AuditLaws.{IsSafeLog};
-ghost use Rattle.rds_world.specs.AuditStanding.{AuditStandsAt, HoldsLog, HoldsSlot, WhereTheAuditStands};
-ghost use Rattle.rds_world.specs.Dense.{HasPlans};
-ghost use Rattle.rds_world.specs.Rules.{BreaksFirst, IsFaultOf, LogPasses};
-ghost use Rattle.rds_world.specs.Stored.{IsStored, audit_stored};
+ghost use Rattle.rds_world.specs.declared.audit.audit_fault.AuditFault.{AuditFault};
+ghost use Rattle.rds_world.specs.Audit.AuditLaws.{IsSafeLog};
+ghost use Rattle.rds_world.specs.Audit.AuditStanding.{AuditStandsAt, HoldsLog, HoldsSlot, WhereTheAuditStands};
+ghost use Rattle.rds_world.specs.Audit.Dense.{HasPlans};
+ghost use Rattle.rds_world.specs.Audit.Rules.{BreaksFirst, IsFaultOf, LogPasses};
+ghost use Rattle.rds_world.specs.Audit.Stored.{IsStored, audit_stored};
 
-use crate::audited::{Names, Texts};
-use crate::reigns::Reigns;
-use crate::stored::StoredAudit;
+pub(crate) mod ages;
+pub(crate) mod audit_fault;
+pub(crate) mod audit_laws;
+pub(crate) mod audited;
+pub(crate) mod content;
+pub(crate) mod lengths;
+pub(crate) mod reigns;
+pub(crate) mod stored;
+
+use crate::audit::audited::{Names, Texts};
+use crate::audit::reigns::Reigns;
+use crate::audit::stored::StoredAudit;
 use crate::{AuditFault, one_fault, passes_by_plans, what_passes_is_safe};
 use rds_block::Group;
-use rds_encoder::Late;
+use rds_encoder::{Distance, Late};
 use rds_fields::{Dwell, Message};
 use rds_receiver::heard;
 use std::marker::Model;
@@ -28,17 +37,15 @@ use std::marker::Model;
 #[derive(Drop)]
 pub struct Audit {
     pi: u16,
-    /// The dwell of the receivers and the lateness together, in slots; far below the limit, so that twice as many
-    /// can be counted.
-    dwell: u32,
+    distance: Distance,
     text: Reigns<Texts>,
     name: Reigns<Names>,
     fault: Option<AuditFault>,
 }
 
 impl Model for Audit {
-    ghost use Rattle.std.specs.Prelude.{◌<◌, ◌≤◌};
-    ghost use Rattle.rds_world.specs.AuditState.{AuditState, audit_code};
+    ghost use Rattle.std.specs.Prelude.{◌<◌};
+    ghost use Rattle.rds_world.specs.Audit.AuditState.{AuditState, audit_code};
 
     ghost Value = { AuditState };
 
@@ -46,13 +53,13 @@ impl Model for Audit {
 
     ghost view = { λ a. record {
       programme = a.pi;
-      dwell = a.dwell;
+      distance = a.distance;
       text = a.text;
       name = a.name;
       fault = a.fault;
     } };
 
-    ghost invariant = { λ a. (0 < a.dwell) × (a.dwell ≤ 131072) };
+    ghost invariant = { λ a. 0 < a.distance };
 }
 
 impl Audit {
@@ -62,12 +69,12 @@ impl Audit {
         ensures stands { AuditStandsAt pi (dwell + late) result [] }
         ensures passed { result.fault ≡ None }
     {
-        let dwell = u32::from(dwell.get()) + u32::from(late.get());
+        let distance = Distance::new(dwell, late);
         Audit {
             pi,
-            dwell,
-            text: Reigns::new(dwell),
-            name: Reigns::new(dwell),
+            distance,
+            text: Reigns::new(distance),
+            name: Reigns::new(distance),
             fault: None,
         }
     }
@@ -79,7 +86,7 @@ impl Audit {
     {
         Audit {
             pi: stored.pi,
-            dwell: stored.dwell.clamp(1, 131072),
+            distance: Distance::restore(stored.distance),
             text: Reigns::restore(&stored.text),
             name: Reigns::restore(&stored.name),
             fault: AuditFault::numbered(stored.fault),
@@ -92,7 +99,7 @@ impl Audit {
         ensures good { IsStored result }
     {
         StoredAudit {
-            dwell: self.dwell,
+            distance: self.distance.get(),
             text: self.text.store(),
             name: self.name.store(),
             pi: self.pi,
@@ -143,12 +150,12 @@ impl Audit {
     /// Takes what was sent in this slot.
     fn judge(&mut self, message: Option<Message>) -> Result<(), AuditFault>
         ensures programme { self.new.programme ≡ self.old.programme }
-        ensures dwell { self.new.dwell ≡ self.old.dwell }
+        ensures distance { self.new.distance ≡ self.old.distance }
         ensures fault { self.new.fault ≡ self.old.fault }
-        ensures holds { (heard : List (Option Message)) → HoldsLog self.old.dwell heard self.old
-            → IfOk result (λ _. HoldsSlot self.old.dwell message heard self.new) }
-        ensures breaks { (heard : List (Option Message)) → HoldsLog self.old.dwell heard self.old
-            → IfErr result (λ fault. BreaksFirst self.old.dwell message heard fault) }
+        ensures holds { (heard : List (Option Message)) → HoldsLog self.old.distance heard self.old
+            → IfOk result (λ _. HoldsSlot self.old.distance message heard self.new) }
+        ensures breaks { (heard : List (Option Message)) → HoldsLog self.old.distance heard self.old
+            → IfErr result (λ fault. BreaksFirst self.old.distance message heard fault) }
     {
         match message {
             Some(message) => self.hear(message),
@@ -159,26 +166,26 @@ impl Audit {
     /// Takes a message that was sent in this slot.
     fn hear(&mut self, message: Message) -> Result<(), AuditFault>
         ensures programme { self.new.programme ≡ self.old.programme }
-        ensures dwell { self.new.dwell ≡ self.old.dwell }
+        ensures distance { self.new.distance ≡ self.old.distance }
         ensures fault { self.new.fault ≡ self.old.fault }
-        ensures holds { (heard : List (Option Message)) → HoldsLog self.old.dwell heard self.old
-            → IfOk result (λ _. HoldsSlot self.old.dwell (Some message) heard self.new) }
-        ensures breaks { (heard : List (Option Message)) → HoldsLog self.old.dwell heard self.old
-            → IfErr result (λ fault. BreaksFirst self.old.dwell (Some message) heard fault) }
+        ensures holds { (heard : List (Option Message)) → HoldsLog self.old.distance heard self.old
+            → IfOk result (λ _. HoldsSlot self.old.distance (Some message) heard self.new) }
+        ensures breaks { (heard : List (Option Message)) → HoldsLog self.old.distance heard self.old
+            → IfErr result (λ fault. BreaksFirst self.old.distance (Some message) heard fault) }
     {
-        let dwell = self.dwell;
+        let distance = self.distance;
         match message {
             Message::Text {
                 flag,
                 address,
                 bytes,
-            } => self.text.take(dwell, flag, address.get(), bytes),
+            } => self.text.take(distance, flag, address.get(), bytes),
             Message::Name {
                 flag,
                 address,
                 bytes,
-            } => self.name.take(dwell, flag, address.get(), bytes),
-            Message::Tags(pair) => self.text.take_tags(dwell, pair),
+            } => self.name.take(distance, flag, address.get(), bytes),
+            Message::Tags(pair) => self.text.take_tags(distance, pair),
             Message::Announce { .. } | Message::Other => Ok(()),
         }
     }
@@ -186,14 +193,14 @@ impl Audit {
     /// The slot ends.
     fn end_slot(&mut self)
         ensures programme { self.new.programme ≡ self.old.programme }
-        ensures dwell { self.new.dwell ≡ self.old.dwell }
+        ensures distance { self.new.distance ≡ self.old.distance }
         ensures fault { self.new.fault ≡ self.old.fault }
         ensures holds { (heard : List (Option Message)) (message : Option Message)
-            → HoldsSlot self.old.dwell message heard self.old
-            → HoldsLog self.old.dwell (message ∷ heard) self.new }
+            → HoldsSlot self.old.distance message heard self.old
+            → HoldsLog self.old.distance (message ∷ heard) self.new }
     {
-        let dwell = self.dwell;
-        self.text.grow_older(dwell);
-        self.name.grow_older(dwell);
+        let distance = self.distance;
+        self.text.grow_older(distance);
+        self.name.grow_older(distance);
     }
 }

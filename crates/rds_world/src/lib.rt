@@ -8,38 +8,26 @@
 //! broadcasts exist that are lawful and dense, and then no receiver of that log ever shows a mix.
 #![tactic(auto)]
 
-mod ages;
 mod audit;
-mod audit_fault;
-mod audit_laws;
-mod audited;
-mod content;
-mod event;
-mod laws;
-mod lengths;
-mod reach;
-mod receivers;
-mod recent;
-mod reigns;
-mod reply;
-mod slots;
-mod station;
-mod station_laws;
-mod stored;
+mod safety;
 mod world;
 
 pub use audit::Audit;
-pub use audit_fault::AuditFault;
-pub use audit_laws::{broadcasts_are_the_reigns, one_fault, passes_by_plans, what_passes_is_safe};
-pub use event::{Command, Reception, SlotEvent};
-pub use laws::{
+pub use audit::audit_fault::AuditFault;
+pub use audit::audit_laws::{
+    broadcasts_are_the_reigns, one_fault, passes_by_plans, what_passes_is_safe,
+};
+pub use audit::stored::{StoredAudit, StoredCell, StoredReigns};
+pub use safety::{
     each_bound_is_needed, groups_listen, late_as_messages, on_time, one_source, own_clocks,
     safe_by_plans, the_dwell_is_the_least,
 };
-pub use reply::{Answer, Reply, StepRefused, WorldRefused};
-pub use slots::{PlayRefused, play};
-pub use station_laws::{on_air_is_delivered, only_what_was_on_air_is_shown, the_encoder_is_lawful};
-pub use stored::{StoredAudit, StoredCell, StoredReigns};
+pub use world::event::{Command, Reception, SlotEvent};
+pub use world::reply::{Answer, Reply, StepRefused, WorldRefused};
+pub use world::slots::{PlayRefused, play};
+pub use world::station_laws::{
+    on_air_is_delivered, only_what_was_on_air_is_shown, the_encoder_is_lawful,
+};
 pub use world::{Config, World};
 
 #[cfg(test)]

@@ -5,7 +5,7 @@ use super::plain::Dice;
 use super::plain_plans::{Mark, SLOTS, has_plan};
 use super::plain_rules::Rules;
 use super::{config, same};
-use crate::station::obey;
+use crate::world::station::obey;
 use crate::{
     Audit, AuditFault, Config, broadcasts_are_the_reigns, one_fault, passes_by_plans,
     what_passes_is_safe,

@@ -3,7 +3,7 @@
 //! slots by clocks of their own.
 
 use super::{config, late_config, same, slot_event};
-use crate::station::obey;
+use crate::world::station::obey;
 use crate::{Command, Config, Reception, Reply, SlotEvent, StepRefused, World};
 use rds_assembly::{Name, Text};
 use rds_block::Group;

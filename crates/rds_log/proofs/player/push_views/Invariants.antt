@@ -1,7 +1,7 @@
 use Rattle.std.proofs.Common.{◌≡◌, ◌≤◌, ◌<◌, ◌+◌, ◌*◌, ◌++◌, ℕ, length, map}
-use Rattle.rds_world.specs.Slots.{input_of}
-use Rattle.rds_world.specs.Standing.{IsViewOfInput, WhereItStands}
-use Rattle.rds_world.specs.State.{distance}
+use Rattle.rds_world.specs.World.Slots.{input_of}
+use Rattle.rds_world.specs.World.Standing.{IsViewOfInput, WhereItStands}
+use Rattle.rds_world.specs.World.State.{distance}
 use Rattle.rds_log.specs.Kept.{view_kept}
 use Rattle.rds_log.specs.Outcomes.{receiver_changes, view_at}
 use Rattle.rds_log.specs.Playing.{WereShown}

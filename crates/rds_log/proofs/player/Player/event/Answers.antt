@@ -1,9 +1,9 @@
 use Rattle.std.proofs.Common.{◌≡◌, ◌∙◌, ◌∷◌, ◌+◌, ℕ, List, Option, Some, add-one, ap, arith, drop, length, map, rules, subst, sym}
 use Rattle.std.proofs.lemmas.List.{length-map, take_at}
-use Rattle.rds_world.specs.Event.{Event}
-use Rattle.rds_world.specs.Slots.{input_of}
-use Rattle.rds_world.specs.Standing.{IsViewOfInput}
-use Rattle.rds_world.specs.State.{WorldState, distance}
+use Rattle.rds_world.specs.World.Event.{Event}
+use Rattle.rds_world.specs.World.Slots.{input_of}
+use Rattle.rds_world.specs.World.Standing.{IsViewOfInput}
+use Rattle.rds_world.specs.World.State.{WorldState, distance}
 use Rattle.rds_log.specs.Kept.{view_kept}
 use Rattle.rds_log.specs.Outcomes.{view_at}
 use Rattle.rds_log.specs.Playing.{HasWorld, WereShown}

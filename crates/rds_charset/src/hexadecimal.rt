@@ -1,0 +1,112 @@
+//! Words of four hexadecimal digits.
+ghost use Rattle.std.specs.Prelude.{◌≡◌, ◌<◌, ◌≤◌, ◌+◌, ◌↔◌, ℕ, length, slice_index, IsTrue, IfSome, IfNone};
+ghost use Rattle.rds_charset.specs.Digits.{AreWords, HasWord, marked_value, marked_values, word_digits};
+
+use crate::upper_digit;
+
+/// More than any word: the value of a byte that is no hexadecimal digit.
+const NONE: u32 = 65536;
+
+/// The value of each byte as a hexadecimal digit of either case, or `NONE`.
+static DIGIT_VALUES: [u32; 256] = [
+    NONE, NONE, NONE, NONE, NONE, NONE, NONE, NONE, NONE, NONE, NONE, NONE, NONE, NONE, NONE, NONE,
+    NONE, NONE, NONE, NONE, NONE, NONE, NONE, NONE, NONE, NONE, NONE, NONE, NONE, NONE, NONE, NONE,
+    NONE, NONE, NONE, NONE, NONE, NONE, NONE, NONE, NONE, NONE, NONE, NONE, NONE, NONE, NONE, NONE,
+    0, 1, 2, 3, 4, 5, 6, 7, 8, 9, NONE, NONE, NONE, NONE, NONE, NONE, NONE, 10, 11, 12, 13, 14, 15,
+    NONE, NONE, NONE, NONE, NONE, NONE, NONE, NONE, NONE, NONE, NONE, NONE, NONE, NONE, NONE, NONE,
+    NONE, NONE, NONE, NONE, NONE, NONE, NONE, NONE, NONE, NONE, 10, 11, 12, 13, 14, 15, NONE, NONE,
+    NONE, NONE, NONE, NONE, NONE, NONE, NONE, NONE, NONE, NONE, NONE, NONE, NONE, NONE, NONE, NONE,
+    NONE, NONE, NONE, NONE, NONE, NONE, NONE, NONE, NONE, NONE, NONE, NONE, NONE, NONE, NONE, NONE,
+    NONE, NONE, NONE, NONE, NONE, NONE, NONE, NONE, NONE, NONE, NONE, NONE, NONE, NONE, NONE, NONE,
+    NONE, NONE, NONE, NONE, NONE, NONE, NONE, NONE, NONE, NONE, NONE, NONE, NONE, NONE, NONE, NONE,
+    NONE, NONE, NONE, NONE, NONE, NONE, NONE, NONE, NONE, NONE, NONE, NONE, NONE, NONE, NONE, NONE,
+    NONE, NONE, NONE, NONE, NONE, NONE, NONE, NONE, NONE, NONE, NONE, NONE, NONE, NONE, NONE, NONE,
+    NONE, NONE, NONE, NONE, NONE, NONE, NONE, NONE, NONE, NONE, NONE, NONE, NONE, NONE, NONE, NONE,
+    NONE, NONE, NONE, NONE, NONE, NONE, NONE, NONE, NONE, NONE, NONE, NONE, NONE, NONE, NONE, NONE,
+    NONE, NONE, NONE, NONE, NONE, NONE, NONE, NONE, NONE, NONE, NONE, NONE, NONE, NONE, NONE, NONE,
+    NONE, NONE, NONE, NONE, NONE, NONE, NONE,
+];
+
+/// The word of the four hexadecimal digits, of either case, from the place on; `None` where there are
+/// none.
+#[inline(always)]
+pub fn word_at(text: &[u8], place: usize) -> Option<u16>
+    requires { place + 4 ≤ length text.now }
+    ensures some { IfSome result (HasWord text.now place) }
+    ensures none { IfNone result ((w : ℕ) → HasWord text.now place w → ⊥) }
+{
+    let word = reading_at(text, place);
+    if word < NONE { Some(word as u16) } else { None }
+}
+
+/// The words of the four blocks of a line, at the places 0, 5, 10 and 15, where all are digits. All sixteen are tested
+/// by one comparison.
+#[inline(always)]
+pub fn four_words(text: &[u8]) -> Option<[u16; 4]>
+    requires { 19 ≤ length text.now }
+    ensures four { IfSome result (λ words. length words ≡ 4) }
+    ensures first { IfSome result (λ words. HasWord text.now 0 (slice_index words 0)) }
+    ensures second { IfSome result (λ words. HasWord text.now 5 (slice_index words 1)) }
+    ensures third { IfSome result (λ words. HasWord text.now 10 (slice_index words 2)) }
+    ensures fourth { IfSome result (λ words. HasWord text.now 15 (slice_index words 3)) }
+{
+    let first = reading_at(text, 0);
+    let second = reading_at(text, 5);
+    let third = reading_at(text, 10);
+    let fourth = reading_at(text, 15);
+    if !are_words(first, second, third, fourth) {
+        return None;
+    }
+    Some([first as u16, second as u16, third as u16, fourth as u16])
+}
+
+/// What the four bytes from the place on spell: their word where all are digits, and else at least `NONE`.
+#[inline(always)]
+fn reading_at(text: &[u8], place: usize) -> u32
+    requires { place + 4 ≤ length text.now }
+    ensures word { result < 65536 → HasWord text.now place result }
+    ensures none { 65536 ≤ result → (w : ℕ) → HasWord text.now place w → ⊥ }
+{
+    let first = value_of(text[place]);
+    let second = value_of(text[place + 1]);
+    let third = value_of(text[place + 2]);
+    let fourth = value_of(text[place + 3]);
+    first * 4096 + second * 256 + third * 16 + fourth
+}
+
+/// Whether each of the four is a word, tested by all bits of them at once.
+#[inline(always)]
+fn are_words(first: u32, second: u32, third: u32, fourth: u32) -> bool
+    ensures { IsTrue result ↔ AreWords first second third fourth }
+{
+    first | second | third | fourth < NONE
+}
+
+/// The value of the byte as a digit.
+#[inline(always)]
+fn value_of(byte: u8) -> u32
+    ensures value { result ≡ marked_value byte }
+    ensures small { result ≤ 65536 }
+{
+    values()[usize::from(byte)]
+}
+
+/// The table, as its definition has it.
+fn values() -> &'static [u32]
+    ensures table { result.now ≡ marked_values }
+    ensures each_byte { length result.now ≡ 256 }
+{
+    &DIGIT_VALUES
+}
+
+/// The four digits of a word, with A to F for 10 to 15.
+pub fn digits_of(word: u16) -> [u8; 4]
+    ensures { result ≡ word_digits word }
+{
+    [
+        upper_digit((word / 4096) as u8),
+        upper_digit((word / 256 % 16) as u8),
+        upper_digit((word / 16 % 16) as u8),
+        upper_digit((word % 16) as u8),
+    ]
+}

@@ -1,0 +1,81 @@
+//! Output lines, put together in bounded room so that many go out in one write.
+ghost use Rattle.std.specs.Prelude.{◌≡◌, ◌≤◌, ◌+◌, ◌*◌, ◌++◌, ◌↔◌, [], ℕ, List, IsTrue, decimal, length};
+ghost use Rattle.rds_charset.specs.Printed.{printed};
+
+use crate::push_text;
+use arrayvec::ArrayVec;
+use itoa::Buffer;
+use std::marker::Model;
+
+/// Lines of output, of `N` bytes at most. Callers see the bytes.
+#[derive(Drop)]
+pub struct Lines<const N: usize> {
+    bytes: ArrayVec<u8, N>,
+}
+
+impl<const N: usize> Model for Lines<N> {
+    ghost use Rattle.std.specs.Prelude.{ℕ, List, ◌≤◌, length};
+
+    ghost Value = { List ℕ };
+
+    ghost view = { λ lines. lines.bytes.items };
+}
+
+impl<const N: usize> Lines<N> {
+    /// No line.
+    pub fn new() -> Self
+        ensures { result ≡ [] }
+    {
+        Lines {
+            bytes: ArrayVec::new(),
+        }
+    }
+
+    /// What the lines are so far.
+    pub fn bytes(&self) -> &[u8]
+        ensures { result.now ≡ self.now }
+    {
+        self.bytes.as_slice()
+    }
+
+    /// Gives up all lines.
+    pub fn clear(&mut self)
+        ensures { self.new ≡ [] }
+    {
+        self.bytes.clear();
+    }
+
+    /// Whether there is room for so many bytes more.
+    pub fn has_room(&self, count: usize) -> bool
+        ensures { IsTrue result ↔ (length self.now + count ≤ N) }
+    {
+        count <= self.bytes.remaining_capacity()
+    }
+
+    /// Appends bytes as they are.
+    pub fn push(&mut self, bytes: &[u8])
+        requires { length self.old + length bytes.now ≤ N }
+        ensures { self.new ≡ self.old ++ bytes.now }
+    {
+        self.bytes.try_extend_from_slice(bytes).unwrap();
+    }
+
+    /// Appends a number in decimal digits.
+    pub fn push_number(&mut self, number: u64)
+        requires { length self.old + 20 ≤ N }
+        ensures decimal { self.new ≡ self.old ++ decimal number }
+        ensures room { length self.new ≤ length self.old + 20 }
+    {
+        let mut digits = Buffer::new();
+        self.push(digits.format(number).as_bytes());
+    }
+
+    /// Appends the printed form of a text, which has at most four bytes for each of the text's.
+    pub fn push_text(&mut self, text: &[u8])
+        requires { length self.old + 4 * length text.now ≤ N }
+        ensures printed { self.new ≡ self.old ++ printed text.now }
+        ensures room { length self.new ≤ length self.old + 4 * length text.now }
+    {
+        push_text(text, &mut self.bytes);
+    }
+}

@@ -1,5 +1,0 @@
-use Rattle.rds_world.proofs.Sources.{one_source}
-use Rattle.rds_world.proofs.laws.one_source.Goals as goal
-
-pub returns : goal.returns
-returns c = one_source c.plan_laws.ensures

@@ -1,5 +1,0 @@
-use Rattle.rds_world.specs.State.{distance}
-use Rattle.rds_world.proofs.station.obey.Goals as goal
-
-pub returns-in-SetTags-clause-stands : goal.returns-in-SetTags-clause-stands
-returns-in-SetTags-clause-stands c entries st = rw c.in-SetTags.is (c.set_tags.ensures.stands c.args.config.now.head (distance c.args.config.now) entries st)
