@@ -2,5 +2,5 @@ pub mod Appending
 pub mod Characters
 pub mod Digits
 pub mod Outcomes
-pub mod Pieces
+pub mod Symbols
 pub mod PrintedText

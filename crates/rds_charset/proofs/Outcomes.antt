@@ -2,7 +2,7 @@
 use Rattle.std.proofs.Common.{◌≡◌, ◌↔◌, ◌≤◌, ◌<◌, ℕ, List, length, slice_index, take, sym, ap, ◌∙◌, subst, arith, refl, Ok, Err}
 use Rattle.std.specs.Prelude.{Result}
 use Rattle.std.proofs.lemmas.List.{length-take}
-use Rattle.rds_charset.proofs.Pieces.{IsReadAs-same, StopsAt-same, StopsAt-unread}
+use Rattle.rds_charset.proofs.Symbols.{IsReadAs-same, StopsAt-same, StopsAt-unread}
 use Rattle.rds_charset.specs.declared.reading.TextFault.{TextFault}
 use Rattle.rds_charset.specs.declared.reading.TextFault.TheVariants.{BadEscape, NoSuchCharacter, NoRoom}
 use Rattle.rds_charset.specs.Faults.{StopsBy}

@@ -14,7 +14,7 @@ use Rattle.std.specs.Option.{option_map_or}
 use Rattle.std.specs.Str.{IsUtf8}
 use Rattle.rds_charset.proofs.Characters.{IsLawful-from_byte}
 use Rattle.rds_charset.specs.Printed.{escaped, printed, printed_byte, shown_character, upper_digit}
-use Rattle.rds_charset.specs.ReadAs.{IsPiece, IsReadAs}
+use Rattle.rds_charset.specs.ReadAs.{IsSymbol, IsReadAs}
 use Rattle.rds_charset.specs.Table.{character_of}
 
 -- four bytes hold what one byte is printed as
@@ -41,8 +41,8 @@ upper_digit-value n small = grind (arith, nat_tests)
 upper_digit-ascii : (n : ℕ) → n < 16 → upper_digit n < 128
 upper_digit-ascii n small = grind (arith, nat_tests)
 
-escaped-IsPiece : (byte : ℕ) → byte < 256 → IsPiece (escaped byte) byte
-escaped-IsPiece byte small =
+escaped-IsSymbol : (byte : ℕ) → byte < 256 → IsSymbol (escaped byte) byte
+escaped-IsSymbol byte small =
     let high : byte / 16 < 16 = omega arith in
     let low : byte % 16 < 16 = omega arith in
     let high_value : digit_value (upper_digit (byte / 16)) ≡ byte / 16 = upper_digit-value (byte / 16) high in
@@ -56,22 +56,22 @@ escaped-IsPiece byte small =
       value = rw (high_value, low_value) (omega arith);
     })
 
-shown-IsPiece : (byte : ℕ) (shown : Option ℕ) → byte < 256 → ((character : ℕ) → shown ≡ Some character → character_of byte ≡ Some character) → IsPiece (option_map_or encode_utf8 shown (escaped byte)) byte
-shown-IsPiece byte None small own = escaped-IsPiece byte small
-shown-IsPiece byte (Some character) small own = inl (record { character = character; in_table = own character refl; spelled = refl })
+shown-IsSymbol : (byte : ℕ) (shown : Option ℕ) → byte < 256 → ((character : ℕ) → shown ≡ Some character → character_of byte ≡ Some character) → IsSymbol (option_map_or encode_utf8 shown (escaped byte)) byte
+shown-IsSymbol byte None small own = escaped-IsSymbol byte small
+shown-IsSymbol byte (Some character) small own = inl (record { character = character; in_table = own character refl; spelled = refl })
 
 shown-own : (byte character : ℕ) (b : Bool) → (if b then None else character_of byte) ≡ Some character → character_of byte ≡ Some character
 shown-own byte character true is = absurd (cc)
 shown-own byte character false is = is
 
-printed_byte-IsPiece : (byte : ℕ) → byte < 256 → IsPiece (printed_byte byte) byte
+printed_byte-IsSymbol : (byte : ℕ) → byte < 256 → IsSymbol (printed_byte byte) byte
 unfolding printed_byte
-printed_byte-IsPiece byte small = shown-IsPiece byte (shown_character byte) small (λ character is. shown-own byte character (byte == 0x22) is)
+printed_byte-IsSymbol byte small = shown-IsSymbol byte (shown_character byte) small (λ character is. shown-own byte character (byte == 0x22) is)
 
 pub IsReadAs-printed : (bytes : List ℕ) → All (λ byte. byte < 256) bytes → IsReadAs (printed bytes) bytes
 IsReadAs-printed [] small = refl
 IsReadAs-printed (byte ∷ bytes) small =
-    (printed bytes, record { piece = printed_byte byte; cut = refl; is_piece = printed_byte-IsPiece byte (All-head (λ b. b < 256) byte bytes small) }, IsReadAs-printed bytes (All-tail (λ b. b < 256) byte bytes small))
+    (printed bytes, record { symbol = printed_byte byte; cut = refl; is_symbol = printed_byte-IsSymbol byte (All-head (λ b. b < 256) byte bytes small) }, IsReadAs-printed bytes (All-tail (λ b. b < 256) byte bytes small))
 
 -- the printed form is UTF-8
 ascii-IsUtf8 : (character : ℕ) → character < 128 → IsUtf8 (character ∷ [])
@@ -105,21 +105,21 @@ pub printed-append : (xs ys : List ℕ) → printed (xs ++ ys) ≡ printed xs ++
 printed-append xs ys = flat_map-append printed_byte xs ys
 
 -- one more part of a text goes out, whole or up to a fault
-pub Appends-printed : (a b c : Option (List ℕ)) (done piece line : List ℕ) → line ≡ printed piece → Appends a b (printed done) → Appends b c line → Appends a c (printed (done ++ piece))
-Appends-printed a b c done piece line is first later = rw (printed-append done piece) (Appends-trans a b c (printed done) (printed piece) first (rw is at later))
+pub Appends-printed : (a b c : Option (List ℕ)) (done symbol line : List ℕ) → line ≡ printed symbol → Appends a b (printed done) → Appends b c line → Appends a c (printed (done ++ symbol))
+Appends-printed a b c done symbol line is first later = rw (printed-append done symbol) (Appends-trans a b c (printed done) (printed symbol) first (rw is at later))
 
-pub AppendsPrefix-printed : (a b c : Option (List ℕ)) (bytes done piece rest line : List ℕ) → bytes ≡ (done ++ piece) ++ rest → line ≡ printed piece → Appends a b (printed done) → AppendsPrefix b c line → AppendsPrefix a c (printed bytes)
-AppendsPrefix-printed a b c bytes done piece rest line whole is first part =
-    let sent = AppendsPrefix-append a b c (printed done) (printed piece) first (subst (AppendsPrefix b c) is part) in
-    let longer = AppendsPrefix-longer a c (printed done ++ printed piece) (printed rest) sent in
-    let same : printed bytes ≡ (printed done ++ printed piece) ++ printed rest =
-    ap printed whole ∙ printed-append (done ++ piece) rest ∙ ap (λ l. l ++ printed rest) (printed-append done piece) in
+pub AppendsPrefix-printed : (a b c : Option (List ℕ)) (bytes done symbol rest line : List ℕ) → bytes ≡ (done ++ symbol) ++ rest → line ≡ printed symbol → Appends a b (printed done) → AppendsPrefix b c line → AppendsPrefix a c (printed bytes)
+AppendsPrefix-printed a b c bytes done symbol rest line whole is first part =
+    let sent = AppendsPrefix-append a b c (printed done) (printed symbol) first (subst (AppendsPrefix b c) is part) in
+    let longer = AppendsPrefix-longer a c (printed done ++ printed symbol) (printed rest) sent in
+    let same : printed bytes ≡ (printed done ++ printed symbol) ++ printed rest =
+    ap printed whole ∙ printed-append (done ++ symbol) rest ∙ ap (λ l. l ++ printed rest) (printed-append done symbol) in
     subst (AppendsPrefix a c) (sym same) longer
 
--- what a fresh line holds once a piece was pushed
-pub pushed-printed : (slice pushed fresh piece : List ℕ) → slice ≡ pushed → pushed ≡ fresh ++ printed piece → fresh ≡ [] → slice ≡ printed piece
-pushed-printed slice pushed fresh piece one two three = one ∙ two ∙ ap (λ items. items ++ printed piece) three
+-- what a fresh line holds once a symbol was pushed
+pub pushed-printed : (slice pushed fresh symbol : List ℕ) → slice ≡ pushed → pushed ≡ fresh ++ printed symbol → fresh ≡ [] → slice ≡ printed symbol
+pushed-printed slice pushed fresh symbol one two three = one ∙ two ∙ ap (λ items. items ++ printed symbol) three
 
--- a piece taken from what is left of a text
-pub append-piece : (bytes done left piece rest : List ℕ) → bytes ≡ done ++ left → left ≡ piece ++ rest → bytes ≡ (done ++ piece) ++ rest
-append-piece bytes done left piece rest one two = one ∙ ap (λ l. done ++ l) two ∙ sym (append_assoc done piece rest)
+-- a symbol taken from what is left of a text
+pub append-chunk : (bytes done left symbol rest : List ℕ) → bytes ≡ done ++ left → left ≡ symbol ++ rest → bytes ≡ (done ++ symbol) ++ rest
+append-chunk bytes done left symbol rest one two = one ∙ ap (λ l. done ++ l) two ∙ sym (append_assoc done symbol rest)

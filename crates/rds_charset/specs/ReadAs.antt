@@ -1,4 +1,4 @@
--- A printed text is read piece by piece, each a character of the table or the number of a byte, and each piece
+-- A printed text is read symbol by symbol, each a character of the table or the number of a byte, and each symbol
 -- gives one byte. This is the project's own form.
 -- The quotation mark is read as a character too, though it isn't printed as one. The digits of a number can be
 -- of either case.
@@ -7,49 +7,49 @@ use Rattle.std.specs.Char.{digit_value}
 use Rattle.rds_charset.specs.Table.{character_of}
 
 -- a character of the table, in UTF-8, and its byte
-pub record IsCharacter (piece : List ℕ) (byte : ℕ) : Type 0 where
+pub record IsCharacter (symbol : List ℕ) (byte : ℕ) : Type 0 where
   pub character : ℕ
   pub in_table : character_of byte ≡ Some character
-  pub spelled : piece ≡ encode_utf8 character
+  pub spelled : symbol ≡ encode_utf8 character
 
 -- a backslash, an x and two hexadecimal digits, and the byte that has that number
-pub record IsEscape (piece : List ℕ) (byte : ℕ) : Type 0 where
+pub record IsEscape (symbol : List ℕ) (byte : ℕ) : Type 0 where
   pub high : ℕ
   pub low : ℕ
   pub high_digit : digit_value high < 16
   pub low_digit : digit_value low < 16
-  pub spelled : piece ≡ codes "\\x" ++ high ∷ low ∷ []
+  pub spelled : symbol ≡ codes "\\x" ++ high ∷ low ∷ []
   pub value : byte ≡ 16 * digit_value high + digit_value low
 
--- a piece of a printed text, and the byte that it is read as
-abbrev pub IsPiece : List ℕ → ℕ → Type 0
-IsPiece piece byte = IsCharacter piece byte ⊎ IsEscape piece byte
+-- a symbol of a printed text, and the byte that it is read as
+abbrev pub IsSymbol : List ℕ → ℕ → Type 0
+IsSymbol symbol byte = IsCharacter symbol byte ⊎ IsEscape symbol byte
 
--- a text begins with a piece, and the rest follows it
+-- a text begins with a symbol, and the rest follows it
 pub record Begins (text : List ℕ) (byte : ℕ) (rest : List ℕ) : Type 0 where
-  pub piece : List ℕ
-  pub cut : text ≡ piece ++ rest
-  pub is_piece : IsPiece piece byte
+  pub symbol : List ℕ
+  pub cut : text ≡ symbol ++ rest
+  pub is_symbol : IsSymbol symbol byte
 
--- the text begins with one piece for each of the bytes, in order, and the rest follows them
-abbrev pub ReadsUpTo : List ℕ → List ℕ → List ℕ → Type 0
-ReadsUpTo text [] rest = text ≡ rest
-ReadsUpTo text (byte ∷ bytes) rest = (after : List ℕ) × Begins text byte after × ReadsUpTo after bytes rest
+-- the text begins with one symbol for each of the bytes, in order, and the rest follows them
+abbrev pub IsReadUpTo : List ℕ → List ℕ → List ℕ → Type 0
+IsReadUpTo text [] rest = text ≡ rest
+IsReadUpTo text (byte ∷ bytes) rest = (after : List ℕ) × Begins text byte after × IsReadUpTo after bytes rest
 
--- the text is read as the bytes: it is made of one piece for each of them, in order, and of nothing else
+-- the text is read as the bytes: it is made of one symbol for each of them, in order, and of nothing else
 abbrev pub IsReadAs : List ℕ → List ℕ → Type 0
-IsReadAs text bytes = ReadsUpTo text bytes []
+IsReadAs text bytes = IsReadUpTo text bytes []
 
--- no piece begins the text
-abbrev pub BeginsNoPiece : List ℕ → Type 0
-BeginsNoPiece text = (byte : ℕ) (rest : List ℕ) → Begins text byte rest → ⊥
+-- no symbol begins the text
+abbrev pub BeginsNoSymbol : List ℕ → Type 0
+BeginsNoSymbol text = (byte : ℕ) (rest : List ℕ) → Begins text byte rest → ⊥
 
 -- the text can be read up to the place, counted in bytes, and no further, and doesn't end there
 pub record StopsAt (text : List ℕ) (place : ℕ) : Type 0 where
   pub within : place < length text
   pub bytes : List ℕ
-  pub read : ReadsUpTo text bytes (drop place text)
-  pub stuck : BeginsNoPiece (drop place text)
+  pub read : IsReadUpTo text bytes (drop place text)
+  pub stuck : BeginsNoSymbol (drop place text)
 
 -- the first place that can't be read is a backslash
 abbrev pub HasBadEscape : List ℕ → ℕ → Type 0

@@ -51,7 +51,7 @@ ReadsOne t r buf = MatchOption r (HasFailed t × Keeps t.before t.after)
     (λ n. (t.failures_before < most_counted) × IsCalm t × (n ≤ length buf) × Consumes t.before t.after (take n buf)
     × (n ≡ 0 → 0 < length buf → IsAtEnd t.after))
 
--- one write: it took the first bytes of the piece, at least one if the piece has any
+-- one write: it took the first bytes of the buffer, at least one if the buffer has any
 abbrev pub WritesOne : Traffic → Option ℕ → List ℕ → Type 0
 WritesOne t r buf = MatchOption r (HasFailed t × Keeps t.before t.after)
     (λ n. (t.failures_before < most_counted) × IsCalm t × (n ≤ length buf) × (0 < length buf → 0 < n)

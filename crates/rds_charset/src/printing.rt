@@ -10,18 +10,18 @@ use crate::table::character_of;
 use crate::told::TellingWrite;
 use arrayvec::ArrayVec;
 
-/// How many bytes of a text go out in one piece.
-const PIECE: usize = 64;
+/// How many bytes of a text go out in one chunk.
+const CHUNK: usize = 64;
 
-/// How many bytes such a piece has at most in its printed form.
-const ROOM: usize = 4 * PIECE;
+/// How many bytes such a chunk has at most in its printed form.
+const ROOM: usize = 4 * CHUNK;
 
 /// A text can be shown between two of these, so it is never printed as itself.
 const QUOTATION_MARK: u8 = b'"';
 
 const UPPER_DIGITS: [u8; 16] = *b"0123456789ABCDEF";
 
-/// Writes a text in its printed form, in pieces of 64 bytes of the text.
+/// Writes a text in its printed form, in chunks of 64 bytes of the text.
 ///
 /// # Errors
 ///
@@ -29,9 +29,9 @@ const UPPER_DIGITS: [u8; 16] = *b"0123456789ABCDEF";
 pub fn write_text<W: TellingWrite>(bytes: &[u8], writer: &mut W) -> Result<(), WriteFault>
     ensures { Puts (traffic W.contents W.failures writer.old writer.new) (printed bytes.now) result }
 {
-    for piece in bytes.chunks(PIECE) {
+    for chunk in bytes.chunks(CHUNK) {
         let mut line = ArrayVec::<u8, ROOM>::new();
-        push_text(piece, &mut line);
+        push_text(chunk, &mut line);
         put(line.as_slice(), writer)?;
     }
     Ok(())

@@ -4,7 +4,7 @@ ghost use Rattle.std.specs.Prelude.{◌≡◌, ◌≤◌, ◌<◌, ◌+◌, ◌*
 ghost use Rattle.std.specs.Prelude.{length, take, drop, encode_utf8};
 ghost use Rattle.std.specs.Prelude.{IfOk, IfErr, OnErr, IfSome, IfNone};
 ghost use Rattle.rds_charset.specs.Faults.{StopsBy};
-ghost use Rattle.rds_charset.specs.ReadAs.{Begins, BeginsDigit, BeginsNoDigit, BeginsNoPiece};
+ghost use Rattle.rds_charset.specs.ReadAs.{Begins, BeginsDigit, BeginsNoDigit, BeginsNoSymbol};
 ghost use Rattle.rds_charset.specs.ReadAs.{HasBadEscape, HasNoRoom, HasUnknownCharacter};
 ghost use Rattle.rds_charset.specs.ReadAs.{IsReadAs, StopsAt};
 
@@ -66,7 +66,7 @@ fn count_bytes(text: &str) -> Result<usize, TextFault>
     let mut rest = text;
     let mut count = 0;
     while !rest.is_empty() {
-        let Some((_, after)) = first_piece(rest) else {
+        let Some((_, after)) = first_symbol(rest) else {
             return Err(fault_at(text, text.len() - rest.len()));
         };
         count += 1;
@@ -97,7 +97,7 @@ fn fill(text: &str, into: &mut [u8]) -> usize
 {
     let mut rest = text;
     let mut count = 0;
-    while let Some((byte, after)) = first_piece(rest) {
+    while let Some((byte, after)) = first_symbol(rest) {
         into[count] = byte;
         count += 1;
         rest = after;
@@ -105,10 +105,10 @@ fn fill(text: &str, into: &mut [u8]) -> usize
     count
 }
 
-/// The byte of the piece that begins the text, and what follows the piece.
-fn first_piece(text: &str) -> Option<(u8, &str)>
+/// The byte of the symbol that begins the text, and what follows the symbol.
+fn first_symbol(text: &str) -> Option<(u8, &str)>
     ensures some { IfSome result (λ found. Begins text.now found.0 found.1.now) }
-    ensures none { IfNone result (BeginsNoPiece text.now) }
+    ensures none { IfNone result (BeginsNoSymbol text.now) }
 {
     let (first, rest) = first_character(text)?;
     if first == '\\' {
@@ -120,7 +120,7 @@ fn first_piece(text: &str) -> Option<(u8, &str)>
 /// The byte of an escape that has lost its backslash, and what follows the escape.
 fn escaped_byte(text: &str) -> Option<(u8, &str)>
     ensures some { IfSome result (λ found. Begins (0x5C ∷ text.now) found.0 found.1.now) }
-    ensures none { IfNone result (BeginsNoPiece (0x5C ∷ text.now)) }
+    ensures none { IfNone result (BeginsNoSymbol (0x5C ∷ text.now)) }
 {
     let (marker, digits) = first_character(text)?;
     if marker != 'x' {

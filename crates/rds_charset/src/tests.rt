@@ -204,9 +204,9 @@ fn idle_writer_is_a_fault(rt: HostRuntime) {
     }
 }
 
-/// A writer that takes no byte of an empty piece has not failed.
+/// A writer that takes no byte of an empty buffer has not failed.
 #[test]
-fn empty_piece_is_no_fault(rt: HostRuntime) {
+fn empty_buffer_is_no_fault(rt: HostRuntime) {
     let mut out = Vec::new(rt.alloc());
     let mut told = Told::new(&mut out);
     same(&rt, told.write_one(b""), Some(0));

@@ -31,7 +31,7 @@ pub trait TellingWrite: Write {
 
     /// Offers the bytes to the writer once, and gives how many of the first of them it took.
     ///
-    /// `None` means a failure: no byte was taken. A writer that takes no byte of a piece that has
+    /// `None` means a failure: no byte was taken. A writer that takes no byte of a buffer that has
     /// some has failed, since it would be asked for ever. As for [`TellingRead::read_one`],
     /// nothing is asked where the count stands at 2^64 - 1.
     fn write_one(&mut self, buf: &[u8]) -> Option<usize>

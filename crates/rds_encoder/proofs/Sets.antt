@@ -6,20 +6,20 @@ use Rattle.rds_fields.specs.declared.head.Head.{Head}
 use Rattle.rds_encoder.specs.Entries.{Entry, Move, SetText, SetName, Set, name_moves, slot_of, text_moves}
 use Rattle.rds_encoder.specs.Reply.{Reply, reply_to}
 use Rattle.rds_encoder.specs.Sent.{is_text_turn}
-use Rattle.rds_encoder.specs.Standing.{HoldsBack, StandsAt}
+use Rattle.rds_encoder.specs.StandsAt.{HoldsBack, StandsAt}
 use Rattle.rds_encoder.specs.State.{EncoderState, TextState, TrackState}
 use Rattle.rds_encoder.proofs.Turns.{none_yet}
 
 -- a text that is accepted begins with its first segment
 pub text_accepted : (station : Head) (m : ℕ) (e : EncoderState) (track : TrackState TextState) (entries : List Entry) (x : List ℕ)
     → StandsAt station m e entries → reply_to m (text_moves entries) ≡ Ok tt → HoldsBack m track.hold (Set x ∷ text_moves entries) → track.on_air ≡ Some record { bytes = x; next = 0 }
-    → StandsAt station m record { head = e.head; dwell = e.dwell; silence = e.silence; round = e.round; text = track; name = e.name; pair = None } (SetText x ∷ entries)
+    → StandsAt station m record { head = e.head; distance = e.distance; silence = e.silence; round = e.round; text = track; name = e.name; pair = None } (SetText x ∷ entries)
 text_accepted station m e track entries x st ok back on =
     let done : is_ok (reply_to m (text_moves entries)) ≡ true = ap is_ok ok in
     let first = none_yet (is_text_turn m) (slot_of (text_moves entries)) (text_moves entries) (omega arith) in
     record {
       head = st.head;
-      dwell = st.dwell;
+      distance = st.distance;
       silence = st.silence;
       round = st.round;
       text = record { hold = back; on_air = rw (on, done, first, zero-mod) refl };
@@ -30,12 +30,12 @@ text_accepted station m e track entries x st ok back on =
 -- a name that is accepted, and one that is refused
 pub name_accepted : (station : Head) (m : ℕ) (e : EncoderState) (track : TrackState (List ℕ)) (entries : List Entry) (x : List ℕ)
     → StandsAt station m e entries → reply_to m (name_moves entries) ≡ Ok tt → HoldsBack m track.hold (Set x ∷ name_moves entries) → track.on_air ≡ Some x
-    → StandsAt station m record { head = e.head; dwell = e.dwell; silence = e.silence; round = e.round; text = e.text; name = track; pair = e.pair } (SetName x ∷ entries)
+    → StandsAt station m record { head = e.head; distance = e.distance; silence = e.silence; round = e.round; text = e.text; name = track; pair = e.pair } (SetName x ∷ entries)
 name_accepted station m e track entries x st ok back on =
     let done : is_ok (reply_to m (name_moves entries)) ≡ true = ap is_ok ok in
     record {
       head = st.head;
-      dwell = st.dwell;
+      distance = st.distance;
       silence = st.silence;
       round = st.round;
       text = st.text;
@@ -47,7 +47,7 @@ pub name_refused : (station : Head) (m : ℕ) (e : EncoderState) (entries : List
     → StandsAt station m e entries → is_ok (reply_to m (name_moves entries)) ≡ false → StandsAt station m e (SetName x ∷ entries)
 name_refused station m e entries x st absent = record {
   head = st.head;
-  dwell = st.dwell;
+  distance = st.distance;
   silence = st.silence;
   round = st.round;
   text = st.text;
@@ -62,7 +62,7 @@ name_refused station m e entries x st absent = record {
 pub name_set : (station : Head) (m : ℕ) (e : EncoderState) (track : TrackState (List ℕ)) (entries : List Entry) (x : List ℕ) (reply : Reply)
     → StandsAt station m e entries → reply ≡ reply_to m (name_moves entries) → OnErr reply (track ≡ e.name) → OnOk reply (track.on_air ≡ Some x)
     → OnOk reply ((moves : List Move) (y : List ℕ) → HoldsBack m e.name.hold moves → reply_to m moves ≡ Ok tt → HoldsBack m track.hold (Set y ∷ moves))
-    → StandsAt station m record { head = e.head; dwell = e.dwell; silence = e.silence; round = e.round; text = e.text; name = track; pair = e.pair } (SetName x ∷ entries)
+    → StandsAt station m record { head = e.head; distance = e.distance; silence = e.silence; round = e.round; text = e.text; name = track; pair = e.pair } (SetName x ∷ entries)
 name_set station m e track entries x (Ok done) st is kept on back =
     name_accepted station m e track entries x st (sym is) (back (name_moves entries) x st.name.hold (sym is)) on
 name_set station m e track entries x (Err refusal) st is kept on back = rw kept (name_refused station m e entries x st (ap is_ok (sym is)))

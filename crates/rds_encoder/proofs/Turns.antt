@@ -12,7 +12,7 @@ use Rattle.rds_encoder.specs.Entries.{Entry, Tick, Move, Begin, Set, End, name_m
 use Rattle.rds_encoder.specs.Plan.{OnAir, bytes_of, on_air}
 use Rattle.rds_encoder.specs.Round.{turn_in}
 use Rattle.rds_encoder.specs.Sent.{count_from, is_text_turn, is_turn, next_address, turn_of}
-use Rattle.rds_encoder.specs.Standing.{Follows, HoldsBack, StandsAt, silence_left, with_next}
+use Rattle.rds_encoder.specs.StandsAt.{Follows, HoldsBack, StandsAt, silence_left, with_next}
 use Rattle.rds_encoder.specs.State.{EncoderState, TextState, TrackState, advanced}
 use Rattle.rds_encoder.specs.Tags.{pair_on_air}
 
@@ -116,7 +116,7 @@ even_is_text number = by_turn (text_or_other (number % 8) (omega arith))
 -- the encoder between the end of the turn and the end of the slot
 pub record AfterTurn (station : Head) (m : ℕ) (free : Bool) (entries : List Entry) (e : EncoderState) : Type 0 where
   pub head : e.head ≡ station
-  pub dwell : e.dwell ≡ m
+  pub distance : e.distance ≡ m
   pub silence : e.silence ≡ silence_left m (text_moves entries)
   pub round : e.round ≡ turn_of m (End free ∷ text_moves entries) % 8
   pub text_hold : HoldsBack m e.text.hold (text_moves entries)
@@ -127,7 +127,7 @@ pub record AfterTurn (station : Head) (m : ℕ) (free : Bool) (entries : List En
 pub no_turn : (station : Head) (m : ℕ) (e : EncoderState) (free : Bool) (entries : List Entry) → StandsAt station m e entries → is_turn m free (text_moves entries) ≡ false → AfterTurn station m free entries e
 no_turn station m e free entries st absent = record {
   head = st.head;
-  dwell = st.dwell;
+  distance = st.distance;
   silence = st.silence;
   round = round_waits m free (text_moves entries) e.round st.round absent;
   text_hold = st.text.hold;
@@ -147,7 +147,7 @@ turn_over station m old new true entries st taken text other = by_turn (text_or_
     by_turn (inl even) =
         rw (text even.1) record {
           head = st.head;
-          dwell = st.dwell;
+          distance = st.distance;
           silence = st.silence;
           round = round_goes_on m true (text_moves entries) old.round st.round taken;
           text_hold = st.text.hold;
@@ -158,7 +158,7 @@ turn_over station m old new true entries st taken text other = by_turn (text_or_
     by_turn (inr odd) =
         rw (other odd.1) record {
           head = st.head;
-          dwell = st.dwell;
+          distance = st.distance;
           silence = st.silence;
           round = round_goes_on m true (text_moves entries) old.round st.round taken;
           text_hold = st.text.hold;
@@ -172,10 +172,10 @@ pub slot_over : (station : Head) (m : ℕ) (e : EncoderState) (silence : ℕ) (t
     → AfterTurn station m free entries e → silence ≡ e.silence - 1
     → HoldsBack m text.hold (End free ∷ text_moves entries) → text.on_air ≡ e.text.on_air
     → HoldsBack m name.hold (End free ∷ name_moves entries) → name.on_air ≡ e.name.on_air
-    → StandsAt station m record { head = e.head; dwell = e.dwell; silence = silence; round = e.round; text = text; name = name; pair = e.pair } (Tick free ∷ entries)
+    → StandsAt station m record { head = e.head; distance = e.distance; silence = silence; round = e.round; text = text; name = name; pair = e.pair } (Tick free ∷ entries)
 slot_over station m e silence text name free entries at less text_back text_on name_back name_on = record {
   head = at.head;
-  dwell = at.dwell;
+  distance = at.distance;
   silence = omega (arith, at.silence, less);
   round = at.round;
   text = record { hold = text_back; on_air = text_on ∙ at.text };

@@ -25,10 +25,10 @@ encoder_code =
     (coded× (coded× head_code coded_ℕ)
     (coded× (coded× coded_ℕ coded_ℕ)
     (coded× (coded× (track_code text_code) (track_code (coded_list coded_ℕ))) (coded_option pair_code))))
-    (λ e. ((e.head, e.dwell), ((e.silence, e.round), ((e.text, e.name), e.pair))))
+    (λ e. ((e.head, e.distance), ((e.silence, e.round), ((e.text, e.name), e.pair))))
     (λ p. record {
       head = p.0.0;
-      dwell = p.0.1;
+      distance = p.0.1;
       silence = p.1.0.0;
       round = p.1.0.1;
       text = p.1.1.0.0;

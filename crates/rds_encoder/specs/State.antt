@@ -32,7 +32,7 @@ advanced t = record { bytes = t.bytes; next = (t.next + 1) % segment_count (text
 -- round is that of the next turn
 pub record EncoderState : Type 0 where
   pub head : Head
-  pub dwell : ℕ
+  pub distance : ℕ
   pub silence : ℕ
   pub round : ℕ
   pub text : TrackState TextState

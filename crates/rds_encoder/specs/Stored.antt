@@ -28,7 +28,7 @@ name_stored n = if is_set n.is_on_air then Some n.bytes else None
 abbrev pub encoder_stored : StoredEncoder → EncoderState
 encoder_stored e = record {
   head = head_stored e;
-  dwell = e.distance;
+  distance = e.distance;
   silence = e.silence;
   round = e.round;
   text = record { hold = hold_stored e.text_hold; on_air = text_stored e.text };

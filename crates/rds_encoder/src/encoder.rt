@@ -8,7 +8,7 @@ ghost use Rattle.rds_encoder.specs.Plan.{bytes_of, on_air};
 ghost use Rattle.rds_encoder.specs.Reply.{held_for, reply_to, silent_for};
 ghost use Rattle.rds_encoder.specs.Round.{turn_in};
 ghost use Rattle.rds_encoder.specs.Sent.{IsSent, is_turn, name_segment, sent_in, tags_due, text_segment};
-ghost use Rattle.rds_encoder.specs.Standing.{StandsAt, Takes, WhereItStands};
+ghost use Rattle.rds_encoder.specs.StandsAt.{StandsAt, Takes, WhereItStands};
 ghost use Rattle.rds_encoder.specs.State.{advanced};
 ghost use Rattle.rds_encoder.specs.Stored.{IsStored, encoder_stored};
 ghost use Rattle.rds_encoder.specs.Tags.{fitting_reply, pair_on_air, tags_reply};
@@ -54,7 +54,7 @@ impl Model for Encoder {
 
     ghost view = { λ e. record {
       head = e.head;
-      dwell = e.distance;
+      distance = e.distance;
       silence = e.silence;
       round = e.round;
       text = e.text;

@@ -2,7 +2,7 @@
 ghost use Rattle.std.specs.Prelude.{◌≡◌, ◌-◌, ◌↔◌, ℕ, List, Ok, IsTrue};
 ghost use Rattle.rds_encoder.specs.Entries.{Move, restart_before, slot_of};
 ghost use Rattle.rds_encoder.specs.Reply.{unless_silent};
-ghost use Rattle.rds_encoder.specs.Standing.{silence_left};
+ghost use Rattle.rds_encoder.specs.StandsAt.{silence_left};
 
 use crate::Refusal;
 use crate::distance::Distance;

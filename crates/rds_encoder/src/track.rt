@@ -3,7 +3,7 @@ ghost use Rattle.std.specs.Prelude.{◌≡◌, ◌+◌, ℕ, Bool, List, [], ◌
 ghost use Rattle.rds_encoder.specs.Entries.{Move, Begin, Set, End, slot_of};
 ghost use Rattle.rds_encoder.specs.Plan.{OnAir};
 ghost use Rattle.rds_encoder.specs.Reply.{held_reply, last_accepted, reply_to};
-ghost use Rattle.rds_encoder.specs.Standing.{Follows, HoldsBack};
+ghost use Rattle.rds_encoder.specs.StandsAt.{Follows, HoldsBack};
 
 use crate::Refusal;
 use crate::distance::Distance;

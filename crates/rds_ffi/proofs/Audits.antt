@@ -3,7 +3,7 @@ use Rattle.std.proofs.Common.{◌≡◌, ℕ, List, Option, sym, subst}
 use Rattle.std.specs.Prelude.{Result, Ok, Err, MatchOption, MatchResult}
 use Rattle.rds_block.specs.declared.group.Group.{Group}
 use Rattle.rds_fields.specs.declared.message.Message.{Message}
-use Rattle.rds_world.specs.Audit.AuditStanding.{AuditStandsAt, WhereTheAuditStands}
+use Rattle.rds_world.specs.Audit.AuditStandsAt.{AuditStandsAt, WhereTheAuditStands}
 use Rattle.rds_world.specs.Audit.AuditState.{AuditState}
 use Rattle.rds_world.specs.Audit.Rules.{IsFaultOf, LogPasses}
 use Rattle.rds_world.specs.Audit.Stored.{IsStored, audit_stored}

@@ -4,7 +4,7 @@ use Rattle.std.specs.Prelude.{OnErr}
 use Rattle.rds_fields.specs.declared.head.Head.{Head}
 use Rattle.rds_encoder.specs.Entries.{Entry}
 use Rattle.rds_encoder.specs.Reply.{Reply}
-use Rattle.rds_encoder.specs.Standing.{StandsAt}
+use Rattle.rds_encoder.specs.StandsAt.{StandsAt}
 use Rattle.rds_encoder.specs.State.{EncoderState}
 use Rattle.rds_encoder.specs.Stored.{IsStored, encoder_stored}
 use Rattle.rds_encoder.specs.declared.stored.StoredEncoder.{StoredEncoder}

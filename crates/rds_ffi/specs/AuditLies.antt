@@ -2,7 +2,7 @@
 use Rattle.std.specs.Prelude.{◌≡◌, ℕ, List, Option, Some, None, Result, Ok, Err, MatchOption}
 use Rattle.rds_block.specs.declared.group.Group.{Group}
 use Rattle.rds_fields.specs.declared.message.Message.{Message}
-use Rattle.rds_world.specs.Audit.AuditStanding.{AuditStandsAt}
+use Rattle.rds_world.specs.Audit.AuditStandsAt.{AuditStandsAt}
 use Rattle.rds_world.specs.Audit.Rules.{IsFaultOf, LogPasses}
 use Rattle.rds_world.specs.Audit.Stored.{IsStored, audit_stored}
 use Rattle.rds_world.specs.declared.audit.audit_fault.AuditFault.{AuditFault}

@@ -2,7 +2,7 @@
 use Rattle.std.specs.Prelude.{ℕ, List, ◌∷◌}
 use Rattle.rds_fields.specs.declared.head.Head.{Head}
 use Rattle.rds_encoder.specs.Entries.{Entry}
-use Rattle.rds_encoder.specs.Standing.{StandsAt}
+use Rattle.rds_encoder.specs.StandsAt.{StandsAt}
 use Rattle.rds_encoder.specs.Stored.{IsStored, encoder_stored}
 use Rattle.rds_encoder.specs.declared.stored.StoredEncoder.{StoredEncoder}
 
@@ -17,5 +17,5 @@ WhereItLies s Holds = (station : Head) (m : ℕ) (entries : List Entry) → Enco
     → Holds station m entries
 
 -- the call was taken: what lies there stands at what it was told before, and then the entry
-abbrev pub Takes : StoredEncoder → StoredEncoder → Entry → Type 0
-Takes old new entry = WhereItLies old (λ station m entries. EncoderLies station m new (entry ∷ entries))
+abbrev pub TakesStored : StoredEncoder → StoredEncoder → Entry → Type 0
+TakesStored old new entry = WhereItLies old (λ station m entries. EncoderLies station m new (entry ∷ entries))

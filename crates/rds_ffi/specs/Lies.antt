@@ -2,7 +2,7 @@
 use Rattle.std.specs.Prelude.{List, Option}
 use Rattle.rds_block.specs.declared.group.Group.{Group}
 use Rattle.rds_receiver.specs.Receipts.{Tuning}
-use Rattle.rds_receiver.specs.Standing.{StandsAt}
+use Rattle.rds_receiver.specs.StandsAt.{StandsAt}
 use Rattle.rds_receiver.specs.Stored.{IsStored, receiver_stored}
 use Rattle.rds_receiver.specs.declared.stored.StoredReceiver.{StoredReceiver}
 

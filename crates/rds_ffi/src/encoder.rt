@@ -13,10 +13,10 @@ ghost use Rattle.rds_encoder.specs.Sent.{IsSent, sent_in};
 ghost use Rattle.rds_encoder.specs.Stored.{IsStored, encoder_stored};
 ghost use Rattle.rds_encoder.specs.Tags.{tags_reply};
 ghost use Rattle.rds_ffi.specs.Codes.{RDSRT_BAD_ARGUMENT, RDSRT_BAD_TAGS, RDSRT_OK, IsReply, refusal_of, reply_of};
-ghost use Rattle.rds_ffi.specs.EncoderLies.{EncoderLies, Takes, WhereItLies};
+ghost use Rattle.rds_ffi.specs.EncoderLies.{EncoderLies, TakesStored, WhereItLies};
 ghost use Rattle.rds_ffi.specs.Sent.{IsOut};
 ghost use Rattle.rds_ffi.specs.Tagged.{AreGiven, pair_of};
-ghost use Rattle.rds_ffi.specs.Viewed.{name_of, text_of};
+ghost use Rattle.rds_ffi.specs.Viewed.{name_viewed, text_viewed};
 
 use crate::codes;
 use crate::reply::{RdsrtReply, plain_refusal, plain_reply};
@@ -95,7 +95,7 @@ pub extern "C" fn rdsrt_encoder_init(
 pub extern "C" fn rdsrt_encoder_set_text(encoder: &mut StoredEncoder, text: &[u8]) -> RdsrtReply
     ensures reply { IsText text.now → WhereItLies encoder.old
         (λ _ m entries. result ≡ reply_of (reply_to m (text_moves entries))) }
-    ensures stands { IsText text.now → Takes encoder.old encoder.new (SetText text.now) }
+    ensures stands { IsText text.now → TakesStored encoder.old encoder.new (SetText text.now) }
     ensures refused { (IsText text.now → ⊥) → (refused : TextRefused)
         × IsRefusedFor 64 is_text_byte text.now refused × (result ≡ refusal_of refused) }
     ensures codes { IsText text.now → IsReply result }
@@ -121,7 +121,7 @@ pub extern "C" fn rdsrt_encoder_set_name(encoder: &mut StoredEncoder, name: &[u8
     ensures reply { IsGivenName name.now → WhereItLies encoder.old
         (λ _ m entries. result ≡ reply_of (reply_to m (name_moves entries))) }
     ensures stands { IsGivenName name.now
-        → Takes encoder.old encoder.new (SetName (name_body name.now)) }
+        → TakesStored encoder.old encoder.new (SetName (name_body name.now)) }
     ensures refused { (IsGivenName name.now → ⊥) → (refused : TextRefused)
         × IsRefusedFor 8 is_name_byte name.now refused × (result ≡ refusal_of refused) }
     ensures codes { IsGivenName name.now → IsReply result }
@@ -149,7 +149,7 @@ pub extern "C" fn rdsrt_encoder_set_tags(
 ) -> RdsrtReply
     ensures reply { AreGiven tags.now → WhereItLies encoder.old
         (λ _ m entries. result ≡ reply_of (tags_reply m (pair_of tags.now) entries)) }
-    ensures stands { AreGiven tags.now → Takes encoder.old encoder.new (SetTags (pair_of tags.now)) }
+    ensures stands { AreGiven tags.now → TakesStored encoder.old encoder.new (SetTags (pair_of tags.now)) }
     ensures refused { (AreGiven tags.now → ⊥) → result ≡ record { code = RDSRT_BAD_TAGS; number = 0 } }
     ensures codes { AreGiven tags.now → IsReply result }
     ensures kept { result.code ≢ RDSRT_OK → encoder.new ≡ encoder.old }
@@ -175,7 +175,7 @@ pub extern "C" fn rdsrt_encoder_tick(
 ) -> u32
     ensures sent { WhereItLies encoder.old (λ station m entries. (group : Option Group)
         × IsSent station (sent_in m (is_set free) entries) group × IsOut result blocks.new group) }
-    ensures stands { Takes encoder.old encoder.new (Tick (is_set free)) }
+    ensures stands { TakesStored encoder.old encoder.new (Tick (is_set free)) }
     ensures few { result ≤ 1 }
     ensures kept { result ≡ RDSRT_OK → blocks.new ≡ blocks.old }
 {
@@ -193,9 +193,9 @@ pub extern "C" fn rdsrt_encoder_tick(
 #[unsafe(no_mangle)]
 pub extern "C" fn rdsrt_encoder_on_air(encoder: &StoredEncoder, air: &mut RdsrtOnAir)
     ensures text { WhereItLies encoder.now (λ _ m entries.
-        text_of air.new.text ≡ option_map bytes_of (on_air m (text_moves entries))) }
+        text_viewed air.new.text ≡ option_map bytes_of (on_air m (text_moves entries))) }
     ensures name { WhereItLies encoder.now (λ _ m entries.
-        name_of air.new.name ≡ option_map bytes_of (on_air m (name_moves entries))) }
+        name_viewed air.new.name ≡ option_map bytes_of (on_air m (name_moves entries))) }
     ensures within { air.new.text.length ≤ 64 }
 {
     let inner = Encoder::restore(encoder);

@@ -5,7 +5,7 @@ ghost use Rattle.rds_receiver.specs.Shown.{IsView, ShownView};
 ghost use Rattle.rds_ffi.specs.Codes.{RDSRT_BAD_ARGUMENT, RDSRT_CHANGED, RDSRT_OK};
 ghost use Rattle.rds_ffi.specs.Lies.{ReceiverLies, WhereItLies};
 ghost use Rattle.rds_ffi.specs.Slots.{Bring, IsCount};
-ghost use Rattle.rds_ffi.specs.Viewed.{IsWithin, view_of};
+ghost use Rattle.rds_ffi.specs.Viewed.{IsWithin, viewed};
 
 use crate::codes;
 use crate::slots::brought;
@@ -68,7 +68,7 @@ pub extern "C" fn rdsrt_receiver_slot(receiver: &mut StoredReceiver, blocks: &[u
 /// What the receiver shows.
 #[unsafe(no_mangle)]
 pub extern "C" fn rdsrt_receiver_view(receiver: &StoredReceiver, view: &mut RdsrtView)
-    ensures shown { WhereItLies receiver.now (λ t input. IsView t input (view_of view.new)) }
+    ensures shown { WhereItLies receiver.now (λ t input. IsView t input (viewed view.new)) }
     ensures within { IsWithin view.new }
 {
     *view = seen(&Receiver::restore(receiver));

@@ -2,9 +2,9 @@
 ghost use Rattle.std.specs.Prelude.{◌≡◌, ◌+◌, ◌≤◌, ℕ, List, Some, length};
 ghost use Rattle.std.specs.Option.{ForSome, option_copied};
 ghost use Rattle.rds_receiver.specs.Shown.{IsView};
-ghost use Rattle.rds_receiver.specs.Standing.{WhereItStands};
+ghost use Rattle.rds_receiver.specs.StandsAt.{WhereItStands};
 ghost use Rattle.rds_receiver.specs.Tags.{cut_by, tag_of};
-ghost use Rattle.rds_ffi.specs.Viewed.{IsWithin, count_of, item_of, name_of, piece_of, text_of, view_of};
+ghost use Rattle.rds_ffi.specs.Viewed.{IsWithin, count_of, item_viewed, name_viewed, tag_viewed, text_viewed, viewed};
 
 use rds_fields::{Tag, TagPair, Which};
 use rds_receiver::Receiver;
@@ -57,7 +57,7 @@ pub struct RdsrtView {
 
 /// What the receiver shows.
 pub(crate) fn seen(receiver: &Receiver) -> RdsrtView
-    ensures shown { WhereItStands receiver.now (λ t input. IsView t input (view_of result)) }
+    ensures shown { WhereItStands receiver.now (λ t input. IsView t input (viewed result)) }
     ensures within { IsWithin result }
 {
     let text = receiver.text();
@@ -73,7 +73,7 @@ pub(crate) fn seen(receiver: &Receiver) -> RdsrtView
 /// The text.
 pub(crate) fn plain_text(text: Option<&[u8]>) -> RdsrtText
     requires { ForSome text (λ x. length x.now ≤ 64) }
-    ensures same { text_of result ≡ option_copied text.entry }
+    ensures same { text_viewed result ≡ option_copied text.entry }
     ensures count { result.length ≡ count_of text.entry }
     ensures within { result.length ≤ 64 }
 {
@@ -96,7 +96,7 @@ pub(crate) fn plain_text(text: Option<&[u8]>) -> RdsrtText
 /// The name.
 pub(crate) fn plain_name(name: Option<&[u8]>) -> RdsrtName
     requires { ForSome name (λ x. length x.now ≡ 8) }
-    ensures { name_of result ≡ option_copied name.entry }
+    ensures { name_viewed result ≡ option_copied name.entry }
 {
     let mut bytes = [0; 8];
     let Some(name) = name else {
@@ -108,7 +108,7 @@ pub(crate) fn plain_name(name: Option<&[u8]>) -> RdsrtName
 
 /// The bits of the item.
 fn plain_item(item: Option<(bool, bool)>) -> RdsrtItem
-    ensures { item_of result ≡ item }
+    ensures { item_viewed result ≡ item }
 {
     match item {
         None => RdsrtItem {
@@ -127,7 +127,7 @@ fn plain_item(item: Option<(bool, bool)>) -> RdsrtItem
 /// A tag of the pair, where it is shown beside the text.
 fn plain_tag(text: Option<&[u8]>, which: Which, pair: Option<TagPair>) -> RdsrtTag
     requires { ForSome text (λ x. length x.now ≤ 64) }
-    ensures same { piece_of result (option_copied text.entry)
+    ensures same { tag_viewed result (option_copied text.entry)
         ≡ tag_of which (option_copied text.entry) pair }
     ensures within { result.start + result.length ≤ count_of text.entry }
 {
@@ -158,7 +158,7 @@ fn no_tag() -> RdsrtTag
 /// The tag, where it is none of the dummies and ends in a text of so many bytes.
 fn cut(tag: Tag, count: usize) -> RdsrtTag
     requires { count ≤ 64 }
-    ensures same { (x : List ℕ) → length x ≡ count → piece_of result (Some x) ≡ cut_by tag x }
+    ensures same { (x : List ℕ) → length x ≡ count → tag_viewed result (Some x) ≡ cut_by tag x }
     ensures within { result.start + result.length ≤ count }
 {
     if tag.class() == 0 || !tag.ends_in(count) {

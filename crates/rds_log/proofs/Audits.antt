@@ -3,12 +3,12 @@ use Rattle.std.proofs.Common.{◌≡◌, ◌+◌, ℕ, List, ◌∷◌, None, Op
 use Rattle.std.specs.Prelude.{MatchOption}
 use Rattle.rds_block.specs.declared.group.Group.{Group}
 use Rattle.rds_world.specs.Audit.AuditState.{AuditState}
-use Rattle.rds_world.specs.Audit.AuditStanding.{AuditStandsAt, HoldsLog}
+use Rattle.rds_world.specs.Audit.AuditStandsAt.{AuditStandsAt, HoldsLog}
 use Rattle.rds_world.specs.Audit.Rules.{IsFaultOf}
 use Rattle.rds_world.specs.declared.audit.audit_fault.AuditFault.{AuditFault}
 use Rattle.rds_log.specs.LogLines.{Line}
 use Rattle.rds_log.specs.LineSays.{LineSays}
-use Rattle.rds_log.specs.Source.{ReaderState, SourceStandsAt, since}
+use Rattle.rds_log.specs.Inside.Source.{ReaderState, SourceStandsAt, since}
 use Rattle.rds_log.specs.Audit.{HasAudited, Judges, SlotsPass}
 use Rattle.rds_log.specs.declared.log_line.LogLine.TheVariants.{Slot}
 use Rattle.rds_log.specs.declared.source.Source.{Source}

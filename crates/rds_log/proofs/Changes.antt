@@ -3,7 +3,7 @@ use Rattle.std.proofs.Common.{◌≡◌, ◌≢◌, ◌⊎◌, ◌∙◌, ◌++�
 use Rattle.std.proofs.lemmas.Grind.{get_or-set_at}
 use Rattle.std.proofs.lemmas.List.{get_or-map, get_or-set_other, length-map, map-set}
 use Rattle.rds_receiver.specs.Shown.{ShownView}
-use Rattle.rds_log.specs.Kept.{view_kept}
+use Rattle.rds_log.specs.Inside.KeptView.{view_kept}
 use Rattle.rds_log.specs.Outcomes.{receiver_changes, view_at}
 use Rattle.rds_log.specs.Output.{change, nothing_shown, receiver_stamp}
 use Rattle.rds_log.specs.declared.kept.KeptView.{KeptView}

@@ -5,21 +5,21 @@ use Rattle.csv.specs.Records.{field_at}
 use Rattle.rds_world.specs.declared.world.event.Command.{Command}
 use Rattle.rds_world.specs.declared.world.event.Command.TheVariants.{Quiet, Restart, SetText, SetName, SetTags}
 use Rattle.rds_log.specs.Rows.{IsNameArgument, SaysCommand}
-use Rattle.rds_log.specs.Verbs.{word_of}
+use Rattle.rds_log.specs.Verbs.{verb_word}
 use Rattle.rds_log.specs.declared.row.Verb.{Verb}
 use Rattle.rds_log.specs.declared.row.Verb.TheVariants as verb
 
-pub no_verb : (word argument : List ℕ) → ((v : Verb) → word ≡ word_of v → ⊥) → (command : Command) → SaysCommand word argument command → ⊥
+pub no_verb : (word argument : List ℕ) → ((v : Verb) → word ≡ verb_word v → ⊥) → (command : Command) → SaysCommand word argument command → ⊥
 no_verb word argument none Quiet says = none verb.Nothing says.0
 no_verb word argument none Restart says = none verb.Restart says.0
 no_verb word argument none (SetText x) says = none verb.Text says.0
 no_verb word argument none (SetName x) says = none verb.Name says.0
 no_verb word argument none (SetTags pair) says = none verb.Tags says.0
 
-other_head : (v : Verb) → word_of verb.Name ≡ word_of v → 110 ≢ get_or (word_of v) 0 0 → ⊥
+other_head : (v : Verb) → verb_word verb.Name ≡ verb_word v → 110 ≢ get_or (verb_word v) 0 0 → ⊥
 other_head v e other = other (ap (λ (x : List ℕ). get_or x 0 0) e)
 
-pub no_name : (word argument : List ℕ) → word ≡ word_of verb.Name → ((x : List ℕ) → IsNameArgument argument x → ⊥) → (command : Command) → SaysCommand word argument command → ⊥
+pub no_name : (word argument : List ℕ) → word ≡ verb_word verb.Name → ((x : List ℕ) → IsNameArgument argument x → ⊥) → (command : Command) → SaysCommand word argument command → ⊥
 no_name word argument is none Quiet says = other_head verb.Nothing (sym is ∙ says.0) (λ e. omega arith)
 no_name word argument is none Restart says = other_head verb.Restart (sym is ∙ says.0) (λ e. omega arith)
 no_name word argument is none (SetText x) says = other_head verb.Text (sym is ∙ says.0) (λ e. omega arith)

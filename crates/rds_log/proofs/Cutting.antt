@@ -5,7 +5,7 @@ use Rattle.std.proofs.lemmas.List.Elements.{All-append, All-cons, All-nil}
 use Rattle.std.proofs.Math.Seq.{take-append-add}
 use Rattle.rds_log.specs.LogLines.{IsLine, Line, line_feed, text_of}
 use Rattle.rds_log.specs.LineSays.{IsBad, LineSays}
-use Rattle.rds_log.specs.Cutting.{Closes, CutterStandsAt, IsBadLine}
+use Rattle.rds_log.specs.Inside.Cutter.{Closes, CutterStandsAt, IsBadLine}
 use Rattle.rds_log.specs.declared.cutter.Cutter.{Cutter}
 use Rattle.rds_log.specs.declared.log_line.LogLine.{LogLine}
 

@@ -10,12 +10,12 @@ use Rattle.rds_charset.specs.Puts.{AppendsPrefix-append}
 use Rattle.rds_receiver.specs.Receipts.{Tuning}
 use Rattle.rds_log.specs.LogLines.{Line}
 use Rattle.rds_log.specs.LineSays.{LineSays}
-use Rattle.rds_log.specs.Decoding.{AreSlots, LinesWrite}
-use Rattle.rds_log.specs.Viewing.{GivesChange, ViewsStandAt}
+use Rattle.rds_log.specs.LogWrites.{AreSlots, LinesWrite}
+use Rattle.rds_log.specs.Inside.ViewLines.{GivesChange, ViewsStandAt}
 use Rattle.rds_log.specs.Reads.{BeginsWith}
-use Rattle.rds_log.specs.Source.{HasNoNext, IsBadLineFault, IsInside, IsThrough, ReaderState, SourceStandsAt, since}
+use Rattle.rds_log.specs.Inside.Source.{HasNoNext, IsBadLineFault, IsInside, IsThrough, ReaderState, SourceStandsAt, since}
 use Rattle.rds_log.specs.Decode.{Decodes, WroteLines, WrotePart}
-use Rattle.rds_log.specs.Decoder.{HasDecoded}
+use Rattle.rds_log.specs.Inside.Decoder.{HasDecoded}
 use Rattle.rds_log.specs.declared.decoder.Decoder.{Decoder}
 use Rattle.rds_log.specs.declared.fault.LogFault.{LogFault}
 use Rattle.rds_log.specs.declared.fault.LogFault.TheVariants.{BadLine, BadRow, Read, Write, TooLong, Memory}

@@ -5,7 +5,7 @@ use Rattle.std.specs.Prelude.{IfNone, IfSome, MatchOption}
 use Rattle.std.proofs.lemmas.List.Elements.{All-head, All-tail}
 use Rattle.std.specs.Char.{digit_value}
 use Rattle.std.specs.Str.Parse.{AllDigits, digits_value}
-use Rattle.rds_log.specs.LineSays.{space}
+use Rattle.rds_assembly.specs.Body.{space}
 use Rattle.rds_fields.specs.Tag.{IsPair, PairFields}
 use Rattle.rds_log.specs.Rows.{AreNumbers, HasNoSpace, IsCut, IsNumber, numbers_of_pair}
 

@@ -10,16 +10,16 @@ use Rattle.rds_world.specs.World.Event.{Event}
 use Rattle.rds_log.specs.Rows.{AreRows, IsNameArgument, Record, SaysCommand, SaysEvent, free_field, numbers_of_pair}
 use Rattle.rds_log.specs.Receptions.{AreReceptions}
 use Rattle.rds_log.proofs.Receptions.{same_receptions}
-use Rattle.rds_log.specs.Verbs.{word_of}
+use Rattle.rds_log.specs.Verbs.{verb_word}
 use Rattle.rds_log.specs.declared.row.Verb.{Verb}
 use Rattle.rds_log.specs.declared.row.Verb.TheVariants as verb
 use Rattle.rds_log.proofs.Numbers.{same_numbers}
 
 -- the third letters of the words are all different
 third : Verb → ℕ
-third v = get_or (word_of v) 2 0
+third v = get_or (verb_word v) 2 0
 
-other_third : (word : List ℕ) (v w : Verb) → word ≡ word_of v → word ≡ word_of w → third v ≡ third w
+other_third : (word : List ℕ) (v w : Verb) → word ≡ verb_word v → word ≡ verb_word w → third v ≡ third w
 unfolding third
 other_third word v w p q = ap (λ (x : List ℕ). get_or x 2 0) (sym p ∙ q)
 

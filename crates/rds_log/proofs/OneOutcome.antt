@@ -15,10 +15,10 @@ use Rattle.rds_receiver.specs.Shown.{ShownView, ShowsView}
 use Rattle.rds_world.specs.World.Event.{Event}
 use Rattle.rds_world.specs.Safety.Late.{Input}
 use Rattle.rds_world.specs.World.Slots.{commanded, entries, input_of, sent_at}
-use Rattle.rds_world.specs.World.Standing.{IsViewOfInput, tuned_to}
+use Rattle.rds_world.specs.World.StandsAt.{IsViewOfInput, tuned_to}
 use Rattle.rds_world.specs.World.State.{distance}
 use Rattle.rds_log.specs.Rows.{Record}
-use Rattle.rds_log.specs.Scripts.{RowsWrite}
+use Rattle.rds_log.specs.Play.{RowsWrite}
 use Rattle.rds_log.proofs.OneEvent.{same_events}
 use Rattle.rds_log.specs.Outcomes.{AreOutcomes, IsOutcome, Outcome, lines_of, view_at}
 use Rattle.rds_log.specs.declared.form.Form.{Form}

@@ -14,7 +14,7 @@ use Rattle.rds_receiver.specs.OneView.{same_view}
 use Rattle.rds_log.specs.Output.{changes_of}
 use Rattle.rds_charset.specs.Told.{Traffic}
 use Rattle.rds_log.specs.Alike.{WriteAlike}
-use Rattle.rds_log.specs.Decoding.{AreSlots, AreViews, LogWrites}
+use Rattle.rds_log.specs.LogWrites.{AreSlots, AreViews, LogWrites}
 use Rattle.rds_log.specs.Decode.{DecodesAll}
 use Rattle.rds_log.proofs.WholeBytes.{read_whole}
 use Rattle.rds_log.specs.declared.log_line.Block.{Block}

@@ -12,7 +12,7 @@ use Rattle.rds_charset.specs.Told.{Traffic}
 use Rattle.rds_world.specs.declared.world.Config.{Config}
 use Rattle.rds_log.specs.Alike.{WriteAlike}
 use Rattle.rds_log.specs.Rows.{Record}
-use Rattle.rds_log.specs.Scripts.{PlaysAll, RowsWrite, ScriptWrites}
+use Rattle.rds_log.specs.Play.{PlaysAll, RowsWrite, ScriptWrites}
 use Rattle.rds_log.specs.declared.form.Form.{Form}
 use Rattle.rds_log.proofs.OneOutcome.{OneGroup, same_written}
 

@@ -14,8 +14,8 @@ use Rattle.rds_world.specs.Audit.AuditLaws.{ALogHasOneFault, WhatHasAFaultDoesNo
 use Rattle.rds_world.specs.Audit.Rules.{IsFaultOf}
 use Rattle.rds_world.specs.declared.audit.audit_fault.AuditFault.{AuditFault}
 use Rattle.rds_log.specs.Alike.{WriteAlike}
-use Rattle.rds_log.specs.Audit.{AnswersVerdictOf, Audits, IsVerdictOf, IsYes, SlotsFail, SlotsPass, StopsAtSlot, WholePasses, verdict_line}
-use Rattle.rds_log.specs.Decoding.{AreSlots}
+use Rattle.rds_log.specs.Audit.{AnswersVerdictOf, Audits, IsVerdictOf, IsYes, SlotsFail, SlotsPass, AuditStopsAtSlot, WholePasses, verdict_line}
+use Rattle.rds_log.specs.LogWrites.{AreSlots}
 use Rattle.rds_log.specs.Reads.{BeginsWith}
 use Rattle.rds_log.specs.LogLines.{AreLines, IsLine, Line, line_feed, text_of}
 use Rattle.rds_log.specs.declared.verdict.Verdict.{Verdict}
@@ -126,7 +126,7 @@ fails_once fails one pi d t u f g (s ∷ more) slots all some same p q =
 -- ---- the verdict
 
 -- all lines are good and pass, or some of them fail
-not_both : WhatHasAFaultDoesNotPass → (pi d n t : ℕ) (fault : AuditFault) (bytes : List ℕ) → 0 < d → WholePasses pi d n bytes → StopsAtSlot pi d t fault bytes (Some []) → ⊥
+not_both : WhatHasAFaultDoesNotPass → (pi d n t : ℕ) (fault : AuditFault) (bytes : List ℕ) → 0 < d → WholePasses pi d n bytes → AuditStopsAtSlot pi d t fault bytes (Some []) → ⊥
 not_both fails pi d n t fault bytes some p q =
     let (newer, are) = all_lines bytes q.lines q.begins in
     let lines : p.lines ≡ newer ++ q.lines = same_lines bytes p.lines (newer ++ q.lines) p.are are in
@@ -134,7 +134,7 @@ not_both fails pi d n t fault bytes some p q =
     fails_for_good fails pi d t fault more q.slots some q.fail (rw slots at p.pass)
 
 -- the lines that fail last go on after those that fail first
-stops_once : WhatHasAFaultDoesNotPass → ALogHasOneFault → (pi d t u : ℕ) (f g : AuditFault) (bytes : List ℕ) → 0 < d → (p : StopsAtSlot pi d t f bytes (Some [])) (q : StopsAtSlot pi d u g bytes (Some []))
+stops_once : WhatHasAFaultDoesNotPass → ALogHasOneFault → (pi d t u : ℕ) (f g : AuditFault) (bytes : List ℕ) → 0 < d → (p : AuditStopsAtSlot pi d t f bytes (Some [])) (q : AuditStopsAtSlot pi d u g bytes (Some []))
     → (c : List Line) × (q.lines ≡ c ++ p.lines) → No t f ≡ No u g
 stops_once fails one pi d t u f g bytes some p q (c, lines) =
     let (more, slots) = more_slots c p.lines q.slots p.slots (rw lines at q.say) p.say in

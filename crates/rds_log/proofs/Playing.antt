@@ -10,9 +10,9 @@ use Rattle.rds_world.specs.declared.world.reply.Reply.{Reply}
 use Rattle.rds_log.proofs.Changes.{changes_same}
 use Rattle.rds_log.proofs.Views.{view_of_none}
 use Rattle.rds_world.specs.World.Slots.{input_of}
-use Rattle.rds_world.specs.World.Standing.{IsViewOfInput, ShowsStill, tuned_to}
+use Rattle.rds_world.specs.World.StandsAt.{IsViewOfInput, ShowsStill, tuned_to}
 use Rattle.rds_log.specs.Outcomes.{AreOutcomes, Outcome, answer_lines, lines_of, newest_views, receiver_changes, view_at}
-use Rattle.rds_log.specs.Playing.{AreKept, BeginsRow, HasWorld, Played, PlayerStandsAt, WereShown}
+use Rattle.rds_log.specs.Inside.Player.{AreKept, BeginsRow, HasWorld, Played, PlayerStandsAt, WereShown}
 use Rattle.rds_log.specs.declared.player.Player.{Player}
 use Rattle.rds_charset.specs.Laws.{TextIsReadOneWay}
 use Rattle.rds_world.specs.World.Replies.{CanBeTaken, IsStepRefused}

@@ -7,9 +7,9 @@ use Rattle.csv.specs.Reading.{reader_state}
 use Rattle.rds_charset.specs.Puts.{AppendsPrefix-append}
 use Rattle.rds_charset.specs.Told.{AppendsPrefix, HasFailed, Traffic}
 use Rattle.rds_world.specs.declared.world.Config.{Config}
-use Rattle.rds_log.specs.Playing.{IsReadFault, Played, PlayedSoFar, PlayerStandsAt, PlaysRow, ScriptStandsAt}
+use Rattle.rds_log.specs.Inside.Player.{IsReadFault, Played, PlayedSoFar, PlayerStandsAt, PlaysRow, ScriptStandsAt}
 use Rattle.rds_log.specs.Rows.{AreNoRows, Record}
-use Rattle.rds_log.specs.Scripts.{HasRecords, Plays, Reading, RowsWrite, WroteRows}
+use Rattle.rds_log.specs.Play.{HasRecords, Plays, Reading, RowsWrite, WroteRows}
 use Rattle.rds_log.specs.declared.fault.LogFault.{LogFault}
 use Rattle.rds_log.specs.declared.fault.LogFault.TheVariants.{BadRow, Write}
 use Rattle.rds_log.specs.declared.form.Form.{Form}

@@ -1,4 +1,4 @@
--- How a source of lines goes on: from line to line, and from piece to piece.
+-- How a source of lines goes on: from line to line, and from chunk to chunk.
 use Rattle.std.proofs.Common.{◌≡◌, ◌≢◌, ◌+◌, ◌-◌, ◌<◌, ◌≤◌, ℕ, Bool, List, [], ◌∷◌, ◌++◌, take, drop, length, length-append, Option, Some, None, Ok, Err, true, false, append_assoc, add-one, ap, sym, ◌∙◌, refl, arith, inl, inr}
 use Rattle.std.specs.Prelude.{IfNone, IfSome, MatchBool, MatchOption, MatchResult, Result}
 use Rattle.std.proofs.lemmas.List.{append-nil, drop-drop, drop-take, take-append-drop, take-take}
@@ -9,9 +9,9 @@ use Rattle.std.specs.Io.KnownBytes.{Consumes, IsAtEnd, Keeps}
 use Rattle.rds_charset.specs.Told.{count_next, next_count}
 use Rattle.rds_log.specs.LogLines.{EndsAt, IsLine, Line, line_feed, text_of}
 use Rattle.rds_log.specs.LineSays.{LineSays}
-use Rattle.rds_log.specs.Cutting.{Closes, CutterStandsAt, IsBadLine}
+use Rattle.rds_log.specs.Inside.Cutter.{Closes, CutterStandsAt, IsBadLine}
 use Rattle.rds_log.specs.Reads.{MadeReads, ReadsUpTo}
-use Rattle.rds_log.specs.Source.{GivesNext, HasLine, HasNoNext, HasMade, IsAtLast, IsInside, IsThrough, ReaderState, SourceStandsAt, since, waiting}
+use Rattle.rds_log.specs.Inside.Source.{GivesNext, HasLine, HasNoNext, HasMade, IsAtLast, IsInside, IsThrough, ReaderState, SourceStandsAt, since, waiting}
 use Rattle.rds_log.specs.declared.fault.BadLine as fault
 use Rattle.rds_log.specs.declared.fault.LogFault.{LogFault}
 use Rattle.rds_log.specs.declared.fault.LogFault.TheVariants.{BadLine, TooLong}
@@ -77,36 +77,36 @@ cut_line lines begun bytes n ends =
     ∙ ap (λ (l : List ℕ). l ++ (line_feed ∷ rest)) (text_of-more lines begun run)
 
 -- what waits after a line and its end
-pub wait_on : (piece : List ℕ) (at count n : ℕ) → at + n < count
-    → take (count - (at + n + 1)) (drop (at + n + 1) piece) ≡ drop (n + 1) (take (count - at) (drop at piece))
-wait_on piece at count n less =
+pub wait_on : (chunk : List ℕ) (at count n : ℕ) → at + n < count
+    → take (count - (at + n + 1)) (drop (at + n + 1) chunk) ≡ drop (n + 1) (take (count - at) (drop at chunk))
+wait_on chunk at count n less =
     let size : n + 1 + (count - (at + n + 1)) ≡ count - at = omega (arith, less) in
     let place : at + (n + 1) ≡ at + n + 1 = omega arith in
-    ap (λ (m : ℕ). take (count - (at + n + 1)) (drop m piece)) (sym place)
-    ∙ ap (λ (l : List ℕ). take (count - (at + n + 1)) l) (sym (drop-drop (n + 1) at piece))
-    ∙ sym (drop-take (n + 1) (count - (at + n + 1)) (drop at piece))
-    ∙ ap (λ (m : ℕ). drop (n + 1) (take m (drop at piece))) size
+    ap (λ (m : ℕ). take (count - (at + n + 1)) (drop m chunk)) (sym place)
+    ∙ ap (λ (l : List ℕ). take (count - (at + n + 1)) l) (sym (drop-drop (n + 1) at chunk))
+    ∙ sym (drop-take (n + 1) (count - (at + n + 1)) (drop at chunk))
+    ∙ ap (λ (m : ℕ). drop (n + 1) (take m (drop at chunk))) size
 
 -- the line that ends so many bytes on, as the code's range has it
-pub line_of : (piece : List ℕ) (at count n : ℕ) → at + n < count → take n (take (count - at) (drop at piece)) ≡ take (at + n - at) (drop at piece)
-line_of piece at count n less =
+pub line_of : (chunk : List ℕ) (at count n : ℕ) → at + n < count → take n (take (count - at) (drop at chunk)) ≡ take (at + n - at) (drop at chunk)
+line_of chunk at count n less =
     let size : n ≡ at + n - at = omega arith in
-    take-take n (count - at) (drop at piece) (omega (arith, less)) ∙ ap (λ (m : ℕ). take m (drop at piece)) size
+    take-take n (count - at) (drop at chunk) (omega (arith, less)) ∙ ap (λ (m : ℕ). take m (drop at chunk)) size
 
 -- the next line was closed, and says this
 gives_line : (s after : Source) (most n : ℕ) (start now : ReaderState) (lines : List Line) (said : LogLine) → SourceStandsAt s most start now lines → s.line ≡ Some n
     → s.at + n < s.count → ((begun : Line) → CutterStandsAt s.cutter lines begun → IsLine (take n (waiting s)) → Closes after.cutter lines (begun ++ take n (waiting s)) said)
-    → after.piece ≡ s.piece → after.at ≡ s.at + n + 1 → after.count ≡ s.count → after.left ≡ s.left → after.ended ≡ s.ended
+    → after.chunk ≡ s.chunk → after.at ≡ s.at + n + 1 → after.count ≡ s.count → after.left ≡ s.left → after.ended ≡ s.ended
     → MatchOption after.line (IsLine (waiting after)) (EndsAt (waiting after)) → GivesNext after most start now lines (Some said)
-gives_line s after most n start now lines said stands line less closes piece at count left ended next =
+gives_line s after most n start now lines said stands line less closes chunk at count left ended next =
     let not_ended = goes_on s most n start now lines line stands in
     let is = inside s most start now lines not_ended stands in
     let ends = an_end (waiting s) s.line n line is.holds.line in
     let closed = closes is.holds.begun is.holds.cutter ends.line in
     let whole = is.holds.begun ++ take n (waiting s) in
     let rest : waiting after ≡ drop (n + 1) (waiting s) =
-    ap (λ (l : List ℕ). take (after.count - after.at) (drop after.at l)) piece ∙ ap (λ (m : ℕ). take (after.count - m) (drop m s.piece)) at
-    ∙ ap (λ (m : ℕ). take (m - (s.at + n + 1)) (drop (s.at + n + 1) s.piece)) count ∙ wait_on s.piece s.at s.count n less in
+    ap (λ (l : List ℕ). take (after.count - after.at) (drop after.at l)) chunk ∙ ap (λ (m : ℕ). take (after.count - m) (drop m s.chunk)) at
+    ∙ ap (λ (m : ℕ). take (m - (s.at + n + 1)) (drop (s.at + n + 1) s.chunk)) count ∙ wait_on s.chunk s.at s.count n less in
     let reads = stands.reads in
     let enough = is.enough in (
       whole,
@@ -151,14 +151,14 @@ gives_bad s most n number start now lines stands line bad =
 pub gives_either : (s after : Source) (most n : ℕ) (start now : ReaderState) (lines : List Line) (result : Result LogLine fault.BadLine) → SourceStandsAt s most start now lines → s.line ≡ Some n
     → s.at + n < s.count → ((begun : Line) → CutterStandsAt s.cutter lines begun → IsLine (take n (waiting s))
     → MatchResult result (Closes after.cutter lines (begun ++ take n (waiting s))) (λ bad. IsBadLine bad.number lines (begun ++ take n (waiting s))))
-    → after.piece ≡ s.piece → after.at ≡ s.at + n + 1 → after.count ≡ s.count → after.left ≡ s.left → after.ended ≡ s.ended
+    → after.chunk ≡ s.chunk → after.at ≡ s.at + n + 1 → after.count ≡ s.count → after.left ≡ s.left → after.ended ≡ s.ended
     → MatchOption after.line (IsLine (waiting after)) (EndsAt (waiting after))
     → MatchResult result (λ said. GivesNext after most start now lines (Some said)) (λ bad. HasNoNext most start now lines (BadLine bad.number))
-gives_either s after most n start now lines (Ok said) stands line less closes piece at count left ended next =
-    gives_line s after most n start now lines said stands line less closes piece at count left ended next
-gives_either s after most n start now lines (Err bad) stands line less closes piece at count left ended next = gives_bad s most n bad.number start now lines stands line closes
+gives_either s after most n start now lines (Ok said) stands line less closes chunk at count left ended next =
+    gives_line s after most n start now lines said stands line less closes chunk at count left ended next
+gives_either s after most n start now lines (Err bad) stands line less closes chunk at count left ended next = gives_bad s most n bad.number start now lines stands line closes
 
--- all of the piece is of the line that is begun
+-- all of the chunk is of the line that is begun
 pub takes_rest : (s : Source) (lines : List Line) (text : List ℕ) (h : HasLine s lines text) → s.line ≡ None → (text ≡ text_of lines (h.begun ++ waiting s)) × IsLine (waiting s)
 takes_rest s lines text h none = (h.cut ∙ text_of-more lines h.begun (waiting s), no_end (waiting s) s.line none h.line)
 

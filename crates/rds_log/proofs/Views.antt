@@ -7,11 +7,11 @@ use Rattle.rds_assembly.specs.ServiceLaws.{no_name_of_none, no_text_of_none}
 use Rattle.rds_block.specs.declared.group.Group.{Group}
 use Rattle.rds_receiver.specs.Receipts.{Tuning}
 use Rattle.rds_receiver.specs.Shown.{IsView, ShownView}
-use Rattle.rds_receiver.specs.Standing.{StandsAt}
+use Rattle.rds_receiver.specs.StandsAt.{StandsAt}
 use Rattle.rds_log.specs.Output.{change, is_same_item, is_same_tag, is_same_text, newest, nothing_shown, slot_stamp}
-use Rattle.rds_log.specs.Decoding.{AreViews}
-use Rattle.rds_log.specs.Kept.{view_kept}
-use Rattle.rds_log.specs.Viewing.{ViewsStandAt}
+use Rattle.rds_log.specs.LogWrites.{AreViews}
+use Rattle.rds_log.specs.Inside.KeptView.{view_kept}
+use Rattle.rds_log.specs.Inside.ViewLines.{ViewsStandAt}
 use Rattle.rds_log.specs.declared.view_lines.ViewLines.{ViewLines}
 
 -- a slot that was handled: its view, and the changes that it appends

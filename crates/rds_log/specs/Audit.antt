@@ -12,10 +12,10 @@ use Rattle.rds_world.specs.Audit.Dense.{HasPlans}
 use Rattle.rds_world.specs.Audit.Rules.{IsFaultOf, LogPasses}
 use Rattle.rds_world.specs.declared.audit.audit_fault.AuditFault.{AuditFault}
 use Rattle.rds_world.specs.declared.audit.audit_fault.AuditFault.TheVariants.{Changed, NotOneText, EarlyFlag, EarlyTag, TagOutside}
-use Rattle.rds_world.specs.Audit.AuditStanding.{AuditStandsAt}
+use Rattle.rds_world.specs.Audit.AuditStandsAt.{AuditStandsAt}
 use Rattle.rds_world.specs.Audit.AuditState.{AuditState}
 use Rattle.rds_log.specs.LogLines.{AreLines, Line}
-use Rattle.rds_log.specs.Decoding.{AreSlots}
+use Rattle.rds_log.specs.LogWrites.{AreSlots}
 use Rattle.rds_log.specs.Reads.{BeginsWith, NextIsBad, ReadsUpTo}
 use Rattle.rds_log.specs.declared.fault.LogFault.{LogFault}
 use Rattle.rds_log.specs.declared.fault.LogFault.TheVariants.{BadLine, BadRow, Read, Write, TooLong, Memory}
@@ -43,13 +43,13 @@ pub record SlotsFail (pi d t : ℕ) (fault : AuditFault) (slots : List (Option G
 
 -- no receiver of dwell m breaks any part of the promise by these slots, of which it is handed none more than k slots
 -- late, whatever it loses and whenever it restarts
-pub record AreSafe (pi m k : ℕ) (slots : List (Option Group)) : Type 0 where
+pub record SlotsAreSafe (pi m k : ℕ) (slots : List (Option Group)) : Type 0 where
   pub heard : List (Option Message)
   pub are : AreHeard pi slots heard
   pub safe : IsSafeLog m k heard
 
 -- no plans of these slots are lawful and dense
-pub record HaveNoPlans (pi d : ℕ) (slots : List (Option Group)) : Type 0 where
+pub record SlotsHaveNoPlans (pi d : ℕ) (slots : List (Option Group)) : Type 0 where
   pub heard : List (Option Message)
   pub are : AreHeard pi slots heard
   pub none : HasPlans d heard → ⊥
@@ -80,13 +80,13 @@ pub record LinesPass (pi d : ℕ) (lines : List Line) : Type 0 where
   pub pass : SlotsPass pi d slots
 
 -- a line of the text is bad, and those before it pass
-pub record StopsAtBadLine (pi d n : ℕ) (text : List ℕ) (left : Option (List ℕ)) : Type 0 where
+pub record AuditStopsAtBadLine (pi d n : ℕ) (text : List ℕ) (left : Option (List ℕ)) : Type 0 where
   pub lines : List Line
   pub next : NextIsBad n lines text left
   pub pass : LinesPass pi d lines
 
 -- the text begins with good lines, whose slots pass up to the newest, which has number t
-pub record StopsAtSlot (pi d t : ℕ) (fault : AuditFault) (text : List ℕ) (left : Option (List ℕ)) : Type 0 where
+pub record AuditStopsAtSlot (pi d t : ℕ) (fault : AuditFault) (text : List ℕ) (left : Option (List ℕ)) : Type 0 where
   pub lines : List Line
   pub begins : BeginsWith text left lines
   pub slots : List (Option Group)
@@ -106,7 +106,7 @@ pub record WholePasses (pi d n : ℕ) (text : List ℕ) : Type 0 where
 -- lines whose slots pass up to the newest, whatever comes after
 abbrev pub IsVerdictOf : ℕ → ℕ → List ℕ → Verdict → Type 0
 IsVerdictOf pi d bytes (Yes n) = WholePasses pi d n bytes
-IsVerdictOf pi d bytes (No t fault) = StopsAtSlot pi d t fault bytes (Some [])
+IsVerdictOf pi d bytes (No t fault) = AuditStopsAtSlot pi d t fault bytes (Some [])
 
 -- ---- reading
 
@@ -121,9 +121,9 @@ abbrev pub Judges : ℕ → ℕ → ℕ → Traffic → Result Verdict LogFault 
 Judges pi d reads r (Ok (Yes n)) =
     (text : List ℕ) × Consumes r.before r.after text × IsAtEnd r.after × WholePasses pi d n text × IsCalm r
 Judges pi d reads r (Ok (No t fault)) =
-    (text : List ℕ) × Consumes r.before r.after text × StopsAtSlot pi d t fault text r.after × IsCalm r
+    (text : List ℕ) × Consumes r.before r.after text × AuditStopsAtSlot pi d t fault text r.after × IsCalm r
 Judges pi d reads r (Err (BadLine n)) =
-    (text : List ℕ) × Consumes r.before r.after text × StopsAtBadLine pi d n text r.after × IsCalm r
+    (text : List ℕ) × Consumes r.before r.after text × AuditStopsAtBadLine pi d n text r.after × IsCalm r
 Judges pi d reads r (Err Read) = PassesSoFar pi d r 0 × HasFailed r
 Judges pi d reads r (Err TooLong) = PassesSoFar pi d r reads × IsCalm r
 Judges pi d reads r (Err (BadRow n)) = ⊥

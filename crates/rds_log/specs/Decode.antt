@@ -5,7 +5,7 @@ use Rattle.std.specs.Io.KnownBytes.{Appends, Consumes, IsAtEnd}
 use Rattle.rds_charset.specs.Told.{AppendsPrefix, HasFailed, IsCalm, Traffic}
 use Rattle.rds_receiver.specs.Receipts.{Tuning}
 use Rattle.rds_log.specs.LogLines.{Line}
-use Rattle.rds_log.specs.Decoding.{LinesWrite, LogWrites}
+use Rattle.rds_log.specs.LogWrites.{LinesWrite, LogWrites}
 use Rattle.rds_log.specs.Reads.{BeginsWith, NextIsBad, ReadsUpTo}
 use Rattle.rds_log.specs.declared.fault.LogFault.{LogFault}
 use Rattle.rds_log.specs.declared.fault.LogFault.TheVariants.{BadLine, BadRow, Read, Write, TooLong, Memory}
@@ -25,13 +25,13 @@ pub record WrotePart (t : Tuning) (w : Traffic) (lines : List Line) : Type 0 whe
   pub failed : HasFailed w
 
 -- a line of the text is bad, none before it is, and the output of those before it was written
-pub record StopsAtBadLine (t : Tuning) (n : ℕ) (text : List ℕ) (left : Option (List ℕ)) (w : Traffic) : Type 0 where
+pub record DecodeStopsAtBadLine (t : Tuning) (n : ℕ) (text : List ℕ) (left : Option (List ℕ)) (w : Traffic) : Type 0 where
   pub lines : List Line
   pub next : NextIsBad n lines text left
   pub wrote : WroteLines t w lines
 
 -- the writer failed while it took the output of lines that the text begins with
-pub record StopsAtWrite (t : Tuning) (text : List ℕ) (left : Option (List ℕ)) (w : Traffic) : Type 0 where
+pub record DecodeStopsAtWrite (t : Tuning) (text : List ℕ) (left : Option (List ℕ)) (w : Traffic) : Type 0 where
   pub lines : List Line
   pub begins : BeginsWith text left lines
   pub wrote : WrotePart t w lines
@@ -57,9 +57,9 @@ pub record DecodesAll (t : Tuning) (r w : Traffic) : Type 0 where
 abbrev pub Decodes : Tuning → ℕ → Traffic → Traffic → Result (Unit {0}) LogFault → Type 0
 Decodes t reads r w (Ok done) = DecodesAll t r w
 Decodes t reads r w (Err (BadLine n)) =
-    (text : List ℕ) × Consumes r.before r.after text × StopsAtBadLine t n text r.after w × IsCalm r
+    (text : List ℕ) × Consumes r.before r.after text × DecodeStopsAtBadLine t n text r.after w × IsCalm r
 Decodes t reads r w (Err Write) =
-    (text : List ℕ) × Consumes r.before r.after text × StopsAtWrite t text r.after w × IsCalm r
+    (text : List ℕ) × Consumes r.before r.after text × DecodeStopsAtWrite t text r.after w × IsCalm r
 Decodes t reads r w (Err Read) = StopsBetween t r w 0 × HasFailed r
 Decodes t reads r w (Err TooLong) = StopsBetween t r w reads × IsCalm r
 Decodes t reads r w (Err (BadRow n)) = ⊥

@@ -3,8 +3,8 @@ use Rattle.std.proofs.Math.Logic.{∥∥₁_map}
 use Rattle.std.specs.Prelude.{ℕ, Err, List, Ok, Option, Result}
 use Rattle.rds_charset.specs.Told.{Failed, Traffic}
 use Rattle.rds_world.specs.declared.world.Config.{Config}
-use Rattle.rds_log.specs.Failing.{SomeReadFailed}
-use Rattle.rds_log.specs.Scripts.{Plays}
+use Rattle.rds_log.specs.ReadFailed.{SomeReadFailed}
+use Rattle.rds_log.specs.Play.{Plays}
 use Rattle.rds_log.specs.declared.fault.LogFault.{LogFault}
 use Rattle.rds_log.specs.declared.fault.LogFault.TheVariants.{BadLine, BadRow, Read, Write, TooLong, Memory}
 use Rattle.rds_log.specs.declared.form.Form.{Form}

@@ -1,6 +1,7 @@
 -- What a line of a log says: that it is to be skipped, or which group a slot has. It is told by places and
 -- lengths, byte i of the line at place i. This is the project's own format.
 use Rattle.std.specs.Prelude.{◌≡◌, ◌⊎◌, ◌≤◌, ◌+◌, ℕ, [], ◌∷◌, Option, Some, None, slice_index}
+use Rattle.rds_assembly.specs.Body.{space}
 use Rattle.rds_block.specs.declared.group.Group.{Group}
 use Rattle.rds_block.specs.Words.{AreWordsOf}
 use Rattle.rds_charset.specs.Digits.{HasWord}
@@ -9,9 +10,6 @@ use Rattle.rds_log.specs.declared.log_line.Block.{Block}
 use Rattle.rds_log.specs.declared.log_line.Block.TheVariants.{Word, Missing}
 use Rattle.rds_log.specs.declared.log_line.LogLine.{LogLine}
 use Rattle.rds_log.specs.declared.log_line.LogLine.TheVariants.{Skip, Slot}
-
-abbrev pub space : ℕ
-space = 32
 
 abbrev pub dash : ℕ
 dash = 45
@@ -55,9 +53,9 @@ IsBlock line at (Word w) = HasWord line at w
 IsBlock line at Missing = HasDashes line at
 
 -- the word of a block, where it has one
-abbrev pub word_of : Block → Option ℕ
-word_of (Word w) = Some w
-word_of Missing = None
+abbrev pub block_word : Block → Option ℕ
+block_word (Word w) = Some w
+block_word Missing = None
 
 -- one space between the blocks, and after them the end or one more space
 pub record IsLaidOut (line : Line) : Type 0 where

@@ -21,7 +21,7 @@ use Rattle.rds_world.specs.declared.world.reply.Reply.TheVariants as reply
 use Rattle.rds_world.specs.World.Event.{Event}
 use Rattle.rds_world.specs.World.Replies.{reply_at}
 use Rattle.rds_world.specs.World.Slots.{entries, input_of, sent_at}
-use Rattle.rds_world.specs.World.Standing.{IsViewOfInput}
+use Rattle.rds_world.specs.World.StandsAt.{IsViewOfInput}
 use Rattle.rds_charset.specs.Digits.{word_digits}
 use Rattle.rds_log.specs.Output.{change, line_of, nothing_shown, receiver_stamp, slot_stamp}
 use Rattle.rds_log.specs.declared.form.Form.{Form}

@@ -12,8 +12,8 @@ use Rattle.rds_world.specs.declared.world.event.Command.TheVariants.{Quiet, Rest
 use Rattle.rds_world.specs.World.Event.{Event}
 use Rattle.rds_world.specs.World.Replies.{CanBeTaken}
 use Rattle.rds_log.specs.Receptions.{AreReceptions}
-use Rattle.rds_log.specs.LineSays.{space}
-use Rattle.rds_log.specs.Verbs.{word_of}
+use Rattle.rds_assembly.specs.Body.{space}
+use Rattle.rds_log.specs.Verbs.{verb_word}
 use Rattle.rds_log.specs.declared.row.Verb.TheVariants.{Nothing, Text, Name, Tags}
 use Rattle.rds_log.specs.declared.row.Verb.TheVariants as verb
 use Rattle.rds_log.specs.declared.form.Form.{Form}
@@ -62,12 +62,12 @@ pub record IsNameArgument (argument name : List ℕ) : Type 0 where
 
 -- the word and its argument say the command
 abbrev pub SaysCommand : List ℕ → List ℕ → Command → Type 0
-SaysCommand word argument Quiet = (word ≡ word_of Nothing) × (argument ≡ [])
-SaysCommand word argument Restart = (word ≡ word_of verb.Restart) × (argument ≡ [])
-SaysCommand word argument (SetText x) = (word ≡ word_of Text) × IsReadAs argument x × IsText x
-SaysCommand word argument (SetName x) = (word ≡ word_of Name) × IsNameArgument argument x
+SaysCommand word argument Quiet = (word ≡ verb_word Nothing) × (argument ≡ [])
+SaysCommand word argument Restart = (word ≡ verb_word verb.Restart) × (argument ≡ [])
+SaysCommand word argument (SetText x) = (word ≡ verb_word Text) × IsReadAs argument x × IsText x
+SaysCommand word argument (SetName x) = (word ≡ verb_word Name) × IsNameArgument argument x
 SaysCommand word argument (SetTags pair) =
-    (word ≡ word_of Tags) × AreNumbers argument (numbers_of_pair pair) × IsPair pair
+    (word ≡ verb_word Tags) × AreNumbers argument (numbers_of_pair pair) × IsPair pair
 
 -- whether the slot is free
 abbrev pub free_field : Bool → List ℕ

@@ -3,9 +3,9 @@ use Rattle.std.specs.Prelude.{ℕ, List, codes}
 use Rattle.rds_log.specs.declared.row.Verb.{Verb}
 use Rattle.rds_log.specs.declared.row.Verb.TheVariants.{Nothing, Restart, Text, Name, Tags}
 
-abbrev pub word_of : Verb → List ℕ
-word_of Nothing = codes "-"
-word_of Restart = codes "restart"
-word_of Text = codes "text"
-word_of Name = codes "name"
-word_of Tags = codes "tags"
+abbrev pub verb_word : Verb → List ℕ
+verb_word Nothing = codes "-"
+verb_word Restart = codes "restart"
+verb_word Text = codes "text"
+verb_word Name = codes "name"
+verb_word Tags = codes "tags"

@@ -1,6 +1,6 @@
 //! A reader that remembers whether a read of it failed.
 ghost use Rattle.std.specs.Prelude.{◌≡◌, true};
-ghost use Rattle.rds_log.specs.Failing.{SomeReadFailed};
+ghost use Rattle.rds_log.specs.ReadFailed.{SomeReadFailed};
 
 use rds_charset::TellingRead;
 use std::io::{self, ErrorKind, Read};
@@ -15,11 +15,11 @@ pub(crate) struct Asked<R: TellingRead> {
 
 impl<R: TellingRead> Asked<R> {
     ghost use Rattle.std.specs.Prelude.{false};
-    ghost use Rattle.rds_log.specs.Asking.{has_failed, inner_of};
+    ghost use Rattle.rds_log.specs.Inside.Asked.{has_failed, asked_reader};
 
     /// A reader of which no read failed yet.
     pub(crate) fn new(inner: R) -> Asked<R>
-        ensures inner { inner_of result ≡ inner }
+        ensures inner { asked_reader result ≡ inner }
         ensures calm { has_failed result ≡ false }
     {
         Asked {
@@ -38,9 +38,9 @@ impl<R: TellingRead> Asked<R> {
 }
 
 impl<R: TellingRead> Read for Asked<R> {
-    ghost use Rattle.rds_log.specs.Asking.{inner_of};
+    ghost use Rattle.rds_log.specs.Inside.Asked.{asked_reader};
 
-    ghost remaining = { λ asked. R.remaining (inner_of asked) };
+    ghost remaining = { λ asked. R.remaining (asked_reader asked) };
 
     fn read(&mut self, buf: &mut [u8]) -> io::Result<usize> {
         match self.inner.read_one(buf) {

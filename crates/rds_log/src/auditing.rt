@@ -1,9 +1,7 @@
 //! Whether what a station sent passes.
-ghost use Rattle.std.specs.Prelude.{◌≤◌, ◌+◌, ◌^◌, ℕ, List, Option};
-ghost use Rattle.rds_block.specs.declared.group.Group.{Group};
+ghost use Rattle.std.specs.Prelude.{◌≤◌, ◌+◌, ◌^◌};
 ghost use Rattle.rds_charset.specs.Told.{traffic};
-ghost use Rattle.rds_world.specs.declared.audit.audit_fault.AuditFault.{AuditFault};
-ghost use Rattle.rds_log.specs.Audit.{AreSafe, Audits, HaveNoPlans, Judges, SlotsFail, SlotsPass};
+ghost use Rattle.rds_log.specs.Audit.{Audits, Judges};
 ghost use Rattle.rds_log.specs.Reads.{MadeReads};
 
 use crate::LogFault;
@@ -14,14 +12,15 @@ use crate::verdict::Verdict;
 use rds_charset::{Lines, TellingRead, TellingWrite, put};
 use rds_encoder::Late;
 use rds_fields::Dwell;
-use rds_world::{Audit, one_fault, passes_by_plans, what_passes_is_safe};
+use rds_world::Audit;
 
 /// Audits a log of what a station sent, a slot a line, and writes the answer line: `yes` with the number of
 /// slots, or `no` with the first slot up to which they do not pass and the name of the fault.
 ///
 /// A yes means that texts and names of a station that keeps them apart by the dwell and the lateness could have been
-/// sent so, and then no receiver of that dwell, whose groups come no later, ever shows a mix of them. No read is made
-/// after the one that brought the slot that does not pass, or after a fault.
+/// sent so, and then no receiver of that dwell, whose groups come no later, ever shows a mix of them
+/// ([`what_an_answer_means`](crate::what_an_answer_means)). No read is made after the one that brought the slot that does
+/// not pass, or after a fault.
 ///
 /// # Errors
 ///
@@ -36,10 +35,6 @@ pub fn audit<R: TellingRead, W: TellingWrite>(
     ensures audits { Audits pi (dwell + late) (2 ^ 32)
         (traffic R.remaining R.failures reader.old reader.new)
         (traffic W.contents W.failures writer.old writer.new) result }
-    ensures safe { (slots : List (Option Group)) → SlotsPass pi (dwell + late) slots
-        → AreSafe pi dwell late slots }
-    ensures no_plans { (slots : List (Option Group)) (t : ℕ) (fault : AuditFault)
-        → SlotsFail pi (dwell + late) t fault slots → HaveNoPlans pi (dwell + late) slots }
     ensures reads { MadeReads (2 ^ 32) (R.reads reader.old) (R.reads reader.new) result }
 {
     audit_within(reader, writer, pi, dwell, late, MOST_READS)
@@ -58,16 +53,8 @@ pub fn audit_within<R: TellingRead, W: TellingWrite>(
     ensures audits { Audits pi (dwell + late) reads
         (traffic R.remaining R.failures reader.old reader.new)
         (traffic W.contents W.failures writer.old writer.new) result }
-    ensures safe { (slots : List (Option Group)) → SlotsPass pi (dwell + late) slots
-        → AreSafe pi dwell late slots }
-    ensures no_plans { (slots : List (Option Group)) (t : ℕ) (fault : AuditFault)
-        → SlotsFail pi (dwell + late) t fault slots → HaveNoPlans pi (dwell + late) slots }
     ensures reads { MadeReads reads (R.reads reader.old) (R.reads reader.new) result }
 {
-    // the laws by which `safe` and `no_plans` hold
-    one_fault();
-    passes_by_plans();
-    what_passes_is_safe();
     let verdict = judge(reader, pi, dwell, late, reads)?;
     let mut line = Lines::new();
     verdict.push(&mut line);

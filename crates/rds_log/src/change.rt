@@ -28,7 +28,7 @@ pub(crate) enum Stamp {
 }
 
 impl Stamp {
-    ghost use Rattle.rds_log.specs.Parts.{stamp_of};
+    ghost use Rattle.rds_log.specs.Inside.Part.{stamp_of};
 
     /// Appends it, and a space.
     pub(crate) fn push<const N: usize>(self, lines: &mut Lines<N>)
@@ -61,7 +61,7 @@ pub(crate) enum Part<'a> {
 
 impl Part<'_> {
     ghost use Rattle.std.specs.Prelude.{ℕ, List};
-    ghost use Rattle.rds_log.specs.Parts.{IsShortPart, is_same_part, part_content};
+    ghost use Rattle.rds_log.specs.Inside.Part.{IsShortPart, is_same_part, part_content};
 
     /// Whether both show the same.
     fn is_same(self, other: Part<'_>) -> bool
@@ -150,7 +150,7 @@ fn push_quoted<const N: usize>(text: &[u8], lines: &mut Lines<N>)
     lines.push(b"\"");
 }
 
-ghost use Rattle.rds_log.specs.Parts.{IsShortPart, part_change, stamp_of};
+ghost use Rattle.rds_log.specs.Inside.Part.{IsShortPart, part_change, stamp_of};
 
 /// Appends the line of a part, where it differs from the slot before.
 fn push_change<const N: usize>(

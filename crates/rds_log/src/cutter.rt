@@ -19,7 +19,7 @@ pub(crate) struct Cutter {
 }
 
 impl Cutter {
-    ghost use Rattle.rds_log.specs.Cutting.{Closes, CutterStandsAt, IsBadLine, WhereItCuts};
+    ghost use Rattle.rds_log.specs.Inside.Cutter.{Closes, CutterStandsAt, IsBadLine, WhereItCuts};
 
     /// At the start of a log.
     pub(crate) fn new() -> Cutter

@@ -25,8 +25,8 @@ pub(crate) struct Decoder {
 
 impl Decoder {
     ghost use Rattle.rds_log.specs.Decode.{WrotePart};
-    ghost use Rattle.rds_log.specs.Decoder.{HasDecoded};
-    ghost use Rattle.rds_log.specs.Decoding.{tuned};
+    ghost use Rattle.rds_log.specs.Inside.Decoder.{HasDecoded};
+    ghost use Rattle.rds_log.specs.LogWrites.{tuned};
 
     /// At the start of a log.
     pub(crate) fn new(pi: u16, dwell: Dwell) -> Decoder

@@ -2,7 +2,7 @@
 ghost use Rattle.std.specs.Prelude.{◌≤◌, ◌^◌};
 ghost use Rattle.rds_charset.specs.Told.{traffic};
 ghost use Rattle.rds_log.specs.Decode.{Decodes};
-ghost use Rattle.rds_log.specs.Decoding.{tuned};
+ghost use Rattle.rds_log.specs.LogWrites.{tuned};
 ghost use Rattle.rds_log.specs.Reads.{MadeReads};
 
 use crate::LogFault;

@@ -2,7 +2,7 @@
 ghost use Rattle.std.specs.Prelude.{◌≡◌, ◌≤◌, length};
 ghost use Rattle.std.specs.Option.{ForSome, option_copied};
 ghost use Rattle.rds_receiver.specs.Lent.{tag_lent};
-ghost use Rattle.rds_log.specs.Kept.{tag_kept, text_kept};
+ghost use Rattle.rds_log.specs.Inside.KeptView.{tag_kept, text_kept};
 
 use arrayvec::ArrayVec;
 use rds_receiver::View;
@@ -24,7 +24,7 @@ pub(crate) struct KeptView {
 }
 
 impl KeptView {
-    ghost use Rattle.rds_log.specs.Kept.{view_kept};
+    ghost use Rattle.rds_log.specs.Inside.KeptView.{view_kept};
     ghost use Rattle.rds_log.specs.Output.{nothing_shown};
     ghost use Rattle.rds_receiver.specs.Lent.{view_lent};
 

@@ -1,25 +1,27 @@
 //! What holds of all logs and of all scripts.
-ghost use Rattle.std.specs.Prelude.{◌≡◌, ◌<◌, ℕ, Bool, List, Ok, Some};
+ghost use Rattle.std.specs.Prelude.{◌≡◌, ◌+◌, ◌<◌, ℕ, Bool, List, Ok, Option, Some};
 ghost use Rattle.std.specs.Io.KnownBytes.{Appends};
+ghost use Rattle.rds_block.specs.declared.group.Group.{Group};
 ghost use Rattle.rds_charset.specs.Told.{Traffic};
 ghost use Rattle.rds_receiver.specs.Receipts.{Tuning};
 ghost use Rattle.rds_log.specs.Alike.{WriteAlike};
-ghost use Rattle.rds_log.specs.Audit.{AnswersVerdictOf, Audits, IsVerdictOf};
+ghost use Rattle.rds_log.specs.Audit.{AnswersVerdictOf, Audits, IsVerdictOf, SlotsAreSafe, SlotsFail, SlotsHaveNoPlans, SlotsPass};
 ghost use Rattle.rds_log.specs.LogLines.{Line};
 ghost use Rattle.rds_log.specs.LineSays.{LineSays};
-ghost use Rattle.rds_log.specs.Decoding.{LogWrites};
+ghost use Rattle.rds_log.specs.LogWrites.{LogWrites};
 ghost use Rattle.rds_log.specs.Decode.{DecodesAll};
 ghost use Rattle.rds_log.specs.Rows.{Record, SaysEvent};
-ghost use Rattle.rds_log.specs.Scripts.{PlaysAll, RowsWrite, ScriptWrites};
+ghost use Rattle.rds_log.specs.Play.{PlaysAll, RowsWrite, ScriptWrites};
 ghost use Rattle.rds_log.specs.declared.form.Form.{Form};
 ghost use Rattle.rds_log.specs.declared.log_line.LogLine.{LogLine};
 ghost use Rattle.rds_log.specs.declared.verdict.Verdict.{Verdict};
+ghost use Rattle.rds_world.specs.declared.audit.audit_fault.AuditFault.{AuditFault};
 ghost use Rattle.rds_world.specs.declared.world.Config.{Config};
 ghost use Rattle.rds_world.specs.World.Event.{Event};
 
 use rds_charset::text_is_read_one_way;
 use rds_fields::one_group;
-use rds_world::one_fault;
+use rds_world::{one_fault, passes_by_plans, what_passes_is_safe};
 
 /// The output of a log is a function of its bytes: a line says one thing, the bytes write one output, and two calls of
 /// `decode` that end well wrote the same.
@@ -46,6 +48,19 @@ pub fn bytes_have_one_verdict()
         → (passed ≡ other) × WriteAlike w v }
 {
     one_fault();
+}
+
+/// What the answer to a log means: slots that pass with a dwell and a lateness are safe for every receiver of that dwell
+/// whose groups come no later, and slots that do not pass have no plans that are lawful and dense.
+pub fn what_an_answer_means()
+    ensures safe { (pi m k : ℕ) (slots : List (Option Group)) → 0 < m → SlotsPass pi (m + k) slots
+        → SlotsAreSafe pi m k slots }
+    ensures no_plans { (pi d t : ℕ) (fault : AuditFault) (slots : List (Option Group)) → 0 < d
+        → SlotsFail pi d t fault slots → SlotsHaveNoPlans pi d slots }
+{
+    one_fault();
+    passes_by_plans();
+    what_passes_is_safe();
 }
 
 /// The output of a script is a function of its records: a row says one event, and rows write one output.

@@ -4,7 +4,7 @@ ghost use Rattle.rds_block.specs.declared.group.Group.{Group};
 ghost use Rattle.rds_log.specs.declared.log_line.Block.{Block};
 ghost use Rattle.rds_log.specs.declared.log_line.LogLine.{LogLine};
 ghost use Rattle.rds_log.specs.LogLines.{content_length};
-ghost use Rattle.rds_log.specs.LineSays.{Carry, HasDashes, IsBad, IsBlock, IsLaidOut, IsSkipped, LineSays, SaysSlot, word_of};
+ghost use Rattle.rds_log.specs.LineSays.{Carry, HasDashes, IsBad, IsBlock, IsLaidOut, IsSkipped, LineSays, SaysSlot, block_word};
 
 use rds_block::Group;
 use rds_charset::{four_words, word_at};
@@ -36,7 +36,7 @@ pub(crate) enum Block {
 
 impl Block {
     fn word(self) -> Option<u16>
-        ensures { result ≡ word_of self }
+        ensures { result ≡ block_word self }
     {
         match self {
             Block::Word(word) => Some(word),

@@ -5,10 +5,10 @@ ghost use Rattle.rds_world.specs.World.State.{distance};
 ghost use Rattle.rds_world.specs.World.Event.{Event};
 ghost use Rattle.rds_world.specs.World.Slots.{input_of};
 ghost use Rattle.rds_world.specs.World.Replies.{CanBeTaken};
-ghost use Rattle.rds_world.specs.World.Standing.{IsViewOfInput, StandsAt, WhereItStands};
-ghost use Rattle.rds_log.specs.Kept.{view_kept};
+ghost use Rattle.rds_world.specs.World.StandsAt.{IsViewOfInput, StandsAt, WhereItStands};
+ghost use Rattle.rds_log.specs.Inside.KeptView.{view_kept};
 ghost use Rattle.rds_log.specs.Outcomes.{receiver_changes, view_at};
-ghost use Rattle.rds_log.specs.Playing.{AreKept, WereShown};
+ghost use Rattle.rds_log.specs.Inside.Player.{AreKept, WereShown};
 ghost use Rattle.rds_log.specs.Rows.{IsAllowed, Record, SaysEvent};
 ghost use Rattle.rds_log.specs.declared.player.RowRefused.TheVariants as refused;
 ghost use Rattle.rds_log.specs.declared.answer_lines.TheConstants.{ANSWER_ROOM};
@@ -55,7 +55,7 @@ pub(crate) struct Player {
 }
 
 impl Player {
-    ghost use Rattle.rds_log.specs.Playing.{BeginsRow, IsRowRefused, Played, PlayerStandsAt, PlaysRow, WherePlayerStands, nothing_played, with_row};
+    ghost use Rattle.rds_log.specs.Inside.Player.{BeginsRow, IsRowRefused, Played, PlayerStandsAt, PlaysRow, WherePlayerStands, nothing_played, with_row};
 
     /// Before the first row, with no world yet.
     pub(crate) fn new(alloc: Global, form: Form, config: Config) -> Player

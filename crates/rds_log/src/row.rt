@@ -11,7 +11,7 @@ ghost use Rattle.rds_world.specs.World.Event.{Event};
 ghost use Rattle.rds_world.specs.declared.world.event.Command.{Command};
 ghost use Rattle.rds_world.specs.declared.world.event.Reception.{Reception};
 ghost use Rattle.rds_log.specs.declared.row.Verb.{Verb};
-ghost use Rattle.rds_log.specs.Verbs.{word_of};
+ghost use Rattle.rds_log.specs.Verbs.{verb_word};
 ghost use Rattle.rds_log.specs.Receptions.{AreReceptions, HasDigits, IsLateness, letter};
 ghost use Rattle.rds_log.specs.Rows.{AreNumbers, HasNoSpace, IsCut, IsNameArgument, IsNumber, SaysCommand, SaysEvent, free_field, numbers_of_pair, numbers_of_tag};
 
@@ -102,8 +102,8 @@ fn characters(argument: &[u8]) -> Option<&str>
 
 /// The verb that the word is.
 fn verb_of(word: &[u8]) -> Option<Verb>
-    ensures some { IfSome result (λ verb. word.now ≡ word_of verb) }
-    ensures none { IfNone result ((verb : Verb) → word.now ≡ word_of verb → ⊥) }
+    ensures some { IfSome result (λ verb. word.now ≡ verb_word verb) }
+    ensures none { IfNone result ((verb : Verb) → word.now ≡ verb_word verb → ⊥) }
 {
     match word {
         b"-" => Some(Verb::Nothing),

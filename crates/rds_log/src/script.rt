@@ -1,10 +1,10 @@
 //! The records of a script.
 ghost use Rattle.std.specs.Prelude.{◌≡◌, ◌∷◌, [], ℕ, List, IfErr, IfOk, MatchBool, Option};
 ghost use Rattle.csv.specs.Records.{fields_of};
-ghost use Rattle.rds_log.specs.Failing.{SomeReadFailed};
-ghost use Rattle.rds_log.specs.Playing.{IsReadFault, ScriptStandsAt};
+ghost use Rattle.rds_log.specs.ReadFailed.{SomeReadFailed};
+ghost use Rattle.rds_log.specs.Inside.Player.{IsReadFault, ScriptStandsAt};
 ghost use Rattle.rds_log.specs.Rows.{Record};
-ghost use Rattle.rds_log.specs.Scripts.{HasAllRecords};
+ghost use Rattle.rds_log.specs.Play.{HasAllRecords};
 
 use crate::LogFault;
 use crate::asked::Asked;

@@ -1,7 +1,7 @@
 //! Scripts that are played: each row is a slot of a station, and its output goes out before the next row is taken.
 ghost use Rattle.std.specs.Prelude.{◌≤◌, ◌^◌};
 ghost use Rattle.rds_charset.specs.Told.{traffic};
-ghost use Rattle.rds_log.specs.Scripts.{Plays, reading};
+ghost use Rattle.rds_log.specs.Play.{Plays, reading};
 ghost use Rattle.rds_log.specs.declared.form.Form.TheVariants as forms;
 
 use crate::LogFault;

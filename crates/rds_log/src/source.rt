@@ -11,20 +11,20 @@ use crate::log_line::LogLine;
 use rds_charset::TellingRead;
 
 /// How many bytes one read asks for.
-const PIECE: usize = 65536;
+const CHUNK: usize = 65536;
 
 /// A log, read line by line: the twin of a script's records.
 #[derive(Drop)]
 pub(crate) struct Source {
     /// The bytes of the last read.
-    piece: [u8; PIECE],
+    chunk: [u8; CHUNK],
     /// Where those of them begin that no line was closed with,
     at: usize,
     /// and where they end.
     count: usize,
     /// How many of these bytes end the next line; `None` where it does not end in them.
     line: Option<usize>,
-    /// The lines so far, and the bytes of a line that went on from piece to piece.
+    /// The lines so far, and the bytes of a line that went on from chunk to chunk.
     cutter: Cutter,
     /// How many reads may be made yet.
     left: u64,
@@ -37,7 +37,7 @@ pub(crate) struct Source {
 }
 
 impl Source {
-    ghost use Rattle.rds_log.specs.Source.{GivesNext, HasNoNext, IsAtLast, IsBadLineFault, ReadsOn, ReaderState, SourceStandsAt, WhereItReads, budget, given_if, state_of};
+    ghost use Rattle.rds_log.specs.Inside.Source.{GivesNext, HasNoNext, IsAtLast, IsBadLineFault, ReadsOn, ReaderState, SourceStandsAt, WhereItReads, budget, given_if, state_of};
 
     /// At the start of a log, of which so many reads are made at most.
     pub(crate) fn new(reads: u64) -> Source
@@ -47,7 +47,7 @@ impl Source {
         ensures stands { (start : ReaderState) → SourceStandsAt result reads start start [] }
     {
         Source {
-            piece: [0; PIECE],
+            chunk: [0; CHUNK],
             at: 0,
             count: 0,
             line: None,
@@ -113,14 +113,14 @@ impl Source {
             (λ bad. HasNoNext most start now lines (faults.BadLine bad.number))) }
     {
         let end = self.at + count;
-        let piece: &[u8] = &self.piece;
-        let last = &piece[self.at..end];
+        let chunk: &[u8] = &self.chunk;
+        let last = &chunk[self.at..end];
         self.at = end + 1;
-        self.line = line_end(&piece[self.at..self.count]);
+        self.line = line_end(&chunk[self.at..self.count]);
         self.cutter.close(last)
     }
 
-    /// Reads the next piece; `false` at the reader's end.
+    /// Reads the next chunk; `false` at the reader's end.
     #[inline(never)]
     fn read<R: TellingRead>(&mut self, reader: &mut R) -> Result<bool, LogFault>
         requires line { self.old.line ≡ None }
@@ -138,17 +138,17 @@ impl Source {
         if self.left == 0 {
             return Err(LogFault::TooLong);
         }
-        let piece: &[u8] = &self.piece;
-        self.cutter.keep(&piece[self.at..self.count]);
+        let chunk: &[u8] = &self.chunk;
+        self.cutter.keep(&chunk[self.at..self.count]);
         self.left -= 1;
-        match reader.read_one(&mut self.piece) {
+        match reader.read_one(&mut self.chunk) {
             None => Err(LogFault::Read),
             Some(0) => Ok(false),
             Some(count) => {
                 self.at = 0;
                 self.count = count;
-                let piece: &[u8] = &self.piece;
-                self.line = line_end(&piece[..count]);
+                let chunk: &[u8] = &self.chunk;
+                self.line = line_end(&chunk[..count]);
                 Ok(true)
             }
         }

@@ -39,7 +39,7 @@ fn decoded(alloc: Global, log: &[u8]) -> Result<(Result<(), LogFault>, Vec<u8>),
 /// Lines that are longer than what one read asks for: one that is skipped, one with words behind its blocks, and a
 /// bad one.
 #[test]
-fn line_longer_than_a_piece(rt: HostRuntime) -> Result<(), Fail> {
+fn line_longer_than_a_chunk(rt: HostRuntime) -> Result<(), Fail> {
     let mut log = Vec::from_slice(rt.alloc(), b"#")?;
     log.extend_from_slice(&[b'x'; 70_000])?;
     log.extend_from_slice(b"\nC201 2140 4849 0D20 ")?;

@@ -19,8 +19,8 @@ pub(crate) struct ViewLines {
 }
 
 impl ViewLines {
-    ghost use Rattle.rds_log.specs.Decoding.{tuned};
-    ghost use Rattle.rds_log.specs.Viewing.{GivesChange, ViewsStandAt};
+    ghost use Rattle.rds_log.specs.LogWrites.{tuned};
+    ghost use Rattle.rds_log.specs.Inside.ViewLines.{GivesChange, ViewsStandAt};
 
     /// At the start: no slot was handled, and nothing is shown.
     pub(crate) fn new(pi: u16, dwell: Dwell) -> ViewLines
@@ -58,10 +58,10 @@ impl ViewLines {
 }
 
 ghost use Rattle.rds_receiver.specs.Shown.{IsView};
-ghost use Rattle.rds_receiver.specs.Standing.{WhereItStands};
-ghost use Rattle.rds_log.specs.Kept.{view_kept};
+ghost use Rattle.rds_receiver.specs.StandsAt.{WhereItStands};
+ghost use Rattle.rds_log.specs.Inside.KeptView.{view_kept};
 ghost use Rattle.rds_log.specs.Output.{change};
-ghost use Rattle.rds_log.specs.Parts.{stamp_of};
+ghost use Rattle.rds_log.specs.Inside.Part.{stamp_of};
 
 /// Appends the line of each part that differs from what was shown, and keeps what the receiver shows now.
 ///

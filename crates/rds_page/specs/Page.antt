@@ -29,7 +29,7 @@ pub record Begun (printed output : List ℕ) (number : ℕ) : Type 0 where
   pub shown : take number output ≡ take (length output) printed
 
 -- a run in a page
-pub record Runs (words input output : List ℕ) (number failures status : ℕ) : Type 0 where
+pub record RunsInPage (words input output : List ℕ) (number failures status : ℕ) : Type 0 where
   pub printed : List ℕ
   pub begun : Begun printed output number
   pub prints : IsUtf8 words → Prints (words_in words) input (writing printed failures) status

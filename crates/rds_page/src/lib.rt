@@ -6,7 +6,7 @@ mod given;
 mod sheet;
 mod words;
 
-ghost use Rattle.rds_page.specs.Page.{Begun, Runs};
+ghost use Rattle.rds_page.specs.Page.{Begun, RunsInPage};
 
 use answer::answer;
 use sheet::Sheet;
@@ -24,10 +24,10 @@ pub struct Ended {
     pub status: u8,
 }
 
-/// Runs the program over its words, one a line, the program's own name first, and the bytes of its input.
+/// RunsInPage the program over its words, one a line, the program's own name first, and the bytes of its input.
 #[unsafe(no_mangle)]
 pub extern "C" fn rdsrt_run(alloc: Global, words: &[u8], input: &[u8], output: &mut [u8]) -> Ended
-    ensures { Runs words.now input.now output.new result.length result.failures result.status }
+    ensures { RunsInPage words.now input.now output.new result.length result.failures result.status }
 {
     let mut sheet = Sheet::new(alloc);
     let status = answer(alloc, words, input, &mut sheet);

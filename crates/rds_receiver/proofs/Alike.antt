@@ -7,7 +7,7 @@ use Rattle.rds_assembly.specs.Cells.{Cells}
 use Rattle.rds_assembly.specs.Whole.{IsWholeName, IsWholeText}
 use Rattle.rds_receiver.specs.Receipts.{Tuning}
 use Rattle.rds_receiver.specs.Shown.{IsShown, IsView, ShownView}
-use Rattle.rds_receiver.specs.Standing.{MakeAlike, ShowsAlike, StandsAt}
+use Rattle.rds_receiver.specs.StandsAt.{MakeAlike, ShowsAlike, StandsAt}
 use Rattle.rds_receiver.specs.State.{ReceiverState}
 use Rattle.rds_receiver.specs.Tags.{item_of, tag_of}
 use Rattle.rds_receiver.proofs.Shows.{name_cells, name_shown, pair_is, text_cells, text_shown}

@@ -12,7 +12,7 @@ use Rattle.rds_receiver.proofs.Runs.{run_over, run_recent, same_is, test_false, 
 -- these segments go on, from the newest on, what so far begins with flag f in slot s
 abbrev GoOn : ℕ → Bool → ℕ → List Segment → Type 0
 GoOn m f s [] = Unit {0}
-GoOn m f s (g ∷ older) = (g.piece.flag ≡ f) × (s < g.slot + m) × GoOn m f g.slot older
+GoOn m f s (g ∷ older) = (g.fragment.flag ≡ f) × (s < g.slot + m) × GoOn m f g.slot older
 
 is_same-true : (f g : Bool) → is_same f g ≡ true → g ≡ f
 is_same-true true true e = refl
@@ -35,22 +35,22 @@ test_below a b e = by (cases_lt a b)
         absurd (cc)
 
 -- what a run so far begins goes on, where the tests hold
-go_on_if : (m s : ℕ) (f : Bool) (g : Segment) (rest : List Segment) (b : Bool) → (is_same f g.piece.flag && nat_lt s (g.slot + m)) ≡ b → GoOn m f g.slot rest
+go_on_if : (m s : ℕ) (f : Bool) (g : Segment) (rest : List Segment) (b : Bool) → (is_same f g.fragment.flag && nat_lt s (g.slot + m)) ≡ b → GoOn m f g.slot rest
     → GoOn m f s (if b then g ∷ rest else [])
 go_on_if m s f g rest true e go =
-    let both = and-true (is_same f g.piece.flag) (nat_lt s (g.slot + m)) e in
-    (is_same-true f g.piece.flag both.0, test_below s (g.slot + m) both.1, go)
+    let both = and-true (is_same f g.fragment.flag) (nat_lt s (g.slot + m)) e in
+    (is_same-true f g.fragment.flag both.0, test_below s (g.slot + m) both.1, go)
 go_on_if m s f g rest false e go = tt
 
 -- what stands before a segment of the run goes on
 before_goes_on : (m s : ℕ) (f : Bool) (segs : List Segment) → GoOn m f s (run_before m f s segs)
 before_goes_on m s f [] = tt
 before_goes_on m s f (g ∷ older) =
-    go_on_if m s f g (run_before m f g.slot older) (is_same f g.piece.flag && nat_lt s (g.slot + m)) refl (before_goes_on m g.slot f older)
+    go_on_if m s f g (run_before m f g.slot older) (is_same f g.fragment.flag && nat_lt s (g.slot + m)) refl (before_goes_on m g.slot f older)
 
-flags_of : (m s : ℕ) (f : Bool) (segs : List Segment) → GoOn m f s segs → All (λ g. g.piece.flag ≡ f) segs
-flags_of m s f [] go = All-nil (λ g. g.piece.flag ≡ f)
-flags_of m s f (g ∷ older) go = All-cons (λ g. g.piece.flag ≡ f) g older go.0 (flags_of m g.slot f older go.2)
+flags_of : (m s : ℕ) (f : Bool) (segs : List Segment) → GoOn m f s segs → All (λ g. g.fragment.flag ≡ f) segs
+flags_of m s f [] go = All-nil (λ g. g.fragment.flag ≡ f)
+flags_of m s f (g ∷ older) go = All-cons (λ g. g.fragment.flag ≡ f) g older go.0 (flags_of m g.slot f older go.2)
 
 near_of : (m s : ℕ) (f : Bool) (segs newer older : List Segment) (g h : Segment) → GoOn m f s segs → segs ≡ newer ++ g ∷ h ∷ older → g.slot < h.slot + m
 near_of m s f [] [] older g h go e = absurd (cc)
@@ -72,16 +72,16 @@ near_of m s f (x ∷ rest) (n ∷ newer) older g h go e =
 none_chained : (m t : ℕ) → IsChained m t []
 none_chained m t = record {
   flag = false;
-  one_flag = All-nil (λ g. g.piece.flag ≡ false);
+  one_flag = All-nil (λ g. g.fragment.flag ≡ false);
   near = λ newer older g h e. near_of m t false [] newer older g h tt e;
   recent = λ g older e. absurd (cc);
 }
 
-goes_on_chained : (m t : ℕ) (g : Segment) (older : List Segment) → t < g.slot + m → GoOn m g.piece.flag g.slot older → IsChained m t (g ∷ older)
+goes_on_chained : (m t : ℕ) (g : Segment) (older : List Segment) → t < g.slot + m → GoOn m g.fragment.flag g.slot older → IsChained m t (g ∷ older)
 goes_on_chained m t g older h go = record {
-  flag = g.piece.flag;
-  one_flag = All-cons (λ x. x.piece.flag ≡ g.piece.flag) g older refl (flags_of m g.slot g.piece.flag older go);
-  near = λ newer rest a b e. near_of m t g.piece.flag (g ∷ older) newer rest a b (refl, h, go) e;
+  flag = g.fragment.flag;
+  one_flag = All-cons (λ x. x.fragment.flag ≡ g.fragment.flag) g older refl (flags_of m g.slot g.fragment.flag older go);
+  near = λ newer rest a b e. near_of m t g.fragment.flag (g ∷ older) newer rest a b (refl, h, go) e;
   recent = λ a rest e.
       let same : g ≡ a = (cc) in
       let slot : g.slot ≡ a.slot = ap (λ (x : Segment). x.slot) same in
@@ -95,7 +95,7 @@ run_chained m t (g ∷ older) = by (cases_lt t (g.slot + m))
   where
     by : (t < g.slot + m) ⊎ (g.slot + m ≤ t) → IsChained m t (run m t (g ∷ older))
     by (inl h) =
-        subst (λ (r : List Segment). IsChained m t r) (sym (run_recent m t g older h)) (goes_on_chained m t g (run_before m g.piece.flag g.slot older) h (before_goes_on m g.slot g.piece.flag older))
+        subst (λ (r : List Segment). IsChained m t r) (sym (run_recent m t g older h)) (goes_on_chained m t g (run_before m g.fragment.flag g.slot older) h (before_goes_on m g.slot g.fragment.flag older))
     by (inr h) = subst (λ (r : List Segment). IsChained m t r) (sym (run_over m t g older h)) (none_chained m t)
 
 part_if : (b : Bool) (g : Segment) (rest front : List Segment) → ((older : List Segment) × (rest ≡ front ++ older)) → (older : List Segment) × (g ∷ rest ≡ (if b then g ∷ front else []) ++ older)
@@ -104,28 +104,28 @@ part_if false g rest front (older, e) = (g ∷ rest, refl)
 
 before_last : (m s : ℕ) (f : Bool) (segs : List Segment) → (older : List Segment) × (segs ≡ run_before m f s segs ++ older)
 before_last m s f [] = ([], refl)
-before_last m s f (g ∷ rest) = part_if (is_same f g.piece.flag && nat_lt s (g.slot + m)) g rest (run_before m f g.slot rest) (before_last m g.slot f rest)
+before_last m s f (g ∷ rest) = part_if (is_same f g.fragment.flag && nat_lt s (g.slot + m)) g rest (run_before m f g.slot rest) (before_last m g.slot f rest)
 
 -- the run is a last part of the segments
 pub run_last : (m t : ℕ) (segs : List Segment) → (older : List Segment) × (segs ≡ run m t segs ++ older)
 run_last m t [] = ([], refl)
-run_last m t (g ∷ rest) = part_if (nat_lt t (g.slot + m)) g rest (run_before m g.piece.flag g.slot rest) (before_last m g.slot g.piece.flag rest)
+run_last m t (g ∷ rest) = part_if (nat_lt t (g.slot + m)) g rest (run_before m g.fragment.flag g.slot rest) (before_last m g.slot g.fragment.flag rest)
 
 -- the segments behind the newest of a chain go on
-go_of : (m : ℕ) (f : Bool) (g : Segment) (rest : List Segment) → All (λ x. x.piece.flag ≡ f) rest
+go_of : (m : ℕ) (f : Bool) (g : Segment) (rest : List Segment) → All (λ x. x.fragment.flag ≡ f) rest
     → ((newer older : List Segment) (a b : Segment) → g ∷ rest ≡ newer ++ a ∷ b ∷ older → a.slot < b.slot + m) → GoOn m f g.slot rest
 go_of m f g [] flags near = tt
 go_of m f g (h ∷ rest) flags near = (
-  All-head (λ x. x.piece.flag ≡ f) h rest flags,
+  All-head (λ x. x.fragment.flag ≡ f) h rest flags,
   near [] rest g h refl,
-  go_of m f h rest (All-tail (λ x. x.piece.flag ≡ f) h rest flags) (λ newer older a b e. near (g ∷ newer) older a b (ap (λ (xs : List Segment). g ∷ xs) e)),
+  go_of m f h rest (All-tail (λ x. x.fragment.flag ≡ f) h rest flags) (λ newer older a b e. near (g ∷ newer) older a b (ap (λ (xs : List Segment). g ∷ xs) e)),
 )
 
 before_longest : (m s : ℕ) (f : Bool) (front older : List Segment) → GoOn m f s front → length front ≤ length (run_before m f s (front ++ older))
 before_longest m s f [] older go = omega arith
 before_longest m s f (g ∷ front) older go =
     let rest = before_longest m g.slot f front older go.2 in
-    let same : is_same f g.piece.flag ≡ true = rw go.0 (same_is f) in
+    let same : is_same f g.fragment.flag ≡ true = rw go.0 (same_is f) in
     let longer : length (g ∷ front) ≤ length (g ∷ run_before m f g.slot (front ++ older)) = omega arith in
     rw (same, test_true s (g.slot + m) go.1) longer
 
@@ -133,8 +133,8 @@ before_longest m s f (g ∷ front) older go =
 pub run_longest : (m t : ℕ) (front older : List Segment) → IsChained m t front → length front ≤ length (run m t (front ++ older))
 run_longest m t [] older chain = omega arith
 run_longest m t (g ∷ front) older chain =
-    let flag : g.piece.flag ≡ chain.flag = All-head (λ x. x.piece.flag ≡ chain.flag) g front chain.one_flag in
-    let go = go_of m chain.flag g front (All-tail (λ x. x.piece.flag ≡ chain.flag) g front chain.one_flag) chain.near in
-    let rest = before_longest m g.slot g.piece.flag front older (subst (λ (f : Bool). GoOn m f g.slot front) (sym flag) go) in
-    let longer : length (g ∷ front) ≤ length (g ∷ run_before m g.piece.flag g.slot (front ++ older)) = omega arith in
+    let flag : g.fragment.flag ≡ chain.flag = All-head (λ x. x.fragment.flag ≡ chain.flag) g front chain.one_flag in
+    let go = go_of m chain.flag g front (All-tail (λ x. x.fragment.flag ≡ chain.flag) g front chain.one_flag) chain.near in
+    let rest = before_longest m g.slot g.fragment.flag front older (subst (λ (f : Bool). GoOn m f g.slot front) (sym flag) go) in
+    let longer : length (g ∷ front) ≤ length (g ∷ run_before m g.fragment.flag g.slot (front ++ older)) = omega arith in
     rw (run_recent m t g (front ++ older) (chain.recent g front refl)) longer

@@ -4,9 +4,9 @@ use Rattle.std.specs.Prelude.{if◌then◌else◌}
 use Rattle.rds_fields.specs.declared.message.Message.{Message}
 use Rattle.rds_fields.specs.declared.message.Message.TheVariants.{Text, Name, Announce, Tags, Other}
 use Rattle.rds_fields.specs.Tag.{PairFields}
-use Rattle.rds_receiver.specs.Receipts.{Piece, Segment, picked, segments, with_segment}
+use Rattle.rds_receiver.specs.Receipts.{Fragment, Segment, picked, segments, with_segment}
 use Rattle.rds_receiver.specs.Run.{begins_in, is_same, run, run_before}
-use Rattle.rds_receiver.specs.Standing.{HoldsRun}
+use Rattle.rds_receiver.specs.StandsAt.{HoldsRun}
 use Rattle.rds_receiver.specs.State.{HeldSegments}
 use Rattle.rds_receiver.specs.Tags.{is_known, pair_from, pair_since, says_of_rtplus, unless_contrary}
 use Rattle.rds_receiver.proofs.Runs.{and_false, test_false, test_true}
@@ -26,17 +26,17 @@ below_if n false segs all = tt
 
 before_below : (m n s : ℕ) (f : Bool) (segs : List Segment) → AllBelow n segs → AllBelow n (run_before m f s segs)
 before_below m n s f [] all = tt
-before_below m n s f (g ∷ older) all = below_if n (is_same f g.piece.flag && nat_lt s (g.slot + m)) (g ∷ run_before m f g.slot older) (all.0, before_below m n g.slot f older all.1)
+before_below m n s f (g ∷ older) all = below_if n (is_same f g.fragment.flag && nat_lt s (g.slot + m)) (g ∷ run_before m f g.slot older) (all.0, before_below m n g.slot f older all.1)
 
 run_below : (m n t : ℕ) (segs : List Segment) → AllBelow n segs → AllBelow n (run m t segs)
 run_below m n t [] all = tt
-run_below m n t (g ∷ older) all = below_if n (nat_lt t (g.slot + m)) (g ∷ run_before m g.piece.flag g.slot older) (all.0, before_below m n g.slot g.piece.flag older all.1)
+run_below m n t (g ∷ older) all = below_if n (nat_lt t (g.slot + m)) (g ∷ run_before m g.fragment.flag g.slot older) (all.0, before_below m n g.slot g.fragment.flag older all.1)
 
-with_below : (slot n : ℕ) (o : Option Piece) (segs : List Segment) → slot < n → AllBelow slot segs → AllBelow n (with_segment slot o segs)
+with_below : (slot n : ℕ) (o : Option Fragment) (segs : List Segment) → slot < n → AllBelow slot segs → AllBelow n (with_segment slot o segs)
 with_below slot n None segs h all = below_later slot n segs (omega arith) all
 with_below slot n (Some p) segs h all = (h, below_later slot n segs (omega arith) all)
 
-segments_below : (pick : Message → Option Piece) (first : ℕ) (heard : List (Option Message)) → AllBelow (first + length heard) (segments pick first heard)
+segments_below : (pick : Message → Option Fragment) (first : ℕ) (heard : List (Option Message)) → AllBelow (first + length heard) (segments pick first heard)
 segments_below pick first [] = tt
 segments_below pick first (x ∷ before) = with_below (first + length before) (first + length (x ∷ before)) (picked pick x) (segments pick first before) (omega arith) (segments_below pick first before)
 
@@ -88,7 +88,7 @@ tags_taken_by : (m n first : ℕ) (the_run : List Segment) (heard : List (Option
 tags_taken_by m n first [] heard pair held all st young h = absurd (omega (arith, st.age))
 tags_taken_by m n first (g ∷ older) heard pair held all st young h = tags_known first g older heard pair all h
 
-pub tags_taken : (m n first : ℕ) (pick : Message → Option Piece) (heard : List (Option Message)) (pair : PairFields) (held : HeldSegments)
+pub tags_taken : (m n first : ℕ) (pick : Message → Option Fragment) (heard : List (Option Message)) (pair : PairFields) (held : HeldSegments)
     → HoldsRun m n (run m n (segments pick first heard)) held → held.age < m → is_known heard ≡ true
     → Some pair ≡ pair_from first (begins_in (run m n (segments pick first heard))) (Some (Tags pair) ∷ heard)
 tags_taken m n first pick heard pair held st young h =

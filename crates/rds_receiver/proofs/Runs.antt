@@ -4,9 +4,9 @@ use Rattle.std.specs.FinMap.{empty, insert}
 use Rattle.std.proofs.lemmas.Bool.{cases_lt}
 use Rattle.std.proofs.lemmas.Bool.Decides.{nat_tests}
 use Rattle.rds_fields.specs.declared.message.Message.{Message}
-use Rattle.rds_receiver.specs.Receipts.{Piece, Segment, segments}
+use Rattle.rds_receiver.specs.Receipts.{Fragment, Segment, segments}
 use Rattle.rds_receiver.specs.Run.{cells_of, is_same, run, run_at, run_before}
-use Rattle.rds_receiver.specs.Standing.{HasFlag, HoldsRun, newest_slot}
+use Rattle.rds_receiver.specs.StandsAt.{HasFlag, HoldsRun, newest_slot}
 use Rattle.rds_receiver.specs.State.{HeldSegments}
 
 pub test_true : (a b : ℕ) → a < b → nat_lt a b ≡ true
@@ -36,7 +36,7 @@ equal_or_not true false = inr (λ e. (cc))
 equal_or_not false true = inr (λ e. (cc))
 
 -- the run of segments of which the newest is recent
-pub run_recent : (m t : ℕ) (g : Segment) (older : List Segment) → t < g.slot + m → run m t (g ∷ older) ≡ g ∷ run_before m g.piece.flag g.slot older
+pub run_recent : (m t : ℕ) (g : Segment) (older : List Segment) → t < g.slot + m → run m t (g ∷ older) ≡ g ∷ run_before m g.fragment.flag g.slot older
 run_recent m t g older h = rw (test_true t (g.slot + m) h) refl
 
 -- the run of segments of which the newest is not
@@ -44,7 +44,7 @@ pub run_over : (m t : ℕ) (g : Segment) (older : List Segment) → g.slot + m �
 run_over m t g older h = rw (test_false t (g.slot + m) h) refl
 
 -- the run at the newest slot
-pub run_at_newest : (pick : Message → Option Piece) (m first : ℕ) (heard : List (Option Message)) → run m (newest_slot first heard) (segments pick first heard) ≡ run_at pick m first heard
+pub run_at_newest : (pick : Message → Option Fragment) (m first : ℕ) (heard : List (Option Message)) → run m (newest_slot first heard) (segments pick first heard) ≡ run_at pick m first heard
 run_at_newest pick m first [] = refl
 run_at_newest pick m first (x ∷ before) = refl
 
@@ -55,12 +55,12 @@ before_same m n f (g ∷ older) h = by_age (cases_lt n (g.slot + m))
   where
     by_age : (n < g.slot + m) ⊎ (g.slot + m ≤ n) → run_before m f n (g ∷ older) ≡ run m n (g ∷ older)
     by_age (inl l) =
-        let flag : f ≡ g.piece.flag = subst (λ (r : List Segment). HasFlag r f) (run_recent m n g older l) h in
-        let same : is_same f g.piece.flag ≡ true = rw flag (same_is g.piece.flag) in
-        let kept : run_before m f n (g ∷ older) ≡ g ∷ run_before m g.piece.flag g.slot older = rw (same, test_true n (g.slot + m) l) (ap (λ (x : Bool). g ∷ run_before m x g.slot older) flag) in
+        let flag : f ≡ g.fragment.flag = subst (λ (r : List Segment). HasFlag r f) (run_recent m n g older l) h in
+        let same : is_same f g.fragment.flag ≡ true = rw flag (same_is g.fragment.flag) in
+        let kept : run_before m f n (g ∷ older) ≡ g ∷ run_before m g.fragment.flag g.slot older = rw (same, test_true n (g.slot + m) l) (ap (λ (x : Bool). g ∷ run_before m x g.slot older) flag) in
         kept ∙ sym (run_recent m n g older l)
     by_age (inr l) =
-        let kept : run_before m f n (g ∷ older) ≡ [] = rw (test_false n (g.slot + m) l, and_false (is_same f g.piece.flag)) refl in
+        let kept : run_before m f n (g ∷ older) ≡ [] = rw (test_false n (g.slot + m) l, and_false (is_same f g.fragment.flag)) refl in
         kept ∙ sym (run_over m n g older l)
 
 -- and before one with the other flag nothing
@@ -70,22 +70,22 @@ before_other m n f f' (g ∷ older) h ne = by_age (cases_lt n (g.slot + m))
   where
     by_age : (n < g.slot + m) ⊎ (g.slot + m ≤ n) → run_before m f n (g ∷ older) ≡ []
     by_age (inl l) =
-        let flag : f' ≡ g.piece.flag = subst (λ (r : List Segment). HasFlag r f') (run_recent m n g older l) h in
-        rw (other_is f g.piece.flag (λ e. ne (e ∙ sym flag))) refl
-    by_age (inr l) = rw (test_false n (g.slot + m) l, and_false (is_same f g.piece.flag)) refl
+        let flag : f' ≡ g.fragment.flag = subst (λ (r : List Segment). HasFlag r f') (run_recent m n g older l) h in
+        rw (other_is f g.fragment.flag (λ e. ne (e ∙ sym flag))) refl
+    by_age (inr l) = rw (test_false n (g.slot + m) l, and_false (is_same f g.fragment.flag)) refl
 
 -- what is held once a segment was taken
-pub held_taken : (m n : ℕ) (segs : List Segment) (p : Piece) (h after : HeldSegments) → 0 < m
+pub held_taken : (m n : ℕ) (segs : List Segment) (p : Fragment) (h after : HeldSegments) → 0 < m
     → (p.flag ≡ h.flag → after.cells ≡ insert h.cells p.address p.bytes) → (p.flag ≢ h.flag → after.cells ≡ insert empty p.address p.bytes)
     → after.flag ≡ p.flag → after.age ≡ 0
-    → HoldsRun m n (run m n segs) h → HoldsRun m n (run m n (record { slot = n; piece = p } ∷ segs)) after
+    → HoldsRun m n (run m n segs) h → HoldsRun m n (run m n (record { slot = n; fragment = p } ∷ segs)) after
 held_taken m n segs p h after some same other flag age st =
-    let now : HoldsRun m n (record { slot = n; piece = p } ∷ run_before m p.flag n segs) after = record {
+    let now : HoldsRun m n (record { slot = n; fragment = p } ∷ run_before m p.flag n segs) after = record {
       cells = by_flag (equal_or_not p.flag h.flag);
       flag = flag;
       age = omega arith;
     } in
-    subst (λ (r : List Segment). HoldsRun m n r after) (sym (run_recent m n record { slot = n; piece = p } segs (omega arith))) now
+    subst (λ (r : List Segment). HoldsRun m n r after) (sym (run_recent m n record { slot = n; fragment = p } segs (omega arith))) now
   where
     by_flag : (p.flag ≡ h.flag) ⊎ (p.flag ≢ h.flag) → after.cells ≡ insert (cells_of (run_before m p.flag n segs)) p.address p.bytes
     by_flag (inl e) =

@@ -5,9 +5,9 @@ use Rattle.rds_block.specs.declared.group.Group.{Group}
 use Rattle.rds_fields.specs.declared.message.Message.{Message}
 use Rattle.rds_fields.specs.declared.message.Message.TheVariants.{Other, Tags, Text}
 use Rattle.rds_fields.specs.Tag.{PairFields}
-use Rattle.rds_receiver.specs.Receipts.{Hears, Piece, Segment, Tuning, name_piece, segments, text_piece}
+use Rattle.rds_receiver.specs.Receipts.{Hears, Fragment, Segment, Tuning, name_fragment, segments, text_fragment}
 use Rattle.rds_receiver.specs.Run.{begins_in, run, run_before}
-use Rattle.rds_receiver.specs.Standing.{HasFlag, HoldsAt, HoldsRun, StandsAt}
+use Rattle.rds_receiver.specs.StandsAt.{HasFlag, HoldsAt, HoldsRun, StandsAt}
 use Rattle.rds_receiver.specs.State.{HeldSegments, ReceiverState}
 use Rattle.rds_receiver.specs.Tags.{pair_from}
 use Rattle.rds_receiver.proofs.Runs.{before_other, before_same, equal_or_not, held_taken, run_recent}
@@ -20,7 +20,7 @@ nothing_heard m first r heard st = record {
   lasts = st.lasts;
   text = st.text;
   name = st.name;
-  pair = st.pair ∙ pair_of_none first (begins_in (run m (first + length heard) (segments text_piece first heard))) heard;
+  pair = st.pair ∙ pair_of_none first (begins_in (run m (first + length heard) (segments text_fragment first heard))) heard;
   known = st.known;
 }
 
@@ -31,12 +31,12 @@ other_heard m first r heard st = record {
   lasts = st.lasts;
   text = st.text;
   name = st.name;
-  pair = st.pair ∙ pair_of_other first (begins_in (run m (first + length heard) (segments text_piece first heard))) heard;
+  pair = st.pair ∙ pair_of_other first (begins_in (run m (first + length heard) (segments text_fragment first heard))) heard;
   known = st.known;
 }
 
 -- what held segments are once one was taken
-pub record Takes (p : Piece) (h after : HeldSegments) : Type 0 where
+pub record Takes (p : Fragment) (h after : HeldSegments) : Type 0 where
   pub same : p.flag ≡ h.flag → after.cells ≡ insert h.cells p.address p.bytes
   pub other : p.flag ≢ h.flag → after.cells ≡ insert empty p.address p.bytes
   pub flag : after.flag ≡ p.flag
@@ -51,7 +51,7 @@ text_heard m first r after heard f a b dwell known name takes stays gone st = re
   dwell = dwell ∙ st.dwell;
   lasts = st.lasts;
   text = held_taken m n segs p r.text after.text st.lasts takes.same takes.other takes.flag takes.age st.text;
-  name = subst (λ (h : HeldSegments). HoldsRun m (first + length heard) (run m (first + length heard) (segments name_piece first heard)) h) (sym name) st.name;
+  name = subst (λ (h : HeldSegments). HoldsRun m (first + length heard) (run m (first + length heard) (segments name_fragment first heard)) h) (sym name) st.name;
   pair = by_flag (equal_or_not f r.text.flag) ∙ ap (λ (x : List Segment). pair_from first (begins_in x) (Some (Text f a b) ∷ heard)) (sym (run_recent m n g segs (omega (arith, st.lasts))));
   known = known ∙ st.known;
 }
@@ -60,13 +60,13 @@ text_heard m first r after heard f a b dwell known name takes stays gone st = re
     n = first + length heard
 
     segs : List Segment
-    segs = segments text_piece first heard
+    segs = segments text_fragment first heard
 
-    p : Piece
+    p : Fragment
     p = record { flag = f; address = a; bytes = b }
 
     g : Segment
-    g = record { slot = n; piece = p }
+    g = record { slot = n; fragment = p }
 
     by_flag : (f ≡ r.text.flag) ⊎ (f ≢ r.text.flag) → after.pair ≡ pair_from first (begins_in (g ∷ run_before m f n segs)) (Some (Text f a b) ∷ heard)
     by_flag (inl e) =
@@ -86,7 +86,7 @@ tags_heard m first r heard pair known young st = record {
   lasts = st.lasts;
   text = st.text;
   name = st.name;
-  pair = tags_taken m (first + length heard) first text_piece heard pair r.text st.text young (sym st.known ∙ known);
+  pair = tags_taken m (first + length heard) first text_fragment heard pair r.text st.text young (sym st.known ∙ known);
   known = st.known;
 }
 

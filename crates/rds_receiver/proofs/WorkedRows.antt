@@ -5,7 +5,7 @@ use Rattle.rds_fields.specs.declared.message.Message.{Message}
 use Rattle.rds_fields.specs.declared.message.Message.TheVariants.{Text, Name, Announce, Tags}
 use Rattle.rds_fields.specs.declared.pair.Which.TheVariants.{One}
 use Rattle.rds_fields.specs.Tag.{PairFields}
-use Rattle.rds_receiver.specs.Receipts.{Segment, name_piece, text_piece}
+use Rattle.rds_receiver.specs.Receipts.{Segment, name_fragment, text_fragment}
 use Rattle.rds_receiver.specs.Run.{begins_in, cells_of, run_at}
 use Rattle.rds_receiver.specs.Tags.{is_known, item_of, pair_held, tag_of}
 
@@ -13,7 +13,7 @@ abbrev Heard : Type 0
 Heard = List (Option Message)
 
 abbrev segment : ℕ → Bool → ℕ → List ℕ → Segment
-segment slot flag address bytes = record { slot = slot; piece = record { flag = flag; address = address; bytes = bytes } }
+segment slot flag address bytes = record { slot = slot; fragment = record { flag = flag; address = address; bytes = bytes } }
 
 abbrev hi : List ℕ
 hi = 72 ∷ 73 ∷ 13 ∷ 32 ∷ []
@@ -28,21 +28,21 @@ title = record {
 }
 
 -- one segment is held at the ends of slots 0 to 3, and not at that of slot 4
-one_held : run_at text_piece 4 0 (None ∷ None ∷ None ∷ Some (Text false 0 hi) ∷ []) ≡ segment 0 false 0 hi ∷ []
+one_held : run_at text_fragment 4 0 (None ∷ None ∷ None ∷ Some (Text false 0 hi) ∷ []) ≡ segment 0 false 0 hi ∷ []
 one_held = refl
 
-one_over : run_at text_piece 4 0 (None ∷ None ∷ None ∷ None ∷ Some (Text false 0 hi) ∷ []) ≡ []
+one_over : run_at text_fragment 4 0 (None ∷ None ∷ None ∷ None ∷ Some (Text false 0 hi) ∷ []) ≡ []
 one_over = refl
 
 -- silence, dwell and age: the only segment comes in slot 4, and is held to slot 7
-held_to_7 : run_at text_piece 4 0 (None ∷ None ∷ None ∷ Some (Text false 0 hi) ∷ None ∷ None ∷ None ∷ None ∷ []) ≡ segment 4 false 0 hi ∷ []
+held_to_7 : run_at text_fragment 4 0 (None ∷ None ∷ None ∷ Some (Text false 0 hi) ∷ None ∷ None ∷ None ∷ None ∷ []) ≡ segment 4 false 0 hi ∷ []
 held_to_7 = refl
 
-over_in_8 : run_at text_piece 4 0 (None ∷ None ∷ None ∷ None ∷ Some (Text false 0 hi) ∷ None ∷ None ∷ None ∷ None ∷ []) ≡ []
+over_in_8 : run_at text_fragment 4 0 (None ∷ None ∷ None ∷ None ∷ Some (Text false 0 hi) ∷ None ∷ None ∷ None ∷ None ∷ []) ≡ []
 over_in_8 = refl
 
 -- a segment that comes in slot 4 is alone
-second_too_late : run_at text_piece 4 0 (Some (Text false 1 hi) ∷ None ∷ None ∷ None ∷ Some (Text false 0 hi) ∷ []) ≡ segment 4 false 1 hi ∷ []
+second_too_late : run_at text_fragment 4 0 (Some (Text false 1 hi) ∷ None ∷ None ∷ None ∷ Some (Text false 0 hi) ∷ []) ≡ segment 4 false 1 hi ∷ []
 second_too_late = refl
 
 -- two segments of the first song in slots 6 and 8, and the third song in slots 20, 22 and 24
@@ -51,11 +51,11 @@ skipped =
     Some (Text false 2 (78 ∷ 71 ∷ 13 ∷ 32 ∷ [])) ∷ None ∷ Some (Text false 1 (68 ∷ 32 ∷ 83 ∷ 79 ∷ [])) ∷ None ∷ Some (Text false 0 (84 ∷ 72 ∷ 73 ∷ 82 ∷ [])) ∷ None ∷ None ∷ None ∷ None ∷ None
     ∷ None ∷ None ∷ None ∷ None ∷ None ∷ None ∷ Some (Text false 2 (78 ∷ 71 ∷ 13 ∷ 32 ∷ [])) ∷ None ∷ Some (Text false 1 (84 ∷ 32 ∷ 83 ∷ 79 ∷ [])) ∷ None ∷ None ∷ None ∷ None ∷ None ∷ None ∷ []
 
-skipped_run : run_at text_piece 4 0 skipped
+skipped_run : run_at text_fragment 4 0 skipped
     ≡ segment 24 false 2 (78 ∷ 71 ∷ 13 ∷ 32 ∷ []) ∷ segment 22 false 1 (68 ∷ 32 ∷ 83 ∷ 79 ∷ []) ∷ segment 20 false 0 (84 ∷ 72 ∷ 73 ∷ 82 ∷ []) ∷ []
 skipped_run = refl
 
-skipped_cells : cells_of (run_at text_piece 4 0 skipped)
+skipped_cells : cells_of (run_at text_fragment 4 0 skipped)
     ≡ insert (insert (insert empty 0 (84 ∷ 72 ∷ 73 ∷ 82 ∷ [])) 1 (68 ∷ 32 ∷ 83 ∷ 79 ∷ [])) 2 (78 ∷ 71 ∷ 13 ∷ 32 ∷ [])
 skipped_cells = refl
 
@@ -90,13 +90,13 @@ abbrev foreign_12 : Heard
 foreign_12 =
     Some (Name true 0 (74 ∷ 13 ∷ 90 ∷ 90 ∷ [])) ∷ Some (Name true 1 (32 ∷ 70 ∷ 77 ∷ 32 ∷ [])) ∷ Some (Name false 0 (74 ∷ 13 ∷ 90 ∷ 90 ∷ [])) ∷ foreign_9
 
-foreign_5_begins : begins_in (run_at text_piece 4 0 foreign_5) ≡ Some 0
+foreign_5_begins : begins_in (run_at text_fragment 4 0 foreign_5) ≡ Some 0
 foreign_5_begins = refl
 
 foreign_5_pair : pair_held 4 0 foreign_5 ≡ Some title
 foreign_5_pair = refl
 
-foreign_6_run : run_at text_piece 4 0 foreign_6 ≡ segment 6 true 0 (89 ∷ 79 ∷ 13 ∷ 32 ∷ []) ∷ []
+foreign_6_run : run_at text_fragment 4 0 foreign_6 ≡ segment 6 true 0 (89 ∷ 79 ∷ 13 ∷ 32 ∷ []) ∷ []
 foreign_6_run = refl
 
 foreign_6_pair : pair_held 4 0 foreign_6 ≡ None
@@ -114,8 +114,8 @@ foreign_9_pair = refl
 foreign_9_known : is_known foreign_9 ≡ false
 foreign_9_known = refl
 
-foreign_12_text : run_at text_piece 4 0 foreign_12 ≡ []
+foreign_12_text : run_at text_fragment 4 0 foreign_12 ≡ []
 foreign_12_text = refl
 
-foreign_12_name : run_at name_piece 4 0 foreign_12 ≡ segment 12 true 0 (74 ∷ 13 ∷ 90 ∷ 90 ∷ []) ∷ segment 11 true 1 (32 ∷ 70 ∷ 77 ∷ 32 ∷ []) ∷ []
+foreign_12_name : run_at name_fragment 4 0 foreign_12 ≡ segment 12 true 0 (74 ∷ 13 ∷ 90 ∷ 90 ∷ []) ∷ segment 11 true 1 (32 ∷ 70 ∷ 77 ∷ 32 ∷ []) ∷ []
 foreign_12_name = refl

@@ -6,6 +6,6 @@ use Rattle.rds_receiver.specs.Receipts.{Segment}
 
 pub record IsChained (m t : ℕ) (chain : List Segment) : Type 0 where
   pub flag : Bool
-  pub one_flag : All (λ g. g.piece.flag ≡ flag) chain
+  pub one_flag : All (λ g. g.fragment.flag ≡ flag) chain
   pub near : (newer older : List Segment) (g h : Segment) → chain ≡ newer ++ g ∷ h ∷ older → g.slot < h.slot + m
   pub recent : (g : Segment) (older : List Segment) → chain ≡ g ∷ older → t < g.slot + m

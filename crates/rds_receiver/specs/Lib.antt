@@ -7,5 +7,5 @@ pub mod State
 pub mod Stored
 pub mod Codes
 pub mod Lent
-pub mod Standing
+pub mod StandsAt
 pub mod OneView

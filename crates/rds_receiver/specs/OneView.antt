@@ -6,7 +6,7 @@ use Rattle.rds_fields.specs.declared.pair.Which.TheVariants.{One, Two}
 use Rattle.rds_fields.specs.OneMessage.{same_message}
 use Rattle.rds_assembly.specs.Cells.{Cells}
 use Rattle.rds_assembly.specs.ServiceLaws.{one_name, one_text}
-use Rattle.rds_receiver.specs.Receipts.{AreHeard, Hears, Tuning, name_piece, text_piece}
+use Rattle.rds_receiver.specs.Receipts.{AreHeard, Hears, Tuning, name_fragment, text_fragment}
 use Rattle.rds_receiver.specs.Run.{cells_of, run_at}
 use Rattle.rds_receiver.specs.Shown.{IsNameShown, IsShown, IsTextShown, IsView, ShowsView, ShownView}
 use Rattle.rds_receiver.specs.Tags.{item_of, pair_held, tag_of}
@@ -46,12 +46,12 @@ same_shown IsWhole one cells (Some x) (Some y) p q = ap Some (one cells x y p q)
 pub same_text_shown : (m first : ℕ) (heard : List (Option Message)) (shown other : Option (List ℕ))
     → IsTextShown m first heard shown → IsTextShown m first heard other → shown ≡ other
 same_text_shown m first heard shown other p q =
-    same_shown _ one_text (cells_of (run_at text_piece m first heard)) shown other p q
+    same_shown _ one_text (cells_of (run_at text_fragment m first heard)) shown other p q
 
 same_name_shown : (m first : ℕ) (heard : List (Option Message)) (shown other : Option (List ℕ))
     → IsNameShown m first heard shown → IsNameShown m first heard other → shown ≡ other
 same_name_shown m first heard shown other p q =
-    same_shown _ one_name (cells_of (run_at name_piece m first heard)) shown other p q
+    same_shown _ one_name (cells_of (run_at name_fragment m first heard)) shown other p q
 
 same_view_of : (m first : ℕ) (heard : List (Option Message)) (v w : ShownView) → ShowsView m first heard v
     → ShowsView m first heard w → v ≡ w

@@ -25,43 +25,43 @@ abbrev pub AreHeard : ℕ → List (Option Group) → List (Option Message) → 
 AreHeard pi input heard = AllZip (Hears pi) input heard
 
 -- four bytes of a text or a name at their address, with the A/B flag
-pub record Piece : Type 0 where
+pub record Fragment : Type 0 where
   pub flag : Bool
   pub address : ℕ
   pub bytes : List ℕ
 
--- the piece of a text that a message carries
-abbrev pub text_piece : Message → Option Piece
-text_piece (Text f a b) = Some record { flag = f; address = a; bytes = b }
-text_piece (Name f a b) = None
-text_piece (Announce code bits aid) = None
-text_piece (Tags pair) = None
-text_piece Other = None
+-- the fragment of a text that a message carries
+abbrev pub text_fragment : Message → Option Fragment
+text_fragment (Text f a b) = Some record { flag = f; address = a; bytes = b }
+text_fragment (Name f a b) = None
+text_fragment (Announce code bits aid) = None
+text_fragment (Tags pair) = None
+text_fragment Other = None
 
--- the piece of a name that a message carries
-abbrev pub name_piece : Message → Option Piece
-name_piece (Text f a b) = None
-name_piece (Name f a b) = Some record { flag = f; address = a; bytes = b }
-name_piece (Announce code bits aid) = None
-name_piece (Tags pair) = None
-name_piece Other = None
+-- the fragment of a name that a message carries
+abbrev pub name_fragment : Message → Option Fragment
+name_fragment (Text f a b) = None
+name_fragment (Name f a b) = Some record { flag = f; address = a; bytes = b }
+name_fragment (Announce code bits aid) = None
+name_fragment (Tags pair) = None
+name_fragment Other = None
 
 -- a segment that was received, with the slot it came in
 pub record Segment : Type 0 where
   pub slot : ℕ
-  pub piece : Piece
+  pub fragment : Fragment
 
 -- what is picked of what was heard in a slot
-abbrev pub picked : (Message → Option Piece) → Option Message → Option Piece
+abbrev pub picked : (Message → Option Fragment) → Option Message → Option Fragment
 picked pick None = None
 picked pick (Some m) = pick m
 
-abbrev pub with_segment : ℕ → Option Piece → List Segment → List Segment
+abbrev pub with_segment : ℕ → Option Fragment → List Segment → List Segment
 with_segment slot None older = older
-with_segment slot (Some p) older = record { slot = slot; piece = p } ∷ older
+with_segment slot (Some p) older = record { slot = slot; fragment = p } ∷ older
 
 -- the segments among what was heard
-abbrev pub segments : (Message → Option Piece) → ℕ → List (Option Message) → List Segment
+abbrev pub segments : (Message → Option Fragment) → ℕ → List (Option Message) → List Segment
 segments pick first [] = []
 segments pick first (heard ∷ before) =
     with_segment (first + length before) (picked pick heard) (segments pick first before)

@@ -5,7 +5,7 @@ use Rattle.std.specs.Prelude.{◌+◌, ◌&&◌, ℕ, Bool, true, false, List, [
 use Rattle.std.specs.FinMap.{empty, insert}
 use Rattle.rds_fields.specs.declared.message.Message.{Message}
 use Rattle.rds_assembly.specs.Cells.{Cells}
-use Rattle.rds_receiver.specs.Receipts.{Piece, Segment, segments}
+use Rattle.rds_receiver.specs.Receipts.{Fragment, Segment, segments}
 
 abbrev pub is_same : Bool → Bool → Bool
 is_same true true = true
@@ -17,15 +17,15 @@ is_same false true = false
 abbrev pub run_before : ℕ → Bool → ℕ → List Segment → List Segment
 run_before m f s [] = []
 run_before m f s (g ∷ older) =
-    if is_same f g.piece.flag && nat_lt s (g.slot + m) then g ∷ run_before m f g.slot older else []
+    if is_same f g.fragment.flag && nat_lt s (g.slot + m) then g ∷ run_before m f g.slot older else []
 
 -- the run at slot t
 abbrev pub run : ℕ → ℕ → List Segment → List Segment
 run m t [] = []
-run m t (g ∷ older) = if nat_lt t (g.slot + m) then g ∷ run_before m g.piece.flag g.slot older else []
+run m t (g ∷ older) = if nat_lt t (g.slot + m) then g ∷ run_before m g.fragment.flag g.slot older else []
 
 -- the run at the end of the newest slot of what was heard
-abbrev pub run_at : (Message → Option Piece) → ℕ → ℕ → List (Option Message) → List Segment
+abbrev pub run_at : (Message → Option Fragment) → ℕ → ℕ → List (Option Message) → List Segment
 run_at pick m first [] = []
 run_at pick m first (heard ∷ before) = run m (first + length before) (segments pick first (heard ∷ before))
 
@@ -38,4 +38,4 @@ begins_in (g ∷ h ∷ older) = begins_in (h ∷ older)
 -- the cells of a run: the latest segment at each address
 abbrev pub cells_of : List Segment → Cells
 cells_of [] = empty
-cells_of (g ∷ older) = insert (cells_of older) g.piece.address g.piece.bytes
+cells_of (g ∷ older) = insert (cells_of older) g.fragment.address g.fragment.bytes

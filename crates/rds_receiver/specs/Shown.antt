@@ -8,7 +8,7 @@ use Rattle.rds_fields.specs.declared.pair.Which.{Which}
 use Rattle.rds_fields.specs.declared.pair.Which.TheVariants.{One, Two}
 use Rattle.rds_assembly.specs.Cells.{Cells}
 use Rattle.rds_assembly.specs.Whole.{IsWholeName, IsWholeText}
-use Rattle.rds_receiver.specs.Receipts.{AreHeard, Tuning, name_piece, text_piece}
+use Rattle.rds_receiver.specs.Receipts.{AreHeard, Tuning, name_fragment, text_fragment}
 use Rattle.rds_receiver.specs.Run.{cells_of, run_at}
 use Rattle.rds_receiver.specs.Tags.{item_of, pair_held, tag_of}
 
@@ -18,11 +18,11 @@ IsShown IsWhole cells shown = MatchOption shown ((x : List ℕ) → IsWhole cell
 
 -- the text that the run of texts makes whole
 abbrev pub IsTextShown : ℕ → ℕ → List (Option Message) → Option (List ℕ) → Type 0
-IsTextShown m first heard shown = IsShown IsWholeText (cells_of (run_at text_piece m first heard)) shown
+IsTextShown m first heard shown = IsShown IsWholeText (cells_of (run_at text_fragment m first heard)) shown
 
 -- the name that the run of names makes whole
 abbrev pub IsNameShown : ℕ → ℕ → List (Option Message) → Option (List ℕ) → Type 0
-IsNameShown m first heard shown = IsShown IsWholeName (cells_of (run_at name_piece m first heard)) shown
+IsNameShown m first heard shown = IsShown IsWholeName (cells_of (run_at name_fragment m first heard)) shown
 
 -- the item bits beside the text that is shown
 abbrev pub IsItemShown : ℕ → ℕ → List (Option Message) → Option (Bool × Bool) → Type 0

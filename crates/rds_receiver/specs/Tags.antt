@@ -7,7 +7,7 @@ use Rattle.rds_fields.specs.declared.pair.Which.{Which}
 use Rattle.rds_fields.specs.declared.pair.Which.TheVariants.{One, Two}
 use Rattle.rds_fields.specs.RadioTextPlus.{rtplus_aid, rtplus_code}
 use Rattle.rds_fields.specs.Tag.{PairFields, TagFields, piece_in}
-use Rattle.rds_receiver.specs.Receipts.{text_piece}
+use Rattle.rds_receiver.specs.Receipts.{text_fragment}
 use Rattle.rds_receiver.specs.Run.{begins_in, run_at}
 
 -- what an announcement says of RadioText Plus on 11A: that it is there (both fit), the contrary (just one
@@ -54,7 +54,7 @@ pair_from first (Some since) heard = pair_since first since heard
 
 -- the pair held: the last one later than the first segment of the run of texts
 abbrev pub pair_held : ℕ → ℕ → List (Option Message) → Option PairFields
-pair_held m first heard = pair_from first (begins_in (run_at text_piece m first heard)) heard
+pair_held m first heard = pair_from first (begins_in (run_at text_fragment m first heard)) heard
 
 -- the item bits that are shown: those of the pair held, where a text is shown
 abbrev pub item_of : Option (List ℕ) → Option PairFields → Option (Bool × Bool)

@@ -3,7 +3,7 @@ ghost use Rattle.std.specs.Prelude.{◌≡◌, ◌≢◌, ◌+◌, ◌<◌, ◌�
 ghost use Rattle.std.specs.FinMap.{empty, insert};
 ghost use Rattle.std.specs.Option.{option_copied};
 ghost use Rattle.rds_receiver.specs.Shown.{IsShown};
-ghost use Rattle.rds_receiver.specs.Standing.{MakeAlike};
+ghost use Rattle.rds_receiver.specs.StandsAt.{MakeAlike};
 ghost use Rattle.rds_receiver.specs.State.{HeldSegments};
 ghost use Rattle.rds_receiver.specs.Stored.{segments_stored};
 

@@ -6,7 +6,7 @@ ghost use Rattle.rds_fields.specs.declared.message.Message.{Message};
 ghost use Rattle.rds_receiver.specs.Lent.{tag_lent, view_lent};
 ghost use Rattle.rds_receiver.specs.Receipts.{Hears};
 ghost use Rattle.rds_receiver.specs.Shown.{IsItemShown, IsNameShown, IsTagShown, IsTextShown, IsView, ShownView};
-ghost use Rattle.rds_receiver.specs.Standing.{HearsMore, HoldsAt, ShowsAlike, StandsAt, WhatItHeard, WhereItStands, newest_slot};
+ghost use Rattle.rds_receiver.specs.StandsAt.{HearsMore, HoldsAt, ShowsAlike, StandsAt, WhatItHeard, WhereItStands, newest_slot};
 ghost use Rattle.rds_receiver.specs.State.{ReceiverState};
 ghost use Rattle.rds_receiver.specs.Stored.{IsStored, receiver_stored};
 ghost use Rattle.rds_receiver.specs.Tags.{or_before, pair_held, says_of_rtplus, unless_contrary};

@@ -4,7 +4,7 @@ ghost use Rattle.rds_block.specs.declared.group.Group.{Group};
 ghost use Rattle.rds_fields.specs.declared.message.Message.{Message};
 ghost use Rattle.rds_receiver.specs.Receipts.{Hears};
 ghost use Rattle.rds_receiver.specs.Shown.{IsView, ShownView};
-ghost use Rattle.rds_receiver.specs.Standing.{HoldsAt, ShowsAlike, StandsAt, WhereItStands, newest_slot};
+ghost use Rattle.rds_receiver.specs.StandsAt.{HoldsAt, ShowsAlike, StandsAt, WhereItStands, newest_slot};
 ghost use Rattle.rds_receiver.specs.Stored.{IsStored, receiver_stored};
 
 use rds_fields::{Message, StoredPair};

@@ -126,7 +126,7 @@ fn second_segment_too_late(rt: HostRuntime) -> Result<(), Fail> {
 }
 
 /// Two segments of the first song are received, none of the second, and all of the third, which has the flag of
-/// the first: no piece of the first song is shown in it.
+/// the first: nothing of the first song is shown in it.
 #[test]
 fn two_skipped_flags(rt: HostRuntime) -> Result<(), Fail> {
     let mut rows = [(None, NOTHING); 25];

@@ -7,21 +7,20 @@ use Rattle.rds_charset.specs.declared.output.WriteFault.{WriteFault}
 use Rattle.rds_receiver.specs.Receipts.{Tuning}
 use Rattle.rds_world.specs.declared.world.Config.{Config}
 use Rattle.rds_log.specs.Audit.{Audits}
-use Rattle.rds_charset.specs.Digits.{HasWord}
 use Rattle.rds_log.specs.Decode.{Decodes}
-use Rattle.rds_log.specs.Decoding.{tuned}
-use Rattle.rds_log.specs.Failing.{SomeReadFailed}
-use Rattle.rds_log.specs.Scripts.{Plays, Reading}
+use Rattle.rds_log.specs.LogWrites.{tuned}
+use Rattle.rds_log.specs.ReadFailed.{SomeReadFailed}
+use Rattle.rds_log.specs.Play.{Plays, Reading}
 use Rattle.rds_log.specs.declared.fault.LogFault.{LogFault}
 use Rattle.rds_log.specs.declared.fault.LogFault.TheVariants.{BadLine, BadRow, Read, Write, TooLong, Memory}
 use Rattle.rds_log.specs.declared.form.Form.TheVariants.{Log, Simulation}
-use Rattle.rds_words.specs.CommandLine.{AreRefused, AskFor, AskForHelp, Asked, TakesWords, asked_in}
+use Rattle.rds_words.specs.CommandLine.{AreRefused, AskFor, AskForHelp, Asked, IsPi, TakesWords, asked_in}
 use Rattle.rds_words.specs.declared.request.Programme.{Programme}
 use Rattle.rds_words.specs.declared.request.Task.{Task}
 use Rattle.rds_words.specs.declared.request.Task.TheVariants.{Audit, Decode, Encode, Simulate}
 
 -- what a call did begins with these bytes and these failures
-pub record Begins (t : Traffic) (bytes : Option (List ℕ)) (failures : ℕ) : Type 0 where
+pub record StartsFrom (t : Traffic) (bytes : Option (List ℕ)) (failures : ℕ) : Type 0 where
   pub bytes_are : t.before ≡ bytes
   pub failures_are : t.failures_before ≡ failures
 
@@ -31,11 +30,6 @@ pub record IsUntouched {X : Type 0} (remaining : X → Option (List ℕ)) (failu
   pub bytes_are : remaining new ≡ remaining old
   pub failures_are : failures new ≡ failures old
   pub reads_are : reads new ≡ reads old
-
--- four hexadecimal digits of either case, and the programme identification that they spell
-pub record IsPi (given : List ℕ) (pi : ℕ) : Type 0 where
-  pub four : length given ≡ 4
-  pub word : HasWord given 0 pi
 
 -- ---- faults
 
@@ -74,8 +68,8 @@ abbrev pub done : Unit {0} → ℕ
 done _ = 0
 
 -- of a yes, and of a no
-abbrev pub answered : Bool → ℕ
-answered passed = if passed then 0 else 1
+abbrev pub verdict_status : Bool → ℕ
+verdict_status passed = if passed then 0 else 1
 
 -- an engine ran, and then its outcome gave the status; `mid` and `failures` are the writer's in between
 pub record Runs {X : Type 0} (Engine : Traffic → Result X LogFault → Type 0) (status_of : X → ℕ) (task : Task)
@@ -110,7 +104,7 @@ TaskRuns (Simulate programme late) t r ReadFailed w status =
     Runs (Plays Simulation (station_of t programme late) (2 ^ 32) (script_in r ReadFailed)) done
     (Simulate programme late) w status
 TaskRuns (Audit late) t r ReadFailed w status =
-    Runs (Audits t.programme (t.dwell + late) (2 ^ 32) r) answered (Audit late) w status
+    Runs (Audits t.programme (t.dwell + late) (2 ^ 32) r) verdict_status (Audit late) w status
 
 -- the programme identification is refused
 pub record RefusesPi (task : Task) (w : Traffic) (status : ℕ) : Type 0 where
@@ -123,19 +117,19 @@ pub record NoMemory (w : Traffic) (status : ℕ) : Type 0 where
   pub told : PutsLine (codes "fault memory\n") w
 
 -- a reader before a call: what it has left, how often it failed, and what says that one of its reads failed
-pub record ReaderState : Type 1 where
+pub record ReaderBefore : Type 1 where
   pub bytes : Option (List ℕ)
   pub failures : ℕ
   pub ReadFailed : Type 0
 
-abbrev pub reader_state : {R : Type 0} → (R → Option (List ℕ)) → (R → ℕ) → R → ReaderState
-reader_state remaining failures reader =
+abbrev pub reader_before : {R : Type 0} → (R → Option (List ℕ)) → (R → ℕ) → R → ReaderBefore
+reader_before remaining failures reader =
     record { bytes = remaining reader; failures = failures reader; ReadFailed = SomeReadFailed failures }
 
 -- the engine of a task ran over a reader that was so
-abbrev pub RunsFrom : ReaderState → Traffic → ℕ → Task → Tuning → Type 0
+abbrev pub RunsFrom : ReaderBefore → Traffic → ℕ → Task → Tuning → Type 0
 RunsFrom reader w status task t =
-    (r : Traffic) × Begins r reader.bytes reader.failures × TaskRuns task t r reader.ReadFailed w status
+    (r : Traffic) × StartsFrom r reader.bytes reader.failures × TaskRuns task t r reader.ReadFailed w status
 
 -- what the program does over these words: the engine of the task that they ask for runs, or the programme's number is
 -- told to be none; where they ask for nothing, ask for help, are refused or are not taken, this is its status. In each

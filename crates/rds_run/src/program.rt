@@ -1,22 +1,22 @@
 //! The whole program over its words.
-ghost use Rattle.std.specs.Prelude.{◌≡◌, ◌⊎◌, ◌≤◌, ◌+◌, ◌++◌, ℕ, IfSome, IfNone};
+ghost use Rattle.std.specs.Prelude.{◌≡◌, ◌⊎◌, ◌≤◌, ◌+◌, ◌++◌, ℕ};
 ghost use Rattle.std.specs.Prelude.{None, codes, decimal, false, true, length, map};
 ghost use Rattle.rds_charset.specs.Told.{PutsNothing, Traffic, traffic};
-ghost use Rattle.rds_log.specs.Decoding.{tuned};
-ghost use Rattle.rds_log.specs.Failing.{SomeReadFailed};
+ghost use Rattle.rds_log.specs.LogWrites.{tuned};
+ghost use Rattle.rds_log.specs.ReadFailed.{SomeReadFailed};
 ghost use Rattle.clap.specs.Words.{kind_of};
-ghost use Rattle.rds_words.specs.CommandLine.{AreRefused, AskFor, AskForHelp, Asked};
+ghost use Rattle.rds_words.specs.CommandLine.{AreRefused, AskFor, AskForHelp, Asked, IsPi};
 ghost use Rattle.rds_words.specs.CommandLine.{TakesWords, asked_in, is_shown};
 ghost use Rattle.rds_run.specs.Run as specs;
-ghost use Rattle.rds_run.specs.Run.{EndsWith, IsPi, IsUntouched, NoMemory, PutsAfter, PutsLine};
-ghost use Rattle.rds_run.specs.Run.{RefusesPi, RunsFrom, RunsWords, TaskRuns, TellsFault, done, mark_of, reader_state};
+ghost use Rattle.rds_run.specs.Run.{EndsWith, IsUntouched, NoMemory, PutsAfter, PutsLine};
+ghost use Rattle.rds_run.specs.Run.{RefusesPi, RunsFrom, RunsWords, TaskRuns, TellsFault, done, mark_of, reader_before};
 
 use clap::Error;
 use clap::error::ErrorKind;
-use rds_charset::{TellingRead, TellingWrite, put};
+use rds_charset::{Lines, TellingRead, TellingWrite, put};
 use rds_encoder::Late;
 use rds_fields::{Dwell, Head};
-use rds_log::{Lines, LogFault, audit, decode, encode, simulate, word_at};
+use rds_log::{LogFault, audit, decode, encode, simulate};
 use rds_words::{Programme, Request, Task, read_words};
 use rds_world::Config;
 use std::alloc::Global;
@@ -51,7 +51,7 @@ pub fn run<R: TellingRead + Drop, W: TellingWrite>(
     writer: &mut W,
 ) -> u8
     ensures { RunsWords (map (λ w. w.now) words.entry.now)
-        (RunsFrom (reader_state R.remaining R.failures reader)
+        (RunsFrom (reader_before R.remaining R.failures reader)
         (traffic W.contents W.failures writer.old writer.new) result) (Unit {0})
         (traffic W.contents W.failures writer.old writer.new) result }
 {
@@ -111,7 +111,7 @@ fn answer<R: TellingRead, W: TellingWrite>(
         → RefusesPi request.entry.task (traffic W.contents W.failures writer.old writer.new) result
         × IsUntouched R.remaining R.failures R.reads reader.old reader.new }
 {
-    let Some(pi) = pi_of(request.pi) else {
+    let Some(pi) = request.programme() else {
         tell_fault_text(request.task, b"fault pi", writer);
         return REFUSED;
     };
@@ -152,18 +152,6 @@ fn run_task<R: TellingRead, W: TellingWrite>(
             Ok(false) => NO,
             Err(fault) => fail_with(asked, fault, writer),
         },
-    }
-}
-
-/// The programme identification that the word spells, in four hexadecimal digits of either case.
-fn pi_of(given: &str) -> Option<u16>
-    ensures some { IfSome result (IsPi given.now) }
-    ensures none { IfNone result ((pi : ℕ) → IsPi given.now pi → ⊥) }
-{
-    if given.len() == 4 {
-        word_at(given.as_bytes(), 0)
-    } else {
-        None
     }
 }
 

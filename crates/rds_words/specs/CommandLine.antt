@@ -12,6 +12,7 @@ use Rattle.clap.specs.declared.builder.action.ArgAction.TheVariants.{SetTrue}
 use Rattle.clap.specs.declared.builder.value_parser.ValueParser.TheVariants.{Signed}
 use Rattle.clap.specs.declared.error.kind.ErrorKind.{ErrorKind}
 use Rattle.clap.specs.declared.error.kind.ErrorKind.TheVariants.{DisplayHelp, DisplayVersion}
+use Rattle.rds_charset.specs.Digits.{HasWord}
 use Rattle.rds_words.specs.declared.request.Programme.{Programme}
 use Rattle.rds_words.specs.declared.request.Task.{Task}
 use Rattle.rds_words.specs.declared.request.Task.TheVariants.{Audit, Decode, Encode, Simulate}
@@ -94,6 +95,11 @@ pub record Asked : Type 0 where
   pub task : Task
   pub pi : Text
   pub dwell : ℕ
+
+-- four hexadecimal digits of either case, and the programme identification that they spell
+pub record IsPi (given : Text) (pi : ℕ) : Type 0 where
+  pub four : length given ≡ 4
+  pub word : HasWord given 0 pi
 
 -- the number that decimal digits write, where a plus may stand first, if it lies between the two
 abbrev pub number_from_to : ℕ → ℕ → Text → Option ℕ

@@ -10,9 +10,9 @@ in_front c [] = (c ∷ []) ∷ []
 in_front c (word ∷ rest) = (c ∷ word) ∷ rest
 
 -- a line, cut at its spaces
-abbrev pub words_of : List ℕ → List Text
-words_of [] = [] ∷ []
-words_of (c ∷ rest) = if c == 32 then [] ∷ words_of rest else in_front c (words_of rest)
+abbrev pub typed : List ℕ → List Text
+typed [] = [] ∷ []
+typed (c ∷ rest) = if c == 32 then [] ∷ typed rest else in_front c (typed rest)
 
 -- the words are not taken, and refused
 pub record AreNotTaken (words : List Text) : Type 0 where

@@ -1,14 +1,15 @@
 //! What the words of the command line ask for.
-ghost use Rattle.std.specs.Prelude.{◌≡◌, ◌⊎◌, IfErr, IfOk, false, map, option_map, true};
+ghost use Rattle.std.specs.Prelude.{◌≡◌, ◌⊎◌, ℕ, IfErr, IfNone, IfOk, IfSome, false, map, option_map, true};
 ghost use Rattle.clap.specs.Words.{FailsBy, fault_of, found_of, kind_of, rows_of};
 ghost use Rattle.rds_words.specs.Asks.{asked_by};
-ghost use Rattle.rds_words.specs.CommandLine.{AreRefused, AskForHelp, TakesWords, asked_in, asked_of};
+ghost use Rattle.rds_words.specs.CommandLine.{AreRefused, AskForHelp, IsPi, TakesWords, asked_in, asked_of};
 ghost use Rattle.rds_words.specs.CommandLine.{dwell_in, is_shown, late_in, programme_in, task_in, tp_in, whole_app};
 
 use crate::command_line::whole;
 use clap::error::ErrorKind;
 use clap::{ArgMatches, Error};
 use rds_block::Place;
+use rds_charset::word_at;
 use rds_encoder::Late;
 use rds_fields::Dwell;
 use std::alloc::Global;
@@ -42,6 +43,20 @@ pub struct Request<'a> {
     /// What is given as programme identification, whatever its text.
     pub pi: &'a str,
     pub dwell: Dwell,
+}
+
+impl Request<'_> {
+    /// The programme identification that is given; `None` where it is not four hexadecimal digits, of either case.
+    pub fn programme(self) -> Option<u16>
+        ensures some { IfSome result (IsPi self.entry.pi.now) }
+        ensures none { IfNone result ((pi : ℕ) → IsPi self.entry.pi.now pi → ⊥) }
+    {
+        if self.pi.len() == 4 {
+            word_at(self.pi.as_bytes(), 0)
+        } else {
+            None
+        }
+    }
 }
 
 /// Reads the words, the program's own name first; `None` where they name no task or a number is out of

@@ -87,7 +87,7 @@ heard_in_20 = record {
 }
 
 abbrev third_segment : ℕ → ℕ → List ℕ → Segment
-third_segment slot address bytes = record { slot = slot; piece = record { flag = false; address = address; bytes = bytes } }
+third_segment slot address bytes = record { slot = slot; fragment = record { flag = false; address = address; bytes = bytes } }
 
 -- in slot 20 its run is the newest segment alone, so that `THIRT SONG` is not made whole
 run_in_20 : text_run 4 heard_in_20 ≡ third_segment 20 0 (0x54 ∷ 0x48 ∷ 0x49 ∷ 0x52 ∷ []) ∷ []

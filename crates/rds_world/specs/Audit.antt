@@ -7,5 +7,5 @@ pub mod Lengths
 pub mod Ages
 pub mod AuditState
 pub mod Stored
-pub mod AuditStanding
+pub mod AuditStandsAt
 pub mod AuditLaws

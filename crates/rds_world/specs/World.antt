@@ -5,7 +5,7 @@ pub mod Due
 pub mod Slots
 pub mod State
 pub mod Replies
-pub mod Standing
+pub mod StandsAt
 pub mod Station
 pub mod SafeSlots
 pub mod Delivery

@@ -4,7 +4,7 @@ ghost use Rattle.rds_block.specs.declared.group.Group.{Group};
 ghost use Rattle.rds_fields.specs.declared.message.Message.{Message};
 ghost use Rattle.rds_world.specs.declared.audit.audit_fault.AuditFault.{AuditFault};
 ghost use Rattle.rds_world.specs.Audit.AuditLaws.{IsSafeLog};
-ghost use Rattle.rds_world.specs.Audit.AuditStanding.{AuditStandsAt, HoldsLog, HoldsSlot, WhereTheAuditStands};
+ghost use Rattle.rds_world.specs.Audit.AuditStandsAt.{AuditStandsAt, HoldsLog, HoldsSlot, WhereTheAuditStands};
 ghost use Rattle.rds_world.specs.Audit.Dense.{HasPlans};
 ghost use Rattle.rds_world.specs.Audit.Rules.{BreaksFirst, IsFaultOf, LogPasses};
 ghost use Rattle.rds_world.specs.Audit.Stored.{IsStored, audit_stored};
@@ -123,7 +123,7 @@ impl Audit {
         if let Some(known) = self.fault {
             return Err(known);
         }
-        if let Err(fault) = self.judge(message) {
+        if let Err(fault) = self.take_slot(message) {
             self.fault = Some(fault);
             return Err(fault);
         }
@@ -148,7 +148,7 @@ impl Audit {
     }
 
     /// Takes what was sent in this slot.
-    fn judge(&mut self, message: Option<Message>) -> Result<(), AuditFault>
+    fn take_slot(&mut self, message: Option<Message>) -> Result<(), AuditFault>
         ensures programme { self.new.programme ≡ self.old.programme }
         ensures distance { self.new.distance ≡ self.old.distance }
         ensures fault { self.new.fault ≡ self.old.fault }

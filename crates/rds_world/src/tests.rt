@@ -298,7 +298,7 @@ fn tags_on_air(rt: HostRuntime) -> Result<(), Fail> {
 }
 
 /// Two segments of the first song are received, none of the second, and all of the third, which has the flag of
-/// the first. With the other third text the pieces of the first song would make it whole four slots too early.
+/// the first. With the other third text the segments of the first song would make it whole four slots too early.
 #[test]
 fn two_skipped_flags(rt: HostRuntime) -> Result<(), Fail> {
     for third in [b"THIRD SONG", b"THIRT SONG"] {

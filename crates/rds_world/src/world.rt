@@ -9,7 +9,7 @@ ghost use Rattle.rds_world.specs.World.Replies.{CanBeTaken, IsStepRefused, reply
 ghost use Rattle.rds_world.specs.World.SafeSlots.{OnlyWhatWasOnAirIsShown};
 ghost use Rattle.rds_world.specs.World.Slots.{entries, input_of, sent_at};
 ghost use Rattle.rds_world.specs.World.State.{distance};
-ghost use Rattle.rds_world.specs.World.Standing.{HasHeard, IsViewOfInput, Shows, ShowsStill, StandsAt, WhereItStands};
+ghost use Rattle.rds_world.specs.World.StandsAt.{HasHeard, IsViewOfInput, Shows, ShowsStill, StandsAt, WhereItStands};
 
 pub(crate) mod event;
 pub(crate) mod reach;

@@ -54,7 +54,7 @@ impl Kept {
         self.count = 0;
     }
 
-    /// Keeps the first bytes of a piece, as many as there is room for.
+    /// Keeps the first bytes of a buffer, as many as there is room for.
     fn push(&mut self, bytes: &[u8]) -> usize
         ensures kept { self.new ≡ self.old ++ take result bytes.now }
         ensures within { result ≤ length bytes.now }
@@ -108,7 +108,7 @@ impl<W: Write> Gathered<W> {
         Ok(())
     }
 
-    /// Keeps the first bytes of a piece, as many as there is room for. Where there is none, what is kept is written
+    /// Keeps the first bytes of a buffer, as many as there is room for. Where there is none, what is kept is written
     /// first.
     ///
     /// # Errors

@@ -31,15 +31,15 @@ fn words_of(rt: &HostRuntime) -> io::Result<Vec<String>> {
 }
 
 /// The texts of the words, each as it is and in their order.
-fn pieces<'a>(rt: &HostRuntime, words: &'a [String]) -> Result<Vec<&'a str>, AllocError>
+fn texts<'a>(rt: &HostRuntime, words: &'a [String]) -> Result<Vec<&'a str>, AllocError>
     ensures { IfOk result
-        (λ pieces. map (λ p. p.now) pieces.items ≡ map string_bytes words.entry.now) }
+        (λ texts. map (λ p. p.now) texts.items ≡ map string_bytes words.entry.now) }
 {
-    let mut pieces = Vec::new(rt.alloc());
+    let mut texts = Vec::new(rt.alloc());
     for word in words {
-        pieces.push(word.as_str())?;
+        texts.push(word.as_str())?;
     }
-    Ok(pieces)
+    Ok(texts)
 }
 
 /// The status where the words can't be taken: for want of memory, which is told, or for another cause.
@@ -85,7 +85,7 @@ fn main(rt: HostRuntime) -> ExitCode {
         Ok(words) => words,
         Err(error) => return no_words(&rt, error.kind() == ErrorKind::OutOfMemory),
     };
-    let Ok(words) = pieces(&rt, words.as_slice()) else {
+    let Ok(words) = texts(&rt, words.as_slice()) else {
         return no_words(&rt, true);
     };
     ExitCode::from(status_of(rt.alloc(), words.as_slice(), rt.stdin(), rt.stdout()))

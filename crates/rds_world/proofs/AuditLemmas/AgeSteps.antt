@@ -3,24 +3,24 @@ use Rattle.std.proofs.Common.{◌≡◌, ◌≢◌, ◌⊎◌, ◌+◌, ◌-◌,
 use Rattle.std.specs.List.{AllByRecursion}
 use Rattle.std.proofs.lemmas.Bool.{cases_lt, cond_both}
 use Rattle.rds_fields.specs.Tag.{PairFields}
-use Rattle.rds_receiver.specs.Receipts.{Piece}
+use Rattle.rds_receiver.specs.Receipts.{Fragment}
 use Rattle.rds_receiver.specs.Run.{is_same}
 use Rattle.rds_world.specs.declared.audit.ages.Ages.{Ages}
 use Rattle.rds_world.specs.Audit.Ages.{HasLasted, HoldsAges, IsEarly, Joins, age_of_newest, aged, opened_ages}
-use Rattle.rds_world.specs.Audit.Reigns.{Reign, opened_by, past_newest, start_after, with_piece, with_tags}
+use Rattle.rds_world.specs.Audit.Reigns.{Reign, opened_by, past_newest, start_after, with_fragment, with_tags}
 use Rattle.rds_world.proofs.SafetyLemmas.Flags.{is_other_flag, is_same_flag, same_or_other}
 
 -- each reign ended before this slot
 abbrev pub AreOver : ℕ → List Reign → Type 0
 AreOver now rs = AllByRecursion (λ (r : Reign). (r.start ≤ r.last) × (r.last < now)) rs
 
-pub ages_once_joined : (d now : ℕ) (p : Piece) (r : Reign) (older : List Reign) (a : Ages) → HoldsAges d now (r ∷ older) a → HoldsAges d now (with_piece now p r ∷ older) record a { since_last = 0 }
+pub ages_once_joined : (d now : ℕ) (p : Fragment) (r : Reign) (older : List Reign) (a : Ages) → HoldsAges d now (r ∷ older) a → HoldsAges d now (with_fragment now p r ∷ older) record a { since_last = 0 }
 ages_once_joined d now p r older a h = record { newest = omega arith; second = h.second; current = h.current }
 
 pub ages_once_tagged : (d now : ℕ) (pair : PairFields) (r : Reign) (older : List Reign) (a : Ages) → HoldsAges d now (r ∷ older) a → HoldsAges d now (with_tags now pair r ∷ older) record a { since_last = 0 }
 ages_once_tagged d now pair r older a h = record { newest = omega arith; second = h.second; current = h.current }
 
--- a piece of this flag joins the newest reign
+-- a fragment of this flag joins the newest reign
 pub joins_near : (d now : ℕ) (flag : Bool) (r : Reign) (older : List Reign) (a : Ages) → HoldsAges d now (r ∷ older) a → Joins d flag a → (r.flag ≡ flag) × (now < r.last + d)
 joins_near d now flag r older a h g = (sym h.current.1 ∙ sym g.0, omega (arith, h.newest, g.1))
 
@@ -85,7 +85,7 @@ opened_start d now flag (r ∷ older) a pos over h = by_flag (same_or_other r.fl
         past [] over e = omega (arith, h.newest, over.0.1)
         past (q ∷ rest) over e = omega (arith, h.newest, over.0.1, over.1.0.1)
 
-pub ages_once_opened : (d now : ℕ) (p : Piece) (rs : List Reign) (a : Ages) → 0 < d → AreOver now rs → HoldsAges d now rs a → HoldsAges d now (opened_by d now p rs ∷ rs) record (opened_ages d p.flag a) { since_last = 0 }
+pub ages_once_opened : (d now : ℕ) (p : Fragment) (rs : List Reign) (a : Ages) → 0 < d → AreOver now rs → HoldsAges d now rs a → HoldsAges d now (opened_by d now p rs ∷ rs) record (opened_ages d p.flag a) { since_last = 0 }
 ages_once_opened d now p rs a pos over h = record {
   newest = omega arith;
   second = h.newest;

@@ -1,4 +1,4 @@
--- Which lengths a piece of a text allows.
+-- Which lengths a fragment of a text allows.
 use Rattle.std.proofs.Common.{◌≡◌, ◌⊎◌, ◌+◌, ◌<◌, ◌≤◌, ℕ, zero, suc, Bool, true, false, nat_eq, List, [], ◌∷◌, length, slice_index, Option, Some, None, cond, refl, sym, ap, ◌∙◌, subst, inl, inr, arith}
 use Rattle.std.proofs.lemmas.Bool.{and_parts, cases_lt, eqb-true}
 use Rattle.rds_assembly.specs.Body.{text_body}
@@ -38,7 +38,7 @@ not_return b t = by (nat_eq b 13) refl
         let bad : is_text_byte 13 ≡ true = sym (ap is_text_byte same) ∙ t in
         absurd (cc)
 
--- the piece of a text allows its length
+-- the fragment of a text allows its length
 abbrev pub Allows : ℕ → Option Lengths → Type 0
 Allows n None = ⊥
 Allows n (Some l) = (l.least ≤ n) × (n ≤ l.most)

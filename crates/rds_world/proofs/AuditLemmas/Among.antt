@@ -1,9 +1,9 @@
--- Each broadcast of which a piece was sent has a reign.
+-- Each broadcast of which a fragment was sent has a reign.
 use Rattle.std.proofs.Common.{◌≡◌, ℕ, List, [], ◌∷◌, length, subst, inl, inr, arith}
 use Rattle.std.proofs.lemmas.Bool.{cases_order}
 use Rattle.rds_encoder.specs.Plan.{Broadcast, Covers, HasNumber}
 use Rattle.rds_encoder.specs.Spaced.{IsSpaced}
-use Rattle.rds_receiver.specs.Receipts.{Piece}
+use Rattle.rds_receiver.specs.Receipts.{Fragment}
 use Rattle.rds_world.specs.Audit.AuditLaws.{AreReignsOf, AreTheReigns, IsReignOf, SomeReign}
 use Rattle.rds_world.specs.Audit.Dense.{IsDense}
 use Rattle.rds_world.specs.Safety.Lawful.{IsLawful, Kind}
@@ -11,10 +11,10 @@ use Rattle.rds_world.specs.Safety.Laws.{PlanLaws}
 use Rattle.rds_world.specs.Safety.Marks.{Mark}
 use Rattle.rds_world.specs.Audit.Reigns.{Reign, reigns}
 use Rattle.rds_world.proofs.AuditLemmas.Matching.{are_reigns_of}
-use Rattle.rds_world.proofs.AuditLemmas.Planning.{HoldsPiece, piece_held}
+use Rattle.rds_world.proofs.AuditLemmas.Planning.{HoldsFragment, fragment_held}
 
 module _ (laws : PlanLaws) (d : ℕ) (kind : Kind) (plan : List Broadcast) (spaced : IsSpaced d plan) where
-  has_reign : (n k t : ℕ) (b : Broadcast) (p : Piece) (rs : List Reign) → AreReignsOf d kind plan n rs → HasNumber plan k b → Covers b t → SomeReign (HoldsPiece t p) rs
+  has_reign : (n k t : ℕ) (b : Broadcast) (p : Fragment) (rs : List Reign) → AreReignsOf d kind plan n rs → HasNumber plan k b → Covers b t → SomeReign (HoldsFragment t p) rs
       → SomeReign (IsReignOf d kind b) rs
   has_reign n k t b p [] a q c h = absurd h
   has_reign n k t b p (r ∷ older) a q c (inr h) = inr (has_reign a.0 k t b p older a.5 q c h)
@@ -32,5 +32,5 @@ module _ (laws : PlanLaws) (d : ℕ) (kind : Kind) (plan : List Broadcast) (spac
 pub the_reigns : PlanLaws → (d : ℕ) (kind : Kind) (plan : List Broadcast) (sent : List Mark) → IsLawful d kind plan sent → IsDense d plan sent → AreTheReigns d kind plan sent
 the_reigns laws d kind plan sent law dense = record {
   each = are_reigns_of laws d kind plan sent law dense;
-  all = λ k b t p q has s. has_reign laws d kind plan law.spaced (length plan) k t b p (reigns d sent) (are_reigns_of laws d kind plan sent law dense) q has.covers (piece_held d sent t p s);
+  all = λ k b t p q has s. has_reign laws d kind plan law.spaced (length plan) k t b p (reigns d sent) (are_reigns_of laws d kind plan sent law dense) q has.covers (fragment_held d sent t p s);
 }

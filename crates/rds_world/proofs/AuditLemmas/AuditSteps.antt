@@ -6,7 +6,7 @@ use Rattle.rds_fields.specs.declared.message.Message.{Message}
 use Rattle.rds_receiver.specs.Receipts.{Hears}
 use Rattle.rds_world.specs.declared.audit.audit_fault.AuditFault.{AuditFault}
 use Rattle.rds_world.specs.Audit.Ages.{aged}
-use Rattle.rds_world.specs.Audit.AuditStanding.{AuditStandsAt, HoldsLog, HoldsMarks, HoldsSlot}
+use Rattle.rds_world.specs.Audit.AuditStandsAt.{AuditStandsAt, HoldsLog, HoldsMarks, HoldsSlot}
 use Rattle.rds_world.specs.Audit.AuditState.{AuditState, ReignsState}
 use Rattle.rds_world.specs.Audit.Lengths.{name_gauge, text_gauge}
 use Rattle.rds_world.specs.Safety.Marks.{marks, name_mark, text_mark}

@@ -10,26 +10,26 @@ use Rattle.rds_world.specs.Audit.AuditLaws.{PassesExactlyByPlans}
 use Rattle.rds_world.specs.Safety.Lawful.{Kind, names, texts}
 use Rattle.rds_world.specs.Safety.Marks.{Mark, Nothing, Sends, Tagged, marks, name_mark, text_mark}
 use Rattle.rds_world.specs.Audit.Reigns.{Reign, after_tags, reigns}
-use Rattle.rds_world.specs.Audit.Rules.{BreaksFirst, CanBeBroadcast, IsBrokenBy, IsBrokenByPiece, IsBrokenByTags, IsFaultOf, LogPasses, Passes}
+use Rattle.rds_world.specs.Audit.Rules.{BreaksFirst, CanBeBroadcast, IsBrokenBy, IsBrokenByFragment, IsBrokenByTags, IsFaultOf, LogPasses, Passes}
 use Rattle.rds_world.proofs.AuditLemmas.Keeping.{Keeps, keeps}
 use Rattle.rds_world.proofs.AuditLemmas.PassedLogs.{passed_before}
 use Rattle.rds_world.proofs.AuditLemmas.SentCells.{are_unchanged}
-use Rattle.rds_world.proofs.AuditLemmas.Sending.{piece_is_marked, sent_before}
+use Rattle.rds_world.proofs.AuditLemmas.Sending.{fragment_is_marked, sent_before}
 
-piece_fails : (d : ℕ) (kind : Kind) (rs : List Reign) (fault : AuditFault) → AllByRecursion (CanBeBroadcast d kind) rs → IsBrokenByPiece kind rs fault → ⊥
-piece_fails d kind [] fault all b = b
-piece_fails d kind (r ∷ older) EarlyFlag all b = omega (arith, b, all.0.begun)
-piece_fails d kind (r ∷ older) Changed all b = b.1 (are_unchanged (kind.body all.0.one.value) r.pieces all.0.one.has)
-piece_fails d kind (r ∷ older) NotOneText all b = b.2 record { value = all.0.one.value; valid = all.0.one.valid; has = all.0.one.has; ends = tt }
-piece_fails d kind (r ∷ older) TagOutside all b = b.2 all.0.one
-piece_fails d kind (r ∷ older) EarlyTag all b = b
+fragment_fails : (d : ℕ) (kind : Kind) (rs : List Reign) (fault : AuditFault) → AllByRecursion (CanBeBroadcast d kind) rs → IsBrokenByFragment kind rs fault → ⊥
+fragment_fails d kind [] fault all b = b
+fragment_fails d kind (r ∷ older) EarlyFlag all b = omega (arith, b, all.0.begun)
+fragment_fails d kind (r ∷ older) Changed all b = b.1 (are_unchanged (kind.body all.0.one.value) r.fragments all.0.one.has)
+fragment_fails d kind (r ∷ older) NotOneText all b = b.2 record { value = all.0.one.value; valid = all.0.one.valid; has = all.0.one.has; ends = tt }
+fragment_fails d kind (r ∷ older) TagOutside all b = b.2 all.0.one
+fragment_fails d kind (r ∷ older) EarlyTag all b = b
 
 tags_fail : (d : ℕ) (kind : Kind) (sent : List Mark) (pair : PairFields) (rs : List Reign) (fault : AuditFault) → Keeps d sent rs → Passes d kind (Tagged pair ∷ sent)
     → AllByRecursion (CanBeBroadcast d kind) (after_tags (length sent) pair rs) → IsBrokenByTags d kind (length sent) (after_tags (length sent) pair rs) fault → ⊥
 tags_fail d kind sent pair [] EarlyTag k passes all b =
     let w = passes.tagged (length sent) pair (inl (refl, refl)) in
-    let before = sent_before (Tagged pair) sent w.slot (Sends w.piece) w.before w.is_sent in
-    k.1 w.slot (piece_is_marked sent w.slot w.piece before) w.piece before
+    let before = sent_before (Tagged pair) sent w.slot (Sends w.fragment) w.before w.is_sent in
+    k.1 w.slot (fragment_is_marked sent w.slot w.fragment before) w.fragment before
 tags_fail d kind sent pair (r ∷ older) EarlyTag k passes all b = omega (arith, b, all.0.lasted.0)
 tags_fail d kind sent pair [] TagOutside k passes all b = b.1
 tags_fail d kind sent pair (r ∷ older) TagOutside k passes all b = b.1 all.0.one
@@ -39,7 +39,7 @@ tags_fail d kind sent pair rs EarlyFlag k passes all b = b
 
 mark_fails : (d : ℕ) (kind : Kind) (mark : Mark) (before : List Mark) (fault : AuditFault) → Passes d kind (mark ∷ before) → IsBrokenBy d kind mark before fault → ⊥
 mark_fails d kind Nothing before fault passes b = b
-mark_fails d kind (Sends p) before fault passes b = piece_fails d kind (reigns d (Sends p ∷ before)) fault passes.reigns b
+mark_fails d kind (Sends p) before fault passes b = fragment_fails d kind (reigns d (Sends p ∷ before)) fault passes.reigns b
 mark_fails d kind (Tagged pair) before fault passes b = tags_fail d kind before pair (reigns d before) fault (keeps d before) passes passes.reigns b
 
 slot_fails : (d : ℕ) (newest : Option Message) (before : List (Option Message)) (fault : AuditFault) → LogPasses d (newest ∷ before) → BreaksFirst d newest before fault → ⊥
@@ -52,26 +52,26 @@ faulty law d [] fault pos f passes = f
 faulty law d (newest ∷ before) fault pos (inl f) passes = slot_fails d newest before fault passes f.1
 faulty law d (newest ∷ before) fault pos (inr f) passes = faulty law d before fault pos f (passed_before law d newest before pos passes)
 
-one_by_piece : (kind : Kind) (rs : List Reign) (f g : AuditFault) → IsBrokenByPiece kind rs f → IsBrokenByPiece kind rs g → f ≡ g
-one_by_piece kind [] f g a b = absurd a
-one_by_piece kind (r ∷ older) EarlyFlag EarlyFlag a b = refl
-one_by_piece kind (r ∷ older) EarlyFlag Changed a b = absurd (omega (arith, a, b.0))
-one_by_piece kind (r ∷ older) EarlyFlag NotOneText a b = absurd (omega (arith, a, b.0))
-one_by_piece kind (r ∷ older) EarlyFlag TagOutside a b = absurd (omega (arith, a, b.0))
-one_by_piece kind (r ∷ older) Changed EarlyFlag a b = absurd (omega (arith, a.0, b))
-one_by_piece kind (r ∷ older) Changed Changed a b = refl
-one_by_piece kind (r ∷ older) Changed NotOneText a b = absurd (a.1 b.1)
-one_by_piece kind (r ∷ older) Changed TagOutside a b = absurd (a.1 (are_unchanged (kind.body b.1.value) r.pieces b.1.has))
-one_by_piece kind (r ∷ older) NotOneText EarlyFlag a b = absurd (omega (arith, a.0, b))
-one_by_piece kind (r ∷ older) NotOneText Changed a b = absurd (b.1 a.1)
-one_by_piece kind (r ∷ older) NotOneText NotOneText a b = refl
-one_by_piece kind (r ∷ older) NotOneText TagOutside a b = absurd (a.2 b.1)
-one_by_piece kind (r ∷ older) TagOutside EarlyFlag a b = absurd (omega (arith, a.0, b))
-one_by_piece kind (r ∷ older) TagOutside Changed a b = absurd (b.1 (are_unchanged (kind.body a.1.value) r.pieces a.1.has))
-one_by_piece kind (r ∷ older) TagOutside NotOneText a b = absurd (b.2 a.1)
-one_by_piece kind (r ∷ older) TagOutside TagOutside a b = refl
-one_by_piece kind (r ∷ older) EarlyTag g a b = absurd a
-one_by_piece kind (r ∷ older) f EarlyTag a b = absurd b
+one_by_fragment : (kind : Kind) (rs : List Reign) (f g : AuditFault) → IsBrokenByFragment kind rs f → IsBrokenByFragment kind rs g → f ≡ g
+one_by_fragment kind [] f g a b = absurd a
+one_by_fragment kind (r ∷ older) EarlyFlag EarlyFlag a b = refl
+one_by_fragment kind (r ∷ older) EarlyFlag Changed a b = absurd (omega (arith, a, b.0))
+one_by_fragment kind (r ∷ older) EarlyFlag NotOneText a b = absurd (omega (arith, a, b.0))
+one_by_fragment kind (r ∷ older) EarlyFlag TagOutside a b = absurd (omega (arith, a, b.0))
+one_by_fragment kind (r ∷ older) Changed EarlyFlag a b = absurd (omega (arith, a.0, b))
+one_by_fragment kind (r ∷ older) Changed Changed a b = refl
+one_by_fragment kind (r ∷ older) Changed NotOneText a b = absurd (a.1 b.1)
+one_by_fragment kind (r ∷ older) Changed TagOutside a b = absurd (a.1 (are_unchanged (kind.body b.1.value) r.fragments b.1.has))
+one_by_fragment kind (r ∷ older) NotOneText EarlyFlag a b = absurd (omega (arith, a.0, b))
+one_by_fragment kind (r ∷ older) NotOneText Changed a b = absurd (b.1 a.1)
+one_by_fragment kind (r ∷ older) NotOneText NotOneText a b = refl
+one_by_fragment kind (r ∷ older) NotOneText TagOutside a b = absurd (a.2 b.1)
+one_by_fragment kind (r ∷ older) TagOutside EarlyFlag a b = absurd (omega (arith, a.0, b))
+one_by_fragment kind (r ∷ older) TagOutside Changed a b = absurd (b.1 (are_unchanged (kind.body a.1.value) r.fragments a.1.has))
+one_by_fragment kind (r ∷ older) TagOutside NotOneText a b = absurd (b.2 a.1)
+one_by_fragment kind (r ∷ older) TagOutside TagOutside a b = refl
+one_by_fragment kind (r ∷ older) EarlyTag g a b = absurd a
+one_by_fragment kind (r ∷ older) f EarlyTag a b = absurd b
 
 one_by_tags : (d slot : ℕ) (kind : Kind) (rs : List Reign) (f g : AuditFault) → IsBrokenByTags d kind slot rs f → IsBrokenByTags d kind slot rs g → f ≡ g
 one_by_tags d slot kind rs EarlyTag EarlyTag a b = refl
@@ -87,7 +87,7 @@ one_by_tags d slot kind rs f EarlyFlag a b = absurd b
 
 one_by_mark : (d : ℕ) (kind : Kind) (mark : Mark) (before : List Mark) (f g : AuditFault) → IsBrokenBy d kind mark before f → IsBrokenBy d kind mark before g → f ≡ g
 one_by_mark d kind Nothing before f g a b = absurd a
-one_by_mark d kind (Sends p) before f g a b = one_by_piece kind (reigns d (Sends p ∷ before)) f g a b
+one_by_mark d kind (Sends p) before f g a b = one_by_fragment kind (reigns d (Sends p ∷ before)) f g a b
 one_by_mark d kind (Tagged pair) before f g a b = one_by_tags d (length before) kind (reigns d (Tagged pair ∷ before)) f g a b
 
 -- a slot breaks a rule of texts or one of names, and not both

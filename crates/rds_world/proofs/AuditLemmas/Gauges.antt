@@ -5,11 +5,11 @@ use Rattle.std.proofs.lemmas.Bool.{cases_lt, cases_order}
 use Rattle.std.proofs.lemmas.List.{get_or_past}
 use Rattle.rds_assembly.specs.Body.{name_body, segment_count, segment_of, text_body}
 use Rattle.rds_assembly.specs.Value.{IsName, IsText}
-use Rattle.rds_receiver.specs.Receipts.{Piece}
-use Rattle.rds_world.specs.Safety.Lawful.{IsPieceOf}
+use Rattle.rds_receiver.specs.Receipts.{Fragment}
+use Rattle.rds_world.specs.Safety.Lawful.{IsFragmentOf}
 use Rattle.rds_world.specs.Audit.Lengths.{IsExact, IsFormed, name_gauge, text_gauge}
 use Rattle.rds_world.proofs.AuditLemmas.Bodies.{segment_byte, segment_long, text_below, text_end, text_full, text_long, text_past}
-use Rattle.rds_world.proofs.AuditLemmas.OneValue.{name_alone, name_pieces, one_name, one_text, text_pieces}
+use Rattle.rds_world.proofs.AuditLemmas.OneValue.{name_alone, name_fragments, one_name, one_text, text_fragments}
 
 -- the bytes of a segment fit
 segment_fits : (body : List ℕ) (a k : ℕ) → a < segment_count body → ((i : ℕ) → i < length body → slice_index body i < 256) → slice_index (segment_of body a) k < 256
@@ -43,7 +43,7 @@ text_few x t =
       | inr m ↦ (let long = t.at_most in let full : length x ≡ 64 = omega arith in omega (arith, ap length (text_full x full)))
     ]
 
-all_formed : (n : ℕ) (body : List ℕ) (pieces : List Piece) → segment_count body ≤ n → ((i : ℕ) → i < length body → slice_index body i < 256) → AllByRecursion (IsPieceOf body) pieces → AllByRecursion (IsFormed n) pieces
+all_formed : (n : ℕ) (body : List ℕ) (fragments : List Fragment) → segment_count body ≤ n → ((i : ℕ) → i < length body → slice_index body i < 256) → AllByRecursion (IsFragmentOf body) fragments → AllByRecursion (IsFormed n) fragments
 all_formed n body [] few fits all = tt
 all_formed n body (p ∷ older) few fits all = (
   record {
@@ -61,14 +61,14 @@ name_fits x n i h =
 
 pub text_gauge_is_exact : IsExact text_gauge
 text_gauge_is_exact = record {
-  measured = text_pieces;
-  formed = λ pieces tags h. all_formed 16 (text_body h.value) pieces (text_few h.value h.valid) (text_fits h.value h.valid) h.has;
+  measured = text_fragments;
+  formed = λ fragments tags h. all_formed 16 (text_body h.value) fragments (text_few h.value h.valid) (text_fits h.value h.valid) h.has;
   one = one_text;
 }
 
 pub name_gauge_is_exact : IsExact name_gauge
 name_gauge_is_exact = record {
-  measured = name_pieces;
-  formed = λ pieces tags h. all_formed 2 (name_body h.value) pieces (let e = ap length (name_alone h.value h.valid.0) in omega (arith, h.valid.0)) (name_fits h.value h.valid) h.has;
+  measured = name_fragments;
+  formed = λ fragments tags h. all_formed 2 (name_body h.value) fragments (let e = ap length (name_alone h.value h.valid.0) in omega (arith, h.valid.0)) (name_fits h.value h.valid) h.has;
   one = one_name;
 }

@@ -2,25 +2,25 @@
 use Rattle.std.proofs.Common.{◌≡◌, ◌+◌, ◌<◌, ◌≤◌, ℕ, nat_lt, List, [], ◌∷◌, length, refl, inl, inr, arith}
 use Rattle.std.proofs.lemmas.Bool.{and_parts, cond_both, ltb-true}
 use Rattle.rds_fields.specs.Tag.{PairFields}
-use Rattle.rds_receiver.specs.Receipts.{Piece}
+use Rattle.rds_receiver.specs.Receipts.{Fragment}
 use Rattle.rds_receiver.specs.Run.{is_same}
 use Rattle.rds_world.specs.Audit.Dense.{IsBridged, IsMarked}
 use Rattle.rds_world.specs.Safety.Marks.{IsSent, Mark, Nothing, Sends, Tagged}
-use Rattle.rds_world.specs.Audit.Reigns.{Reign, after_piece, after_tags, joins, opened_by, reigns, with_piece}
-use Rattle.rds_world.proofs.AuditLemmas.Sending.{bridged_later, early, marked_before, marked_early, marked_later, piece_is_marked, sent_before}
+use Rattle.rds_world.specs.Audit.Reigns.{Reign, after_fragment, after_tags, joins, opened_by, reigns, with_fragment}
+use Rattle.rds_world.proofs.AuditLemmas.Sending.{bridged_later, early, marked_before, marked_early, marked_later, fragment_is_marked, sent_before}
 
--- the slot is not after the newest of these reigns; where there is none, no piece was sent in it
+-- the slot is not after the newest of these reigns; where there is none, no fragment was sent in it
 abbrev pub IsBehind : List Mark → List Reign → ℕ → Type 0
-IsBehind sent [] u = (p : Piece) → IsSent sent u (Sends p) → ⊥
+IsBehind sent [] u = (p : Fragment) → IsSent sent u (Sends p) → ⊥
 IsBehind sent (r ∷ older) u = u ≤ r.last
 
--- a piece opened the reign, something was sent in its last slot, and its pieces stand as in a dense plan
+-- a fragment opened the reign, something was sent in its last slot, and its fragments stand as in a dense plan
 pub record IsKept (d : ℕ) (sent : List Mark) (r : Reign) : Type 0 where
-  pub first : Piece
+  pub first : Fragment
   pub opened : IsSent sent r.opened (Sends first)
   pub ends : IsMarked sent r.last
   pub until : r.opened ≤ r.last
-  pub dense : (u t : ℕ) (q p : Piece) → IsSent sent u (Sends q) → IsSent sent t (Sends p) → r.opened ≤ u → u < t → t ≤ r.last → IsBridged d sent u t
+  pub dense : (u t : ℕ) (q p : Fragment) → IsSent sent u (Sends q) → IsSent sent t (Sends p) → r.opened ≤ u → u < t → t ≤ r.last → IsBridged d sent u t
 
 abbrev pub AllBehind : List Mark → List Reign → Type 0
 AllBehind sent rs = (u : ℕ) → IsMarked sent u → IsBehind sent rs u
@@ -67,9 +67,9 @@ nothing_behind sent rs h u m = by m.mark m.some m.is_sent
 tags_behind : (sent : List Mark) (pair : PairFields) (rs : List Reign) → AllBehind sent rs → AllBehind (Tagged pair ∷ sent) (after_tags (length sent) pair rs)
 tags_behind sent pair [] h u m = none
   where
-    none : (p : Piece) → IsSent (Tagged pair ∷ sent) u (Sends p) → ⊥
+    none : (p : Fragment) → IsSent (Tagged pair ∷ sent) u (Sends p) → ⊥
     none p (inl q) = (let e : Sends p ≡ Tagged pair = q.1 in cc)
-    none p (inr q) = h u (piece_is_marked sent u p q) p q
+    none p (inr q) = h u (fragment_is_marked sent u p q) p q
 tags_behind sent pair (r ∷ older) h u m = omega (arith, marked_early (Tagged pair ∷ sent) u m)
 
 tags_kept : (d : ℕ) (sent : List Mark) (pair : PairFields) (rs : List Reign) → AllBehind sent rs → AreKept d sent rs → AreKept d (Tagged pair ∷ sent) (after_tags (length sent) pair rs)
@@ -88,14 +88,14 @@ tags_kept d sent pair (r ∷ older) h k =
       rest.2,
     )
   where
-    dense : (u t : ℕ) (q p : Piece) → IsSent (Tagged pair ∷ sent) u (Sends q) → IsSent (Tagged pair ∷ sent) t (Sends p) → r.opened ≤ u → u < t → IsBridged d (Tagged pair ∷ sent) u t
+    dense : (u t : ℕ) (q p : Fragment) → IsSent (Tagged pair ∷ sent) u (Sends q) → IsSent (Tagged pair ∷ sent) t (Sends p) → r.opened ≤ u → u < t → IsBridged d (Tagged pair ∷ sent) u t
     dense u t q p su (inl st) from lt = (let e : Sends p ≡ Tagged pair = st.1 in absurd (cc))
     dense u t q p su (inr st) from lt =
         let now = early sent t (Sends p) st in
-        bridged_later d (Tagged pair) sent u t (k.0.dense u t q p (sent_before (Tagged pair) sent u (Sends q) (omega arith) su) st from lt (h t (piece_is_marked sent t p st)))
+        bridged_later d (Tagged pair) sent u t (k.0.dense u t q p (sent_before (Tagged pair) sent u (Sends q) (omega arith) su) st from lt (h t (fragment_is_marked sent t p st)))
 
--- a piece that opens a reign
-opened_kept : (d : ℕ) (sent : List Mark) (p : Piece) (rs : List Reign) → AllBehind sent rs → AreKept d sent rs → AreKept d (Sends p ∷ sent) (opened_by d (length sent) p rs ∷ rs)
+-- a fragment that opens a reign
+opened_kept : (d : ℕ) (sent : List Mark) (p : Fragment) (rs : List Reign) → AllBehind sent rs → AreKept d sent rs → AreKept d (Sends p ∷ sent) (opened_by d (length sent) p rs ∷ rs)
 opened_kept d sent p rs h k = (
   record {
     first = p;
@@ -108,9 +108,9 @@ opened_kept d sent p rs h k = (
   are_kept_later d (Sends p) sent rs k,
 )
 
--- a piece that joins a reign
-joined_kept : (d : ℕ) (sent : List Mark) (p : Piece) (r : Reign) (older : List Reign) → length sent < r.last + d → AllBehind sent (r ∷ older) → AreKept d sent (r ∷ older)
-    → AreKept d (Sends p ∷ sent) (with_piece (length sent) p r ∷ older)
+-- a fragment that joins a reign
+joined_kept : (d : ℕ) (sent : List Mark) (p : Fragment) (r : Reign) (older : List Reign) → length sent < r.last + d → AllBehind sent (r ∷ older) → AreKept d sent (r ∷ older)
+    → AreKept d (Sends p ∷ sent) (with_fragment (length sent) p r ∷ older)
 joined_kept d sent p r older near h k =
     let rest = are_kept_later d (Sends p) sent (r ∷ older) k in
     let now = early sent r.opened (Sends k.0.first) k.0.opened in (
@@ -125,37 +125,37 @@ joined_kept d sent p r older near h k =
       rest.2,
     )
   where
-    dense : (u t : ℕ) (q g : Piece) → IsSent (Sends p ∷ sent) u (Sends q) → IsSent (Sends p ∷ sent) t (Sends g) → r.opened ≤ u → u < t → IsBridged d (Sends p ∷ sent) u t
+    dense : (u t : ℕ) (q g : Fragment) → IsSent (Sends p ∷ sent) u (Sends q) → IsSent (Sends p ∷ sent) t (Sends g) → r.opened ≤ u → u < t → IsBridged d (Sends p ∷ sent) u t
     dense u t q g su (inl st) from lt =
         let before = sent_before (Sends p) sent u (Sends q) (omega arith) su in
         record {
           slot = r.last;
           marked = marked_later (Sends p) sent r.last k.0.ends;
-          from = h u (piece_is_marked sent u q before);
+          from = h u (fragment_is_marked sent u q before);
           before = omega (arith, marked_early sent r.last k.0.ends);
           near = omega arith;
         }
     dense u t q g su (inr st) from lt =
         let now = early sent t (Sends g) st in
-        bridged_later d (Sends p) sent u t (k.0.dense u t q g (sent_before (Sends p) sent u (Sends q) (omega arith) su) st from lt (h t (piece_is_marked sent t g st)))
+        bridged_later d (Sends p) sent u t (k.0.dense u t q g (sent_before (Sends p) sent u (Sends q) (omega arith) su) st from lt (h t (fragment_is_marked sent t g st)))
 
 -- all of it for a list of reigns
 abbrev pub Keeps : ℕ → List Mark → List Reign → Type 0
 Keeps d sent rs = AreKept d sent rs × AllBehind sent rs
 
-now_behind : (sent : List Mark) (p : Piece) (r : Reign) (older : List Reign) → r.last ≡ length sent → AllBehind (Sends p ∷ sent) (r ∷ older)
+now_behind : (sent : List Mark) (p : Fragment) (r : Reign) (older : List Reign) → r.last ≡ length sent → AllBehind (Sends p ∷ sent) (r ∷ older)
 now_behind sent p r older e u m = omega (arith, marked_early (Sends p ∷ sent) u m)
 
-piece_keeps : (d : ℕ) (sent : List Mark) (p : Piece) (rs : List Reign) → Keeps d sent rs → Keeps d (Sends p ∷ sent) (after_piece d (length sent) p rs)
-piece_keeps d sent p [] k = (opened_kept d sent p [] k.1 k.0, now_behind sent p (opened_by d (length sent) p []) [] refl)
-piece_keeps d sent p (r ∷ older) k =
+fragment_keeps : (d : ℕ) (sent : List Mark) (p : Fragment) (rs : List Reign) → Keeps d sent rs → Keeps d (Sends p ∷ sent) (after_fragment d (length sent) p rs)
+fragment_keeps d sent p [] k = (opened_kept d sent p [] k.1 k.0, now_behind sent p (opened_by d (length sent) p []) [] refl)
+fragment_keeps d sent p (r ∷ older) k =
     cond_both (joins d (length sent) p.flag r) _ _ (Keeps d (Sends p ∷ sent))
     (λ t. let near : length sent < r.last + d = ltb-true _ _ (and_parts (is_same r.flag p.flag) (nat_lt (length sent) (r.last + d)) t).1 in
-    (joined_kept d sent p r older near k.1 k.0, now_behind sent p (with_piece (length sent) p r) older refl))
+    (joined_kept d sent p r older near k.1 k.0, now_behind sent p (with_fragment (length sent) p r) older refl))
     (λ _. (opened_kept d sent p (r ∷ older) k.1 k.0, now_behind sent p (opened_by d (length sent) p (r ∷ older)) (r ∷ older) refl))
 
 pub keeps : (d : ℕ) (sent : List Mark) → Keeps d sent (reigns d sent)
 keeps d [] = (tt, λ u m. absurd m.is_sent)
 keeps d (Nothing ∷ sent) = (let k = keeps d sent in (are_kept_later d Nothing sent (reigns d sent) k.0, nothing_behind sent (reigns d sent) k.1))
-keeps d (Sends p ∷ sent) = piece_keeps d sent p (reigns d sent) (keeps d sent)
+keeps d (Sends p ∷ sent) = fragment_keeps d sent p (reigns d sent) (keeps d sent)
 keeps d (Tagged pair ∷ sent) = (let k = keeps d sent in (tags_kept d sent pair (reigns d sent) k.1 k.0, tags_behind sent pair (reigns d sent) k.1))

@@ -3,29 +3,29 @@ use Rattle.std.proofs.Common.{◌≡◌, ◌≢◌, ◌⊎◌, ◌+◌, ◌<◌,
 use Rattle.std.specs.List.{AllByRecursion}
 use Rattle.std.proofs.lemmas.Bool.{and_parts, cases_lt, cases_order, cond_both}
 use Rattle.rds_fields.specs.Tag.{BothEndIn, PairFields}
-use Rattle.rds_receiver.specs.Receipts.{Piece}
+use Rattle.rds_receiver.specs.Receipts.{Fragment}
 use Rattle.rds_receiver.specs.Run.{is_same}
 use Rattle.rds_encoder.specs.Plan.{Broadcast, Covers, HasNumber}
 use Rattle.rds_encoder.specs.Laws.{ANumberIsBelowTheLength}
 use Rattle.rds_world.specs.Audit.AuditLaws.{SomeReign}
-use Rattle.rds_world.specs.Audit.Dense.{HasPieceBefore, HasPlan, IsBridged, IsMarked}
-use Rattle.rds_world.specs.Safety.Lawful.{HasOne, HasPiece, HasTags, IsPieceOf, Kind}
+use Rattle.rds_world.specs.Audit.Dense.{HasFragmentBefore, HasPlan, IsBridged, IsMarked}
+use Rattle.rds_world.specs.Safety.Lawful.{HasOne, HasFragment, HasTags, IsFragmentOf, Kind}
 use Rattle.rds_world.specs.Safety.Marks.{IsSent, Mark, Nothing, Sends, Tagged}
 use Rattle.rds_world.proofs.AuditLemmas.Members.{IsIn, all_in}
-use Rattle.rds_world.specs.Audit.Reigns.{Reign, SentTags, after_piece, after_tags, joins, past_newest, reigns, start_after, with_piece}
+use Rattle.rds_world.specs.Audit.Reigns.{Reign, SentTags, after_fragment, after_tags, joins, past_newest, reigns, start_after, with_fragment}
 use Rattle.rds_world.specs.Audit.Rules.{CanBeBroadcast, Passes}
 use Rattle.rds_world.proofs.SafetyLemmas.Flags.{other_flag, same_flag}
 use Rattle.rds_world.proofs.AuditLemmas.Keeping.{AreKept, IsBehind, Keeps, keeps}
-use Rattle.rds_world.proofs.AuditLemmas.Sending.{TagsAreAfter, early, one_mark, piece_is_marked, sent_before, tags_are_marked}
+use Rattle.rds_world.proofs.AuditLemmas.Sending.{TagsAreAfter, early, one_mark, fragment_is_marked, sent_before, tags_are_marked}
 
 -- each reign starts where one can after those before it
 abbrev pub IsChained : ℕ → List Reign → Type 0
 IsChained d [] = Unit {0}
 IsChained d (r ∷ older) = (r.start ≡ start_after d r.flag older) × IsChained d older
 
-chained_piece : (d now : ℕ) (p : Piece) (rs : List Reign) → IsChained d rs → IsChained d (after_piece d now p rs)
-chained_piece d now p [] c = (refl, tt)
-chained_piece d now p (r ∷ older) c = cond_both (joins d now p.flag r) _ _ (IsChained d) (λ _. c) (λ _. (refl, c))
+chained_fragment : (d now : ℕ) (p : Fragment) (rs : List Reign) → IsChained d rs → IsChained d (after_fragment d now p rs)
+chained_fragment d now p [] c = (refl, tt)
+chained_fragment d now p (r ∷ older) c = cond_both (joins d now p.flag r) _ _ (IsChained d) (λ _. c) (λ _. (refl, c))
 
 chained_tags : (d now : ℕ) (pair : PairFields) (rs : List Reign) → IsChained d rs → IsChained d (after_tags now pair rs)
 chained_tags d now pair [] c = c
@@ -34,41 +34,41 @@ chained_tags d now pair (r ∷ older) c = c
 pub chained : (d : ℕ) (sent : List Mark) → IsChained d (reigns d sent)
 chained d [] = tt
 chained d (Nothing ∷ sent) = chained d sent
-chained d (Sends p ∷ sent) = chained_piece d (length sent) p (reigns d sent) (chained d sent)
+chained d (Sends p ∷ sent) = chained_fragment d (length sent) p (reigns d sent) (chained d sent)
 chained d (Tagged pair ∷ sent) = chained_tags d (length sent) pair (reigns d sent) (chained d sent)
 
--- the piece, or the tags, sent in slot t are the reign's
-pub record HoldsPiece (t : ℕ) (p : Piece) (r : Reign) : Type 0 where
+-- the fragment, or the tags, sent in slot t are the reign's
+pub record HoldsFragment (t : ℕ) (p : Fragment) (r : Reign) : Type 0 where
   pub from : r.opened ≤ t
   pub to : t ≤ r.last
   pub flag : p.flag ≡ r.flag
-  pub listed : IsIn p r.pieces
+  pub listed : IsIn p r.fragments
 
 pub record HoldsTags (t : ℕ) (pair : PairFields) (r : Reign) : Type 0 where
   pub to : t ≤ r.last
   pub listed : IsIn record { slot = t; pair = pair } r.tags
 
 -- one more slot leaves what was held
-piece_stays : (d now t : ℕ) (p q : Piece) (rs : List Reign) → t ≤ now → SomeReign (HoldsPiece t p) rs → SomeReign (HoldsPiece t p) (after_piece d now q rs)
-piece_stays d now t p q [] le h = absurd h
-piece_stays d now t p q (r ∷ older) le h =
-    cond_both (joins d now q.flag r) _ _ (SomeReign (HoldsPiece t p)) (λ _. joined h) (λ _. inr h)
+fragment_stays : (d now t : ℕ) (p q : Fragment) (rs : List Reign) → t ≤ now → SomeReign (HoldsFragment t p) rs → SomeReign (HoldsFragment t p) (after_fragment d now q rs)
+fragment_stays d now t p q [] le h = absurd h
+fragment_stays d now t p q (r ∷ older) le h =
+    cond_both (joins d now q.flag r) _ _ (SomeReign (HoldsFragment t p)) (λ _. joined h) (λ _. inr h)
   where
-    joined : SomeReign (HoldsPiece t p) (r ∷ older) → SomeReign (HoldsPiece t p) (with_piece now q r ∷ older)
+    joined : SomeReign (HoldsFragment t p) (r ∷ older) → SomeReign (HoldsFragment t p) (with_fragment now q r ∷ older)
     joined (inl i) = inl record { from = i.from; to = le; flag = i.flag; listed = inr i.listed }
     joined (inr i) = inr i
 
-piece_stays_tagged : (now t : ℕ) (p : Piece) (pair : PairFields) (rs : List Reign) → t ≤ now → SomeReign (HoldsPiece t p) rs → SomeReign (HoldsPiece t p) (after_tags now pair rs)
-piece_stays_tagged now t p pair [] le h = absurd h
-piece_stays_tagged now t p pair (r ∷ older) le (inl i) = inl record { from = i.from; to = le; flag = i.flag; listed = i.listed }
-piece_stays_tagged now t p pair (r ∷ older) le (inr i) = inr i
+fragment_stays_tagged : (now t : ℕ) (p : Fragment) (pair : PairFields) (rs : List Reign) → t ≤ now → SomeReign (HoldsFragment t p) rs → SomeReign (HoldsFragment t p) (after_tags now pair rs)
+fragment_stays_tagged now t p pair [] le h = absurd h
+fragment_stays_tagged now t p pair (r ∷ older) le (inl i) = inl record { from = i.from; to = le; flag = i.flag; listed = i.listed }
+fragment_stays_tagged now t p pair (r ∷ older) le (inr i) = inr i
 
-tags_stay : (d now t : ℕ) (pair : PairFields) (q : Piece) (rs : List Reign) → t ≤ now → SomeReign (HoldsTags t pair) rs → SomeReign (HoldsTags t pair) (after_piece d now q rs)
+tags_stay : (d now t : ℕ) (pair : PairFields) (q : Fragment) (rs : List Reign) → t ≤ now → SomeReign (HoldsTags t pair) rs → SomeReign (HoldsTags t pair) (after_fragment d now q rs)
 tags_stay d now t pair q [] le h = absurd h
 tags_stay d now t pair q (r ∷ older) le h =
     cond_both (joins d now q.flag r) _ _ (SomeReign (HoldsTags t pair)) (λ _. joined h) (λ _. inr h)
   where
-    joined : SomeReign (HoldsTags t pair) (r ∷ older) → SomeReign (HoldsTags t pair) (with_piece now q r ∷ older)
+    joined : SomeReign (HoldsTags t pair) (r ∷ older) → SomeReign (HoldsTags t pair) (with_fragment now q r ∷ older)
     joined (inl i) = inl record { to = le; listed = i.listed }
     joined (inr i) = inr i
 
@@ -78,10 +78,10 @@ tags_stay_tagged now t pair other (r ∷ older) le (inl i) = inl record { to = l
 tags_stay_tagged now t pair other (r ∷ older) le (inr i) = inr i
 
 -- a new one is held by the newest reign
-new_piece : (d now : ℕ) (p : Piece) (sent : List Mark) (rs : List Reign) → now ≡ length sent → Keeps d sent rs → SomeReign (HoldsPiece now p) (after_piece d now p rs)
-new_piece d now p sent [] e k = inl record { from = omega arith; to = omega arith; flag = refl; listed = inl refl }
-new_piece d now p sent (r ∷ older) e k =
-    cond_both (joins d now p.flag r) _ _ (SomeReign (HoldsPiece now p))
+new_fragment : (d now : ℕ) (p : Fragment) (sent : List Mark) (rs : List Reign) → now ≡ length sent → Keeps d sent rs → SomeReign (HoldsFragment now p) (after_fragment d now p rs)
+new_fragment d now p sent [] e k = inl record { from = omega arith; to = omega arith; flag = refl; listed = inl refl }
+new_fragment d now p sent (r ∷ older) e k =
+    cond_both (joins d now p.flag r) _ _ (SomeReign (HoldsFragment now p))
     (λ t. inl record {
       from = omega (arith, early sent r.opened (Sends k.0.0.first) k.0.0.opened);
       to = omega arith;
@@ -90,29 +90,29 @@ new_piece d now p sent (r ∷ older) e k =
     })
     (λ _. inl record { from = omega arith; to = omega arith; flag = refl; listed = inl refl })
 
-pub piece_held : (d : ℕ) (sent : List Mark) (t : ℕ) (p : Piece) → IsSent sent t (Sends p) → SomeReign (HoldsPiece t p) (reigns d sent)
-piece_held d [] t p s = absurd s
-piece_held d (Nothing ∷ sent) t p (inl s) = (let e : Sends p ≡ Nothing = s.1 in absurd (cc))
-piece_held d (Nothing ∷ sent) t p (inr s) = piece_held d sent t p s
-piece_held d (Tagged pair ∷ sent) t p (inl s) = (let e : Sends p ≡ Tagged pair = s.1 in absurd (cc))
-piece_held d (Tagged pair ∷ sent) t p (inr s) = (let n = early sent t (Sends p) s in piece_stays_tagged (length sent) t p pair (reigns d sent) (omega arith) (piece_held d sent t p s))
-piece_held d (Sends q ∷ sent) t p (inr s) = (let n = early sent t (Sends p) s in piece_stays d (length sent) t p q (reigns d sent) (omega arith) (piece_held d sent t p s))
-piece_held d (Sends q ∷ sent) t p (inl s) =
+pub fragment_held : (d : ℕ) (sent : List Mark) (t : ℕ) (p : Fragment) → IsSent sent t (Sends p) → SomeReign (HoldsFragment t p) (reigns d sent)
+fragment_held d [] t p s = absurd s
+fragment_held d (Nothing ∷ sent) t p (inl s) = (let e : Sends p ≡ Nothing = s.1 in absurd (cc))
+fragment_held d (Nothing ∷ sent) t p (inr s) = fragment_held d sent t p s
+fragment_held d (Tagged pair ∷ sent) t p (inl s) = (let e : Sends p ≡ Tagged pair = s.1 in absurd (cc))
+fragment_held d (Tagged pair ∷ sent) t p (inr s) = (let n = early sent t (Sends p) s in fragment_stays_tagged (length sent) t p pair (reigns d sent) (omega arith) (fragment_held d sent t p s))
+fragment_held d (Sends q ∷ sent) t p (inr s) = (let n = early sent t (Sends p) s in fragment_stays d (length sent) t p q (reigns d sent) (omega arith) (fragment_held d sent t p s))
+fragment_held d (Sends q ∷ sent) t p (inl s) =
     let e : Sends p ≡ Sends q = s.1 in
     let same : p ≡ q = cc in
-    subst (λ (g : Piece). SomeReign (HoldsPiece t g) (after_piece d (length sent) q (reigns d sent))) (sym same)
-    (subst (λ (n : ℕ). SomeReign (HoldsPiece n q) (after_piece d (length sent) q (reigns d sent))) (sym s.0) (new_piece d (length sent) q sent (reigns d sent) refl (keeps d sent)))
+    subst (λ (g : Fragment). SomeReign (HoldsFragment t g) (after_fragment d (length sent) q (reigns d sent))) (sym same)
+    (subst (λ (n : ℕ). SomeReign (HoldsFragment n q) (after_fragment d (length sent) q (reigns d sent))) (sym s.0) (new_fragment d (length sent) q sent (reigns d sent) refl (keeps d sent)))
 
 after_before : (x : Mark) (sent : List Mark) → TagsAreAfter (x ∷ sent) → TagsAreAfter sent
 after_before x sent h t pair s =
     let w = h t pair (inr s) in
     let now = early sent t (Tagged pair) s in
-    record { slot = w.slot; piece = w.piece; is_sent = sent_before x sent w.slot (Sends w.piece) (omega (arith, w.before)) w.is_sent; before = w.before }
+    record { slot = w.slot; fragment = w.fragment; is_sent = sent_before x sent w.slot (Sends w.fragment) (omega (arith, w.before)) w.is_sent; before = w.before }
 
-new_tags : (d : ℕ) (pair : PairFields) (sent : List Mark) (rs : List Reign) → (u : ℕ) (p : Piece) → IsSent (Tagged pair ∷ sent) u (Sends p) → u < length sent → Keeps d sent rs
+new_tags : (d : ℕ) (pair : PairFields) (sent : List Mark) (rs : List Reign) → (u : ℕ) (p : Fragment) → IsSent (Tagged pair ∷ sent) u (Sends p) → u < length sent → Keeps d sent rs
     → SomeReign (HoldsTags (length sent) pair) (after_tags (length sent) pair rs)
 new_tags d pair sent [] u p (inl s) lt k = absurd (omega arith)
-new_tags d pair sent [] u p (inr s) lt k = absurd (k.1 u (piece_is_marked sent u p s) p s)
+new_tags d pair sent [] u p (inr s) lt k = absurd (k.1 u (fragment_is_marked sent u p s) p s)
 new_tags d pair sent (r ∷ older) u p s lt k = inl record { to = omega arith; listed = inl refl }
 
 pub tags_held : (d : ℕ) (sent : List Mark) → TagsAreAfter sent → (t : ℕ) (pair : PairFields) → IsSent sent t (Tagged pair) → SomeReign (HoldsTags t pair) (reigns d sent)
@@ -127,7 +127,7 @@ tags_held d (Tagged other ∷ sent) h t pair (inl s) =
     let same : pair ≡ other = cc in
     let w = h (length sent) other (inl (refl, refl)) in
     subst (λ (g : PairFields). SomeReign (HoldsTags t g) (after_tags (length sent) other (reigns d sent))) (sym same)
-    (subst (λ (n : ℕ). SomeReign (HoldsTags n other) (after_tags (length sent) other (reigns d sent))) (sym s.0) (new_tags d other sent (reigns d sent) w.slot w.piece w.is_sent w.before (keeps d sent)))
+    (subst (λ (n : ℕ). SomeReign (HoldsTags n other) (after_tags (length sent) other (reigns d sent))) (sym s.0) (new_tags d other sent (reigns d sent) w.slot w.fragment w.is_sent w.before (keeps d sent)))
 
 -- a broadcast for each reign
 abbrev pub plan_from : (d : ℕ) (kind : Kind) (rs : List Reign) → AllByRecursion (CanBeBroadcast d kind) rs → List Broadcast
@@ -192,17 +192,17 @@ valued d kind (r ∷ older) a k b (inr n) = valued d kind older a.1 k b n
 wider : (c : Broadcast) (older : List Broadcast) (Is : Broadcast → Type 0) → HasOne older Is → HasOne (c ∷ older) Is
 wider c older Is h = record { number = h.number; broadcast = h.broadcast; planned = inr h.planned; is = h.is }
 
-piece_planned : (d : ℕ) (kind : Kind) (t : ℕ) (p : Piece) (rs : List Reign) (a : AllByRecursion (CanBeBroadcast d kind) rs) → SomeReign (HoldsPiece t p) rs → HasOne (plan_from d kind rs a) (HasPiece kind t p)
-piece_planned d kind t p [] a h = absurd h
-piece_planned d kind t p (r ∷ older) a (inr h) = wider _ (plan_from d kind older a.1) (HasPiece kind t p) (piece_planned d kind t p older a.1 h)
-piece_planned d kind t p (r ∷ older) a (inl h) = record {
+fragment_planned : (d : ℕ) (kind : Kind) (t : ℕ) (p : Fragment) (rs : List Reign) (a : AllByRecursion (CanBeBroadcast d kind) rs) → SomeReign (HoldsFragment t p) rs → HasOne (plan_from d kind rs a) (HasFragment kind t p)
+fragment_planned d kind t p [] a h = absurd h
+fragment_planned d kind t p (r ∷ older) a (inr h) = wider _ (plan_from d kind older a.1) (HasFragment kind t p) (fragment_planned d kind t p older a.1 h)
+fragment_planned d kind t p (r ∷ older) a (inl h) = record {
   number = length (plan_from d kind older a.1);
   broadcast = record { start = r.start; end = r.last; flag = r.flag; bytes = a.0.one.value };
   planned = inl (refl, refl);
   is = record {
     covers = record { from = omega (arith, a.0.begun, h.from); to = h.to };
     flag = h.flag;
-    piece = all_in (IsPieceOf (kind.body a.0.one.value)) p r.pieces a.0.one.has h.listed;
+    fragment = all_in (IsFragmentOf (kind.body a.0.one.value)) p r.fragments a.0.one.has h.listed;
   };
 }
 
@@ -221,32 +221,32 @@ tags_planned d kind t pair (r ∷ older) a (inl h) = record {
 }
 
 -- what is sent in a reign's broadcast is sent since the reign was opened
-since_opened : (d : ℕ) (sent : List Mark) (r : Reign) (older : List Reign) (u : ℕ) → 0 < d → r.start ≡ start_after d r.flag older → r.start ≤ u → IsBehind sent older u → (q : Piece) → IsSent sent u (Sends q) → ⊥
+since_opened : (d : ℕ) (sent : List Mark) (r : Reign) (older : List Reign) (u : ℕ) → 0 < d → r.start ≡ start_after d r.flag older → r.start ≤ u → IsBehind sent older u → (q : Fragment) → IsSent sent u (Sends q) → ⊥
 since_opened d sent r [] u pos c from b q s = b q s
 since_opened d sent r (e ∷ older) u pos c from b q s = omega (arith, starts_after d r.flag e older pos)
 
-dense_pieces : (d : ℕ) (kind : Kind) (sent : List Mark) (rs : List Reign) (a : AllByRecursion (CanBeBroadcast d kind) rs) → 0 < d → IsChained d rs → AreKept d sent rs
-    → (k : ℕ) (b : Broadcast) (u t : ℕ) (q p : Piece) → HasNumber (plan_from d kind rs a) k b → Covers b u → Covers b t → IsSent sent u (Sends q) → IsSent sent t (Sends p) → u < t
+dense_fragments : (d : ℕ) (kind : Kind) (sent : List Mark) (rs : List Reign) (a : AllByRecursion (CanBeBroadcast d kind) rs) → 0 < d → IsChained d rs → AreKept d sent rs
+    → (k : ℕ) (b : Broadcast) (u t : ℕ) (q p : Fragment) → HasNumber (plan_from d kind rs a) k b → Covers b u → Covers b t → IsSent sent u (Sends q) → IsSent sent t (Sends p) → u < t
     → IsBridged d sent u t
-dense_pieces d kind sent [] a pos c keep k b u t q p n cu ct su st lt = absurd n
-dense_pieces d kind sent (r ∷ older) a pos c keep k b u t q p (inr n) cu ct su st lt = dense_pieces d kind sent older a.1 pos c.1 keep.2 k b u t q p n cu ct su st lt
-dense_pieces d kind sent (r ∷ older) a pos c keep k b u t q p (inl n) cu ct su st lt =
+dense_fragments d kind sent [] a pos c keep k b u t q p n cu ct su st lt = absurd n
+dense_fragments d kind sent (r ∷ older) a pos c keep k b u t q p (inr n) cu ct su st lt = dense_fragments d kind sent older a.1 pos c.1 keep.2 k b u t q p n cu ct su st lt
+dense_fragments d kind sent (r ∷ older) a pos c keep k b u t q p (inl n) cu ct su st lt =
     let start : b.start ≡ r.start = ap (λ (x : Broadcast). x.start) n.1 in
     let end : b.end ≡ r.last = ap (λ (x : Broadcast). x.end) n.1 in
     elim (cases_lt u r.opened) [
-      | inl less ↦ absurd (since_opened d sent r older u pos c.0 (omega (arith, cu.from)) (keep.1 u (piece_is_marked sent u q su) less) q su)
+      | inl less ↦ absurd (since_opened d sent r older u pos c.0 (omega (arith, cu.from)) (keep.1 u (fragment_is_marked sent u q su) less) q su)
       | inr from ↦ keep.0.dense u t q p su st from lt (omega (arith, ct.to))
     ]
 
--- tags that are sent in a reign's broadcast come after the reign's first piece
+-- tags that are sent in a reign's broadcast come after the reign's first fragment
 opened_before : (d : ℕ) (sent : List Mark) (r : Reign) (older : List Reign) (t : ℕ) (pair : PairFields) → 0 < d → TagsAreAfter sent → r.start ≡ start_after d r.flag older → r.start ≤ t
     → ((u : ℕ) → IsMarked sent u → u < r.opened → IsBehind sent older u) → IsSent sent t (Tagged pair) → t < r.opened → ⊥
-opened_before d sent r [] t pair pos h c from gap s lt = (let w = h t pair s in gap w.slot (piece_is_marked sent w.slot w.piece w.is_sent) (omega (arith, w.before)) w.piece w.is_sent)
+opened_before d sent r [] t pair pos h c from gap s lt = (let w = h t pair s in gap w.slot (fragment_is_marked sent w.slot w.fragment w.is_sent) (omega (arith, w.before)) w.fragment w.is_sent)
 opened_before d sent r (e ∷ older) t pair pos h c from gap s lt = omega (arith, starts_after d r.flag e older pos, gap t (tags_are_marked sent t pair s) lt)
 
 dense_tags : (d : ℕ) (kind : Kind) (sent : List Mark) (rs : List Reign) (a : AllByRecursion (CanBeBroadcast d kind) rs) → 0 < d → TagsAreAfter sent → IsChained d rs → AreKept d sent rs
     → (k : ℕ) (b : Broadcast) (t : ℕ) (pair : PairFields) → HasNumber (plan_from d kind rs a) k b → Covers b t → IsSent sent t (Tagged pair)
-    → HasPieceBefore sent b t
+    → HasFragmentBefore sent b t
 dense_tags d kind sent [] a pos h c keep k b t pair n ct st = absurd n
 dense_tags d kind sent (r ∷ older) a pos h c keep k b t pair (inr n) ct st = dense_tags d kind sent older a.1 pos h c.1 keep.2 k b t pair n ct st
 dense_tags d kind sent (r ∷ older) a pos h c keep k b t pair (inl n) ct st =
@@ -254,7 +254,7 @@ dense_tags d kind sent (r ∷ older) a pos h c keep k b t pair (inl n) ct st =
     let end : b.end ≡ r.last = ap (λ (x : Broadcast). x.end) n.1 in
     record {
       slot = r.opened;
-      piece = keep.0.first;
+      fragment = keep.0.first;
       is_sent = keep.0.opened;
       covers = record { from = omega (arith, a.0.begun); to = omega (arith, keep.0.until) };
       before = elim (cases_order r.opened t) [
@@ -277,11 +277,11 @@ has_plan below d kind sent pos h = record {
       far = distance below d kind sent (reigns d sent) h.reigns pos (chained d sent) (keeps d sent).0;
     };
     values = valued d kind (reigns d sent) h.reigns;
-    pieces = λ t p s. piece_planned d kind t p (reigns d sent) h.reigns (piece_held d sent t p s);
+    fragments = λ t p s. fragment_planned d kind t p (reigns d sent) h.reigns (fragment_held d sent t p s);
     tags = λ t pair s. tags_planned d kind t pair (reigns d sent) h.reigns (tags_held d sent h.tagged t pair s);
   };
   dense = record {
-    pieces = dense_pieces d kind sent (reigns d sent) h.reigns pos (chained d sent) (keeps d sent).0;
+    fragments = dense_fragments d kind sent (reigns d sent) h.reigns pos (chained d sent) (keeps d sent).0;
     tags = dense_tags d kind sent (reigns d sent) h.reigns pos h.tagged (chained d sent) (keeps d sent).0;
   };
 }

@@ -24,14 +24,14 @@ get-put cells k cell a = get-insert nat_cmp_total cells k cell a ∙ ap (λ same
 cell_is : (kind : Kind) (input : Input) (b : Broadcast) (gs : List Segment) → AreOf kind input b gs
     → (a : ℕ) (cell : List ℕ) → get (cells_of gs) a ≡ Some cell → cell ≡ segment_of (kind.body b.bytes) a
 cell_is kind input b [] all a cell e = (let none = get-empty {X = List ℕ} nat_cmp a in absurd (cc))
-cell_is kind input b (g ∷ older) all a cell e = by (nat_eq a g.piece.address) refl (sym (get-put (cells_of older) g.piece.address g.piece.bytes a) ∙ e) (cell_is kind input b older all.1 a cell)
+cell_is kind input b (g ∷ older) all a cell e = by (nat_eq a g.fragment.address) refl (sym (get-put (cells_of older) g.fragment.address g.fragment.bytes a) ∙ e) (cell_is kind input b older all.1 a cell)
   where
-    by : (same : Bool) → nat_eq a g.piece.address ≡ same → cond same (Some g.piece.bytes) (get (cells_of older) a) ≡ Some cell
+    by : (same : Bool) → nat_eq a g.fragment.address ≡ same → cond same (Some g.fragment.bytes) (get (cells_of older) a) ≡ Some cell
         → (get (cells_of older) a ≡ Some cell → cell ≡ segment_of (kind.body b.bytes) a)
         → cell ≡ segment_of (kind.body b.bytes) a
     by true t e rest =
-        let newest : g.piece.bytes ≡ cell = cc in
-        sym newest ∙ all.0.has.piece.bytes ∙ ap (segment_of (kind.body b.bytes)) (sym (eqb-true a g.piece.address t))
+        let newest : g.fragment.bytes ≡ cell = cc in
+        sym newest ∙ all.0.has.fragment.bytes ∙ ap (segment_of (kind.body b.bytes)) (sym (eqb-true a g.fragment.address t))
     by false t e rest = rest e
 
 -- a service, and what is whole of its cells: of a value's own segments nothing but the value, of none nothing

@@ -8,7 +8,7 @@ use Rattle.rds_assembly.specs.Body.{AreAllHeld, segment_count, segment_of}
 use Rattle.rds_assembly.specs.Cells.{Cells}
 use Rattle.rds_encoder.specs.Plan.{Broadcast, Covers, HasNumber}
 use Rattle.rds_encoder.specs.Spaced.{IsSpaced}
-use Rattle.rds_receiver.specs.Receipts.{Piece, Segment, picked, segments, with_segment}
+use Rattle.rds_receiver.specs.Receipts.{Fragment, Segment, picked, segments, with_segment}
 use Rattle.rds_receiver.specs.Run.{cells_of, is_same, run, run_at, run_before}
 use Rattle.rds_receiver.specs.Shown.{IsShown}
 use Rattle.rds_world.specs.Safety.Late.{CameFrom, HasEntry, Input, IsHeardLate}
@@ -33,19 +33,19 @@ all_in P [] g all is_in = absurd is_in
 all_in P (h ∷ older) g all (inl e) = subst P (sym e) all.0
 all_in P (h ∷ older) g all (inr is_in) = all_in P older g all.1 is_in
 
-abbrev pub came_in : ℕ → Piece → Segment
-came_in slot p = record { slot = slot; piece = p }
+abbrev pub came_in : ℕ → Fragment → Segment
+came_in slot p = record { slot = slot; fragment = p }
 
 -- what was heard of the service is among its segments
-pub in_segments : (pick : Message → Option Piece) (first : ℕ) (heard : List (Option Message)) (u : ℕ) (message : Message) (p : Piece)
+pub in_segments : (pick : Message → Option Fragment) (first : ℕ) (heard : List (Option Message)) (u : ℕ) (message : Message) (p : Fragment)
     → HasEntry first heard u (Some message) → pick message ≡ Some p → IsIn (segments pick first heard) (came_in u p)
 in_segments pick first [] u message p has is = absurd has
 in_segments pick first (x ∷ before) u message p (inl now) is =
     let picks : picked pick x ≡ Some p = ap (picked pick) (sym now.1) ∙ is in
-    subst (λ (o : Option Piece). IsIn (with_segment (first + length before) o (segments pick first before)) (came_in u p)) (sym picks) (inl (ap (λ n. came_in n p) now.0))
+    subst (λ (o : Option Fragment). IsIn (with_segment (first + length before) o (segments pick first before)) (came_in u p)) (sym picks) (inl (ap (λ n. came_in n p) now.0))
 in_segments pick first (x ∷ before) u message p (inr earlier) is = by (picked pick x) (in_segments pick first before u message p earlier is)
   where
-    by : (o : Option Piece) → IsIn (segments pick first before) (came_in u p) → IsIn (with_segment (first + length before) o (segments pick first before)) (came_in u p)
+    by : (o : Option Fragment) → IsIn (segments pick first before) (came_in u p) → IsIn (with_segment (first + length before) o (segments pick first before)) (came_in u p)
     by None has = has
     by (Some q) has = inr has
 
@@ -61,7 +61,7 @@ newest_since s h older g falls since (inr is_in) = omega (arith, since, in_below
 
 -- those that came since slot s have the flag
 abbrev HaveFlag : Bool → ℕ → List Segment → Type 0
-HaveFlag f s gs = AllByRecursion (λ (g : Segment). s ≤ g.slot → g.piece.flag ≡ f) gs
+HaveFlag f s gs = AllByRecursion (λ (g : Segment). s ≤ g.slot → g.fragment.flag ≡ f) gs
 
 both_true : (a b : Bool) → a ≡ true → b ≡ true → (a && b) ≡ true
 both_true true true p q = refl
@@ -75,8 +75,8 @@ module _ (m t s : ℕ) (f : Bool) (soon : t < s + m) where
   kept_before n (h ∷ older) g past falls flags since is_in =
       let new : s ≤ h.slot = newest_since s h older g falls.1 since is_in in
       let below = falls.0 in
-      let joins : (is_same f h.piece.flag && nat_lt n (h.slot + m)) ≡ true =
-      both_true (is_same f h.piece.flag) (nat_lt n (h.slot + m)) (is_same_flag f h.piece.flag (sym (flags.0 new))) (lt-ltb n (h.slot + m) (omega (arith, soon, new, past))) in
+      let joins : (is_same f h.fragment.flag && nat_lt n (h.slot + m)) ≡ true =
+      both_true (is_same f h.fragment.flag) (nat_lt n (h.slot + m)) (is_same_flag f h.fragment.flag (sym (flags.0 new))) (lt-ltb n (h.slot + m) (omega (arith, soon, new, past))) in
       subst (λ (b : Bool). IsIn (cond b (h ∷ run_before m f h.slot older) []) g) (sym joins)
       (by is_in (kept_before h.slot older g (omega (arith, below, past)) falls.1 flags.1 since))
     where
@@ -89,7 +89,7 @@ module _ (m t s : ℕ) (f : Bool) (soon : t < s + m) where
   kept (h ∷ older) g falls flags since is_in =
       let new : s ≤ h.slot = newest_since s h older g falls.1 since is_in in
       let below = falls.0 in
-      subst (λ (b : Bool). IsIn (cond b (h ∷ run_before m h.piece.flag h.slot older) []) g) (sym (lt-ltb t (h.slot + m) (omega (arith, soon, new))))
+      subst (λ (b : Bool). IsIn (cond b (h ∷ run_before m h.fragment.flag h.slot older) []) g) (sym (lt-ltb t (h.slot + m) (omega (arith, soon, new))))
       (subst (λ (x : Bool). IsIn (h ∷ run_before m x h.slot older) g) (sym (flags.0 new))
       (by is_in (kept_before h.slot older g (omega (arith, below)) falls.1 flags.1 since)))
     where
@@ -99,16 +99,16 @@ module _ (m t s : ℕ) (f : Bool) (soon : t < s + m) where
 
 -- at the address of each segment of a run in one broadcast that broadcast's segment is held
 held_own : (kind : Kind) (input : Input) (b : Broadcast) (gs : List Segment) (g : Segment) → AreOf kind input b gs → IsIn gs g
-    → get (cells_of gs) g.piece.address ≡ Some (segment_of (kind.body b.bytes) g.piece.address)
+    → get (cells_of gs) g.fragment.address ≡ Some (segment_of (kind.body b.bytes) g.fragment.address)
 held_own kind input b [] g all is_in = absurd is_in
 held_own kind input b (h ∷ older) g all is_in =
-    get-put (cells_of older) h.piece.address h.piece.bytes g.piece.address ∙ by (nat_eq g.piece.address h.piece.address) refl is_in (held_own kind input b older g all.1)
+    get-put (cells_of older) h.fragment.address h.fragment.bytes g.fragment.address ∙ by (nat_eq g.fragment.address h.fragment.address) refl is_in (held_own kind input b older g all.1)
   where
-    by : (same : Bool) → nat_eq g.piece.address h.piece.address ≡ same → IsIn (h ∷ older) g
-        → (IsIn older g → get (cells_of older) g.piece.address ≡ Some (segment_of (kind.body b.bytes) g.piece.address))
-        → cond same (Some h.piece.bytes) (get (cells_of older) g.piece.address) ≡ Some (segment_of (kind.body b.bytes) g.piece.address)
-    by true e is_in rest = ap Some (all.0.has.piece.bytes ∙ ap (segment_of (kind.body b.bytes)) (sym (eqb-true g.piece.address h.piece.address e)))
-    by false e (inl own) rest = absurd (eqb-false g.piece.address h.piece.address e (ap (λ (x : Segment). x.piece.address) own))
+    by : (same : Bool) → nat_eq g.fragment.address h.fragment.address ≡ same → IsIn (h ∷ older) g
+        → (IsIn older g → get (cells_of older) g.fragment.address ≡ Some (segment_of (kind.body b.bytes) g.fragment.address))
+        → cond same (Some h.fragment.bytes) (get (cells_of older) g.fragment.address) ≡ Some (segment_of (kind.body b.bytes) g.fragment.address)
+    by true e is_in rest = ap Some (all.0.has.fragment.bytes ∙ ap (segment_of (kind.body b.bytes)) (sym (eqb-true g.fragment.address h.fragment.address e)))
+    by false e (inl own) rest = absurd (eqb-false g.fragment.address h.fragment.address e (ap (λ (x : Segment). x.fragment.address) own))
     by false e (inr is_in) rest = rest is_in
 
 -- one broadcast covers a slot
@@ -126,10 +126,10 @@ one_covers laws d plan k l a b u spaced p q v w =
 pub record CameSince (gs : List Segment) (s address : ℕ) : Type 0 where
   pub segment : Segment
   pub since : s ≤ segment.slot
-  pub at : segment.piece.address ≡ address
+  pub at : segment.fragment.address ≡ address
   pub is_in : IsIn gs segment
 
-module _ (laws : PlanLaws) (m t s : ℕ) (kind : Kind) (pick : Message → Option Piece) (of : Option Message → Mark) (plan : List Broadcast) (log : List (Option Message)) (input : Input) (number : ℕ) (b : Broadcast)
+module _ (laws : PlanLaws) (m t s : ℕ) (kind : Kind) (pick : Message → Option Fragment) (of : Option Message → Mark) (plan : List Broadcast) (log : List (Option Message)) (input : Input) (number : ℕ) (b : Broadcast)
     (alike : PicksWhatIsMarked pick of) (k : ℕ) (law : IsLawful (m + k) kind plan (marks of log)) (late : IsHeardLate k log input) (now : input.first + length input.heard ≡ t + 1)
     (fresh : (u r : ℕ) → s ≤ u → CameFrom input u r → s ≤ r) (planned : HasNumber plan number b) (from : b.start ≤ s) (to : t ≤ b.end) (soon : t < s + m) where
   hears : IsHeardByOwnClock (m + k) m t log input
@@ -142,11 +142,11 @@ module _ (laws : PlanLaws) (m t s : ℕ) (kind : Kind) (pick : Message → Optio
   flags [] all = tt
   flags (g ∷ xs) all = (flag, flags xs all.1)
     where
-      flag : s ≤ g.slot → g.piece.flag ≡ b.flag
+      flag : s ≤ g.slot → g.fragment.flag ≡ b.flag
       flag since =
           let came = arrival log input g.slot all.0.message hears.order all.0.came in
-          let sent = rw (alike all.0.message g.piece all.0.piece) at (mark_sent of log came.slot (Some all.0.message) came.sent) in
-          let lies = law.pieces came.slot g.piece sent in
+          let sent = rw (alike all.0.message g.fragment all.0.fragment) at (mark_sent of log came.slot (Some all.0.message) came.sent) in
+          let lies = law.fragments came.slot g.fragment sent in
           let mine : Covers b came.slot = record { from = omega (arith, from, fresh g.slot came.slot since came.from); to = omega (arith, to, hears.past g.slot came.slot came.from) } in
           let same : lies.broadcast ≡ b = one_covers laws (m + k) plan lies.number number lies.broadcast b came.slot law.spaced lies.planned planned lies.is.covers mine in
           lies.is.flag ∙ ap (λ (x : Broadcast). x.flag) same

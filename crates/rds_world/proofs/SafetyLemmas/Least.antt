@@ -18,12 +18,12 @@ use Rattle.rds_assembly.specs.Value.{IsText, is_text_byte}
 use Rattle.rds_assembly.specs.Whole.{IsWholeText}
 use Rattle.rds_encoder.specs.Plan.{Broadcast, HasNumber}
 use Rattle.rds_encoder.specs.Spaced.{IsSpaced}
-use Rattle.rds_receiver.specs.Receipts.{Piece, Segment, name_piece, segments, text_piece}
+use Rattle.rds_receiver.specs.Receipts.{Fragment, Segment, name_fragment, segments, text_fragment}
 use Rattle.rds_receiver.specs.Run.{run, run_at, run_before}
 use Rattle.rds_receiver.specs.Shown.{ShowsView, ShownView}
 use Rattle.rds_receiver.specs.Tags.{item_of, pair_held, tag_of}
 use Rattle.rds_world.specs.Safety.Late.{CameFrom, HasEntry, Input, IsHeardInOrder, IsHeardLate, SentIn}
-use Rattle.rds_world.specs.Safety.Lawful.{HasOne, HasPiece, HasTags, IsLawful, names, texts}
+use Rattle.rds_world.specs.Safety.Lawful.{HasOne, HasFragment, HasTags, IsLawful, names, texts}
 use Rattle.rds_world.specs.Safety.Laws.{ShowsAMix}
 use Rattle.rds_world.specs.Safety.Marks.{IsSent, Mark, Nothing, Sends, Tagged, marks, name_mark, text_mark}
 use Rattle.rds_world.specs.Safety.OwnClock.{ListensByOwnClock, ListensBySlowClock}
@@ -55,11 +55,11 @@ newer_text = text_of_two 66 68
 abbrev pub mix : List ℕ
 mix = text_of_two 65 68
 
-abbrev pub first_piece : Piece
-first_piece = record { flag = false; address = 0; bytes = four 65 }
+abbrev pub first_fragment : Fragment
+first_fragment = record { flag = false; address = 0; bytes = four 65 }
 
-abbrev pub last_piece : Piece
-last_piece = record { flag = false; address = 1; bytes = three_and_end 68 }
+abbrev pub last_fragment : Fragment
+last_fragment = record { flag = false; address = 1; bytes = three_and_end 68 }
 
 abbrev pub first_message : Option Message
 first_message = Some (Text false 0 (four 65))
@@ -137,7 +137,7 @@ marks_long : (j : ℕ) → length (marks text_mark (quiet j)) ≡ suc j
 marks_long zero = refl
 marks_long (suc j) = ap suc (marks_long j)
 
-quiet_texts : (j t : ℕ) (m : Mark) → IsSent (marks text_mark (quiet j)) t m → (m ≡ Nothing) ⊎ ((t ≡ 0) × (m ≡ Sends first_piece))
+quiet_texts : (j t : ℕ) (m : Mark) → IsSent (marks text_mark (quiet j)) t m → (m ≡ Nothing) ⊎ ((t ≡ 0) × (m ≡ Sends first_fragment))
 quiet_texts zero t m (inl s) = inr s
 quiet_texts zero t m (inr s) = absurd s
 quiet_texts (suc j) t m (inl s) = inl s.1
@@ -157,29 +157,29 @@ texts_lawful : (j : ℕ) → IsLawful (j + 1) texts (plan (j + 1)) (marks text_m
 texts_lawful j = record {
   spaced = spaced (j + 1) (omega arith);
   values = λ k b p. elim (which (j + 1) k b p) [ inl q ↦ rw q.1 (is_text 66 68 (omega arith) (omega arith) refl refl) | inr q ↦ rw q.1 (is_text 65 67 (omega arith) (omega arith) refl refl) ];
-  pieces = pieces;
+  fragments = fragments;
   tags = tags;
 }
   where
-    pieces : (t : ℕ) (p : Piece) → IsSent (marks text_mark (log j)) t (Sends p) → HasOne (plan (j + 1)) (HasPiece texts t p)
-    pieces t p (inl s) =
-        let same : p ≡ last_piece = (let e = s.1 in cc) in
+    fragments : (t : ℕ) (p : Fragment) → IsSent (marks text_mark (log j)) t (Sends p) → HasOne (plan (j + 1)) (HasFragment texts t p)
+    fragments t p (inl s) =
+        let same : p ≡ last_fragment = (let e = s.1 in cc) in
         let slot : t ≡ j + 1 = omega (arith, s.0, marks_long j) in
         record {
           number = 1;
           broadcast = newer (j + 1);
           planned = inl (refl, refl);
-          is = rw (same, slot) record { covers = record { from = omega arith; to = omega arith }; flag = refl; piece = record { within = omega arith; bytes = refl } };
+          is = rw (same, slot) record { covers = record { from = omega arith; to = omega arith }; flag = refl; fragment = record { within = omega arith; bytes = refl } };
         }
-    pieces t p (inr s) = elim (quiet_texts j t (Sends p) s) [
+    fragments t p (inr s) = elim (quiet_texts j t (Sends p) s) [
       | inl none ↦ absurd (cc)
       | inr one ↦
-          let same : p ≡ first_piece = (let e = one.1 in cc) in
+          let same : p ≡ first_fragment = (let e = one.1 in cc) in
           record {
             number = 0;
             broadcast = older;
             planned = inr (inl (refl, refl));
-            is = rw (same, one.0) record { covers = record { from = omega arith; to = omega arith }; flag = refl; piece = record { within = omega arith; bytes = refl } };
+            is = rw (same, one.0) record { covers = record { from = omega arith; to = omega arith }; flag = refl; fragment = record { within = omega arith; bytes = refl } };
           }
     ]
 
@@ -191,7 +191,7 @@ names_lawful : (d j : ℕ) → IsLawful d names [] (marks name_mark (log j))
 names_lawful d j = record {
   spaced = record { lasts = λ k b p. absurd p; order = λ k a b p q. absurd p; apart = λ k a b p q. absurd p; far = λ k a b p q. absurd p };
   values = λ k b p. absurd p;
-  pieces = λ t p s. absurd (none t (Sends p) s (λ e. (cc)));
+  fragments = λ t p s. absurd (none t (Sends p) s (λ e. (cc)));
   tags = λ t pair s. absurd (none t (Tagged pair) s (λ e. (cc)));
 }
   where
@@ -241,21 +241,21 @@ sent_by n j t s (inr p) = omega (arith, all_from_first 0 n t s p)
 
 -- its run is both segments
 abbrev pub first_segment : ℕ → Segment
-first_segment k = record { slot = k + 0; piece = first_piece }
+first_segment k = record { slot = k + 0; fragment = first_fragment }
 
 abbrev pub last_segment : ℕ → Segment
-last_segment t = record { slot = t; piece = last_piece }
+last_segment t = record { slot = t; fragment = last_fragment }
 
-quiet_segments : (k n : ℕ) → segments text_piece k (quiet n) ≡ first_segment k ∷ []
+quiet_segments : (k n : ℕ) → segments text_fragment k (quiet n) ≡ first_segment k ∷ []
 quiet_segments k zero = refl
 quiet_segments k (suc n) = quiet_segments k n
 
-pub no_segments : (k n : ℕ) → segments name_piece k (quiet n) ≡ []
+pub no_segments : (k n : ℕ) → segments name_fragment k (quiet n) ≡ []
 no_segments k zero = refl
 no_segments k (suc n) = no_segments k n
 
 -- so it is up to the slot in which the last of them is as old as the dwell
-pub mixed_by : (k n now : ℕ) → now < k + length (quiet n) + (n + 2) → run (n + 2) now (segments text_piece k (heard n)) ≡ last_segment (k + length (quiet n)) ∷ first_segment k ∷ []
+pub mixed_by : (k n now : ℕ) → now < k + length (quiet n) + (n + 2) → run (n + 2) now (segments text_fragment k (heard n)) ≡ last_segment (k + length (quiet n)) ∷ first_segment k ∷ []
 mixed_by k n now soon =
     let t : ℕ = k + length (quiet n) in
     let recent : nat_lt now (t + (n + 2)) ≡ true = lt-ltb _ _ soon in
@@ -264,10 +264,10 @@ mixed_by k n now soon =
     ∙ cond-true (nat_lt now (t + (n + 2))) (last_segment t ∷ run_before (n + 2) false t (first_segment k ∷ [])) [] recent
     ∙ ap (λ gs. last_segment t ∷ gs) (cond-true (nat_lt t (k + 0 + (n + 2))) (first_segment k ∷ []) [] joins)
 
-mixed : (k n : ℕ) → run_at text_piece (n + 2) k (heard n) ≡ last_segment (k + length (quiet n)) ∷ first_segment k ∷ []
+mixed : (k n : ℕ) → run_at text_fragment (n + 2) k (heard n) ≡ last_segment (k + length (quiet n)) ∷ first_segment k ∷ []
 mixed k n = mixed_by k n (k + length (quiet n)) (omega arith)
 
-no_name : (k n : ℕ) → run_at name_piece (n + 2) k (heard n) ≡ []
+no_name : (k n : ℕ) → run_at name_fragment (n + 2) k (heard n) ≡ []
 no_name k n = ap (λ gs. run (n + 2) (k + length (quiet n)) gs) (no_segments k n)
 
 abbrev pub both_cells : Cells

@@ -15,13 +15,13 @@ use Rattle.rds_assembly.specs.Value.{IsText, is_text_byte}
 use Rattle.rds_assembly.specs.Whole.{IsWholeText}
 use Rattle.rds_encoder.specs.Plan.{Broadcast, HasNumber}
 use Rattle.rds_encoder.specs.Spaced.{IsSpaced}
-use Rattle.rds_receiver.specs.Receipts.{Piece}
+use Rattle.rds_receiver.specs.Receipts.{Fragment}
 use Rattle.rds_receiver.specs.Run.{run}
 use Rattle.rds_receiver.specs.Shown.{ShowsView, ShownView}
 use Rattle.rds_receiver.specs.Tags.{item_of, pair_held, tag_of}
 use Rattle.rds_world.specs.Safety.ClockBounds.{Bounds, ListensWithin, own_bounds}
 use Rattle.rds_world.specs.Safety.Late.{CameFrom, HasEntry, Input}
-use Rattle.rds_world.specs.Safety.Lawful.{HasOne, HasPiece, HasTags, IsLawful, names, texts}
+use Rattle.rds_world.specs.Safety.Lawful.{HasOne, HasFragment, HasTags, IsLawful, names, texts}
 use Rattle.rds_world.specs.Safety.Laws.{IsUnsafe, ShowsAMix}
 use Rattle.rds_world.specs.Safety.Marks.{IsSent, Mark, Nothing, Sends, Tagged, marks, name_mark, text_mark}
 use Rattle.rds_world.specs.Safety.OwnClock.{ListensByOwnClock}
@@ -126,8 +126,8 @@ three_is_text = record { at_most = omega arith; bytes = bytes; allowed = allowed
     allowed (suc (suc zero)) h = refl
     allowed (suc (suc (suc i))) h = absurd (omega arith)
 
-abbrev piece : Piece
-piece = record { flag = false; address = 0; bytes = three_and_end 65 }
+abbrev fragment : Fragment
+fragment = record { flag = false; address = 0; bytes = three_and_end 65 }
 
 abbrev message : Option Message
 message = Some (Text false 0 (three_and_end 65))
@@ -152,7 +152,7 @@ marks_of_nothing of zero t m e s = absurd s
 marks_of_nothing of (suc a) t m e (inl s) = s.1 ∙ e
 marks_of_nothing of (suc a) t m e (inr s) = marks_of_nothing of a t m e s
 
-once_texts : (a j t : ℕ) (m : Mark) → IsSent (marks text_mark (sent_once a j)) t m → (m ≡ Nothing) ⊎ ((t ≡ a) × (m ≡ Sends piece))
+once_texts : (a j t : ℕ) (m : Mark) → IsSent (marks text_mark (sent_once a j)) t m → (m ≡ Nothing) ⊎ ((t ≡ a) × (m ≡ Sends fragment))
 once_texts a zero t m (inl s) = inr (omega (arith, s.0, marks_long text_mark (nothing a), nothing_long a), s.1)
 once_texts a zero t m (inr s) = inl (marks_of_nothing text_mark a t m refl s)
 once_texts a (suc j) t m (inl s) = inl s.1
@@ -183,16 +183,16 @@ once_spaced d a = record {
 once_lawful : (d a j : ℕ) → AreLawful d record { text = once a ∷ []; name = [] } (sent_once a j)
 once_lawful d a j = record { text = of_texts; name = of_names }
   where
-    pieces : (t : ℕ) (p : Piece) → IsSent (marks text_mark (sent_once a j)) t (Sends p) → HasOne (once a ∷ []) (HasPiece texts t p)
-    pieces t p s = elim (once_texts a j t (Sends p) s) [
+    fragments : (t : ℕ) (p : Fragment) → IsSent (marks text_mark (sent_once a j)) t (Sends p) → HasOne (once a ∷ []) (HasFragment texts t p)
+    fragments t p s = elim (once_texts a j t (Sends p) s) [
       | inl none ↦ absurd (cc)
       | inr one ↦
-          let same : p ≡ piece = (let e = one.1 in cc) in
+          let same : p ≡ fragment = (let e = one.1 in cc) in
           record {
             number = 0;
             broadcast = once a;
             planned = inl (refl, refl);
-            is = rw (same, one.0) record { covers = record { from = omega arith; to = omega arith }; flag = refl; piece = record { within = omega arith; bytes = refl } };
+            is = rw (same, one.0) record { covers = record { from = omega arith; to = omega arith }; flag = refl; fragment = record { within = omega arith; bytes = refl } };
           }
     ]
 
@@ -203,7 +203,7 @@ once_lawful d a j = record { text = of_texts; name = of_names }
     of_texts = record {
       spaced = once_spaced d a;
       values = λ k b p. rw ((only_once a k b p).1) three_is_text;
-      pieces = pieces;
+      fragments = fragments;
       tags = tags;
     }
 
@@ -211,7 +211,7 @@ once_lawful d a j = record { text = of_texts; name = of_names }
     of_names = record {
       spaced = record { lasts = λ k b p. absurd p; order = λ k b c p q. absurd p; apart = λ k b c p q. absurd p; far = λ k b c p q. absurd p };
       values = λ k b p. absurd p;
-      pieces = λ t p s. (let e = once_names a j t (Sends p) s in absurd (cc));
+      fragments = λ t p s. (let e = once_names a j t (Sends p) s in absurd (cc));
       tags = λ t pair s. (let e = once_names a j t (Tagged pair) s in absurd (cc));
     }
 

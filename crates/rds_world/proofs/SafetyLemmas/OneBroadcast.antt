@@ -7,10 +7,10 @@ use Rattle.std.proofs.lemmas.Bool.{and_parts, cases_order, cond_both, ltb-true}
 use Rattle.rds_fields.specs.declared.message.Message.{Message}
 use Rattle.rds_encoder.specs.Plan.{Broadcast, Covers, HasNumber}
 use Rattle.rds_encoder.specs.Spaced.{IsSpaced}
-use Rattle.rds_receiver.specs.Receipts.{Piece, Segment, segments}
+use Rattle.rds_receiver.specs.Receipts.{Fragment, Segment, segments}
 use Rattle.rds_receiver.specs.Run.{is_same, run, run_at, run_before}
 use Rattle.rds_world.specs.Safety.Late.{CameFrom, Input, IsHeardInOrder}
-use Rattle.rds_world.specs.Safety.Lawful.{HasOne, HasPiece, IsLawful, Kind}
+use Rattle.rds_world.specs.Safety.Lawful.{HasOne, HasFragment, IsLawful, Kind}
 use Rattle.rds_world.specs.Safety.Laws.{PlanLaws}
 use Rattle.rds_world.specs.Safety.Marks.{Mark, Sends, marks}
 use Rattle.rds_world.specs.Safety.OwnClock.{IsHeardByOwnClock}
@@ -30,11 +30,11 @@ one_number laws d plan k l a b s r spaced p q u v after before e =
       ]
     ]
 
--- the segment was sent in a slot in which the broadcast has its piece
+-- the segment was sent in a slot in which the broadcast has its fragment
 pub record IsSegmentOf (kind : Kind) (input : Input) (g : Segment) (b : Broadcast) : Type 0 where
   pub slot : ℕ
   pub from : CameFrom input g.slot slot
-  pub has : HasPiece kind slot g.piece b
+  pub has : HasFragment kind slot g.fragment b
 
 -- the segment is one of some broadcast of the plan
 abbrev pub IsOfAny : Kind → List Broadcast → Input → Segment → Type 0
@@ -44,18 +44,18 @@ IsOfAny kind plan input g = HasOne plan (IsSegmentOf kind input g)
 abbrev pub AreOf : Kind → Input → Broadcast → List Segment → Type 0
 AreOf kind input b gs = AllByRecursion (λ (g : Segment). IsSegmentOf kind input g b) gs
 
--- what is picked of a message is the piece of its mark
-abbrev pub PicksWhatIsMarked : (Message → Option Piece) → (Option Message → Mark) → Type 0
-PicksWhatIsMarked pick of = (message : Message) (p : Piece) → pick message ≡ Some p → of (Some message) ≡ Sends p
+-- what is picked of a message is the fragment of its mark
+abbrev pub PicksWhatIsMarked : (Message → Option Fragment) → (Option Message → Mark) → Type 0
+PicksWhatIsMarked pick of = (message : Message) (p : Fragment) → pick message ≡ Some p → of (Some message) ≡ Sends p
 
 -- each segment picked is one of some broadcast
-all_of_any : (d : ℕ) (kind : Kind) (pick : Message → Option Piece) (of : Option Message → Mark) (plan : List Broadcast) (log : List (Option Message)) (input : Input) (gs : List Segment)
+all_of_any : (d : ℕ) (kind : Kind) (pick : Message → Option Fragment) (of : Option Message → Mark) (plan : List Broadcast) (log : List (Option Message)) (input : Input) (gs : List Segment)
     → PicksWhatIsMarked pick of → IsLawful d kind plan (marks of log) → IsHeardInOrder log input → AllByRecursion (IsPicked pick input.first input.heard) gs → AllByRecursion (IsOfAny kind plan input) gs
 all_of_any d kind pick of plan log input [] alike law order all = tt
 all_of_any d kind pick of plan log input (g ∷ gs) alike law order all =
     let came = arrival log input g.slot all.0.message order all.0.came in
-    let sent = rw (alike all.0.message g.piece all.0.piece) at (mark_sent of log came.slot (Some all.0.message) came.sent) in
-    let lies = law.pieces came.slot g.piece sent in (
+    let sent = rw (alike all.0.message g.fragment all.0.fragment) at (mark_sent of log came.slot (Some all.0.message) came.sent) in
+    let lies = law.fragments came.slot g.fragment sent in (
       record {
         number = lies.number;
         broadcast = lies.broadcast;
@@ -82,13 +82,13 @@ RunLiesInOne d t kind plan input (g ∷ older) = LiesInOne d t kind plan input g
 module _ (laws : PlanLaws) (d m t : ℕ) (kind : Kind) (plan : List Broadcast) (log : List (Option Message)) (input : Input) (spaced : IsSpaced d plan) (hears : IsHeardByOwnClock d m t log input) where
   -- what stands before a segment of a run lies in its broadcast
   goes_on : (number : ℕ) (b : Broadcast) (g : Segment) (older : List Segment) → HasNumber plan number b → IsSegmentOf kind input g b
-      → AreFalling g.slot older → AllByRecursion (IsOfAny kind plan input) older → AreOf kind input b (run_before m g.piece.flag g.slot older)
+      → AreFalling g.slot older → AllByRecursion (IsOfAny kind plan input) older → AreOf kind input b (run_before m g.fragment.flag g.slot older)
   goes_on number b g [] p own falls all = tt
   goes_on number b g (h ∷ older) p own falls all =
-      cond_both (is_same g.piece.flag h.piece.flag && nat_lt g.slot (h.slot + m)) (h ∷ run_before m g.piece.flag h.slot older) [] (AreOf kind input b)
+      cond_both (is_same g.fragment.flag h.fragment.flag && nat_lt g.slot (h.slot + m)) (h ∷ run_before m g.fragment.flag h.slot older) [] (AreOf kind input b)
       (λ joins.
-      let parts = and_parts (is_same g.piece.flag h.piece.flag) (nat_lt g.slot (h.slot + m)) joins in
-      let flag : g.piece.flag ≡ h.piece.flag = same_flag _ _ parts.0 in
+      let parts = and_parts (is_same g.fragment.flag h.fragment.flag) (nat_lt g.slot (h.slot + m)) joins in
+      let flag : g.fragment.flag ≡ h.fragment.flag = same_flag _ _ parts.0 in
       let near : g.slot < h.slot + m = ltb-true _ _ parts.1 in
       let its = all.0.is in
       let later = hears.order.rising h.slot g.slot its.slot own.slot its.from own.from falls.0 in
@@ -104,7 +104,7 @@ module _ (laws : PlanLaws) (d m t : ℕ) (kind : Kind) (plan : List Broadcast) (
   run_lies : (n : ℕ) (gs : List Segment) → input.first + length input.heard ≡ n + 1 → AreFalling (n + 1) gs → AllByRecursion (IsOfAny kind plan input) gs → RunLiesInOne d t kind plan input (run m n gs)
   run_lies n [] next falls all = tt
   run_lies n (g ∷ older) next falls all =
-      cond_both (nat_lt n (g.slot + m)) (g ∷ run_before m g.piece.flag g.slot older) [] (RunLiesInOne d t kind plan input)
+      cond_both (nat_lt n (g.slot + m)) (g ∷ run_before m g.fragment.flag g.slot older) [] (RunLiesInOne d t kind plan input)
       (λ near.
       let its = all.0.is in
       record {
@@ -118,7 +118,7 @@ module _ (laws : PlanLaws) (d m t : ℕ) (kind : Kind) (plan : List Broadcast) (
       (λ _. tt)
 
 -- the run of what was heard lies in one broadcast
-pub heard_run_lies : PlanLaws → (d m t : ℕ) (kind : Kind) (pick : Message → Option Piece) (of : Option Message → Mark) (plan : List Broadcast) (log : List (Option Message)) (input : Input)
+pub heard_run_lies : PlanLaws → (d m t : ℕ) (kind : Kind) (pick : Message → Option Fragment) (of : Option Message → Mark) (plan : List Broadcast) (log : List (Option Message)) (input : Input)
     → PicksWhatIsMarked pick of → IsLawful d kind plan (marks of log) → IsHeardByOwnClock d m t log input
     → RunLiesInOne d t kind plan input (run_at pick m input.first input.heard)
 heard_run_lies laws d m t kind pick of plan log input alike law hears = by input.heard refl

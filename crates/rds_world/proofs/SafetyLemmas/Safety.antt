@@ -4,7 +4,7 @@ use Rattle.std.specs.List.{All}
 use Rattle.rds_fields.specs.declared.message.Message.{Message}
 use Rattle.rds_fields.specs.declared.message.Message.TheVariants.{Text, Name, Announce, Tags, Other}
 use Rattle.rds_assembly.specs.Whole.{IsWholeName, IsWholeText}
-use Rattle.rds_receiver.specs.Receipts.{name_piece, text_piece}
+use Rattle.rds_receiver.specs.Receipts.{name_fragment, text_fragment}
 use Rattle.rds_world.specs.Safety.Lawful.{names, texts}
 use Rattle.rds_world.specs.Safety.Laws.{PlanLaws}
 use Rattle.rds_world.specs.Safety.Marks.{Sends, name_mark, text_mark}
@@ -18,26 +18,26 @@ use Rattle.rds_world.proofs.SafetyLemmas.OwnClocks.{late_listens, slow_listens}
 use Rattle.rds_world.proofs.SafetyLemmas.Pairs.{shows_tags}
 use Rattle.rds_world.proofs.SafetyLemmas.Sources.{near_sources, shown_on_air}
 
-pub text_pieces_marked : PicksWhatIsMarked text_piece text_mark
-text_pieces_marked (Text f a b) p e = (let same : record { flag = f; address = a; bytes = b } ≡ p = cc in ap Sends same)
-text_pieces_marked (Name f a b) p e = absurd (cc)
-text_pieces_marked (Announce code bits aid) p e = absurd (cc)
-text_pieces_marked (Tags pair) p e = absurd (cc)
-text_pieces_marked Other p e = absurd (cc)
+pub text_fragments_marked : PicksWhatIsMarked text_fragment text_mark
+text_fragments_marked (Text f a b) p e = (let same : record { flag = f; address = a; bytes = b } ≡ p = cc in ap Sends same)
+text_fragments_marked (Name f a b) p e = absurd (cc)
+text_fragments_marked (Announce code bits aid) p e = absurd (cc)
+text_fragments_marked (Tags pair) p e = absurd (cc)
+text_fragments_marked Other p e = absurd (cc)
 
-pub name_pieces_marked : PicksWhatIsMarked name_piece name_mark
-name_pieces_marked (Text f a b) p e = absurd (cc)
-name_pieces_marked (Name f a b) p e = (let same : record { flag = f; address = a; bytes = b } ≡ p = cc in ap Sends same)
-name_pieces_marked (Announce code bits aid) p e = absurd (cc)
-name_pieces_marked (Tags pair) p e = absurd (cc)
-name_pieces_marked Other p e = absurd (cc)
+pub name_fragments_marked : PicksWhatIsMarked name_fragment name_mark
+name_fragments_marked (Text f a b) p e = absurd (cc)
+name_fragments_marked (Name f a b) p e = (let same : record { flag = f; address = a; bytes = b } ≡ p = cc in ap Sends same)
+name_fragments_marked (Announce code bits aid) p e = absurd (cc)
+name_fragments_marked (Tags pair) p e = absurd (cc)
+name_fragments_marked Other p e = absurd (cc)
 
 module _ (laws : PlanLaws) (d m t : ℕ) (plans : Plans) (log : List (Option Message)) (law : AreLawful d plans log) where
   text_lies : (r : Listener) → ListensByOwnClock d m t log r → RunLiesInOne d t texts plans.text r.input (text_run m r.input)
-  text_lies r h = heard_run_lies laws d m t texts text_piece text_mark plans.text log r.input text_pieces_marked law.text h.heard
+  text_lies r h = heard_run_lies laws d m t texts text_fragment text_mark plans.text log r.input text_fragments_marked law.text h.heard
 
   name_lies : (r : Listener) → ListensByOwnClock d m t log r → RunLiesInOne d t names plans.name r.input (name_run m r.input)
-  name_lies r h = heard_run_lies laws d m t names name_piece name_mark plans.name log r.input name_pieces_marked law.name h.heard
+  name_lies r h = heard_run_lies laws d m t names name_fragment name_mark plans.name log r.input name_fragments_marked law.name h.heard
 
   neighbours : (x y : Listener) → ListensByOwnClock d m t log x → ListensByOwnClock d m t log y → AreNeighbours m plans x y
   neighbours x y h i = record {

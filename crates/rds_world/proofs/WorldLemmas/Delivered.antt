@@ -15,7 +15,7 @@ use Rattle.rds_encoder.specs.Entries.{Entry, Move, name_moves, slot_of, text_mov
 use Rattle.rds_encoder.specs.Laws.{OnlyWhatIsOnAirCoversTheSlot, WhatIsOnAirWasOnAir}
 use Rattle.rds_encoder.specs.Sent.{one_if}
 use Rattle.rds_encoder.specs.Plan.{Broadcast, HasNumber, endless, on_air, plan_of}
-use Rattle.rds_receiver.specs.Receipts.{Piece, name_piece, segments, text_piece}
+use Rattle.rds_receiver.specs.Receipts.{Fragment, name_fragment, segments, text_fragment}
 use Rattle.rds_receiver.specs.Shown.{ShowsView, ShownView}
 use Rattle.rds_receiver.specs.State.{ReceiverState}
 use Rattle.rds_world.specs.World.Delivery.{ANameIsDelivered, ATextIsDelivered, AnyTextIsDelivered, GetsEachFree, GotRecently, LieIn, free_slots}
@@ -26,7 +26,7 @@ use Rattle.rds_world.specs.Safety.Lawful.{names, texts}
 use Rattle.rds_world.specs.Safety.Marks.{name_mark, text_mark}
 use Rattle.rds_world.specs.Safety.Plans.{AreLawful}
 use Rattle.rds_world.specs.World.Slots.{commanded, entries, input_of, log, plans_of}
-use Rattle.rds_world.specs.World.Standing.{Shows, StandsAt}
+use Rattle.rds_world.specs.World.StandsAt.{Shows, StandsAt}
 use Rattle.rds_world.specs.World.State.{WorldState, distance}
 use Rattle.rds_world.specs.declared.world.Config.{Config}
 use Rattle.rds_world.specs.World.Station.{TheEncoderIsLawful}
@@ -37,7 +37,7 @@ use Rattle.rds_world.proofs.WorldLemmas.InTime.{in_time, input_reaches}
 use Rattle.rds_world.proofs.WorldLemmas.LawfulStation as lawful
 use Rattle.rds_world.specs.Safety.Laws.{PlanLaws}
 use Rattle.rds_world.proofs.WorldLemmas.SafeWorld.{shows_view}
-use Rattle.rds_world.proofs.SafetyLemmas.Safety.{name_pieces_marked, text_pieces_marked}
+use Rattle.rds_world.proofs.SafetyLemmas.Safety.{name_fragments_marked, text_fragments_marked}
 use Rattle.rds_world.proofs.WorldLemmas.SentWhole.{IsMoves, came_in_own, free_told, heard_among, moves_of_names, moves_of_texts, throughout, told_parts, told_since, told_until}
 
 -- what is proved of every encoder
@@ -96,7 +96,7 @@ module _ (laws : DeliveryLaws) (m : ℕ) (some : 0 < m) (newer : List Event) (ol
       (on_now IsValue moves service reaches events k b planned (omega (arith, long)) (omega (arith, long, from)) to))
 
   -- each text segment, or name segment, that was sent came since the oldest of these slots
-  came : (i : ℕ) (pick : Message → Option Piece) (message : Message) (p : Piece) → pick message ≡ Some p → GetsEachFree i (newer ++ oldest ∷ [])
+  came : (i : ℕ) (pick : Message → Option Fragment) (message : Message) (p : Fragment) → pick message ≡ Some p → GetsEachFree i (newer ++ oldest ∷ [])
       → IsSentAmong m (told_since newer oldest) (told_until oldest before) message
       → CameSince (segments pick (input_of m i (newer ++ oldest ∷ before)).first (input_of m i (newer ++ oldest ∷ before)).heard) (length before) p.address
   came i pick message p is gets among =
@@ -175,12 +175,12 @@ module _ (laws : DeliveryLaws) (config : Config) (newer : List Event) (oldest : 
       let value : IsText b.bytes = law.text.values number b planned in
       let throughout = on_throughout laws d lasts newer oldest before IsText text_moves lawful.text_service (lawful.reaches IsText text_mark text_moves lawful.text_service) moves_of_texts number b planned from to in
       let free = free_told newer oldest in
-      shown_whole laws.plan config.dwell (length all_slots - 1) (length before) texts text_piece text_mark (plans_of d all_slots).text (log d all_slots) its_input number b
-      text_pieces_marked config.late law.text late (input_reaches d i all_slots ∙ last) fresh planned from (omega (arith, to, some_recent)) soon
+      shown_whole laws.plan config.dwell (length all_slots - 1) (length before) texts text_fragment text_mark (plans_of d all_slots).text (log d all_slots) its_input number b
+      text_fragments_marked config.late law.text late (input_reaches d i all_slots ∙ last) fresh planned from (omega (arith, to, some_recent)) soon
       IsWholeText text_service (λ cells held. all_text cells b.bytes value held) ((some_segments b.bytes value).0)
       (λ a within.
       let bytes = segment_of (text_body b.bytes) a in
-      came laws d lasts newer oldest before i text_piece (Text b.flag a bytes) record { flag = b.flag; address = a; bytes = bytes } refl listened.got
+      came laws d lasts newer oldest before i text_fragment (Text b.flag a bytes) record { flag = b.flag; address = a; bytes = bytes } refl listened.got
       (laws.text d (told_since newer oldest) (told_until oldest before) (endless b) throughout (omega (arith, enough, free)) a within))
       view.text shown.text
 
@@ -190,12 +190,12 @@ module _ (laws : DeliveryLaws) (config : Config) (newer : List Event) (oldest : 
       let throughout = on_throughout laws d lasts newer oldest before IsName name_moves lawful.name_service (lawful.reaches IsName name_mark name_moves lawful.name_service) moves_of_names number b planned from to in
       let free = free_told newer oldest in
       let two = two_segments b.bytes value in
-      shown_whole laws.plan config.dwell (length all_slots - 1) (length before) names name_piece name_mark (plans_of d all_slots).name (log d all_slots) its_input number b
-      name_pieces_marked config.late law.name late (input_reaches d i all_slots ∙ last) fresh planned from (omega (arith, to, some_recent)) soon
+      shown_whole laws.plan config.dwell (length all_slots - 1) (length before) names name_fragment name_mark (plans_of d all_slots).name (log d all_slots) its_input number b
+      name_fragments_marked config.late law.name late (input_reaches d i all_slots ∙ last) fresh planned from (omega (arith, to, some_recent)) soon
       IsWholeName name_service (λ cells held. all_name cells b.bytes value held) (omega (arith, two))
       (λ a within.
       let bytes = segment_of (name_body b.bytes) a in
-      came laws d lasts newer oldest before i name_piece (Name b.flag a bytes) record { flag = b.flag; address = a; bytes = bytes } refl listened.got
+      came laws d lasts newer oldest before i name_fragment (Name b.flag a bytes) record { flag = b.flag; address = a; bytes = bytes } refl listened.got
       (laws.name d (told_since newer oldest) (told_until oldest before) (endless b) throughout (omega (arith, enough, free)) a (omega (arith, within, two))))
       view.name shown.name
 

@@ -13,7 +13,7 @@ use Rattle.rds_world.specs.World.Due.{IsDue, IsDueBack, IsDueTo, last_named, nam
 use Rattle.rds_world.specs.World.Event.{Event}
 use Rattle.rds_world.specs.World.Slots.{sent_back}
 use Rattle.rds_receiver.specs.OneView.{same_heard_in}
-use Rattle.rds_world.specs.World.Standing.{AreLastSent, IsHeardOfSome}
+use Rattle.rds_world.specs.World.StandsAt.{AreLastSent, IsHeardOfSome}
 use Rattle.rds_world.specs.declared.world.Config.{Config}
 use Rattle.rds_world.proofs.WorldLemmas.Received.{hears_sent}
 

@@ -10,11 +10,11 @@ use Rattle.rds_encoder.specs.Entries.{Entry, Move, Begin, Set, End, name_moves, 
 use Rattle.rds_encoder.specs.Laws.{ANameSegmentIsOfTheNameOnAir, ATextSegmentIsOfTheTextOnAir, HasOnAir, IsSegmentOf, TagsAreOfTheTextOnAir, ThePairEndsInTheText, ThePlanIsSpaced, WasAccepted, WhatIsOnAirBegan, WhatIsPlannedWasAccepted, WhatWasOnAirStaysPlanned}
 use Rattle.rds_encoder.specs.Plan.{Broadcast, HasNumber, OnAir, endless, on_air, plan_of}
 use Rattle.rds_encoder.specs.Spaced.{IsOnePerSlot, IsSpaced, IsUntold}
-use Rattle.rds_receiver.specs.Receipts.{Piece}
+use Rattle.rds_receiver.specs.Receipts.{Fragment}
 use Rattle.rds_world.specs.declared.world.event.Command.{Command}
 use Rattle.rds_world.specs.declared.world.event.Command.TheVariants.{Quiet, Restart, SetText, SetName, SetTags}
 use Rattle.rds_world.specs.World.Event.{Event}
-use Rattle.rds_world.specs.Safety.Lawful.{HasOne, HasPiece, HasTags, IsLawful, Kind, names, texts}
+use Rattle.rds_world.specs.Safety.Lawful.{HasOne, HasFragment, HasTags, IsLawful, Kind, names, texts}
 use Rattle.rds_world.specs.Safety.Marks.{IsSent, Mark, Sends, Tagged, marks, name_mark, text_mark}
 use Rattle.rds_world.specs.Safety.Plans.{AreLawful}
 use Rattle.rds_world.specs.World.Slots.{SetValues, SetsAValue, commanded, entries, log, plans_of, sent_at}
@@ -195,14 +195,14 @@ module _ (IsValue : List ℕ → Type 0) (of : Option Message → Mark) (moves :
   plan_values laws d events set k b n =
       accepted_value IsValue d b.start b.bytes (moves (entries events)) (values_set events set) (laws.accepted d (length events - 1) (moves (entries events)) k b n)
 
--- a broadcast that was on air when a segment of it was sent has the piece
-has_piece : (kind : Kind) (slot : ℕ) (p : Piece) (plan : List Broadcast) (air : OnAir) → IsSegmentOf kind.body p.flag p.address p.bytes air → HasOnAir plan air slot → HasOne plan (HasPiece kind slot p)
-has_piece kind slot p plan air segment has = record {
+-- a broadcast that was on air when a segment of it was sent has the fragment
+has_fragment : (kind : Kind) (slot : ℕ) (p : Fragment) (plan : List Broadcast) (air : OnAir) → IsSegmentOf kind.body p.flag p.address p.bytes air → HasOnAir plan air slot → HasOne plan (HasFragment kind slot p)
+has_fragment kind slot p plan air segment has = record {
   number = has.number;
   broadcast = has.broadcast;
   planned = has.planned;
   is = (let of : IsSegmentOf kind.body p.flag p.address p.bytes (endless has.broadcast) = subst (IsSegmentOf kind.body p.flag p.address p.bytes) (sym has.same) segment in
-      record { covers = has.covers; flag = of.flag; piece = record { within = of.within; bytes = of.bytes } });
+      record { covers = has.covers; flag = of.flag; fragment = record { within = of.within; bytes = of.bytes } });
 }
 
 has_tags : (d slot : ℕ) (pair : PairFields) (plan : List Broadcast) (air : OnAir) → air.start + d ≤ slot → BothEndIn (length air.bytes) pair → HasOnAir plan air slot → HasOne plan (HasTags d slot pair)
@@ -218,18 +218,18 @@ has_tags d slot pair plan air lasted ends has = record {
 }
 
 -- marks tell their messages
-text_of_mark : (sent : Option Message) (p : Piece) → Sends p ≡ text_mark sent → sent ≡ Some (Text p.flag p.address p.bytes)
+text_of_mark : (sent : Option Message) (p : Fragment) → Sends p ≡ text_mark sent → sent ≡ Some (Text p.flag p.address p.bytes)
 text_of_mark None p e = absurd (cc)
-text_of_mark (Some (Text f a b)) p e = (let same : record { flag = f; address = a; bytes = b } ≡ p = cc in ap (λ (q : Piece). Some (Text q.flag q.address q.bytes)) same)
+text_of_mark (Some (Text f a b)) p e = (let same : record { flag = f; address = a; bytes = b } ≡ p = cc in ap (λ (q : Fragment). Some (Text q.flag q.address q.bytes)) same)
 text_of_mark (Some (Name f a b)) p e = absurd (cc)
 text_of_mark (Some (Announce code bits aid)) p e = absurd (cc)
 text_of_mark (Some (Tags pair)) p e = absurd (cc)
 text_of_mark (Some Other) p e = absurd (cc)
 
-name_of_mark : (sent : Option Message) (p : Piece) → Sends p ≡ name_mark sent → sent ≡ Some (Name p.flag p.address p.bytes)
+name_of_mark : (sent : Option Message) (p : Fragment) → Sends p ≡ name_mark sent → sent ≡ Some (Name p.flag p.address p.bytes)
 name_of_mark None p e = absurd (cc)
 name_of_mark (Some (Text f a b)) p e = absurd (cc)
-name_of_mark (Some (Name f a b)) p e = (let same : record { flag = f; address = a; bytes = b } ≡ p = cc in ap (λ (q : Piece). Some (Name q.flag q.address q.bytes)) same)
+name_of_mark (Some (Name f a b)) p e = (let same : record { flag = f; address = a; bytes = b } ≡ p = cc in ap (λ (q : Fragment). Some (Name q.flag q.address q.bytes)) same)
 name_of_mark (Some (Announce code bits aid)) p e = absurd (cc)
 name_of_mark (Some (Tags pair)) p e = absurd (cc)
 name_of_mark (Some Other) p e = absurd (cc)
@@ -254,15 +254,15 @@ texts_lawful : EncoderLaws → (d : ℕ) (events : List Event) → 0 < d → Set
 texts_lawful laws d events some set = record {
   spaced = plan_spaced IsText text_mark text_moves text_service laws d events some;
   values = plan_values IsText text_mark text_moves text_service laws d events set;
-  pieces = pieces;
+  fragments = fragments;
   tags = tags;
 }
   where
-    pieces : (slot : ℕ) (p : Piece) → IsSent (marks text_mark (log d events)) slot (Sends p) → HasOne (plans_of d events).text (HasPiece texts slot p)
-    pieces slot p sent =
+    fragments : (slot : ℕ) (p : Fragment) → IsSent (marks text_mark (log d events)) slot (Sends p) → HasOne (plans_of d events).text (HasFragment texts slot p)
+    fragments slot p sent =
         let w = sent_in_slot IsText text_mark text_moves text_service d events slot (Sends p) sent in
         let air = laws.text d w.event.free (commanded w.event.command (entries w.before)) p.flag p.address p.bytes (text_of_mark (sent_at d w.event w.before) p w.is) in
-        has_piece texts slot p (plans_of d events).text air.0 air.2 (planned_then IsText text_mark text_moves text_service laws d events slot (Sends p) w air.0 air.1)
+        has_fragment texts slot p (plans_of d events).text air.0 air.2 (planned_then IsText text_mark text_moves text_service laws d events slot (Sends p) w air.0 air.1)
 
     tags : (slot : ℕ) (pair : PairFields) → IsSent (marks text_mark (log d events)) slot (Tagged pair) → HasOne (plans_of d events).text (HasTags d slot pair)
     tags slot pair sent =
@@ -278,15 +278,15 @@ names_lawful : EncoderLaws → (d : ℕ) (events : List Event) → 0 < d → Set
 names_lawful laws d events some set = record {
   spaced = plan_spaced IsName name_mark name_moves name_service laws d events some;
   values = plan_values IsName name_mark name_moves name_service laws d events set;
-  pieces = pieces;
+  fragments = fragments;
   tags = λ slot pair sent. absurd (no_tags_of_names _ pair (sent_in_slot IsName name_mark name_moves name_service d events slot (Tagged pair) sent).is);
 }
   where
-    pieces : (slot : ℕ) (p : Piece) → IsSent (marks name_mark (log d events)) slot (Sends p) → HasOne (plans_of d events).name (HasPiece names slot p)
-    pieces slot p sent =
+    fragments : (slot : ℕ) (p : Fragment) → IsSent (marks name_mark (log d events)) slot (Sends p) → HasOne (plans_of d events).name (HasFragment names slot p)
+    fragments slot p sent =
         let w = sent_in_slot IsName name_mark name_moves name_service d events slot (Sends p) sent in
         let air = laws.name d w.event.free (commanded w.event.command (entries w.before)) p.flag p.address p.bytes (name_of_mark (sent_at d w.event w.before) p w.is) in
-        has_piece names slot p (plans_of d events).name air.0 air.2 (planned_then IsName name_mark name_moves name_service laws d events slot (Sends p) w air.0 air.1)
+        has_fragment names slot p (plans_of d events).name air.0 air.2 (planned_then IsName name_mark name_moves name_service laws d events slot (Sends p) w air.0 air.1)
 
 pub lawful_station : EncoderLaws → (d : ℕ) (events : List Event) → 0 < d → SetValues events → AreLawful d (plans_of d events) (log d events)
 lawful_station laws d events some set = record { text = texts_lawful laws d events some set; name = names_lawful laws d events some set }

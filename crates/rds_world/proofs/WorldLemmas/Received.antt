@@ -8,10 +8,10 @@ use Rattle.rds_encoder.specs.Sent.{IsSent}
 use Rattle.rds_receiver.specs.Receipts.{Hears}
 use Rattle.rds_receiver.specs.OneView.{same_heard}
 use Rattle.rds_receiver.specs.Shown.{IsView, ShowsView, ShownView}
-use Rattle.rds_receiver.specs.Standing.{StandsAt, WhereItStands}
+use Rattle.rds_receiver.specs.StandsAt.{StandsAt, WhereItStands}
 use Rattle.rds_receiver.specs.State.{ReceiverState}
 use Rattle.rds_world.specs.Safety.Late.{Input}
-use Rattle.rds_world.specs.World.Standing.{HasHeard, IsNew, StaysShown, tuned_to}
+use Rattle.rds_world.specs.World.StandsAt.{HasHeard, IsNew, StaysShown, tuned_to}
 use Rattle.rds_world.specs.declared.world.Config.{Config}
 
 -- what the station sends, its receivers hear

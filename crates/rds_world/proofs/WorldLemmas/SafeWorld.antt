@@ -14,7 +14,7 @@ use Rattle.rds_world.specs.Safety.Laws.{LawfulPlansAreSafe}
 use Rattle.rds_world.specs.Safety.Safe.{ListensTo}
 use Rattle.rds_world.specs.World.SafeSlots.{OnlyWhatWasOnAirIsShown, listeners}
 use Rattle.rds_world.specs.World.Slots.{input_of, log, plans_of}
-use Rattle.rds_world.specs.World.Standing.{HasHeard, Shows, StandsAt, tuned_to}
+use Rattle.rds_world.specs.World.StandsAt.{HasHeard, Shows, StandsAt, tuned_to}
 use Rattle.rds_world.specs.World.State.{WorldState, distance}
 use Rattle.rds_world.specs.declared.world.Config.{Config}
 use Rattle.rds_world.specs.World.Station.{TheEncoderIsLawful}

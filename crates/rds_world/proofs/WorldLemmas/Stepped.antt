@@ -6,14 +6,14 @@ use Rattle.std.proofs.lemmas.Bool.{ltb-true}
 use Rattle.std.proofs.lemmas.List.{length-take-le}
 use Rattle.std.proofs.Math.Seq.{take-append_seam}
 use Rattle.std.proofs.lemmas.Option.{slice_get_read}
-use Rattle.rds_encoder.specs.Standing as encoder
+use Rattle.rds_encoder.specs.StandsAt as encoder
 use Rattle.rds_receiver.specs.Shown.{ShownView}
 use Rattle.rds_receiver.specs.State.{ReceiverState}
 use Rattle.rds_world.specs.declared.world.event.Reception.TheVariants.{Lost}
 use Rattle.rds_world.specs.World.Due.{IsDueToAll}
 use Rattle.rds_world.specs.World.Event.{Event}
 use Rattle.rds_world.specs.World.Slots.{SetsAValue, entries, input_of, log, received}
-use Rattle.rds_world.specs.World.Standing.{AllHaveHeard, AreLastSent, HaveReaches, IsViewOfInput, Shows, ShowsStill, StandsAt, tuned_to}
+use Rattle.rds_world.specs.World.StandsAt.{AllHaveHeard, AreLastSent, HaveReaches, IsViewOfInput, Shows, ShowsStill, StandsAt, tuned_to}
 use Rattle.rds_world.specs.World.State.{WorldState, distance}
 use Rattle.rds_world.specs.declared.world.Config.{Config}
 

@@ -5,11 +5,11 @@ use Rattle.rds_receiver.specs.Run.{is_same}
 use Rattle.rds_world.specs.declared.audit.ages.Ages.{Ages}
 use Rattle.rds_world.specs.Audit.Reigns.{Reign}
 
--- a piece with this flag joins the current reign
+-- a fragment with this flag joins the current reign
 abbrev pub Joins : ℕ → Bool → Ages → Type 0
 Joins d flag a = (flag ≡ a.flag) × (a.since_last < d)
 
--- a piece with this flag that opens a reign comes too early
+-- a fragment with this flag that opens a reign comes too early
 abbrev pub IsEarly : ℕ → Bool → Ages → Type 0
 IsEarly d flag a = (flag ≢ a.flag) × (a.since_before < d)
 

@@ -4,10 +4,10 @@ use Rattle.std.specs.List.{All, AllByRecursion}
 use Rattle.rds_fields.specs.declared.message.Message.{Message}
 use Rattle.rds_fields.specs.Tag.{BothEndIn}
 use Rattle.rds_encoder.specs.Plan.{Broadcast, HasNumber}
-use Rattle.rds_receiver.specs.Receipts.{Piece}
+use Rattle.rds_receiver.specs.Receipts.{Fragment}
 use Rattle.rds_world.specs.declared.audit.audit_fault.AuditFault.{AuditFault}
 use Rattle.rds_world.specs.Audit.Dense.{AreDense, HasPlans, IsDense}
-use Rattle.rds_world.specs.Safety.Lawful.{HasPiece, IsLawful, IsPieceOf, Kind}
+use Rattle.rds_world.specs.Safety.Lawful.{HasFragment, IsLawful, IsFragmentOf, Kind}
 use Rattle.rds_world.specs.Safety.Marks.{IsSent, Mark, Sends}
 use Rattle.rds_world.specs.Safety.OwnClock.{ListensByOwnClock}
 use Rattle.rds_world.specs.Safety.Plans.{AreLawful, Plans}
@@ -30,7 +30,7 @@ pub record IsReignOf (d : ℕ) (kind : Kind) (b : Broadcast) (r : Reign) : Type 
   pub from : b.start ≤ r.opened
   pub to : r.last ≤ b.end
   pub flag : r.flag ≡ b.flag
-  pub pieces : AllByRecursion (IsPieceOf (kind.body b.bytes)) r.pieces
+  pub fragments : AllByRecursion (IsFragmentOf (kind.body b.bytes)) r.fragments
   pub tags : AllByRecursion (AreTagsOf d b) r.tags
 
 -- the reigns are of broadcasts of the plan, in order: their numbers are below n and fall
@@ -44,10 +44,10 @@ abbrev pub SomeReign : (Reign → Type 0) → List Reign → Type 0
 SomeReign Is [] = ⊥
 SomeReign Is (r ∷ older) = Is r ⊎ SomeReign Is older
 
--- the reigns are the broadcasts of which a piece was sent, in order: each reign is of one, and each has a reign
+-- the reigns are the broadcasts of which a fragment was sent, in order: each reign is of one, and each has a reign
 pub record AreTheReigns (d : ℕ) (kind : Kind) (plan : List Broadcast) (sent : List Mark) : Type 0 where
   pub each : AreReignsOf d kind plan (length plan) (reigns d sent)
-  pub all : (k : ℕ) (b : Broadcast) (slot : ℕ) (p : Piece) → HasNumber plan k b → HasPiece kind slot p b
+  pub all : (k : ℕ) (b : Broadcast) (slot : ℕ) (p : Fragment) → HasNumber plan k b → HasFragment kind slot p b
       → IsSent sent slot (Sends p)
       → SomeReign (IsReignOf d kind b) (reigns d sent)
 

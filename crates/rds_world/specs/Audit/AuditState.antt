@@ -9,7 +9,7 @@ use Rattle.rds_world.specs.declared.audit.lengths.Lengths.{Lengths}
 use Rattle.rds_world.specs.Audit.Ages.{opened_ages}
 use Rattle.rds_world.specs.Audit.Lengths.{narrowed, pair_end}
 
--- of a reign: the bytes at each address, the lengths that its pieces allow, and the greatest end of its tags
+-- of a reign: the bytes at each address, the lengths that its fragments allow, and the greatest end of its tags
 pub record ContentState : Type 0 where
   pub cells : List (Option (List ℕ))
   pub lengths : Lengths
@@ -73,12 +73,12 @@ taken allowed address bytes c =
 abbrev pub tagged : PairFields → ContentState → ContentState
 tagged pair c = record { cells = c.cells; lengths = c.lengths; tags_end = max c.tags_end (pair_end pair) }
 
--- the state once a piece joined the current reign
+-- the state once a fragment joined the current reign
 abbrev pub joined_state : Option Lengths → ℕ → List ℕ → ReignsState → ReignsState
 joined_state allowed address bytes st =
     record { ages = record st.ages { since_last = 0 }; content = taken allowed address bytes st.content }
 
--- the state in which a piece opens a reign
+-- the state in which a fragment opens a reign
 abbrev pub opened_state : ℕ → ℕ → Bool → ReignsState → ReignsState
 opened_state d longest flag st = record { ages = opened_ages d flag st.ages; content = no_content longest }
 

@@ -1,16 +1,16 @@
 -- When a plan is dense for what a service was sent (this project's own rule): within a broadcast no d slots
--- pass from what was sent to the next piece, so that the pieces of one broadcast can be told from those of two.
+-- pass from what was sent to the next fragment, so that the fragments of one broadcast can be told from those of two.
 -- Lists have the newest first.
 use Rattle.std.specs.Prelude.{◌≢◌, ◌≤◌, ◌<◌, ◌+◌, ℕ, List, Option}
 use Rattle.rds_fields.specs.declared.message.Message.{Message}
 use Rattle.rds_fields.specs.Tag.{PairFields}
 use Rattle.rds_encoder.specs.Plan.{Broadcast, Covers, HasNumber}
-use Rattle.rds_receiver.specs.Receipts.{Piece}
+use Rattle.rds_receiver.specs.Receipts.{Fragment}
 use Rattle.rds_world.specs.Safety.Lawful.{IsLawful, Kind}
 use Rattle.rds_world.specs.Safety.Marks.{IsSent, Mark, Nothing, Sends, Tagged, marks, name_mark, text_mark}
 use Rattle.rds_world.specs.Safety.Plans.{AreLawful, Plans}
 
--- a piece or tags were sent in the slot
+-- a fragment or tags were sent in the slot
 pub record IsMarked (sent : List Mark) (slot : ℕ) : Type 0 where
   pub mark : Mark
   pub some : mark ≢ Nothing
@@ -24,21 +24,21 @@ pub record IsBridged (d : ℕ) (sent : List Mark) (u t : ℕ) : Type 0 where
   pub before : slot < t
   pub near : t < slot + d
 
--- a piece was sent in the broadcast before slot t
-pub record HasPieceBefore (sent : List Mark) (b : Broadcast) (t : ℕ) : Type 0 where
+-- a fragment was sent in the broadcast before slot t
+pub record HasFragmentBefore (sent : List Mark) (b : Broadcast) (t : ℕ) : Type 0 where
   pub slot : ℕ
-  pub piece : Piece
-  pub is_sent : IsSent sent slot (Sends piece)
+  pub fragment : Fragment
+  pub is_sent : IsSent sent slot (Sends fragment)
   pub covers : Covers b slot
   pub before : slot < t
 
--- in each broadcast every piece but the first comes less than d slots after the piece before it, or after tags
--- that were sent since; and tags come after a piece
+-- in each broadcast every fragment but the first comes less than d slots after the fragment before it, or after tags
+-- that were sent since; and tags come after a fragment
 pub record IsDense (d : ℕ) (plan : List Broadcast) (sent : List Mark) : Type 0 where
-  pub pieces : (k : ℕ) (b : Broadcast) (u t : ℕ) (earlier later : Piece) → HasNumber plan k b → Covers b u → Covers b t
+  pub fragments : (k : ℕ) (b : Broadcast) (u t : ℕ) (earlier later : Fragment) → HasNumber plan k b → Covers b u → Covers b t
       → IsSent sent u (Sends earlier) → IsSent sent t (Sends later) → u < t → IsBridged d sent u t
   pub tags : (k : ℕ) (b : Broadcast) (t : ℕ) (pair : PairFields) → HasNumber plan k b → Covers b t
-      → IsSent sent t (Tagged pair) → HasPieceBefore sent b t
+      → IsSent sent t (Tagged pair) → HasFragmentBefore sent b t
 
 -- both plans are dense for the log
 pub record AreDense (d : ℕ) (plans : Plans) (log : List (Option Message)) : Type 0 where

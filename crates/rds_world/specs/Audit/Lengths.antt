@@ -1,13 +1,13 @@
--- The lengths that the value of a reign can have (this project's own rule): each piece allows those from
+-- The lengths that the value of a reign can have (this project's own rule): each fragment allows those from
 -- `least` to `most`, and a reign has a value exactly where no address changed and some length is allowed by all
--- of its pieces and reaches the ends of its tags. Lists have the newest first.
+-- of its fragments and reaches the ends of its tags. Lists have the newest first.
 use Rattle.std.specs.Prelude.{◌≡◌, ◌<◌, ◌≤◌, ◌+◌, ◌*◌, ◌==◌, ◌&&◌, ℕ, Bool, true, List, [], ◌∷◌, Option, Some, None, is_some, length, max, min, slice_index, if◌then◌else◌}
 use Rattle.std.specs.List.{AllByRecursion}
 use Rattle.rds_fields.specs.Tag.{PairFields, TagFields, end_of}
 use Rattle.rds_assembly.specs.Body.{space}
 use Rattle.rds_assembly.specs.Value.{is_name_byte, is_text_byte}
 use Rattle.rds_assembly.specs.Whole.{carriage_return}
-use Rattle.rds_receiver.specs.Receipts.{Piece}
+use Rattle.rds_receiver.specs.Receipts.{Fragment}
 use Rattle.rds_world.specs.declared.audit.lengths.Lengths.{Lengths}
 use Rattle.rds_world.specs.Safety.Lawful.{Kind, names, texts}
 use Rattle.rds_world.specs.Audit.Reigns.{SentTags}
@@ -43,8 +43,8 @@ abbrev pub narrowed : Option Lengths → Lengths → Lengths
 narrowed None l = l
 narrowed (Some k) l = record { least = max l.least k.least; most = min l.most k.most }
 
--- the lengths that all pieces allow
-abbrev pub lengths_of : (ℕ → List ℕ → Option Lengths) → ℕ → List Piece → Lengths
+-- the lengths that all fragments allow
+abbrev pub lengths_of : (ℕ → List ℕ → Option Lengths) → ℕ → List Fragment → Lengths
 lengths_of allowed longest [] = record { least = 0; most = longest }
 lengths_of allowed longest (p ∷ older) = narrowed (allowed p.address p.bytes) (lengths_of allowed longest older)
 
@@ -61,20 +61,20 @@ tags_end [] = 0
 tags_end (s ∷ older) = max (tags_end older) (pair_end s.pair)
 
 -- the bytes that were sent last at an address
-abbrev pub sent_at : ℕ → List Piece → Option (List ℕ)
-sent_at a [] = None
-sent_at a (p ∷ older) = if a == p.address then Some p.bytes else sent_at a older
+abbrev pub sent_last : ℕ → List Fragment → Option (List ℕ)
+sent_last a [] = None
+sent_last a (p ∷ older) = if a == p.address then Some p.bytes else sent_last a older
 
--- some length is allowed by each piece, and reaches the ends of the tags
-pub record AreMeasured (allowed : ℕ → List ℕ → Option Lengths) (longest : ℕ) (pieces : List Piece)
+-- some length is allowed by each fragment, and reaches the ends of the tags
+pub record AreMeasured (allowed : ℕ → List ℕ → Option Lengths) (longest : ℕ) (fragments : List Fragment)
     (tags : List SentTags) : Type 0 where
-  pub unchanged : AreUnchanged pieces
-  pub each : AllByRecursion (λ (p : Piece). is_some (allowed p.address p.bytes) ≡ true) pieces
-  pub room : (lengths_of allowed longest pieces).least ≤ (lengths_of allowed longest pieces).most
-  pub ends : tags_end tags ≤ (lengths_of allowed longest pieces).most
+  pub unchanged : AreUnchanged fragments
+  pub each : AllByRecursion (λ (p : Fragment). is_some (allowed p.address p.bytes) ≡ true) fragments
+  pub room : (lengths_of allowed longest fragments).least ≤ (lengths_of allowed longest fragments).most
+  pub ends : tags_end tags ≤ (lengths_of allowed longest fragments).most
 
--- the piece has the form of a service's: four bytes at one of its addresses
-pub record IsFormed (segments : ℕ) (p : Piece) : Type 0 where
+-- the fragment has the form of a service's: four bytes at one of its addresses
+pub record IsFormed (segments : ℕ) (p : Fragment) : Type 0 where
   pub address : p.address < segments
   pub four : length p.bytes ≡ 4
   pub fits : (k : ℕ) → slice_index p.bytes k < 256
@@ -87,15 +87,15 @@ pub record Gauge : Type 1 where
   pub longest : ℕ
   pub allowed : ℕ → List ℕ → Option Lengths
 
--- the gauge is exact: pieces and tags have one value exactly where they measure so, and then the pieces are
+-- the gauge is exact: fragments and tags have one value exactly where they measure so, and then the fragments are
 -- formed
 pub record IsExact (g : Gauge) : Type 0 where
-  pub measured : (pieces : List Piece) (tags : List SentTags) → HaveOneValue g.kind pieces tags
-      → AreMeasured g.allowed g.longest pieces tags
-  pub formed : (pieces : List Piece) (tags : List SentTags) → HaveOneValue g.kind pieces tags
-      → AllByRecursion (IsFormed g.segments) pieces
-  pub one : (pieces : List Piece) (tags : List SentTags) → AllByRecursion (IsFormed g.segments) pieces
-      → AreMeasured g.allowed g.longest pieces tags → HaveOneValue g.kind pieces tags
+  pub measured : (fragments : List Fragment) (tags : List SentTags) → HaveOneValue g.kind fragments tags
+      → AreMeasured g.allowed g.longest fragments tags
+  pub formed : (fragments : List Fragment) (tags : List SentTags) → HaveOneValue g.kind fragments tags
+      → AllByRecursion (IsFormed g.segments) fragments
+  pub one : (fragments : List Fragment) (tags : List SentTags) → AllByRecursion (IsFormed g.segments) fragments
+      → AreMeasured g.allowed g.longest fragments tags → HaveOneValue g.kind fragments tags
 
 abbrev pub text_gauge : Gauge
 text_gauge = record { kind = texts; segments = 16; longest = 64; allowed = text_lengths }

@@ -5,38 +5,38 @@ use Rattle.std.specs.Prelude.{◌≡◌, ◌≤◌, ◌<◌, ◌+◌, ◌⊎◌,
 use Rattle.std.specs.List.{AllByRecursion}
 use Rattle.rds_fields.specs.declared.message.Message.{Message}
 use Rattle.rds_fields.specs.Tag.{BothEndIn, PairFields}
-use Rattle.rds_receiver.specs.Receipts.{Piece}
+use Rattle.rds_receiver.specs.Receipts.{Fragment}
 use Rattle.rds_world.specs.declared.audit.audit_fault.AuditFault.{AuditFault}
 use Rattle.rds_world.specs.declared.audit.audit_fault.AuditFault.TheVariants.{Changed, NotOneText, EarlyFlag, EarlyTag, TagOutside}
-use Rattle.rds_world.specs.Safety.Lawful.{IsPieceOf, Kind, names, texts}
+use Rattle.rds_world.specs.Safety.Lawful.{IsFragmentOf, Kind, names, texts}
 use Rattle.rds_world.specs.Safety.Marks.{IsSent, Mark, Nothing, Sends, Tagged, marks, name_mark, text_mark}
 use Rattle.rds_world.specs.Audit.Reigns.{Reign, SentTags, reigns}
 
--- some value has all of the pieces, and all of the tags end in it
-pub record HaveOneValue (kind : Kind) (pieces : List Piece) (tags : List SentTags) : Type 0 where
+-- some value has all of the fragments, and all of the tags end in it
+pub record HaveOneValue (kind : Kind) (fragments : List Fragment) (tags : List SentTags) : Type 0 where
   pub value : List ℕ
   pub valid : kind.IsValue value
-  pub has : AllByRecursion (IsPieceOf (kind.body value)) pieces
+  pub has : AllByRecursion (IsFragmentOf (kind.body value)) fragments
   pub ends : AllByRecursion (λ (s : SentTags). BothEndIn (length value) s.pair) tags
 
--- the reign can be a broadcast from its start to its last slot: it starts no later than its first piece, its
+-- the reign can be a broadcast from its start to its last slot: it starts no later than its first fragment, its
 -- tags come d slots after its start or later, and all of it is of one value
 pub record CanBeBroadcast (d : ℕ) (kind : Kind) (r : Reign) : Type 0 where
   pub begun : r.start ≤ r.opened
   pub lasted : AllByRecursion (λ (s : SentTags). r.start + d ≤ s.slot) r.tags
-  pub one : HaveOneValue kind r.pieces r.tags
+  pub one : HaveOneValue kind r.fragments r.tags
 
--- a piece was sent before slot t
-pub record IsAfterPiece (sent : List Mark) (t : ℕ) : Type 0 where
+-- a fragment was sent before slot t
+pub record IsAfterFragment (sent : List Mark) (t : ℕ) : Type 0 where
   pub slot : ℕ
-  pub piece : Piece
-  pub is_sent : IsSent sent slot (Sends piece)
+  pub fragment : Fragment
+  pub is_sent : IsSent sent slot (Sends fragment)
   pub before : slot < t
 
--- what a service was sent passes: each reign can be a broadcast, and tags come after a piece
+-- what a service was sent passes: each reign can be a broadcast, and tags come after a fragment
 pub record Passes (d : ℕ) (kind : Kind) (sent : List Mark) : Type 0 where
   pub reigns : AllByRecursion (CanBeBroadcast d kind) (reigns d sent)
-  pub tagged : (t : ℕ) (pair : PairFields) → IsSent sent t (Tagged pair) → IsAfterPiece sent t
+  pub tagged : (t : ℕ) (pair : PairFields) → IsSent sent t (Tagged pair) → IsAfterFragment sent t
 
 -- a log passes, for its texts and for its names
 pub record LogPasses (d : ℕ) (log : List (Option Message)) : Type 0 where
@@ -44,32 +44,32 @@ pub record LogPasses (d : ℕ) (log : List (Option Message)) : Type 0 where
   pub name : Passes d names (marks name_mark log)
 
 -- each address was sent with the same bytes
-abbrev pub AreUnchanged : List Piece → Type 0
+abbrev pub AreUnchanged : List Fragment → Type 0
 AreUnchanged [] = Unit {0}
 AreUnchanged (newest ∷ older) =
-    AllByRecursion (λ (p : Piece). p.address ≡ newest.address → p.bytes ≡ newest.bytes) older × AreUnchanged older
+    AllByRecursion (λ (p : Fragment). p.address ≡ newest.address → p.bytes ≡ newest.bytes) older × AreUnchanged older
 
--- the rule that a piece breaks first, by the reigns that it leaves. A reign that it opens starts too late; its
--- address was sent with other bytes; no value has the pieces of its reign; one has, and tags end past it
-abbrev pub IsBrokenByPiece : Kind → List Reign → AuditFault → Type 0
-IsBrokenByPiece kind [] fault = ⊥
-IsBrokenByPiece kind (r ∷ older) EarlyFlag = r.opened < r.start
-IsBrokenByPiece kind (r ∷ older) Changed = (r.start ≤ r.opened) × (AreUnchanged r.pieces → ⊥)
-IsBrokenByPiece kind (r ∷ older) NotOneText =
-    (r.start ≤ r.opened) × AreUnchanged r.pieces × (HaveOneValue kind r.pieces [] → ⊥)
-IsBrokenByPiece kind (r ∷ older) TagOutside =
-    (r.start ≤ r.opened) × HaveOneValue kind r.pieces [] × (HaveOneValue kind r.pieces r.tags → ⊥)
-IsBrokenByPiece kind (r ∷ older) EarlyTag = ⊥
+-- the rule that a fragment breaks first, by the reigns that it leaves. A reign that it opens starts too late; its
+-- address was sent with other bytes; no value has the fragments of its reign; one has, and tags end past it
+abbrev pub IsBrokenByFragment : Kind → List Reign → AuditFault → Type 0
+IsBrokenByFragment kind [] fault = ⊥
+IsBrokenByFragment kind (r ∷ older) EarlyFlag = r.opened < r.start
+IsBrokenByFragment kind (r ∷ older) Changed = (r.start ≤ r.opened) × (AreUnchanged r.fragments → ⊥)
+IsBrokenByFragment kind (r ∷ older) NotOneText =
+    (r.start ≤ r.opened) × AreUnchanged r.fragments × (HaveOneValue kind r.fragments [] → ⊥)
+IsBrokenByFragment kind (r ∷ older) TagOutside =
+    (r.start ≤ r.opened) × HaveOneValue kind r.fragments [] × (HaveOneValue kind r.fragments r.tags → ⊥)
+IsBrokenByFragment kind (r ∷ older) EarlyTag = ⊥
 
 -- tags come too early: there is no reign, or its text has not lasted for d slots
 abbrev pub ComeEarly : ℕ → ℕ → List Reign → Type 0
 ComeEarly d slot [] = Unit {0}
 ComeEarly d slot (r ∷ older) = slot < r.start + d
 
--- one of the reign's tags ends past each value that has its pieces
+-- one of the reign's tags ends past each value that has its fragments
 abbrev pub EndOutside : Kind → List Reign → Type 0
 EndOutside kind [] = ⊥
-EndOutside kind (r ∷ older) = HaveOneValue kind r.pieces r.tags → ⊥
+EndOutside kind (r ∷ older) = HaveOneValue kind r.fragments r.tags → ⊥
 
 -- the rule that tags break first, by the reigns that they leave
 abbrev pub IsBrokenByTags : ℕ → Kind → ℕ → List Reign → AuditFault → Type 0
@@ -82,7 +82,7 @@ IsBrokenByTags d kind slot rs EarlyFlag = ⊥
 -- the rule that the newest mark breaks first
 abbrev pub IsBrokenBy : ℕ → Kind → Mark → List Mark → AuditFault → Type 0
 IsBrokenBy d kind Nothing before fault = ⊥
-IsBrokenBy d kind (Sends p) before fault = IsBrokenByPiece kind (reigns d (Sends p ∷ before)) fault
+IsBrokenBy d kind (Sends p) before fault = IsBrokenByFragment kind (reigns d (Sends p ∷ before)) fault
 IsBrokenBy d kind (Tagged pair) before fault =
     IsBrokenByTags d kind (length before) (reigns d (Tagged pair ∷ before)) fault
 

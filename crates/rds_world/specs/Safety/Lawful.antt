@@ -8,7 +8,7 @@ use Rattle.rds_assembly.specs.Body.{name_body, segment_count, segment_of, text_b
 use Rattle.rds_assembly.specs.Value.{IsName, IsText}
 use Rattle.rds_encoder.specs.Plan.{Broadcast, Covers, HasNumber}
 use Rattle.rds_encoder.specs.Spaced.{IsSpaced}
-use Rattle.rds_receiver.specs.Receipts.{Piece}
+use Rattle.rds_receiver.specs.Receipts.{Fragment}
 use Rattle.rds_world.specs.Safety.Marks.{IsSent, Mark, Sends, Tagged}
 
 -- a service: which values may be sent, and what is sent of one
@@ -22,16 +22,16 @@ texts = record { IsValue = IsText; body = text_body }
 abbrev pub names : Kind
 names = record { IsValue = IsName; body = name_body }
 
--- the piece is a segment of what is sent of a value
-pub record IsPieceOf (body : List ℕ) (p : Piece) : Type 0 where
+-- the fragment is a segment of what is sent of a value
+pub record IsFragmentOf (body : List ℕ) (p : Fragment) : Type 0 where
   pub within : p.address < segment_count body
   pub bytes : p.bytes ≡ segment_of body p.address
 
--- the broadcast has the piece that was sent in the slot: it covers the slot, and has the flag and the segment
-pub record HasPiece (kind : Kind) (slot : ℕ) (p : Piece) (b : Broadcast) : Type 0 where
+-- the broadcast has the fragment that was sent in the slot: it covers the slot, and has the flag and the segment
+pub record HasFragment (kind : Kind) (slot : ℕ) (p : Fragment) (b : Broadcast) : Type 0 where
   pub covers : Covers b slot
   pub flag : p.flag ≡ b.flag
-  pub piece : IsPieceOf (kind.body b.bytes) p
+  pub fragment : IsFragmentOf (kind.body b.bytes) p
 
 -- the broadcast has the tags that were sent in the slot: it had lasted for d slots, and they end in its text
 pub record HasTags (d slot : ℕ) (pair : PairFields) (b : Broadcast) : Type 0 where
@@ -50,5 +50,5 @@ pub record HasOne (plan : List Broadcast) (Is : Broadcast → Type 0) : Type 0 w
 pub record IsLawful (d : ℕ) (kind : Kind) (plan : List Broadcast) (sent : List Mark) : Type 0 where
   pub spaced : IsSpaced d plan
   pub values : (k : ℕ) (b : Broadcast) → HasNumber plan k b → kind.IsValue b.bytes
-  pub pieces : (slot : ℕ) (p : Piece) → IsSent sent slot (Sends p) → HasOne plan (HasPiece kind slot p)
+  pub fragments : (slot : ℕ) (p : Fragment) → IsSent sent slot (Sends p) → HasOne plan (HasFragment kind slot p)
   pub tags : (slot : ℕ) (pair : PairFields) → IsSent sent slot (Tagged pair) → HasOne plan (HasTags d slot pair)

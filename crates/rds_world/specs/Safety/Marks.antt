@@ -1,14 +1,14 @@
--- What one service, texts or names, was sent in each slot of a log: a piece of a value, tags for it, or nothing
+-- What one service, texts or names, was sent in each slot of a log: a fragment of a value, tags for it, or nothing
 -- of it. Lists have the newest first, so the slot of a mark is the number of marks before it.
 use Rattle.std.specs.Prelude.{◌≡◌, ◌⊎◌, ℕ, List, [], ◌∷◌, Option, Some, None, length}
 use Rattle.rds_fields.specs.declared.message.Message.{Message}
 use Rattle.rds_fields.specs.declared.message.Message.TheVariants.{Text, Name, Announce, Tags, Other}
 use Rattle.rds_fields.specs.Tag.{PairFields}
-use Rattle.rds_receiver.specs.Receipts.{Piece}
+use Rattle.rds_receiver.specs.Receipts.{Fragment}
 
 pub data Mark : Type 0 where
   Nothing : Mark
-  Sends : (piece : Piece) → Mark
+  Sends : (fragment : Fragment) → Mark
   Tagged : (pair : PairFields) → Mark
 
 -- what texts were sent in a slot

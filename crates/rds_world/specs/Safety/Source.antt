@@ -2,17 +2,17 @@
 -- which the last segment of its run was sent. Lists have the newest first.
 use Rattle.std.specs.Prelude.{ℕ, List, [], ◌∷◌}
 use Rattle.rds_encoder.specs.Plan.{Broadcast, Covers, HasNumber}
-use Rattle.rds_receiver.specs.Receipts.{Segment, name_piece, text_piece}
+use Rattle.rds_receiver.specs.Receipts.{Segment, name_fragment, text_fragment}
 use Rattle.rds_receiver.specs.Run.{run_at}
 use Rattle.rds_world.specs.Safety.Late.{CameFrom, Input}
 
 -- the run of texts at the end of an input, for a receiver of dwell m
 abbrev pub text_run : ℕ → Input → List Segment
-text_run m input = run_at text_piece m input.first input.heard
+text_run m input = run_at text_fragment m input.first input.heard
 
 -- the run of names
 abbrev pub name_run : ℕ → Input → List Segment
-name_run m input = run_at name_piece m input.first input.heard
+name_run m input = run_at name_fragment m input.first input.heard
 
 -- the last segment of the run was sent in this slot
 abbrev pub LastWasSentIn : Input → List Segment → ℕ → Type 0

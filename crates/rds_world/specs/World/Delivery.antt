@@ -12,7 +12,7 @@ use Rattle.rds_world.specs.declared.world.event.Reception.{Reception}
 use Rattle.rds_world.specs.declared.world.event.Reception.TheVariants.{Got, Lost, Restart}
 use Rattle.rds_world.specs.World.Event.{Event}
 use Rattle.rds_world.specs.World.Slots.{plans_of}
-use Rattle.rds_world.specs.World.Standing.{Shows, StandsAt}
+use Rattle.rds_world.specs.World.StandsAt.{Shows, StandsAt}
 use Rattle.rds_world.specs.World.State.{WorldState, distance}
 use Rattle.rds_world.specs.declared.world.Config.{Config}
 

@@ -7,7 +7,7 @@ use Rattle.rds_receiver.specs.State.{ReceiverState}
 use Rattle.rds_world.specs.World.Event.{Event}
 use Rattle.rds_world.specs.Safety.Safe.{AreSafe, Listener}
 use Rattle.rds_world.specs.World.Slots.{input_of, log, plans_of}
-use Rattle.rds_world.specs.World.Standing.{Shows, StandsAt}
+use Rattle.rds_world.specs.World.StandsAt.{Shows, StandsAt}
 use Rattle.rds_world.specs.World.State.{WorldState, distance}
 use Rattle.rds_world.specs.declared.world.Config.{Config}
 

@@ -1,7 +1,7 @@
 //! The reigns of a service.
 ghost use Rattle.std.specs.Prelude.{◌≡◌, ◌+◌, ◌<◌, ◌≤◌, List, [], IfOk, IfErr};
 ghost use Rattle.rds_world.specs.Audit.Ages.{IsEarly, aged};
-ghost use Rattle.rds_world.specs.Audit.AuditStanding.{HoldsMarks, HoldsNewest};
+ghost use Rattle.rds_world.specs.Audit.AuditStandsAt.{HoldsMarks, HoldsNewest};
 ghost use Rattle.rds_world.specs.Audit.AuditState.{CanTake, CannotTake, joined_state, no_content, opened_state};
 ghost use Rattle.rds_world.specs.Safety.Marks.{Mark, Sends, Tagged};
 ghost use Rattle.rds_world.specs.Audit.Rules.{IsBrokenBy};

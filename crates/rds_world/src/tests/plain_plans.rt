@@ -33,7 +33,7 @@ struct Broadcast {
     end: usize,
     flag: bool,
     of: [bool; 4],
-    has_piece: bool,
+    has_fragment: bool,
 }
 
 /// The broadcast that goes on, if one does, and the two before it; and the last slot in which something was sent.
@@ -90,7 +90,7 @@ impl Tried {
             end: slot,
             flag,
             of: [true; 4],
-            has_piece: false,
+            has_fragment: false,
         };
         Some(Tried {
             now: Some(now),
@@ -104,10 +104,10 @@ impl Tried {
             Mark::Nothing => Some(self),
             Mark::Segment { flag, of } => {
                 let now = self.now?;
-                let near = !now.has_piece || slot < self.marked.wrapping_add(dwell);
+                let near = !now.has_fragment || slot < self.marked.wrapping_add(dwell);
                 let now = Broadcast {
                     of: both(now.of, of),
-                    has_piece: true,
+                    has_fragment: true,
                     ..now
                 };
                 (near && now.flag == flag && is_some(now.of)).then_some(Tried {
@@ -123,7 +123,7 @@ impl Tried {
                     of: both(now.of, of),
                     ..now
                 };
-                (lasted && now.has_piece && is_some(now.of)).then_some(Tried {
+                (lasted && now.has_fragment && is_some(now.of)).then_some(Tried {
                     now: Some(now),
                     marked: slot,
                     ..self

@@ -2,7 +2,7 @@
 ghost use Rattle.std.specs.Prelude.{◌≡◌, ◌<◌, ◌≤◌, ◌+◌, ◌↔◌, ◌∷◌, ℕ, List, Option, IsTrue, IfOk, IfSome, MatchResult, length, take};
 ghost use Rattle.rds_world.specs.World.Due.{IsDue, IsDueToAll, IsFirstLate, named, reach_of};
 ghost use Rattle.rds_world.specs.World.Event.{Event};
-ghost use Rattle.rds_world.specs.World.Standing.{HaveReaches};
+ghost use Rattle.rds_world.specs.World.StandsAt.{HaveReaches};
 
 use crate::{Reception, SlotEvent};
 use rds_encoder::Late;

@@ -6,7 +6,7 @@ ghost use Rattle.rds_world.specs.declared.world.event.Reception.TheVariants.{Los
 ghost use Rattle.rds_world.specs.World.Due.{IsDue};
 ghost use Rattle.rds_world.specs.Safety.Late.{Input};
 ghost use Rattle.rds_world.specs.World.Slots.{received};
-ghost use Rattle.rds_world.specs.World.Standing.{AllHaveHeard, AreLastSent, HasHeard, IsNew, StaysShown, WhereTheyListen, all_received};
+ghost use Rattle.rds_world.specs.World.StandsAt.{AllHaveHeard, AreLastSent, HasHeard, IsNew, StaysShown, WhereTheyListen, all_received};
 
 use crate::world::recent::Recent;
 use crate::{Config, Reception};

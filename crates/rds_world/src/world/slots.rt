@@ -2,7 +2,7 @@
 ghost use Rattle.std.specs.Prelude.{◌≡◌, IfErr, IfOk, IsOk, length, reverse};
 ghost use Rattle.rds_world.specs.World.Replies.{CanBePlayed, IsPlayRefused};
 ghost use Rattle.rds_world.specs.World.SafeSlots.{OnlyWhatWasOnAirIsShown};
-ghost use Rattle.rds_world.specs.World.Standing.{StandsAt};
+ghost use Rattle.rds_world.specs.World.StandsAt.{StandsAt};
 
 use crate::{Config, SlotEvent, StepRefused, World, WorldRefused};
 use std::alloc::Global;

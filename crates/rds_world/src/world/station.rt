@@ -1,7 +1,7 @@
 //! The encoder's part of a slot.
 ghost use Rattle.std.specs.Prelude.{◌≡◌, List};
 ghost use Rattle.rds_encoder.specs.Entries.{Entry};
-ghost use Rattle.rds_encoder.specs.Standing.{StandsAt};
+ghost use Rattle.rds_encoder.specs.StandsAt.{StandsAt};
 ghost use Rattle.rds_world.specs.World.Replies.{answered, reply_at};
 ghost use Rattle.rds_world.specs.World.Slots.{SetsAValue, commanded};
 ghost use Rattle.rds_world.specs.World.State.{distance};

@@ -1,4 +1,4 @@
-use Rattle.rds_charset.proofs.Pieces.{IsReadAs-same}
+use Rattle.rds_charset.proofs.Symbols.{IsReadAs-same}
 use Rattle.rds_charset.proofs.laws.text_is_read_one_way.Goals as goal
 
 pub returns : goal.returns

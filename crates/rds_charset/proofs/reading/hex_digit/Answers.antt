@@ -1,6 +1,6 @@
 use Rattle.std.proofs.Common.{ℕ, List, ◌≡◌, ◌∷◌, ◌<◌, IfNone, subst, sym}
 use Rattle.std.specs.Char.{digit_value}
-use Rattle.rds_charset.proofs.Pieces.{first-digit}
+use Rattle.rds_charset.proofs.Symbols.{first-digit}
 use Rattle.rds_charset.proofs.reading.hex_digit.Goals as goal
 
 pub returns-in_err-digit-clause-none : goal.returns-in_err-digit-clause-none

@@ -1,5 +1,5 @@
 use Rattle.std.proofs.Common.{[], sym, subst}
-use Rattle.rds_receiver.specs.Standing.{StandsAt}
+use Rattle.rds_receiver.specs.StandsAt.{StandsAt}
 use Rattle.rds_receiver.specs.Stored.{receiver_stored}
 use Rattle.rds_ffi.proofs.receiver.rdsrt_receiver_init.Goals as goal
 

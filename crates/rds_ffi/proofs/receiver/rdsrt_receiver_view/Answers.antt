@@ -1,5 +1,5 @@
 use Rattle.std.proofs.Common.{sym, subst}
-use Rattle.rds_receiver.specs.Standing.{StandsAt}
+use Rattle.rds_receiver.specs.StandsAt.{StandsAt}
 use Rattle.rds_ffi.proofs.receiver.rdsrt_receiver_view.Goals as goal
 
 pub returns-clause-shown : goal.returns-clause-shown

@@ -1,5 +1,5 @@
 use Rattle.std.proofs.Common.{[], ◌≡◌, ◌+◌, ◌∷◌, arith, inl, refl, rules, true}
-use Rattle.rds_log.specs.Source.{state_of}
+use Rattle.rds_log.specs.Inside.Source.{state_of}
 use Rattle.rds_log.proofs.Audits.{audits_slot, stops_at_slot}
 use Rattle.rds_log.proofs.auditing.judge.Goals as goal
 

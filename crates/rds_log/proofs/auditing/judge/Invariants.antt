@@ -1,7 +1,7 @@
 use Rattle.std.proofs.Common.{◌+◌, ◌^◌, ◌≤◌, List}
 use Rattle.rds_log.specs.Audit.{HasAudited}
 use Rattle.rds_log.specs.LogLines.{Line}
-use Rattle.rds_log.specs.Source.{SourceStandsAt, budget, state_of}
+use Rattle.rds_log.specs.Inside.Source.{SourceStandsAt, budget, state_of}
 use Rattle.rds_log.proofs.auditing.judge.Given as goal
 
 abbrev pub invariant-loop-line : goal.invariant-loop-line

@@ -1,9 +1,9 @@
 use Rattle.std.proofs.Common.{◌≡◌, ◌+◌, ◌^◌, ◌≤◌, [], List, None, length}
 use Rattle.rds_charset.specs.Told.{traffic}
-use Rattle.rds_log.specs.Decoder.{HasDecoded}
-use Rattle.rds_log.specs.Decoding.{tuned}
+use Rattle.rds_log.specs.Inside.Decoder.{HasDecoded}
+use Rattle.rds_log.specs.LogWrites.{tuned}
 use Rattle.rds_log.specs.LogLines.{Line}
-use Rattle.rds_log.specs.Source.{SourceStandsAt, budget, state_of}
+use Rattle.rds_log.specs.Inside.Source.{SourceStandsAt, budget, state_of}
 use Rattle.rds_log.proofs.decoding.decode_within.Given as goal
 
 abbrev pub invariant-loop-decoder : goal.invariant-loop-decoder

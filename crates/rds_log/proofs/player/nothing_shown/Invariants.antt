@@ -1,6 +1,6 @@
 use Rattle.std.proofs.Common.{◌≡◌, [], length, map}
-use Rattle.rds_log.specs.Kept.{view_kept}
-use Rattle.rds_log.specs.Playing.{AreKept}
+use Rattle.rds_log.specs.Inside.KeptView.{view_kept}
+use Rattle.rds_log.specs.Inside.Player.{AreKept}
 use Rattle.rds_log.proofs.player.nothing_shown.Given as goal
 
 abbrev pub invariant-loop : goal.invariant-loop

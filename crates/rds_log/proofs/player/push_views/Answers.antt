@@ -1,9 +1,9 @@
 use Rattle.std.proofs.Common.{◌≡◌, ◌<◌, ◌∙◌, ℕ, arith, inl, inr, length, map, refl, set, subst, sym}
 use Rattle.std.proofs.lemmas.Grind.{common_steps}
 use Rattle.rds_world.specs.World.Slots.{input_of}
-use Rattle.rds_world.specs.World.Standing.{IsViewOfInput}
+use Rattle.rds_world.specs.World.StandsAt.{IsViewOfInput}
 use Rattle.rds_world.specs.World.State.{distance}
-use Rattle.rds_log.specs.Kept.{view_kept}
+use Rattle.rds_log.specs.Inside.KeptView.{view_kept}
 use Rattle.rds_log.specs.Outcomes.{view_at}
 use Rattle.rds_log.proofs.Changes.{at_last, at_set, next_changes, no_changes, other_set, stay_changes}
 use Rattle.rds_log.proofs.Playing.{still_shown}

@@ -1,10 +1,10 @@
 use Rattle.std.proofs.Common.{◌≡◌, ◌≤◌, ◌<◌, ◌+◌, ◌*◌, ◌++◌, ℕ, length, map}
 use Rattle.rds_world.specs.World.Slots.{input_of}
-use Rattle.rds_world.specs.World.Standing.{IsViewOfInput, WhereItStands}
+use Rattle.rds_world.specs.World.StandsAt.{IsViewOfInput, WhereItStands}
 use Rattle.rds_world.specs.World.State.{distance}
-use Rattle.rds_log.specs.Kept.{view_kept}
+use Rattle.rds_log.specs.Inside.KeptView.{view_kept}
 use Rattle.rds_log.specs.Outcomes.{receiver_changes, view_at}
-use Rattle.rds_log.specs.Playing.{WereShown}
+use Rattle.rds_log.specs.Inside.Player.{WereShown}
 use Rattle.rds_log.proofs.player.push_views.Given as goal
 
 abbrev pub invariant-loop-i : goal.invariant-loop-i

@@ -3,7 +3,7 @@ use Rattle.std.proofs.lemmas.Result.{err_from_is_err_and}
 use Rattle.csv.proofs.ReadFacts.{on-ok}
 use Rattle.csv.specs.Records.{fields_of}
 use Rattle.rds_charset.specs.Told.{traffic}
-use Rattle.rds_log.specs.Scripts.{reading}
+use Rattle.rds_log.specs.Play.{reading}
 use Rattle.rds_log.proofs.Plays.{ends_by_read, ends_by_row, ends_by_write, played_on, wrote_rows}
 use Rattle.rds_log.proofs.scripts.play.Goals as goal
 

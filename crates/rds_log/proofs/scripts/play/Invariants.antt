@@ -1,6 +1,6 @@
 use Rattle.std.proofs.Common.{◌≡◌, [], List, length}
 use Rattle.rds_charset.specs.Told.{traffic}
-use Rattle.rds_log.specs.Playing.{PlayedSoFar, ScriptStandsAt}
+use Rattle.rds_log.specs.Inside.Player.{PlayedSoFar, ScriptStandsAt}
 use Rattle.rds_log.specs.Rows.{Record}
 use Rattle.rds_log.proofs.scripts.play.Given as goal
 

@@ -1,7 +1,7 @@
 use Rattle.std.proofs.Common.{◌++◌, ap₂, ◌∙◌, subst, sym}
 use Rattle.rds_receiver.specs.Shown.{IsView, ShownView}
 use Rattle.rds_log.specs.Output.{change}
-use Rattle.rds_log.specs.Parts.{stamp_of}
+use Rattle.rds_log.specs.Inside.Part.{stamp_of}
 use Rattle.rds_log.proofs.view_lines.show.Goals as goal
 
 pub returns-clause-changes : goal.returns-clause-changes

@@ -1,5 +1,5 @@
 use Rattle.std.proofs.Common.{◌≡◌, List, ℕ, None, Some, inl, inr, map, refl, rules, subst, sym}
-use Rattle.rds_log.specs.Decoding.{tuned}
+use Rattle.rds_log.specs.LogWrites.{tuned}
 use Rattle.rds_words.specs.CommandLine.{AreRefused, AskFor, AskForHelp, TakesWords, asked_in}
 use Rattle.rds_page.specs.Page.{words_in}
 use Rattle.rds_page.proofs.Calm.{calm_task, none_failed}

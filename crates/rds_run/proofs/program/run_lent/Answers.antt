@@ -4,8 +4,8 @@ use Rattle.std.specs.Prelude.{option_map}
 use Rattle.clap.specs.Words.{kind_of}
 use Rattle.rds_words.specs.Asks.{asked_by}
 use Rattle.rds_words.specs.CommandLine.{Asked, is_shown}
-use Rattle.rds_log.specs.Decoding.{tuned}
-use Rattle.rds_log.specs.Failing.{SomeReadFailed}
+use Rattle.rds_log.specs.LogWrites.{tuned}
+use Rattle.rds_log.specs.ReadFailed.{SomeReadFailed}
 use Rattle.rds_run.specs.Run.{IsPi, RefusesPi, TaskRuns}
 use Rattle.rds_run.proofs.program.run_lent.Goals as goal
 

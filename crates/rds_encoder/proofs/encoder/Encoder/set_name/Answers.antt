@@ -22,13 +22,13 @@ returns-in_err-check-clause-stands c station m entries st =
 pub returns-clause-reply : goal.returns-clause-reply
 returns-clause-reply c station m entries st =
     let at = rw (← c.self.view_is) at st in
-    let reply_is = rw at.dwell at (c.set.ensures.reply (name_moves entries)) in
+    let reply_is = rw at.distance at (c.set.ensures.reply (name_moves entries)) in
     reply_is at.name.hold
     ∙ sym (names_silent m entries _ ∙ silence_over m (slot_of (text_moves entries)) (restart_before (text_moves entries)) _ (sym (c.in_ok-check.ensures m (text_moves entries) at.silence)))
 
 pub returns-clause-stands : goal.returns-clause-stands
 returns-clause-stands c station m entries st =
     let at = rw (← c.self.view_is) at st in
-    let reply_is = rw at.dwell at (c.set.ensures.reply (name_moves entries)) in
+    let reply_is = rw at.distance at (c.set.ensures.reply (name_moves entries)) in
     let over = names_silent m entries _ ∙ silence_over m (slot_of (text_moves entries)) (restart_before (text_moves entries)) _ (sym (c.in_ok-check.ensures m (text_moves entries) at.silence)) in
-    name_set station m _ _ entries c.args.name c.set.result at (reply_is at.name.hold ∙ sym over) c.set.ensures.kept c.set.ensures.value (rw at.dwell at c.set.ensures.hold)
+    name_set station m _ _ entries c.args.name c.set.result at (reply_is at.name.hold ∙ sym over) c.set.ensures.kept c.set.ensures.value (rw at.distance at c.set.ensures.hold)

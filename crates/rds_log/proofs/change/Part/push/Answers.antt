@@ -1,5 +1,5 @@
 use Rattle.std.proofs.Common.{arith, rules, subst}
-use Rattle.rds_log.specs.Parts.{IsShortPart}
+use Rattle.rds_log.specs.Inside.Part.{IsShortPart}
 use Rattle.rds_log.proofs.change.Part.push.Goals as goal
 
 pub push_quoted-requires-in-Tag-Some : goal.push_quoted-requires-in-Tag-Some

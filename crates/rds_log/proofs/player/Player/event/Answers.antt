@@ -2,11 +2,11 @@ use Rattle.std.proofs.Common.{◌≡◌, ◌∙◌, ◌∷◌, ◌+◌, ℕ, Lis
 use Rattle.std.proofs.lemmas.List.{length-map, take_at}
 use Rattle.rds_world.specs.World.Event.{Event}
 use Rattle.rds_world.specs.World.Slots.{input_of}
-use Rattle.rds_world.specs.World.Standing.{IsViewOfInput}
+use Rattle.rds_world.specs.World.StandsAt.{IsViewOfInput}
 use Rattle.rds_world.specs.World.State.{WorldState, distance}
-use Rattle.rds_log.specs.Kept.{view_kept}
+use Rattle.rds_log.specs.Inside.KeptView.{view_kept}
 use Rattle.rds_log.specs.Outcomes.{view_at}
-use Rattle.rds_log.specs.Playing.{HasWorld, WereShown}
+use Rattle.rds_log.specs.Inside.Player.{HasWorld, WereShown}
 use Rattle.rds_log.specs.declared.kept.KeptView.{KeptView}
 use Rattle.rds_log.proofs.Playing.{shown_now, slot_written}
 use Rattle.rds_log.proofs.player.Player.event.Goals as goal

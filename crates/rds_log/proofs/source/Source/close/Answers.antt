@@ -1,14 +1,14 @@
 use Rattle.std.proofs.Common.{◌++◌, Err, Ok, refl, take}
 use Rattle.rds_log.specs.LogLines.{IsLine, Line}
-use Rattle.rds_log.specs.Cutting.{CutterStandsAt}
-use Rattle.rds_log.specs.Source.{waiting}
+use Rattle.rds_log.specs.Inside.Cutter.{CutterStandsAt}
+use Rattle.rds_log.specs.Inside.Source.{waiting}
 use Rattle.rds_log.proofs.Reading.{gives_either, line_of, line_told}
 use Rattle.rds_log.proofs.source.Source.close.Goals as goal
 
 pub returns-clause-gives : goal.returns-clause-gives
 returns-clause-gives c now most start lines stands =
     let less = c.args.self.now.held c.args.count c.requires in
-    let same = line_of c.args.self.now.piece c.args.self.now.at c.args.self.now.count c.args.count less in
+    let same = line_of c.args.self.now.chunk c.args.self.now.at c.args.self.now.count c.args.count less in
     gives_either c.args.self.now _ most c.args.count start now lines c.close.result stands c.requires less
     (λ begun cut line. rw same (c.close.ensures.closes (rw same at line) lines begun cut)) refl refl refl refl refl
     (line_told _ c.line_end-self.result c.line_end-self.ensures.none c.line_end-self.ensures.some)

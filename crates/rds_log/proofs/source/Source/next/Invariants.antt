@@ -1,5 +1,5 @@
 use Rattle.std.proofs.Common.{◌≡◌, ◌≢◌, ◌≤◌, None}
-use Rattle.rds_log.specs.Source.{SourceStandsAt, WhereItReads, budget, state_of}
+use Rattle.rds_log.specs.Inside.Source.{SourceStandsAt, WhereItReads, budget, state_of}
 use Rattle.rds_log.proofs.source.Source.next.Given as goal
 
 abbrev pub invariant-loop-self : goal.invariant-loop-self

@@ -5,7 +5,7 @@ use Rattle.std.specs.Option.{option_eq}
 use Rattle.rds_fields.specs.contracts.pair.TagPairPartialEq.TheImpl.{eq-value}
 use Rattle.std.proofs.lemmas.Bool.Decides.{nat_tests}
 use Rattle.rds_receiver.specs.contracts.receiver.Receiver.{the_view}
-use Rattle.rds_receiver.specs.Standing.{HoldsAt}
+use Rattle.rds_receiver.specs.StandsAt.{HoldsAt}
 use Rattle.rds_receiver.specs.State.{ReceiverState}
 use Rattle.rds_receiver.proofs.Steps.{tags_heard}
 use Rattle.rds_receiver.proofs.receiver.Receiver.hear_tags.Goals as goal

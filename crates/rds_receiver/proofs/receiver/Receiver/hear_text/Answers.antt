@@ -1,5 +1,5 @@
 use Rattle.std.proofs.Common.{◌≡◌, ◌≢◌, ◌+◌, None, true, false, length, refl, sym, ap, subst}
-use Rattle.rds_receiver.specs.Standing.{HoldsAt}
+use Rattle.rds_receiver.specs.StandsAt.{HoldsAt}
 use Rattle.rds_receiver.specs.State.{ReceiverState}
 use Rattle.rds_receiver.specs.contracts.receiver.Receiver.{the_view}
 use Rattle.rds_receiver.proofs.Steps.{text_heard_by}

@@ -1,7 +1,7 @@
 use Rattle.std.proofs.Common.{◌≡◌, ◌∷◌, None, refl, sym, ap, ◌∙◌, subst}
 use Rattle.rds_receiver.specs.Receipts.{Hears}
 use Rattle.rds_world.specs.Audit.AuditState.{AuditState}
-use Rattle.rds_world.specs.Audit.AuditStanding.{HoldsLog, HoldsSlot}
+use Rattle.rds_world.specs.Audit.AuditStandsAt.{HoldsLog, HoldsSlot}
 use Rattle.rds_world.proofs.AuditLemmas.AuditSteps.{fault_found, fault_stays, slot_passes}
 use Rattle.rds_world.proofs.audit.Audit.slot.Goals as goal
 
@@ -23,10 +23,10 @@ returns-clause-stands c pi d log s =
     let hears : Hears c.args.self.now.programme c.args.group c.heard-message.result = subst (λ n. Hears n c.args.group c.heard-message.result) (ap (λ (a : AuditState). a.programme) c.self.view_is) c.heard-message.ensures in
     let clean : c.args.self.now.fault ≡ None = ap (λ (a : AuditState). a.fault) (sym c.self.view_is) ∙ c.in_default.is in
     slot_passes pi d c.args.self.now log s c.end_slot.new.self c.args.group c.heard-message.result clean
-    (c.end_slot.ensures.fault ∙ c.in_default-judge.ensures.fault ∙ clean)
-    (c.end_slot.ensures.programme ∙ c.in_default-judge.ensures.programme) (c.end_slot.ensures.distance ∙ c.in_default-judge.ensures.distance)
+    (c.end_slot.ensures.fault ∙ c.in_default-take_slot.ensures.fault ∙ clean)
+    (c.end_slot.ensures.programme ∙ c.in_default-take_slot.ensures.programme) (c.end_slot.ensures.distance ∙ c.in_default-take_slot.ensures.distance)
     hears (λ heard h.
-    let same = c.in_default-judge.ensures.distance in
-    let now : HoldsSlot c.args.self.now.distance c.heard-message.result heard c.judge.new.self = c.in_default-judge.ensures.holds heard h in
+    let same = c.in_default-take_slot.ensures.distance in
+    let now : HoldsSlot c.args.self.now.distance c.heard-message.result heard c.take_slot.new.self = c.in_default-take_slot.ensures.holds heard h in
     subst (λ n. HoldsLog n (c.heard-message.result ∷ heard) c.end_slot.new.self) same
-    (c.end_slot.ensures.holds heard c.heard-message.result (subst (λ n. HoldsSlot n c.heard-message.result heard c.judge.new.self) (sym same) now)))
+    (c.end_slot.ensures.holds heard c.heard-message.result (subst (λ n. HoldsSlot n c.heard-message.result heard c.take_slot.new.self) (sym same) now)))

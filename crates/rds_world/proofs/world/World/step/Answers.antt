@@ -9,7 +9,7 @@ use Rattle.rds_world.specs.World.Due.{IsDue, IsDueToAll, last_named}
 use Rattle.rds_world.specs.World.Event.{Event}
 use Rattle.rds_world.specs.Safety.Late.{Input}
 use Rattle.rds_world.specs.World.Slots.{commanded, entries, input_of, log, received, sent_at}
-use Rattle.rds_world.specs.World.Standing.{AllHaveHeard, AreLastSent, HaveReaches, StandsAt}
+use Rattle.rds_world.specs.World.StandsAt.{AllHaveHeard, AreLastSent, HaveReaches, StandsAt}
 use Rattle.rds_world.specs.World.State.{WorldState, distance}
 use Rattle.rds_world.proofs.WorldLemmas.DueSteps.{one_more_sent}
 use Rattle.rds_world.proofs.WorldLemmas.Stepped.{by_own, front_is, stepped}

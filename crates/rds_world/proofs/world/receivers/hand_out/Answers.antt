@@ -8,7 +8,7 @@ use Rattle.rds_world.specs.declared.world.event.Reception.TheVariants.{Got, Lost
 use Rattle.rds_world.specs.declared.world.event.Reception.{Reception}
 use Rattle.rds_world.specs.World.Due.{IsDue}
 use Rattle.rds_world.specs.World.Slots.{received}
-use Rattle.rds_world.specs.World.Standing.{HasHeard, StaysShown}
+use Rattle.rds_world.specs.World.StandsAt.{HasHeard, StaysShown}
 use Rattle.rds_world.proofs.WorldLemmas.Received.{marked, other_kept, other_marked, written}
 use Rattle.rds_world.proofs.world.receivers.hand_out.Goals as goal
 

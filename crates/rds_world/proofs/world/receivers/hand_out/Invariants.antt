@@ -6,7 +6,7 @@ use Rattle.rds_world.specs.declared.world.event.Reception.TheVariants.{Lost}
 use Rattle.rds_world.specs.World.Due.{IsDue}
 use Rattle.rds_world.specs.Safety.Late.{Input}
 use Rattle.rds_world.specs.World.Slots.{received}
-use Rattle.rds_world.specs.World.Standing.{AllHaveHeard, AreLastSent, HasHeard, StaysShown}
+use Rattle.rds_world.specs.World.StandsAt.{AllHaveHeard, AreLastSent, HasHeard, StaysShown}
 use Rattle.rds_world.proofs.world.receivers.hand_out.Given as goal
 
 abbrev pub invariant-loop-i : goal.invariant-loop-i

@@ -5,7 +5,7 @@ use Rattle.std.specs.Prelude.{slice_get, slice_index_or}
 use Rattle.rds_world.specs.World.Event.{Event}
 use Rattle.rds_world.specs.World.Replies.{CanBeTaken}
 use Rattle.rds_world.specs.World.SafeSlots.{OnlyWhatWasOnAirIsShown}
-use Rattle.rds_world.specs.World.Standing.{StandsAt}
+use Rattle.rds_world.specs.World.StandsAt.{StandsAt}
 use Rattle.rds_world.proofs.world.slots.play.Goals as goal
 
 one_later : (xs : List Event) (i : ℕ) (x : Event) → i < length xs → x ≡ slice_index_or xs i x → x ∷ reverse (take i xs) ≡ reverse (take (i + 1) xs)

@@ -1,7 +1,7 @@
 use Rattle.std.proofs.Common.{◌≡◌, ◌<◌, ◌≤◌, ℕ, length, reverse, take}
 use Rattle.rds_world.specs.World.Replies.{IsTaken}
 use Rattle.rds_world.specs.World.SafeSlots.{OnlyWhatWasOnAirIsShown}
-use Rattle.rds_world.specs.World.Standing.{StandsAt}
+use Rattle.rds_world.specs.World.StandsAt.{StandsAt}
 use Rattle.rds_world.proofs.world.slots.play.Given as goal
 
 abbrev pub invariant-loop-i : goal.invariant-loop-i

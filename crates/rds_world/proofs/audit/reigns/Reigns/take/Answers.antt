@@ -1,8 +1,8 @@
 use Rattle.std.proofs.Common.{◌≡◌, true, sym, ap, ◌∙◌, subst, rules}
 use Rattle.std.proofs.lemmas.Result.{IfErr-weaker}
-use Rattle.rds_receiver.specs.Receipts.{Piece}
+use Rattle.rds_receiver.specs.Receipts.{Fragment}
 use Rattle.rds_world.specs.Audit.Ages.{Joins}
-use Rattle.rds_world.specs.Audit.AuditStanding.{HoldsNewest}
+use Rattle.rds_world.specs.Audit.AuditStandsAt.{HoldsNewest}
 use Rattle.rds_world.specs.Audit.AuditState.{CanTake, CannotTake, ReignsState, joined_state, opened_state}
 use Rattle.rds_world.specs.Audit.Lengths.{IsFormed}
 use Rattle.rds_world.specs.Safety.Marks.{Sends}
@@ -12,7 +12,7 @@ use Rattle.rds_world.proofs.audit.reigns.Reigns.take.Goals as goal
 pub returns-then-joins-clause-holds : goal.returns-then-joins-clause-holds
 returns-then-joins-clause-holds g c sent st =
     let gauge = g.S.Audited.gauge in
-    let p : Piece = record { flag = c.args.flag; address = c.args.address; bytes = c.args.bytes } in
+    let p : Fragment = record { flag = c.args.flag; address = c.args.address; bytes = c.args.bytes } in
     let on : Joins c.args.distance c.args.flag c.args.self.now.ages = subst (λ (s : ReignsState). Joins c.args.distance c.args.flag s.ages) c.self.view_is (c.joins.ensures.0 c.if-joins.true) in
     let formed : IsFormed gauge.segments p = record { address = c.requires.address; four = search rules; fits = search rules } in
     ok_by_both c.join.result _ _ _ (λ _ can joined.
@@ -22,7 +22,7 @@ returns-then-joins-clause-holds g c sent st =
 pub returns-then-joins-clause-fault : goal.returns-then-joins-clause-fault
 returns-then-joins-clause-fault g c sent st =
     let gauge = g.S.Audited.gauge in
-    let p : Piece = record { flag = c.args.flag; address = c.args.address; bytes = c.args.bytes } in
+    let p : Fragment = record { flag = c.args.flag; address = c.args.address; bytes = c.args.bytes } in
     let on : Joins c.args.distance c.args.flag c.args.self.now.ages = subst (λ (s : ReignsState). Joins c.args.distance c.args.flag s.ages) c.self.view_is (c.joins.ensures.0 c.if-joins.true) in
     let formed : IsFormed gauge.segments p = record { address = c.requires.address; four = search rules; fits = search rules } in
     IfErr-weaker c.join.result _ _ (λ fault cannot.
@@ -31,7 +31,7 @@ returns-then-joins-clause-fault g c sent st =
 pub returns-clause-holds : goal.returns-clause-holds
 returns-clause-holds g c sent st =
     let gauge = g.S.Audited.gauge in
-    let p : Piece = record { flag = c.args.flag; address = c.args.address; bytes = c.args.bytes } in
+    let p : Fragment = record { flag = c.args.flag; address = c.args.address; bytes = c.args.bytes } in
     let apart : Joins c.args.distance c.args.flag c.args.self.now.ages → ⊥ = λ on.
     (let yes : c.joins.result ≡ true = c.joins.ensures.1 (subst (λ (s : ReignsState). Joins c.args.distance c.args.flag s.ages) (sym c.self.view_is) on) in
     let not_yes = c.if-joins.false in absurd (cc)) in
@@ -47,7 +47,7 @@ returns-clause-holds g c sent st =
 pub returns-clause-fault : goal.returns-clause-fault
 returns-clause-fault g c sent st =
     let gauge = g.S.Audited.gauge in
-    let p : Piece = record { flag = c.args.flag; address = c.args.address; bytes = c.args.bytes } in
+    let p : Fragment = record { flag = c.args.flag; address = c.args.address; bytes = c.args.bytes } in
     let apart : Joins c.args.distance c.args.flag c.args.self.now.ages → ⊥ = λ on.
     (let yes : c.joins.result ≡ true = c.joins.ensures.1 (subst (λ (s : ReignsState). Joins c.args.distance c.args.flag s.ages) (sym c.self.view_is) on) in
     let not_yes = c.if-joins.false in absurd (cc)) in

@@ -1,7 +1,7 @@
 use Rattle.std.proofs.Common.{◌≡◌, ◌≤◌, true, false, inl, inr, sym, ap, ◌∙◌, subst}
 use Rattle.std.proofs.lemmas.Bool.{cases_lt}
 use Rattle.rds_world.specs.Audit.Ages.{HasLasted}
-use Rattle.rds_world.specs.Audit.AuditStanding.{HoldsNewest}
+use Rattle.rds_world.specs.Audit.AuditStandsAt.{HoldsNewest}
 use Rattle.rds_world.specs.Audit.AuditState.{ReignsState, tagged}
 use Rattle.rds_world.specs.Audit.Lengths.{pair_end}
 use Rattle.rds_world.specs.Safety.Marks.{Tagged}

@@ -1,4 +1,4 @@
--- A text is cut into pieces in one way only, so it is read as at most one list of bytes, and stops at one place
+-- A text is cut into symbols in one way only, so it is read as at most one list of bytes, and stops at one place
 -- at most.
 use Rattle.std.proofs.Common.{◌≡◌, inl, inr, ◌+◌, ◌-◌, ◌*◌, ◌≤◌, ◌<◌, ℕ, List, [], ◌∷◌, ◌++◌, length, drop, refl, sym, ap, ◌∙◌, subst, arith, Some, None, encode_utf8, append_assoc, length-append, length-drop}
 use Rattle.std.proofs.lemmas.Bool.Decides.{nat_tests}
@@ -7,7 +7,7 @@ use Rattle.std.proofs.lemmas.Str.{encode_same, encode_ascii, length-encode, len_
 use Rattle.std.specs.Char.{digit_value}
 use Rattle.std.specs.Str.{IsUtf8}
 use Rattle.rds_charset.proofs.Characters.{IsLawful-from_byte, IsLawful-from_character}
-use Rattle.rds_charset.specs.ReadAs.{IsCharacter, IsEscape, IsPiece, Begins, ReadsUpTo, IsReadAs, BeginsNoPiece, StopsAt}
+use Rattle.rds_charset.specs.ReadAs.{IsCharacter, IsEscape, IsSymbol, Begins, IsReadUpTo, IsReadAs, BeginsNoSymbol, StopsAt}
 use Rattle.rds_charset.specs.Table.{character_of, byte_of}
 
 -- the backslash and the x as characters
@@ -48,93 +48,93 @@ character_and_escape : (p q : List ℕ) (a b : ℕ) (r s : List ℕ) → IsChara
 character_and_escape p q a b r s one two same =
     character_no_escape a one.character r (0x78 ∷ two.high ∷ two.low ∷ s) one.in_table (ap (λ t. t ++ r) (sym one.spelled) ∙ same ∙ ap (λ t. t ++ s) two.spelled)
 
-pieces_same : (p q : List ℕ) (a b : ℕ) (r s : List ℕ) → IsPiece p a → IsPiece q b → p ++ r ≡ q ++ s → SameStart a b r s
-pieces_same p q a b r s (inl one) (inl two) same = characters_same p q a b r s one two same
-pieces_same p q a b r s (inl one) (inr two) same = absurd (character_and_escape p q a b r s one two same)
-pieces_same p q a b r s (inr one) (inl two) same = absurd (character_and_escape q p b a s r two one (sym same))
-pieces_same p q a b r s (inr one) (inr two) same = escapes_same p q a b r s one two same
+symbols_same : (p q : List ℕ) (a b : ℕ) (r s : List ℕ) → IsSymbol p a → IsSymbol q b → p ++ r ≡ q ++ s → SameStart a b r s
+symbols_same p q a b r s (inl one) (inl two) same = characters_same p q a b r s one two same
+symbols_same p q a b r s (inl one) (inr two) same = absurd (character_and_escape p q a b r s one two same)
+symbols_same p q a b r s (inr one) (inl two) same = absurd (character_and_escape q p b a s r two one (sym same))
+symbols_same p q a b r s (inr one) (inr two) same = escapes_same p q a b r s one two same
 
--- a text begins with one piece at most
+-- a text begins with one symbol at most
 pub Begins-same : (text : List ℕ) (a b : ℕ) (r s : List ℕ) → Begins text a r → Begins text b s → SameStart a b r s
-Begins-same text a b r s one two = pieces_same one.piece two.piece a b r s one.is_piece two.is_piece (sym one.cut ∙ two.cut)
+Begins-same text a b r s one two = symbols_same one.symbol two.symbol a b r s one.is_symbol two.is_symbol (sym one.cut ∙ two.cut)
 
--- a piece has a byte at least
-IsPiece-length : (p : List ℕ) (a : ℕ) → IsPiece p a → 0 < length p
-IsPiece-length p a (inl one) = rw (one.spelled, length-encode one.character) (len_utf8_bounds one.character).0
-IsPiece-length p a (inr one) = rw one.spelled (omega arith)
+-- a symbol has a byte at least
+IsSymbol-length : (p : List ℕ) (a : ℕ) → IsSymbol p a → 0 < length p
+IsSymbol-length p a (inl one) = rw (one.spelled, length-encode one.character) (len_utf8_bounds one.character).0
+IsSymbol-length p a (inr one) = rw one.spelled (omega arith)
 
 pub Begins-length : (text : List ℕ) (a : ℕ) (r : List ℕ) → Begins text a r → length r < length text
 Begins-length text a r one =
-    let some : 0 < length one.piece = IsPiece-length one.piece a one.is_piece in
-    let sum : length text ≡ length one.piece + length r = ap length one.cut ∙ length-append one.piece r in
+    let some : 0 < length one.symbol = IsSymbol-length one.symbol a one.is_symbol in
+    let sum : length text ≡ length one.symbol + length r = ap length one.cut ∙ length-append one.symbol r in
     omega arith
 
-pub BeginsNoPiece-nil : BeginsNoPiece []
-BeginsNoPiece-nil byte rest one = let some : length rest < 0 = Begins-length [] byte rest one in omega arith
+pub BeginsNoSymbol-nil : BeginsNoSymbol []
+BeginsNoSymbol-nil byte rest one = let some : length rest < 0 = Begins-length [] byte rest one in omega arith
 
 pub record SameReading (bs cs : List ℕ) (r s : List ℕ) : Type 0 where
   pub bytes : bs ≡ cs
   pub rest : r ≡ s
 
 -- a text is read as far as it can be in one way
-pub ReadsUpTo-same : (text bs cs r s : List ℕ) → ReadsUpTo text bs r → ReadsUpTo text cs s → BeginsNoPiece r → BeginsNoPiece s → SameReading bs cs r s
-ReadsUpTo-same text [] [] r s one two end_one end_two = record { bytes = refl; rest = sym one ∙ two }
-ReadsUpTo-same text [] (c ∷ cs) r s one (after, begins, two) end_one end_two = absurd (end_one c after (subst (λ t. Begins t c after) one begins))
-ReadsUpTo-same text (b ∷ bs) [] r s (after, begins, one) two end_one end_two = absurd (end_two b after (subst (λ t. Begins t b after) two begins))
-ReadsUpTo-same text (b ∷ bs) (c ∷ cs) r s (first, begins, one) (second, also, two) end_one end_two =
+pub IsReadUpTo-same : (text bs cs r s : List ℕ) → IsReadUpTo text bs r → IsReadUpTo text cs s → BeginsNoSymbol r → BeginsNoSymbol s → SameReading bs cs r s
+IsReadUpTo-same text [] [] r s one two end_one end_two = record { bytes = refl; rest = sym one ∙ two }
+IsReadUpTo-same text [] (c ∷ cs) r s one (after, begins, two) end_one end_two = absurd (end_one c after (subst (λ t. Begins t c after) one begins))
+IsReadUpTo-same text (b ∷ bs) [] r s (after, begins, one) two end_one end_two = absurd (end_two b after (subst (λ t. Begins t b after) two begins))
+IsReadUpTo-same text (b ∷ bs) (c ∷ cs) r s (first, begins, one) (second, also, two) end_one end_two =
     let start = Begins-same text b c first second begins also in
-    let later = ReadsUpTo-same second bs cs r s (subst (λ t. ReadsUpTo t bs r) start.rest one) two end_one end_two in
+    let later = IsReadUpTo-same second bs cs r s (subst (λ t. IsReadUpTo t bs r) start.rest one) two end_one end_two in
     record { bytes = ap (λ x. x ∷ bs) start.byte ∙ ap (λ xs. c ∷ xs) later.bytes; rest = later.rest }
 
 -- a text is read as one list of bytes at most
 pub IsReadAs-same : (text bs cs : List ℕ) → IsReadAs text bs → IsReadAs text cs → bs ≡ cs
-IsReadAs-same text bs cs one two = (ReadsUpTo-same text bs cs [] [] one two BeginsNoPiece-nil BeginsNoPiece-nil).bytes
+IsReadAs-same text bs cs one two = (IsReadUpTo-same text bs cs [] [] one two BeginsNoSymbol-nil BeginsNoSymbol-nil).bytes
 
 -- one reading, and another of what follows
-pub ReadsUpTo-append : (text bs mid cs rest : List ℕ) → ReadsUpTo text bs mid → ReadsUpTo mid cs rest → ReadsUpTo text (bs ++ cs) rest
-ReadsUpTo-append text [] mid cs rest one two = subst (λ t. ReadsUpTo t cs rest) (sym one) two
-ReadsUpTo-append text (b ∷ bs) mid cs rest (after, begins, one) two = (after, begins, ReadsUpTo-append after bs mid cs rest one two)
+pub IsReadUpTo-append : (text bs mid cs rest : List ℕ) → IsReadUpTo text bs mid → IsReadUpTo mid cs rest → IsReadUpTo text (bs ++ cs) rest
+IsReadUpTo-append text [] mid cs rest one two = subst (λ t. IsReadUpTo t cs rest) (sym one) two
+IsReadUpTo-append text (b ∷ bs) mid cs rest (after, begins, one) two = (after, begins, IsReadUpTo-append after bs mid cs rest one two)
 
--- and one piece of what follows
-pub ReadsUpTo-push : (text bs mid : List ℕ) (byte : ℕ) (rest : List ℕ) → ReadsUpTo text bs mid → Begins mid byte rest → ReadsUpTo text (bs ++ byte ∷ []) rest
-ReadsUpTo-push text bs mid byte rest one begins = ReadsUpTo-append text bs mid (byte ∷ []) rest one (rest, begins, refl)
+-- and one symbol of what follows
+pub IsReadUpTo-push : (text bs mid : List ℕ) (byte : ℕ) (rest : List ℕ) → IsReadUpTo text bs mid → Begins mid byte rest → IsReadUpTo text (bs ++ byte ∷ []) rest
+IsReadUpTo-push text bs mid byte rest one begins = IsReadUpTo-append text bs mid (byte ∷ []) rest one (rest, begins, refl)
 
 -- what follows is the end of the text
-pub ReadsUpTo-length : (text bs rest : List ℕ) → ReadsUpTo text bs rest → length bs + length rest ≤ length text
-ReadsUpTo-length text [] rest one = let same : length text ≡ length rest = ap length one in omega arith
-ReadsUpTo-length text (b ∷ bs) rest (after, begins, one) =
+pub IsReadUpTo-length : (text bs rest : List ℕ) → IsReadUpTo text bs rest → length bs + length rest ≤ length text
+IsReadUpTo-length text [] rest one = let same : length text ≡ length rest = ap length one in omega arith
+IsReadUpTo-length text (b ∷ bs) rest (after, begins, one) =
     let shorter : length after < length text = Begins-length text b after begins in
-    let later : length bs + length rest ≤ length after = ReadsUpTo-length after bs rest one in
+    let later : length bs + length rest ≤ length after = IsReadUpTo-length after bs rest one in
     omega arith
 
-ReadsUpTo-cut : (text bs rest : List ℕ) → ReadsUpTo text bs rest → (read : List ℕ) × (text ≡ read ++ rest)
-ReadsUpTo-cut text [] rest one = ([], one)
-ReadsUpTo-cut text (b ∷ bs) rest (after, begins, one) =
-    let later = ReadsUpTo-cut after bs rest one in
-    (begins.piece ++ later.0, begins.cut ∙ ap (λ t. begins.piece ++ t) later.1 ∙ sym (append_assoc begins.piece later.0 rest))
+IsReadUpTo-cut : (text bs rest : List ℕ) → IsReadUpTo text bs rest → (read : List ℕ) × (text ≡ read ++ rest)
+IsReadUpTo-cut text [] rest one = ([], one)
+IsReadUpTo-cut text (b ∷ bs) rest (after, begins, one) =
+    let later = IsReadUpTo-cut after bs rest one in
+    (begins.symbol ++ later.0, begins.cut ∙ ap (λ t. begins.symbol ++ t) later.1 ∙ sym (append_assoc begins.symbol later.0 rest))
 
-pub ReadsUpTo-drop : (text bs rest : List ℕ) → ReadsUpTo text bs rest → drop (length text - length rest) text ≡ rest
-ReadsUpTo-drop text bs rest one =
-    let cut = ReadsUpTo-cut text bs rest one in
+pub IsReadUpTo-drop : (text bs rest : List ℕ) → IsReadUpTo text bs rest → drop (length text - length rest) text ≡ rest
+IsReadUpTo-drop text bs rest one =
+    let cut = IsReadUpTo-cut text bs rest one in
     let sum : length text ≡ length cut.0 + length rest = ap length cut.1 ∙ length-append cut.0 rest in
     let place : length cut.0 ≡ length text - length rest = omega arith in
     ap (drop (length text - length rest)) cut.1 ∙ drop_at cut.0 rest (length text - length rest) place
 
 -- where nothing begins what follows, and there is something, the text stops
-pub StopsAt-rest : (text bs rest : List ℕ) → ReadsUpTo text bs rest → BeginsNoPiece rest → 0 < length rest → StopsAt text (length text - length rest)
+pub StopsAt-rest : (text bs rest : List ℕ) → IsReadUpTo text bs rest → BeginsNoSymbol rest → 0 < length rest → StopsAt text (length text - length rest)
 StopsAt-rest text bs rest one stuck some =
-    let there : drop (length text - length rest) text ≡ rest = ReadsUpTo-drop text bs rest one in
-    let room : length bs + length rest ≤ length text = ReadsUpTo-length text bs rest one in
+    let there : drop (length text - length rest) text ≡ rest = IsReadUpTo-drop text bs rest one in
+    let room : length bs + length rest ≤ length text = IsReadUpTo-length text bs rest one in
     record {
       within = omega arith;
       bytes = bs;
-      read = subst (λ t. ReadsUpTo text bs t) (sym there) one;
-      stuck = subst BeginsNoPiece (sym there) stuck;
+      read = subst (λ t. IsReadUpTo text bs t) (sym there) one;
+      stuck = subst BeginsNoSymbol (sym there) stuck;
     }
 
 pub StopsAt-same : (text : List ℕ) (p q : ℕ) → StopsAt text p → StopsAt text q → p ≡ q
 StopsAt-same text p q one two =
-    let rest : drop p text ≡ drop q text = (ReadsUpTo-same text one.bytes two.bytes (drop p text) (drop q text) one.read two.read one.stuck two.stuck).rest in
+    let rest : drop p text ≡ drop q text = (IsReadUpTo-same text one.bytes two.bytes (drop p text) (drop q text) one.read two.read one.stuck two.stuck).rest in
     let long : length (drop p text) ≡ length (drop q text) = ap length rest in
     let left : p < length text = one.within in
     let right : q < length text = two.within in
@@ -142,12 +142,12 @@ StopsAt-same text p q one two =
 
 pub StopsAt-unread : (text : List ℕ) (p : ℕ) (bs : List ℕ) → StopsAt text p → IsReadAs text bs → ⊥
 StopsAt-unread text p bs one two =
-    let rest : drop p text ≡ [] = (ReadsUpTo-same text one.bytes bs (drop p text) [] one.read two one.stuck BeginsNoPiece-nil).rest in
+    let rest : drop p text ≡ [] = (IsReadUpTo-same text one.bytes bs (drop p text) [] one.read two one.stuck BeginsNoSymbol-nil).rest in
     let long : length (drop p text) ≡ 0 = ap length rest in
     let left : p < length text = one.within in
     omega (arith, length-drop p text)
 
--- what code knows of the first character of a text, and the pieces that can begin there
+-- what code knows of the first character of a text, and the symbols that can begin there
 digit_ascii : (digit : ℕ) → digit_value digit < 16 → digit < 128
 digit_ascii digit small = grind (arith, nat_tests)
 
@@ -166,62 +166,62 @@ text-x text first after one is = one ∙ ap (λ c. encode_utf8 c ++ after) is �
 pub text-backslash : (text : List ℕ) (first : ℕ) (after : List ℕ) → text ≡ encode_utf8 first ++ after → first ≡ 0x5C → text ≡ 0x5C ∷ after
 text-backslash text first after one is = one ∙ ap (λ c. encode_utf8 c ++ after) is ∙ sym (backslash-first after)
 
-pub BeginsNoPiece-escape : (text : List ℕ) → ((high low : ℕ) (rest : List ℕ) → text ≡ 0x78 ∷ high ∷ low ∷ rest → digit_value high < 16 → digit_value low < 16 → ⊥) → BeginsNoPiece (0x5C ∷ text)
-BeginsNoPiece-escape text none byte rest one = by_piece one.is_piece
+pub BeginsNoSymbol-escape : (text : List ℕ) → ((high low : ℕ) (rest : List ℕ) → text ≡ 0x78 ∷ high ∷ low ∷ rest → digit_value high < 16 → digit_value low < 16 → ⊥) → BeginsNoSymbol (0x5C ∷ text)
+BeginsNoSymbol-escape text none byte rest one = by_symbol one.is_symbol
   where
-    by_piece : IsPiece one.piece byte → ⊥
-    by_piece (inl is) = character_no_escape byte is.character rest text is.in_table (ap (λ t. t ++ rest) (sym is.spelled) ∙ sym one.cut)
-    by_piece (inr is) =
+    by_symbol : IsSymbol one.symbol byte → ⊥
+    by_symbol (inl is) = character_no_escape byte is.character rest text is.in_table (ap (λ t. t ++ rest) (sym is.spelled) ∙ sym one.cut)
+    by_symbol (inr is) =
         let whole : 0x5C ∷ text ≡ 0x5C ∷ 0x78 ∷ is.high ∷ is.low ∷ rest = one.cut ∙ ap (λ t. t ++ rest) is.spelled in
         none is.high is.low rest (cc) is.high_digit is.low_digit
 
 pub Begins-escape : (text rest : List ℕ) (high low : ℕ) → text ≡ 0x78 ∷ high ∷ low ∷ rest → digit_value high < 16 → digit_value low < 16 → Begins (0x5C ∷ text) (16 * digit_value high + digit_value low) rest
 Begins-escape text rest high low is first second = record {
-  piece = 0x5C ∷ 0x78 ∷ high ∷ low ∷ [];
+  symbol = 0x5C ∷ 0x78 ∷ high ∷ low ∷ [];
   cut = ap (λ t. 0x5C ∷ t) is;
-  is_piece = inr (record { high = high; low = low; high_digit = first; low_digit = second; spelled = refl; value = refl });
+  is_symbol = inr (record { high = high; low = low; high_digit = first; low_digit = second; spelled = refl; value = refl });
 }
 
-pub BeginsNoPiece-character : (text : List ℕ) (first : ℕ) (after : List ℕ) → text ≡ encode_utf8 first ++ after → (first ≡ 0x5C → ⊥) → None ≡ byte_of first → BeginsNoPiece text
-BeginsNoPiece-character text first after is other unknown byte rest one = by_piece one.is_piece
+pub BeginsNoSymbol-character : (text : List ℕ) (first : ℕ) (after : List ℕ) → text ≡ encode_utf8 first ++ after → (first ≡ 0x5C → ⊥) → None ≡ byte_of first → BeginsNoSymbol text
+BeginsNoSymbol-character text first after is other unknown byte rest one = by_symbol one.is_symbol
   where
-    by_piece : IsPiece one.piece byte → ⊥
-    by_piece (inl character) =
+    by_symbol : IsSymbol one.symbol byte → ⊥
+    by_symbol (inl character) =
         let split = encode_same first character.character after rest (sym is ∙ one.cut ∙ ap (λ t. t ++ rest) character.spelled) in
         let known : byte_of character.character ≡ Some byte = (IsLawful-from_byte byte character.character character.in_table).of_character in
         let both : None ≡ Some byte = unknown ∙ ap byte_of split.0 ∙ known in
         absurd (cc)
-    by_piece (inr escape) =
+    by_symbol (inr escape) =
         let whole : encode_utf8 first ++ after ≡ 0x5C ∷ 0x78 ∷ escape.high ∷ escape.low ∷ rest = sym is ∙ one.cut ∙ ap (λ t. t ++ rest) escape.spelled in
         other (encode_same first 0x5C after (0x78 ∷ escape.high ∷ escape.low ∷ rest) (whole ∙ backslash-first (0x78 ∷ escape.high ∷ escape.low ∷ rest))).0
 
 pub Begins-character : (text : List ℕ) (first : ℕ) (after : List ℕ) (byte : ℕ) → text ≡ encode_utf8 first ++ after → Some byte ≡ byte_of first → Begins text byte after
 Begins-character text first after byte is known = record {
-  piece = encode_utf8 first;
+  symbol = encode_utf8 first;
   cut = is;
-  is_piece = inl (record { character = first; in_table = (IsLawful-from_character byte first (sym known)).of_byte; spelled = refl });
+  is_symbol = inl (record { character = first; in_table = (IsLawful-from_character byte first (sym known)).of_byte; spelled = refl });
 }
 
--- what follows a piece of a text is a text
+-- what follows a symbol of a text is a text
 pub Begins-IsUtf8 : (text : List ℕ) (byte : ℕ) (rest : List ℕ) → IsUtf8 text → Begins text byte rest → IsUtf8 rest
-Begins-IsUtf8 text byte rest is one = by_piece one.is_piece
+Begins-IsUtf8 text byte rest is one = by_symbol one.is_symbol
   where
-    by_piece : IsPiece one.piece byte → IsUtf8 rest
-    by_piece (inl character) = IsUtf8-past_char text rest character.character is (one.cut ∙ ap (λ t. t ++ rest) character.spelled)
-    by_piece (inr escape) =
+    by_symbol : IsSymbol one.symbol byte → IsUtf8 rest
+    by_symbol (inl character) = IsUtf8-past_char text rest character.character is (one.cut ∙ ap (λ t. t ++ rest) character.spelled)
+    by_symbol (inr escape) =
         let whole : text ≡ 0x5C ∷ 0x78 ∷ escape.high ∷ escape.low ∷ rest = one.cut ∙ ap (λ t. t ++ rest) escape.spelled in
         let one_on = IsUtf8-past_char text (0x78 ∷ escape.high ∷ escape.low ∷ rest) 0x5C is (whole ∙ backslash-first (0x78 ∷ escape.high ∷ escape.low ∷ rest)) in
         let two_on = IsUtf8-past_char (0x78 ∷ escape.high ∷ escape.low ∷ rest) (escape.high ∷ escape.low ∷ rest) 0x78 one_on (x-first (escape.high ∷ escape.low ∷ rest)) in
         let three_on = IsUtf8-past_char (escape.high ∷ escape.low ∷ rest) (escape.low ∷ rest) escape.high two_on (digit-first escape.high (escape.low ∷ rest) escape.high_digit) in
         IsUtf8-past_char (escape.low ∷ rest) rest escape.low three_on (digit-first escape.low rest escape.low_digit)
 
--- a text that is read, one piece on
+-- a text that is read, one symbol on
 pub IsReadAs-step : (text : List ℕ) (byte : ℕ) (rest bytes : List ℕ) → IsReadAs text bytes → Begins text byte rest → (later : List ℕ) × IsReadAs rest later × (length bytes ≡ 1 + length later)
-IsReadAs-step text byte rest [] one begins = absurd (BeginsNoPiece-nil byte rest (subst (λ t. Begins t byte rest) one begins))
+IsReadAs-step text byte rest [] one begins = absurd (BeginsNoSymbol-nil byte rest (subst (λ t. Begins t byte rest) one begins))
 IsReadAs-step text byte rest (b ∷ bytes) (after, also, one) begins =
     (bytes, subst (λ t. IsReadAs t bytes) (Begins-same text b byte after rest also begins).rest one, omega arith)
 
--- and where no piece begins, its end
-pub IsReadAs-end : (text bytes : List ℕ) → IsReadAs text bytes → BeginsNoPiece text → text ≡ []
+-- and where no symbol begins, its end
+pub IsReadAs-end : (text bytes : List ℕ) → IsReadAs text bytes → BeginsNoSymbol text → text ≡ []
 IsReadAs-end text [] one stuck = one
 IsReadAs-end text (b ∷ bytes) (after, begins, one) stuck = absurd (stuck b after begins)

@@ -4,7 +4,7 @@ use Rattle.rds_block.specs.declared.group.Group.{Group}
 use Rattle.rds_fields.specs.declared.message.Message.{Message}
 use Rattle.rds_assembly.specs.Cells.{Cells}
 use Rattle.rds_assembly.specs.Whole.{IsWholeName, IsWholeText}
-use Rattle.rds_receiver.specs.Receipts.{AreHeard, Segment, Tuning, name_piece, segments, text_piece}
+use Rattle.rds_receiver.specs.Receipts.{AreHeard, Segment, Tuning, name_fragment, segments, text_fragment}
 use Rattle.rds_receiver.specs.Run.{begins_in, cells_of, run}
 use Rattle.rds_receiver.specs.Shown.{IsShown}
 use Rattle.rds_receiver.specs.State.{HeldSegments, ReceiverState}
@@ -18,7 +18,7 @@ newest_slot first (heard ∷ before) = first + length before
 -- the flag is that of the newest segment of the run
 abbrev pub HasFlag : List Segment → Bool → Type 0
 HasFlag [] flag = Unit {0}
-HasFlag (g ∷ older) flag = flag ≡ g.piece.flag
+HasFlag (g ∷ older) flag = flag ≡ g.fragment.flag
 
 -- the age at slot t is the number of slots since the newest segment of the run, and the dwell m where nothing is held
 abbrev pub HasAge : ℕ → ℕ → List Segment → ℕ → Type 0
@@ -35,9 +35,9 @@ pub record HoldsRun (m t : ℕ) (the_run : List Segment) (held : HeldSegments) :
 pub record HoldsAt (m t first : ℕ) (r : ReceiverState) (heard : List (Option Message)) : Type 0 where
   pub dwell : r.dwell ≡ m
   pub lasts : 0 < m
-  pub text : HoldsRun m t (run m t (segments text_piece first heard)) r.text
-  pub name : HoldsRun m t (run m t (segments name_piece first heard)) r.name
-  pub pair : r.pair ≡ pair_from first (begins_in (run m t (segments text_piece first heard))) heard
+  pub text : HoldsRun m t (run m t (segments text_fragment first heard)) r.text
+  pub name : HoldsRun m t (run m t (segments name_fragment first heard)) r.name
+  pub pair : r.pair ≡ pair_from first (begins_in (run m t (segments text_fragment first heard))) heard
   pub known : r.is_known ≡ is_known heard
 
 -- the receiver, which is tuned so, stands at the end of the input

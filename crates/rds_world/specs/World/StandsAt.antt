@@ -2,10 +2,10 @@
 use Rattle.std.specs.Prelude.{◌≡◌, ◌+◌, ◌<◌, ◌≤◌, ◌∷◌, ℕ, List, [], Option, Some, None, false, length, slice_get, slice_index_or, true}
 use Rattle.rds_block.specs.declared.group.Group.{Group}
 use Rattle.rds_fields.specs.declared.message.Message.{Message}
-use Rattle.rds_encoder.specs.Standing as encoder
+use Rattle.rds_encoder.specs.StandsAt as encoder
 use Rattle.rds_receiver.specs.Receipts.{AreHeard, Hears, Tuning}
 use Rattle.rds_receiver.specs.Shown.{IsView, ShownView}
-use Rattle.rds_receiver.specs.Standing as receiver
+use Rattle.rds_receiver.specs.StandsAt as receiver
 use Rattle.rds_receiver.specs.State.{ReceiverState}
 use Rattle.rds_world.specs.declared.world.event.Reception.{Reception}
 use Rattle.rds_world.specs.declared.world.event.Reception.TheVariants.{Lost}

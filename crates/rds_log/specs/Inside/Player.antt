@@ -8,14 +8,14 @@ use Rattle.rds_charset.specs.Told.{IsCalm, Traffic}
 use Rattle.rds_world.specs.declared.world.Config.{Config}
 use Rattle.rds_world.specs.World.Event.{Event}
 use Rattle.rds_world.specs.World.Slots.{input_of}
-use Rattle.rds_world.specs.World.Standing as world
+use Rattle.rds_world.specs.World.StandsAt as world
 use Rattle.rds_world.specs.World.State.{WorldState, distance}
 use Rattle.rds_receiver.specs.Shown.{ShownView}
-use Rattle.rds_log.specs.Asking.{bytes_of}
-use Rattle.rds_log.specs.Kept.{view_kept}
+use Rattle.rds_log.specs.Inside.Asked.{asked_bytes}
+use Rattle.rds_log.specs.Inside.KeptView.{view_kept}
 use Rattle.rds_log.specs.Rows.{AreNoRows, AreRows, IsAllowed, Record}
 use Rattle.rds_log.specs.Outcomes.{AreOutcomes, Outcome, lines_of, newest_views, view_at}
-use Rattle.rds_log.specs.Scripts.{RecordsUpTo}
+use Rattle.rds_log.specs.Play.{RecordsUpTo}
 use Rattle.rds_log.specs.declared.fault.LogFault.{LogFault}
 use Rattle.rds_log.specs.declared.fault.LogFault.TheVariants.{Memory, Read}
 use Rattle.rds_log.specs.declared.form.Form.{Form}
@@ -33,7 +33,7 @@ pub record ScriptStandsAt {R : Type 0} {g h : _} (remaining : R → Option (List
   pub ready : Ready s.reader
   pub config : reader_config s.reader ≡ default_config
   pub gave : (script : List ℕ) → known ≡ Some script
-      → (rest : List ℕ) × (source_of (bytes_of remaining) s.reader ≡ Some rest)
+      → (rest : List ℕ) × (source_of (asked_bytes remaining) s.reader ≡ Some rest)
       × RecordsUpTo script records (reader_state s.reader) rest
 
 -- a read of a record fails for want of memory, or where a read of the reader failed

@@ -2,35 +2,35 @@
 use Rattle.std.specs.Prelude.{◌≡◌, ◌<◌, ℕ, List, [], ◌∷◌, Option, MatchOption, length}
 use Rattle.rds_block.specs.declared.group.Group.{Group}
 use Rattle.rds_fields.specs.declared.message.Message.{Message}
-use Rattle.rds_receiver.specs.Receipts.{AreHeard, Piece}
+use Rattle.rds_receiver.specs.Receipts.{AreHeard, Fragment}
 use Rattle.rds_world.specs.Audit.Ages.{HoldsAges}
 use Rattle.rds_world.specs.Audit.AuditState.{AuditState, ContentState, ReignsState, cell_at}
-use Rattle.rds_world.specs.Audit.Lengths.{Gauge, lengths_of, name_gauge, sent_at, tags_end, text_gauge}
+use Rattle.rds_world.specs.Audit.Lengths.{Gauge, lengths_of, name_gauge, sent_last, tags_end, text_gauge}
 use Rattle.rds_world.specs.Safety.Marks.{Mark, marks, name_mark, text_mark}
 use Rattle.rds_world.specs.Audit.Reigns.{Reign, SentTags, reigns}
 use Rattle.rds_world.specs.Audit.Rules.{IsFaultOf, Passes}
 
--- the pieces of the newest reign
-abbrev pub pieces_of : List Reign → List Piece
-pieces_of [] = []
-pieces_of (r ∷ older) = r.pieces
+-- the fragments of the newest reign
+abbrev pub fragments_of : List Reign → List Fragment
+fragments_of [] = []
+fragments_of (r ∷ older) = r.fragments
 
 -- its tags
 abbrev pub tags_of : List Reign → List SentTags
 tags_of [] = []
 tags_of (r ∷ older) = r.tags
 
--- this is held of these pieces and tags
-pub record HoldsContent (g : Gauge) (pieces : List Piece) (tags : List SentTags) (c : ContentState) : Type 0 where
+-- this is held of these fragments and tags
+pub record HoldsContent (g : Gauge) (fragments : List Fragment) (tags : List SentTags) (c : ContentState) : Type 0 where
   pub long : length c.cells ≡ 16
-  pub cells : (a : ℕ) → a < 16 → cell_at a c ≡ sent_at a pieces
-  pub lengths : c.lengths ≡ lengths_of g.allowed g.longest pieces
+  pub cells : (a : ℕ) → a < 16 → cell_at a c ≡ sent_last a fragments
+  pub lengths : c.lengths ≡ lengths_of g.allowed g.longest fragments
   pub ends : c.tags_end ≡ tags_end tags
 
 -- in this slot this is held of a service that was sent these marks, which pass
 pub record HoldsReigns (g : Gauge) (d slot : ℕ) (sent : List Mark) (st : ReignsState) : Type 0 where
   pub ages : HoldsAges d slot (reigns d sent) st.ages
-  pub content : HoldsContent g (pieces_of (reigns d sent)) (tags_of (reigns d sent)) st.content
+  pub content : HoldsContent g (fragments_of (reigns d sent)) (tags_of (reigns d sent)) st.content
   pub passes : Passes d g.kind sent
 
 -- after the last of these slots

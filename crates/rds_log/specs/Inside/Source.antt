@@ -5,7 +5,7 @@ use Rattle.std.specs.Io.KnownBytes.{Consumes, IsAtEnd}
 use Rattle.rds_charset.specs.Told.{HasFailed, IsCalm, Traffic, count_after}
 use Rattle.rds_log.specs.LogLines.{AreLines, EndsAt, IsLine, Line, text_of}
 use Rattle.rds_log.specs.LineSays.{LineSays}
-use Rattle.rds_log.specs.Cutting.{CutterStandsAt}
+use Rattle.rds_log.specs.Inside.Cutter.{CutterStandsAt}
 use Rattle.rds_log.specs.Reads.{NextIsBad, ReadsUpTo, to_come}
 use Rattle.rds_log.specs.declared.fault.LogFault.{LogFault}
 use Rattle.rds_log.specs.declared.fault.LogFault.TheVariants.{BadLine, BadRow, Read, Write, TooLong, Memory}
@@ -31,9 +31,9 @@ since start now = record {
   failures_after = now.failures;
 }
 
--- the bytes of the piece that no line was closed with yet
+-- the bytes of the chunk that no line was closed with yet
 abbrev pub waiting : Source → List ℕ
-waiting s = take (s.count - s.at) (drop s.at s.piece)
+waiting s = take (s.count - s.at) (drop s.at s.chunk)
 
 -- how many bytes wait and may yet come, and the end
 abbrev pub budget : Source → ℕ
@@ -103,7 +103,7 @@ abbrev pub given_if : Bool → LogLine → Option LogLine
 given_if true said = Some said
 given_if false said = None
 
--- a piece was read, or the reader is at its end
+-- a chunk was read, or the reader is at its end
 abbrev pub ReadsOn : Source → ℕ → ReaderState → ReaderState → List Line → Result Bool LogFault → Type 0
 ReadsOn s most start now lines (Ok true) = SourceStandsAt s most start now lines
 ReadsOn s most start now lines (Ok false) = IsAtLast s most start now lines

@@ -34,7 +34,7 @@ with_next m moves air = record { bytes = air.bytes; next = next_address m moves 
 -- the encoder of this station and of dwell m stands at these entries
 pub record StandsAt (station : Head) (m : ℕ) (e : EncoderState) (entries : List Entry) : Type 0 where
   pub head : e.head ≡ station
-  pub dwell : e.dwell ≡ m
+  pub distance : e.distance ≡ m
   pub silence : e.silence ≡ silence_left m (text_moves entries)
   pub round : e.round ≡ turn_of m (text_moves entries) % 8
   pub text : Follows m (with_next m (text_moves entries)) e.text (text_moves entries)

@@ -5,8 +5,8 @@ use Rattle.rds_block.specs.declared.group.Group.{Group}
 use Rattle.rds_charset.specs.Told.{IsCalm, Traffic}
 use Rattle.rds_receiver.specs.Receipts.{Tuning}
 use Rattle.rds_log.specs.LogLines.{Line}
-use Rattle.rds_log.specs.Decoding.{AreSlots}
-use Rattle.rds_log.specs.Viewing.{ViewsStandAt}
+use Rattle.rds_log.specs.LogWrites.{AreSlots}
+use Rattle.rds_log.specs.Inside.ViewLines.{ViewsStandAt}
 use Rattle.rds_log.specs.declared.decoder.Decoder.{Decoder}
 
 -- the decoder took these lines; of their output, some was written, and the rest waits

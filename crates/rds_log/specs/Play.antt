@@ -10,7 +10,7 @@ use Rattle.csv.specs.declared.parser.State.TheVariants.{StartRecord}
 use Rattle.rds_charset.specs.Told.{AppendsPrefix, HasFailed, IsCalm, Traffic}
 use Rattle.rds_world.specs.declared.world.Config.{Config}
 use Rattle.rds_world.specs.World.Event.{Event}
-use Rattle.rds_log.specs.Failing.{SomeReadFailed}
+use Rattle.rds_log.specs.ReadFailed.{SomeReadFailed}
 use Rattle.rds_log.specs.Rows.{AreNoRows, Record, RowsSay}
 use Rattle.rds_log.specs.Outcomes.{EventsWrite}
 use Rattle.rds_log.specs.declared.fault.LogFault.{LogFault}
@@ -54,7 +54,7 @@ pub record WroteRows (form : Form) (config : Config) (known : Option (List ℕ))
   pub calm : IsCalm w
 
 -- the record after these is no row, and their output was written
-pub record StopsAtBadRow (form : Form) (config : Config) (known : Option (List ℕ)) (w : Traffic)
+pub record PlayStopsAtBadRow (form : Form) (config : Config) (known : Option (List ℕ)) (w : Traffic)
     (n : ℕ) : Type 0 where
   pub records : List Record
   pub bad : List (List ℕ)
@@ -64,7 +64,7 @@ pub record StopsAtBadRow (form : Form) (config : Config) (known : Option (List �
   pub number : n ≡ length records + 1
 
 -- the writer failed: a first part of the output of these records, no more than the bound, was written
-pub record StopsAtWrite (form : Form) (config : Config) (most : ℕ) (known : Option (List ℕ))
+pub record PlayStopsAtWrite (form : Form) (config : Config) (most : ℕ) (known : Option (List ℕ))
     (w : Traffic) : Type 0 where
   pub records : List Record
   pub begins : HasRecords known records
@@ -94,11 +94,11 @@ reading remaining failures reader = record { known = remaining reader; Failed = 
 abbrev pub Plays : Form → Config → ℕ → Reading → Traffic → Result (Unit {0}) LogFault → Type 0
 Plays form config most r w (Ok done) = PlaysAll form config most r.known w
 Plays form config most r w (Err (BadLine n)) = ⊥
-Plays form config most r w (Err (BadRow n)) = StopsAtBadRow form config r.known w n × (n ≤ most)
+Plays form config most r w (Err (BadRow n)) = PlayStopsAtBadRow form config r.known w n × (n ≤ most)
 Plays form config most r w (Err Read) =
     (records : List Record) × WroteRows form config r.known w records × (length records < most) × r.Failed
 Plays form config most r w (Err Memory) =
     (records : List Record) × WroteRows form config r.known w records × (length records < most)
 Plays form config most r w (Err TooLong) =
     (records : List Record) × WroteRows form config r.known w records × (length records ≡ most)
-Plays form config most r w (Err Write) = StopsAtWrite form config most r.known w
+Plays form config most r w (Err Write) = PlayStopsAtWrite form config most r.known w

@@ -1,0 +1,10 @@
+-- What the objects of the crate hold after what they took, a file for each, from the bytes of a reader up to the lines
+-- that are written.
+pub mod Cutter
+pub mod Source
+pub mod KeptView
+pub mod Part
+pub mod ViewLines
+pub mod Decoder
+pub mod Asked
+pub mod Player
