@@ -159,5 +159,7 @@ fn refused_bytes(rt: HostRuntime) -> Result<(), Fail> {
         same(&rt, Name::new(bytes), Err(refused));
         same(&rt, format!(in rt.alloc(); "{refused}")?.as_str(), printed);
     }
+    assert!(rt; is_text_byte(0x0A));
+    assert!(rt; !is_text_byte(CARRIAGE_RETURN));
     Ok(())
 }

@@ -1,6 +1,9 @@
 //! What no clause says: the characters themselves, and readers and writers that fail.
 
-use crate::{TellingRead, TellingWrite, TextFault, Told, WriteFault, read_text, write_text};
+use crate::{
+    Lines, TellingRead, TellingWrite, TextFault, Told, WriteFault, digits_of, four_words,
+    read_text, word_at, write_text,
+};
 use std::fmt::Debug;
 use std::io::{self, ErrorKind, Read, Write};
 use std::process::Abort;
@@ -202,6 +205,26 @@ fn idle_writer_is_a_fault(rt: HostRuntime) {
         same(&rt, slow.calls, idle_at);
         same(&rt, slow.held.as_slice(), &whole[..idle_at - 1]);
     }
+}
+
+/// A line in bounded room: a hexadecimal word, a number and a text in its printed form; and words that are read.
+#[test]
+fn words_of_a_line(rt: HostRuntime) {
+    let mut line: Lines<64> = Lines::new();
+    line.push(&digits_of(0xC201));
+    line.push(b" ");
+    line.push_number(2140);
+    line.push(b" ");
+    line.push_text(&[0x48, 0x22]);
+    same(&rt, line.bytes(), b"C201 2140 H\\x22".as_slice());
+    assert!(rt; line.has_room(49));
+    assert!(rt; !line.has_room(50));
+    line.clear();
+    same(&rt, line.bytes(), b"".as_slice());
+    same(&rt, word_at(b"c20g C201", 5), Some(0xC201));
+    same(&rt, word_at(b"c20g C201", 0), None);
+    let words = Some([0xC201, 0x2140, 0x4849, 0x0D20]);
+    same(&rt, four_words(b"c201 2140 4849 0D20"), words);
 }
 
 /// A writer that takes no byte of an empty buffer has not failed.

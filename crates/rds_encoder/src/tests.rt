@@ -399,6 +399,9 @@ fn silent_and_held_for_late_groups(rt: HostRuntime) -> Result<(), Fail> {
     )?;
     let longest = restarted_late(65535, 1024)?;
     same(&rt, longest.wait(), wait(66559, 0, 0));
+    let dwell = Dwell::new(65535).ok_or("dwell")?;
+    let late = Late::new(1024).ok_or("late")?;
+    same(&rt, Distance::new(dwell, late).get(), 66559);
     Ok(())
 }
 

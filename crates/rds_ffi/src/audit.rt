@@ -36,7 +36,7 @@ pub extern "C" fn rdsrt_audit_init(audit: &mut StoredAudit, pi: u16, dwell: u16,
     codes::DONE
 }
 
-/// TakesStored the next slot: the four blocks of the group that was sent in it, or no blocks. `RDSRT_OK` where the log passes
+/// Takes the next slot: the four blocks of the group that was sent in it, or no blocks. `RDSRT_OK` where the log passes
 /// so far, and the code of its fault where it does not.
 ///
 /// # Errors

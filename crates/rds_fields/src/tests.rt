@@ -147,6 +147,7 @@ fn refused_tags(rt: HostRuntime) -> Result<(), Fail> {
     same(&rt, Dwell::new(0), None);
     same(&rt, Dwell::new(65535).ok_or("dwell")?.get(), 65535);
     assert_ne!(rt; Which::One, Which::Two);
+    same(&rt, Tag::new(1, 6, 3)?.end(), 10);
     Ok(())
 }
 

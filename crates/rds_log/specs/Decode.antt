@@ -25,7 +25,8 @@ pub record WrotePart (t : Tuning) (w : Traffic) (lines : List Line) : Type 0 whe
   pub failed : HasFailed w
 
 -- a line of the text is bad, none before it is, and the output of those before it was written
-pub record DecodeStopsAtBadLine (t : Tuning) (n : ℕ) (text : List ℕ) (left : Option (List ℕ)) (w : Traffic) : Type 0 where
+pub record DecodeStopsAtBadLine (t : Tuning) (n : ℕ) (text : List ℕ) (left : Option (List ℕ))
+    (w : Traffic) : Type 0 where
   pub lines : List Line
   pub next : NextIsBad n lines text left
   pub wrote : WroteLines t w lines

@@ -39,8 +39,8 @@ pub use auditing::{audit, audit_within};
 pub use decoding::{decode, decode_within};
 pub use fault::LogFault;
 pub use laws::{
-    bytes_have_one_verdict, bytes_write_one_output, rows_write_one_output, script_writes_one_output,
-    what_an_answer_means,
+    bytes_have_one_verdict, bytes_write_one_output, rows_write_one_output,
+    script_writes_one_output, what_an_answer_means,
 };
 pub use scripts::{encode, encode_within, simulate, simulate_within};
 

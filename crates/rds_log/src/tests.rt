@@ -2,7 +2,7 @@
 
 use crate::{
     LogFault, bytes_have_one_verdict, bytes_write_one_output, decode, decode_within,
-    rows_write_one_output, script_writes_one_output,
+    rows_write_one_output, script_writes_one_output, what_an_answer_means,
 };
 use rds_charset::{TellingRead, Told};
 use rds_fields::Dwell;
@@ -255,6 +255,7 @@ fn reader_fails(rt: HostRuntime) -> Result<(), Fail> {
 fn one_output() {
     bytes_write_one_output();
     bytes_have_one_verdict();
+    what_an_answer_means();
     rows_write_one_output();
     script_writes_one_output();
 }

@@ -11,7 +11,7 @@ use Rattle.rds_receiver.specs.Receipts.{Tuning}
 use Rattle.rds_world.specs.declared.world.Config.{Config}
 use Rattle.rds_words.specs.declared.request.Task.{Task}
 use Rattle.rds_words.specs.declared.request.Task.TheVariants.{Audit, Decode, Encode, Simulate}
-use Rattle.rds_run.specs.Run.{RunsInPage, TaskRuns, done, station_of}
+use Rattle.rds_run.specs.Run.{Runs, TaskRuns, done, station_of}
 
 -- no call fails that leaves the number of failures at none
 never_fails : Failed 0 0 → ⊥
@@ -23,8 +23,8 @@ none_failed {R} some = ∥∥₁_elim some (λ a b. absurd a) (λ (f : (before :
 
 -- so what a task did is told without such a read
 calm_script : {P Q : Type 0} → (P → Q) → (form : Form) (config : Config) (task : Task) (known : Option (List ℕ)) (w : Traffic) (status : ℕ)
-    → RunsInPage (Plays form config (2 ^ 32) record { known = known; Failed = P }) done task w status
-    → RunsInPage (Plays form config (2 ^ 32) record { known = known; Failed = Q }) done task w status
+    → Runs (Plays form config (2 ^ 32) record { known = known; Failed = P }) done task w status
+    → Runs (Plays form config (2 ^ 32) record { known = known; Failed = Q }) done task w status
 calm_script says form config task known w status ran = record {
   outcome = ran.outcome;
   mid = ran.mid;

@@ -15,7 +15,7 @@ const REFUSED: u8 = 2;
 /// The status where there is no memory for the words.
 const FAULT: u8 = 1;
 
-/// RunsInPage the program over its words, one a line, and over bytes in memory.
+/// Runs the program over its words, one a line, and over bytes in memory.
 pub fn answer<W: TellingWrite>(alloc: Global, words: &[u8], input: &[u8], writer: &mut W) -> u8
     ensures text { IsUtf8 words.now → Prints (words_in words.now) input.now
         (traffic W.contents W.failures writer.old writer.new) result }

@@ -24,7 +24,7 @@ pub struct Ended {
     pub status: u8,
 }
 
-/// RunsInPage the program over its words, one a line, the program's own name first, and the bytes of its input.
+/// Runs the program over its words, one a line, the program's own name first, and the bytes of its input.
 #[unsafe(no_mangle)]
 pub extern "C" fn rdsrt_run(alloc: Global, words: &[u8], input: &[u8], output: &mut [u8]) -> Ended
     ensures { RunsInPage words.now input.now output.new result.length result.failures result.status }

@@ -256,7 +256,7 @@ fn reads_up_to_the_no(rt: HostRuntime) -> Result<(), Fail> {
     Ok(())
 }
 
-/// Each read fails in turn, the one that tells the end too: nothing is verdict_status.
+/// Each read fails in turn, the one that tells the end too: nothing is answered.
 #[test]
 fn audit_reader_fails(rt: HostRuntime) -> Result<(), Fail> {
     for fails_at in 1..242 {

@@ -17,7 +17,7 @@ use rds_charset::{Lines, TellingRead, TellingWrite, put};
 use rds_encoder::Late;
 use rds_fields::{Dwell, Head};
 use rds_log::{LogFault, audit, decode, encode, simulate};
-use rds_words::{Programme, Request, Task, read_words};
+use rds_words::{Programme, Request, Task, identification_of, read_words};
 use rds_world::Config;
 use std::alloc::Global;
 
@@ -111,7 +111,7 @@ fn answer<R: TellingRead, W: TellingWrite>(
         → RefusesPi request.entry.task (traffic W.contents W.failures writer.old writer.new) result
         × IsUntouched R.remaining R.failures R.reads reader.old reader.new }
 {
-    let Some(pi) = request.programme() else {
+    let Some(pi) = identification_of(request.pi) else {
         tell_fault_text(request.task, b"fault pi", writer);
         return REFUSED;
     };

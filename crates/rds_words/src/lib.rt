@@ -9,4 +9,4 @@ mod laws;
 mod request;
 
 pub use laws::words_of_the_examples;
-pub use request::{Programme, Request, Task, read_words};
+pub use request::{Programme, Request, Task, identification_of, read_words};

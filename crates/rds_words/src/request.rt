@@ -45,17 +45,15 @@ pub struct Request<'a> {
     pub dwell: Dwell,
 }
 
-impl Request<'_> {
-    /// The programme identification that is given; `None` where it is not four hexadecimal digits, of either case.
-    pub fn programme(self) -> Option<u16>
-        ensures some { IfSome result (IsPi self.entry.pi.now) }
-        ensures none { IfNone result ((pi : ℕ) → IsPi self.entry.pi.now pi → ⊥) }
-    {
-        if self.pi.len() == 4 {
-            word_at(self.pi.as_bytes(), 0)
-        } else {
-            None
-        }
+/// The programme identification that is given; `None` where it is not four hexadecimal digits, of either case.
+pub fn identification_of(given: &str) -> Option<u16>
+    ensures some { IfSome result (IsPi given.now) }
+    ensures none { IfNone result ((pi : ℕ) → IsPi given.now pi → ⊥) }
+{
+    if given.len() == 4 {
+        word_at(given.as_bytes(), 0)
+    } else {
+        None
     }
 }
 

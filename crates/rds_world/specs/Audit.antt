@@ -1,5 +1,5 @@
--- The third room: the audit of a log of sent groups. It stands on the room of safety, and knows nothing of a world. Read
--- in this order: what a log's rules are, then what the audit holds, then the laws that tie a yes to safety.
+-- The third room: the audit of a log of sent groups. It stands on the room of safety, and knows nothing of a world.
+-- Read in this order: what a log's rules are, then what the audit holds, then the laws that tie a yes to safety.
 pub mod Dense
 pub mod Reigns
 pub mod Rules

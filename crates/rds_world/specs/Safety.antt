@@ -1,5 +1,5 @@
 -- The first room: plans of broadcasts, what is handed to receivers late, and when what they show is safe. Nothing here
--- knows of a world or of an audit. Read in this order; ClockBounds, whose examples show that no bound is looser, can wait.
+-- knows of a world or of an audit. Read in this order; ClockBounds, which says that no bound is looser, can wait.
 pub mod Marks
 pub mod Lawful
 pub mod Late

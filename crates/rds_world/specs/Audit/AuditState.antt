@@ -20,7 +20,8 @@ pub record ReignsState : Type 0 where
   pub ages : Ages
   pub content : ContentState
 
--- of a log: its programme, the dwell and the lateness together in slots, both services, and the fault, where there is one
+-- of a log: its programme, the dwell and the lateness together in slots, both services, and the fault, where there is
+-- one
 pub record AuditState : Type 0 where
   pub programme : ℕ
   pub distance : ℕ

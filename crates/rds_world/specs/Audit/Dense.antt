@@ -35,8 +35,8 @@ pub record HasFragmentBefore (sent : List Mark) (b : Broadcast) (t : ℕ) : Type
 -- in each broadcast every fragment but the first comes less than d slots after the fragment before it, or after tags
 -- that were sent since; and tags come after a fragment
 pub record IsDense (d : ℕ) (plan : List Broadcast) (sent : List Mark) : Type 0 where
-  pub fragments : (k : ℕ) (b : Broadcast) (u t : ℕ) (earlier later : Fragment) → HasNumber plan k b → Covers b u → Covers b t
-      → IsSent sent u (Sends earlier) → IsSent sent t (Sends later) → u < t → IsBridged d sent u t
+  pub fragments : (k : ℕ) (b : Broadcast) (u t : ℕ) (earlier later : Fragment) → HasNumber plan k b → Covers b u
+      → Covers b t → IsSent sent u (Sends earlier) → IsSent sent t (Sends later) → u < t → IsBridged d sent u t
   pub tags : (k : ℕ) (b : Broadcast) (t : ℕ) (pair : PairFields) → HasNumber plan k b → Covers b t
       → IsSent sent t (Tagged pair) → HasFragmentBefore sent b t
 

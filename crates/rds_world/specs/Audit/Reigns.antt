@@ -40,7 +40,14 @@ start_after d flag (r ∷ older) = if is_same r.flag flag then r.last + d else m
 -- the reign that the fragment opens after these
 abbrev pub opened_by : ℕ → ℕ → Fragment → List Reign → Reign
 opened_by d slot p older =
-    record { start = start_after d p.flag older; opened = slot; last = slot; flag = p.flag; fragments = p ∷ []; tags = [] }
+    record {
+      start = start_after d p.flag older;
+      opened = slot;
+      last = slot;
+      flag = p.flag;
+      fragments = p ∷ [];
+      tags = [];
+    }
 
 -- the reign with one more fragment
 abbrev pub with_fragment : ℕ → Fragment → Reign → Reign

@@ -2,8 +2,8 @@
 ghost use Rattle.rds_world.specs.Audit.AuditLaws.{ALogHasOneFault, BroadcastsAreTheReigns, PassesExactlyByPlans, WhatHasAFaultDoesNotPass, WhatPassesIsSafe, WhatPassesIsSafeOnTime};
 ghost use Rattle.rds_world.specs.Safety.Lawful.{names, texts};
 
-use crate::safety::plan_laws;
 use crate::safe_by_plans;
+use crate::safety::plan_laws;
 
 /// A log passes the audit exactly where it has plans of texts and of names that are lawful and dense.
 pub fn passes_by_plans()

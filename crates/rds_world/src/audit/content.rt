@@ -159,9 +159,5 @@ impl<S: Audited> Content<S> {
 fn end_of_tag(tag: Tag) -> u8
     ensures { result ≡ tag_end tag }
 {
-    if tag.class() == 0 {
-        0
-    } else {
-        tag.end()
-    }
+    if tag.class() == 0 { 0 } else { tag.end() }
 }
