@@ -2,7 +2,7 @@
 ghost use Rattle.std.specs.Prelude.{◌≡◌, ◌<◌, ◌≤◌, ◌+◌, ◌↔◌, ℕ, length, slice_index, IsTrue, IfSome, IfNone};
 ghost use Rattle.rds_charset.specs.Digits.{AreWords, HasWord, marked_value, marked_values, word_digits};
 
-use crate::upper_digit;
+use crate::printing::upper_digit;
 
 /// More than any word: the value of a byte that is no hexadecimal digit.
 const NONE: u32 = 65536;

@@ -25,6 +25,6 @@ pub use hexadecimal::{digits_of, four_words, word_at};
 pub use laws::{printed_is_read_back, printed_is_text, printed_takes_four, text_is_read_one_way};
 pub use lines::Lines;
 pub use output::{WriteFault, put};
-pub use printing::{push_text, upper_digit, write_text};
+pub use printing::{push_text, write_text};
 pub use reading::{TextFault, read_text};
 pub use told::{TellingRead, TellingWrite, Told};

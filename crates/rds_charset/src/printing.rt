@@ -79,7 +79,7 @@ fn shown_character(byte: u8) -> Option<char>
 }
 
 /// The hexadecimal digit of a number below 16, with A to F for 10 to 15.
-pub fn upper_digit(number: u8) -> u8
+pub(crate) fn upper_digit(number: u8) -> u8
     requires { number < 16 }
     ensures { result ≡ upper_digit number }
 {

@@ -1,19 +1,20 @@
 -- How a station goes on by a row, and why a record is no row.
-use Rattle.std.proofs.Common.{◌≡◌, ◌<◌, ◌≤◌, ◌∙◌, ◌∷◌, ◌++◌, [], ℕ, suc, List, None, Option, Some, ap, ap₂, arith, inl, inr, length, refl, subst, sym}
-use Rattle.std.specs.Prelude.{IsSome}
+use Rattle.std.proofs.Common.{◌≡◌, ◌⊎◌, ◌<◌, ◌≤◌, ◌+◌, ◌∙◌, ◌∷◌, ◌++◌, [], ℕ, suc, add-one, List, Option, Some, ap, ap₂, arith, inl, inr, length, refl, subst, sym}
+use Rattle.std.specs.Prelude.{Err, IfErr, Ok, OnOk, Result}
 use Rattle.rds_world.specs.World.Event.{Event}
-use Rattle.rds_world.specs.World.State.{WorldState, distance}
-use Rattle.rds_block.specs.declared.group.Group.{Group}
+use Rattle.rds_world.specs.World.State.{distance}
 use Rattle.rds_receiver.specs.Shown.{ShownView}
-use Rattle.rds_world.specs.declared.world.event.Command.{Command}
-use Rattle.rds_world.specs.declared.world.reply.Reply.{Reply}
 use Rattle.rds_log.proofs.Changes.{changes_same}
 use Rattle.rds_log.proofs.Views.{view_of_none}
 use Rattle.rds_world.specs.World.Slots.{input_of}
 use Rattle.rds_world.specs.World.StandsAt.{IsViewOfInput, ShowsStill, tuned_to}
-use Rattle.rds_log.specs.Outcomes.{AreOutcomes, Outcome, answer_lines, lines_of, newest_views, receiver_changes, view_at}
-use Rattle.rds_log.specs.Inside.Player.{AreKept, BeginsRow, HasWorld, Played, PlayerStandsAt, WereShown}
+use Rattle.rds_log.specs.Outcomes.{AreOutcomes, IsOutcome, Outcome, answer_lines, lines_of, newest_views, receiver_changes, slot_lines, view_at}
+use Rattle.rds_log.specs.Inside.Player.{HasWatched, IsRowRefused, Played, PlayerStandsAt, PlaysRow}
+use Rattle.rds_log.specs.Inside.Watched.{AreKept, WatchedStandsAt, WereShown, views_kept}
 use Rattle.rds_log.specs.declared.player.Player.{Player}
+use Rattle.rds_log.specs.declared.row.RowRefused.{RowRefused}
+use Rattle.rds_log.specs.declared.row.RowRefused.TheVariants as refused
+use Rattle.rds_log.specs.declared.watched.Watched.{Watched}
 use Rattle.rds_charset.specs.Laws.{TextIsReadOneWay}
 use Rattle.rds_world.specs.World.Replies.{CanBeTaken, IsStepRefused}
 use Rattle.rds_world.specs.declared.world.reply.StepRefused.{StepRefused}
@@ -70,25 +71,55 @@ same_receivers k n other (row ∷ records) (e ∷ events) [] p q some = absurd q
 same_receivers k n other (row ∷ records) (e ∷ events) (f ∷ older) p q some = sym p.1.count ∙ same_count row e f p.0 q.0 ∙ q.1.count
 
 -- the lines of a slot come after those of the slots before
-pub slot_written : (form : Form) (slot n : ℕ) (command : Command) (reply : Reply) (sent : Option Group) (kept views : List ShownView) (older : List Outcome) (written answered lines : List ℕ)
-    → written ≡ lines_of form older → slot ≡ length older → AreKept kept (newest_views older) → n ≡ length views
-    → answered ≡ answer_lines form slot command reply sent → lines ≡ answered ++ receiver_changes slot n kept views
-    → written ++ lines ≡ lines_of form (record { command = command; reply = reply; sent = sent; views = views } ∷ older)
-slot_written form slot n command reply sent kept views older written answered lines had now same count gave changed =
-    let changes : receiver_changes slot n kept views ≡ receiver_changes (length older) (length views) (newest_views older) views =
-    changes_same slot n kept (newest_views older) views views (λ i l. same i) (λ i l. refl) ∙ ap₂ (λ (s k : ℕ). receiver_changes s k (newest_views older) views) now count in
-    let answer : answered ≡ answer_lines form (length older) command reply sent = gave ∙ ap (λ (s : ℕ). answer_lines form s command reply sent) now in
-    ap₂ (λ (x y : List ℕ). x ++ y) had (changed ∙ ap₂ (λ (x y : List ℕ). x ++ y) answer changes)
+pub slot_written : (form : Form) (slot : ℕ) (kept : List ShownView) (o : Outcome) (older : List Outcome) (written lines : List ℕ)
+    → written ≡ lines_of form older → slot ≡ length older → AreKept kept (newest_views older) → lines ≡ slot_lines form slot kept o
+    → written ++ lines ≡ lines_of form (o ∷ older)
+slot_written form slot kept o older written lines had now same gave =
+    let changes : receiver_changes slot (length o.views) kept o.views ≡ receiver_changes (length older) (length o.views) (newest_views older) o.views =
+    changes_same slot (length o.views) kept (newest_views older) o.views o.views (λ i l. same i) (λ i l. refl) ∙ ap (λ (s : ℕ). receiver_changes s (length o.views) (newest_views older) o.views) now in
+    let answer : answer_lines form slot o.command o.reply o.sent ≡ answer_lines form (length older) o.command o.reply o.sent = ap (λ (s : ℕ). answer_lines form s o.command o.reply o.sent) now in
+    ap₂ (λ (x y : List ℕ). x ++ y) had (gave ∙ ap₂ (λ (x y : List ℕ). x ++ y) answer changes)
+
+-- before the first slot any number of receivers will do, and no outcome shows a thing
+pub none_played : (k receivers other : ℕ) (records : List Record) (events : List Event) → AreRows k receivers records events → events ≡ [] → AreRows k other records events
+none_played k receivers other [] [] rows none = tt
+none_played k receivers other [] (e ∷ older) rows none = absurd rows
+none_played k receivers other (row ∷ records) [] rows none = absurd rows
+none_played k receivers other (row ∷ records) (e ∷ older) rows none = absurd (omega (arith, ap length none))
+
+pub none_shown : (config : Config) (events : List Event) (outcomes : List Outcome) → AreOutcomes config events outcomes → events ≡ [] → newest_views outcomes ≡ []
+none_shown config [] [] are none = refl
+none_shown config [] (o ∷ older) are none = absurd are
+none_shown config (e ∷ before) outcomes are none = absurd (omega (arith, ap length none))
+
+-- a slot more is played in a world whose receivers are watched
+pub plays_on : {T E : Type 0} (r : Result T E) (before now : Player) (played : Played) (s : PlayerStandsAt before played) (receivers : ℕ) (kept : List ShownView) (w : Watched) (row : Record) (e : Event) (lines : List ℕ)
+    → now.form ≡ before.form → now.config ≡ before.config → now.slot ≡ before.slot + 1 → now.watched ≡ Some w → IsAllowed played.form receivers
+    → AreRows played.config.late receivers played.records s.events → SaysEvent row e → AreKept kept (newest_views s.outcomes)
+    → OnOk r (CanBeTaken played.config.late receivers e s.events) → OnOk r (WatchedStandsAt played.config receivers w (e ∷ s.events))
+    → OnOk r ((o : Outcome) × IsOutcome played.config e s.events o × (o.views ≡ views_kept w) × (lines ≡ slot_lines played.form before.slot kept o))
+    → OnOk r (PlaysRow now row lines played)
+plays_on (Err why) before now played s receivers kept w row e lines form config slot watched allowed rows says same taken stands outcome = tt
+plays_on (Ok done) before now played s receivers kept w row e lines form config slot watched allowed rows says same taken stands (o, is, views, gave) = (
+  receivers,
+  record {
+    form_is = form ∙ s.form_is;
+    config_is = config ∙ s.config_is;
+    allowed = allowed;
+    events = e ∷ s.events;
+    rows = (says, taken, rows);
+    outcomes = o ∷ s.outcomes;
+    are = (is, s.are);
+    slot = slot ∙ ap (λ (n : ℕ). n + 1) s.slot ∙ add-one (length s.outcomes);
+    lines = slot_written played.form before.slot kept o s.outcomes played.written lines s.lines s.slot same gave;
+    watched = subst (λ (x : Option Watched). HasWatched played.config receivers x (e ∷ s.events) (o ∷ s.outcomes)) (sym watched) (omega arith, stands, λ i. ap (λ (views : List ShownView). view_at views i) (sym views));
+  },
+)
 
 -- a player that counts slots has played rows
 pub has_played : (p : Player) (played : Played) → PlayerStandsAt p played → p.slot ≡ length played.records
 has_played p played s =
     s.slot ∙ sym (as_many_outcomes played.config s.events s.outcomes s.are) ∙ sym (as_many_rows played.config.late played.receivers played.records s.events s.rows)
-
--- from the first row on there is a world
-pub has_world : (config : Config) (receivers : ℕ) (w : Option WorldState) (events : List Event) → HasWorld config receivers w events → 0 < length events → IsSome w
-has_world config receivers None events has some = absurd (omega (arith, ap length has, some))
-has_world config receivers (Some w) events has some = refl
 
 -- before the first row
 pub none_yet : (form : Form) (config : Config) (receivers : ℕ) (records : List Record) (events : List Event) (outcomes : List Outcome) → AreRows config.late receivers records events → AreOutcomes config events outcomes
@@ -103,19 +134,26 @@ pub not_taken : (k receivers : ℕ) (e : Event) (before : List Event) (why : Ste
 not_taken k receivers e before ReceiverCount other taken = other taken.count
 not_taken k receivers e before (Late r) is taken = is.late.late (taken.due r)
 
--- a record whose event was refused
-pub refused_row : TextIsReadOneWay → (p : Player) (row : Record) (played : Played) (e : Event) (asked : ℕ) → asked ≡ length e.receptions
-    → (began : BeginsRow asked p played) → SaysEvent row e → (CanBeTaken played.config.late began.0 e began.1.events → ⊥) → AreNoRows played.config.late played.form (row ∷ played.records)
-refused_row one p row played e asked is (receivers, s, how, made) says none [] say = say.rows
-refused_row one p row played e asked is (receivers, s, how, made) says none (g ∷ older) say =
-    let k = played.config.late in
+-- a record whose event was refused, after rows or as the first one
+pub refused_row : TextIsReadOneWay → (form : Form) (k receivers : ℕ) (row : Record) (records : List Record) (e : Event) (events : List Event) → AreRows k receivers records events → SaysEvent row e
+    → (0 < length records) ⊎ (receivers ≡ length e.receptions) → (CanBeTaken k receivers e events → ⊥) → AreNoRows k form (row ∷ records)
+refused_row one form k receivers row records e events rows says how none [] say = say.rows
+refused_row one form k receivers row records e events rows says how none (g ∷ older) say =
     let same : g ≡ e = same_event one row g e say.rows.0 says in
-    let before : older ≡ s.events = same_events one k say.receivers receivers played.records older s.events say.rows.2 s.rows in
+    let before : older ≡ events = same_events one k say.receivers receivers records older events say.rows.2 rows in
     let count : say.receivers ≡ receivers = elim how [
-      | inl some ↦ same_receivers k say.receivers receivers played.records older s.events say.rows.2 s.rows some
-      | inr began ↦ sym say.rows.1.count ∙ same_count row g e say.rows.0 says ∙ sym is ∙ sym began
+      | inl some ↦ same_receivers k say.receivers receivers records older events say.rows.2 rows some
+      | inr began ↦ sym say.rows.1.count ∙ same_count row g e say.rows.0 says ∙ sym began
     ] in
-    none (subst (λ (n : ℕ). CanBeTaken k n e s.events) count (subst (λ (x : Event). CanBeTaken k say.receivers x s.events) same (subst (λ (l : List Event). CanBeTaken k say.receivers g l) before say.rows.1)))
+    none (subst (λ (n : ℕ). CanBeTaken k n e events) count (subst (λ (x : Event). CanBeTaken k say.receivers x events) same (subst (λ (l : List Event). CanBeTaken k say.receivers g l) before say.rows.1)))
+
+-- a slot that is refused: the record is no row, after rows or as the first one
+pub refused_on : {T : Type 0} (r : Result T RowRefused) → TextIsReadOneWay → (played : Played) (receivers : ℕ) (row : Record) (e : Event) (events : List Event)
+    → AreRows played.config.late receivers played.records events → SaysEvent row e → (0 < length played.records) ⊎ (receivers ≡ length e.receptions)
+    → IfErr r (λ why. (why ≡ refused.NoRow) × (CanBeTaken played.config.late receivers e events → ⊥)) → IfErr r (IsRowRefused played row)
+refused_on (Ok done) one played receivers row e events rows says how why = tt
+refused_on (Err which) one played receivers row e events rows says how (is, none) =
+    rw is (refused_row one played.form played.config.late receivers row played.records e events rows says how none)
 
 -- what a receiver shows that shows what it showed
 pub still_shown : (config : Config) (n i : ℕ) (events : List Event) (kept now : List ShownView) → ShowsStill config i events → WereShown config n events kept → i < n
@@ -123,11 +161,7 @@ pub still_shown : (config : Config) (n i : ℕ) (events : List Event) (kept now 
 still_shown config n i [] kept now still were within same = absurd were
 still_shown config n i (e ∷ before) kept now still were within same = subst (IsViewOfInput config (input_of (distance config) i (e ∷ before))) (sym same) (still (view_at kept i) (were i within))
 
--- what each receiver shows after these slots
-pub shown_now : (config : Config) (receivers : ℕ) (records : List Record) (events : List Event) (outcomes : List Outcome) → AreRows config.late receivers records events → AreOutcomes config events outcomes
-    → (i : ℕ) → i < receivers → IsViewOfInput config (input_of (distance config) i events) (view_at (newest_views outcomes) i)
-shown_now config receivers records [] [] rows are i within = record { groups = []; spelled = tt; is = view_of_none (tuned_to config (input_of (distance config) i [])) }
-shown_now config receivers records [] (o ∷ older) rows are i within = absurd are
-shown_now config receivers records (e ∷ before) [] rows are i within = absurd are
-shown_now config receivers [] (e ∷ before) (o ∷ older) rows are i within = absurd rows
-shown_now config receivers (row ∷ records) (e ∷ before) (o ∷ older) rows are i within = are.0.views i (omega (arith, within, are.0.receivers, rows.1.count))
+-- where nothing is kept yet, before the first slot
+pub nothing_yet : (config : Config) (i : ℕ) (kept : List ShownView) → view_at kept i ≡ view_at [] i → IsViewOfInput config (input_of (distance config) i []) (view_at kept i)
+nothing_yet config i kept nothing =
+    subst (IsViewOfInput config (input_of (distance config) i [])) (sym nothing) record { groups = []; spelled = tt; is = view_of_none (tuned_to config (input_of (distance config) i [])) }

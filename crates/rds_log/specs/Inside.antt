@@ -7,4 +7,5 @@ pub mod Part
 pub mod ViewLines
 pub mod Decoder
 pub mod Asked
+pub mod Watched
 pub mod Player

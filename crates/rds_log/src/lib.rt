@@ -34,6 +34,7 @@ mod scripts;
 mod source;
 mod verdict;
 mod view_lines;
+mod watched;
 
 pub use auditing::{audit, audit_within};
 pub use decoding::{decode, decode_within};

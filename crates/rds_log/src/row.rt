@@ -21,6 +21,7 @@ use rds_assembly::{Name, Text};
 use rds_charset::{read_text, text_is_read_one_way};
 use rds_fields::{Tag, TagPair};
 use rds_world::{Command, Reception, SlotEvent};
+use std::str::from_utf8;
 
 /// The most bytes of a text, and more than those of a name.
 const LONGEST: usize = 64;
@@ -33,6 +34,15 @@ enum Verb {
     Text,
     Name,
     Tags,
+}
+
+/// Why a record is not played.
+#[derive(Clone, Copy, Debug, PartialEq, Eq)]
+pub(crate) enum RowRefused {
+    /// It is no row.
+    NoRow,
+    /// There was no memory for the world.
+    Memory,
 }
 
 /// What happens in the slot of a row; `None` for a record that is no row.
@@ -282,12 +292,11 @@ fn lateness_of(digits: &[u8]) -> Option<u16>
     ensures some { IfSome result (IsLateness digits.now) }
     ensures none { IfNone result ((late : ℕ) → IsLateness digits.now late → ⊥) }
 {
+    if digits.is_empty() {
+        return Some(0);
+    }
     if digits.len() > 4 {
         return None;
     }
-    let mut late = 0;
-    for digit in digits {
-        late = late * 10 + u16::from(*digit - b'0');
-    }
-    Some(late)
+    from_utf8(digits).ok()?.parse().ok()
 }

@@ -6,8 +6,10 @@ ghost use Rattle.rds_log.specs.declared.form.Form.TheVariants as forms;
 
 use crate::LogFault;
 use crate::form::Form;
-use crate::player::{Player, RowLines, RowRefused};
+use crate::player::Player;
+use crate::row::RowRefused;
 use crate::script::Script;
+use crate::watched::RowLines;
 use csv::ByteRecord;
 use rds_charset::{TellingRead, TellingWrite, put};
 use rds_world::Config;

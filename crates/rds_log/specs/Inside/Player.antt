@@ -1,29 +1,26 @@
 -- What the parts of a script's engine hold: its reader after these records, and its station after their slots.
 -- Lists have the newest first.
-use Rattle.std.specs.Prelude.{◌≡◌, ◌⊎◌, ◌<◌, ◌++◌, ◌∷◌, ℕ, [], IsSome, List, None, Option, Some, length, map, true}
+use Rattle.std.specs.Prelude.{◌≡◌, ◌⊎◌, ◌<◌, ◌++◌, ◌∷◌, ℕ, [], List, None, Option, Some, length, true}
 use Rattle.std.specs.Io.KnownBytes.{Appends}
 use Rattle.csv.specs.Reading.{Ready, default_config, is_flexible, reader_config, reader_state, reader_trim, source_of}
 use Rattle.csv.specs.declared.reader.Trim.TheVariants.{None as untrimmed}
 use Rattle.rds_charset.specs.Told.{IsCalm, Traffic}
 use Rattle.rds_world.specs.declared.world.Config.{Config}
 use Rattle.rds_world.specs.World.Event.{Event}
-use Rattle.rds_world.specs.World.Slots.{input_of}
-use Rattle.rds_world.specs.World.StandsAt as world
-use Rattle.rds_world.specs.World.State.{WorldState, distance}
-use Rattle.rds_receiver.specs.Shown.{ShownView}
 use Rattle.rds_log.specs.Inside.Asked.{asked_bytes}
-use Rattle.rds_log.specs.Inside.KeptView.{view_kept}
+use Rattle.rds_log.specs.Inside.Watched.{AreKept, WatchedStandsAt, views_kept}
 use Rattle.rds_log.specs.Rows.{AreNoRows, AreRows, IsAllowed, Record}
-use Rattle.rds_log.specs.Outcomes.{AreOutcomes, Outcome, lines_of, newest_views, view_at}
+use Rattle.rds_log.specs.Outcomes.{AreOutcomes, Outcome, lines_of, newest_views}
 use Rattle.rds_log.specs.Play.{RecordsUpTo}
 use Rattle.rds_log.specs.declared.fault.LogFault.{LogFault}
 use Rattle.rds_log.specs.declared.fault.LogFault.TheVariants.{Memory, Read}
 use Rattle.rds_log.specs.declared.form.Form.{Form}
 use Rattle.rds_log.specs.declared.player.Player.{Player}
-use Rattle.rds_log.specs.declared.player.RowRefused.{RowRefused}
-use Rattle.rds_log.specs.declared.player.RowRefused.TheVariants.{NoRow}
-use Rattle.rds_log.specs.declared.player.RowRefused.TheVariants as refused
+use Rattle.rds_log.specs.declared.row.RowRefused.{RowRefused}
+use Rattle.rds_log.specs.declared.row.RowRefused.TheVariants.{NoRow}
+use Rattle.rds_log.specs.declared.row.RowRefused.TheVariants as refused
 use Rattle.rds_log.specs.declared.script.Script.{Script}
+use Rattle.rds_log.specs.declared.watched.Watched.{Watched}
 
 -- the reader of a script gave these records
 pub record ScriptStandsAt {R : Type 0} {g h : _} (remaining : R → Option (List ℕ)) (known : Option (List ℕ))
@@ -40,20 +37,12 @@ pub record ScriptStandsAt {R : Type 0} {g h : _} (remaining : R → Option (List
 abbrev pub IsReadFault : Type 0 → LogFault → Type 0
 IsReadFault ReadFailed fault = (fault ≡ Memory) ⊎ ((fault ≡ Read) × ReadFailed)
 
--- the views that are kept are those of the receivers
-abbrev pub AreKept : List ShownView → List ShownView → Type 0
-AreKept kept views = (i : ℕ) → view_at kept i ≡ view_at views i
-
--- the views are those of the first n receivers before the newest of these slots
-abbrev pub WereShown : Config → ℕ → List Event → List ShownView → Type 0
-WereShown config n [] views = ⊥
-WereShown config n (e ∷ before) views =
-    (i : ℕ) → i < n → world.IsViewOfInput config (input_of (distance config) i before) (view_at views i)
-
--- the world of these slots, with so many receivers; before the first slot there may be none
-abbrev pub HasWorld : Config → ℕ → Option WorldState → List Event → Type 0
-HasWorld config receivers None events = events ≡ []
-HasWorld config receivers (Some w) events = world.StandsAt config w events × (length w.receivers ≡ receivers)
+-- after slots there is a world that is watched, and what is kept of it is the newest outcome's; before the first there is
+-- none
+abbrev pub HasWatched : Config → ℕ → Option Watched → List Event → List Outcome → Type 0
+HasWatched config receivers None events outcomes = events ≡ []
+HasWatched config receivers (Some w) events outcomes =
+    (0 < length events) × WatchedStandsAt config receivers w events × AreKept (views_kept w) (newest_views outcomes)
 
 -- what a player played: in which form, for which station, with how many receivers, which records, and the lines that
 -- it gave
@@ -80,12 +69,10 @@ pub record PlayerStandsAt (p : Player) (played : Played) : Type 0 where
   pub allowed : IsAllowed played.form played.receivers
   pub events : List Event
   pub rows : AreRows played.config.late played.receivers played.records events
-  pub world : HasWorld played.config played.receivers p.world events
   pub outcomes : List Outcome
   pub are : AreOutcomes played.config events outcomes
   pub slot : p.slot ≡ length outcomes
-  pub shown : AreKept (map view_kept p.shown.items) (newest_views outcomes)
-  pub kept : length p.shown.items ≡ played.receivers
+  pub watched : HasWatched played.config played.receivers p.watched events outcomes
   pub lines : played.written ≡ lines_of played.form outcomes
 
 -- wherever the player stands, this holds of what it played
@@ -95,13 +82,6 @@ WherePlayerStands p Holds = (played : Played) → PlayerStandsAt p played → Ho
 -- the player goes on by this row, and gives these lines
 abbrev pub PlaysRow : Player → Record → List ℕ → Played → Type 0
 PlaysRow p row lines before = (receivers : ℕ) × PlayerStandsAt p (with_row receivers row lines before)
-
--- the player is to play a row with so many receivers: it has a world, and so many, but where it has played rows with
--- others
-abbrev pub BeginsRow : ℕ → Player → Played → Type 0
-BeginsRow asked p played =
-    (receivers : ℕ) × PlayerStandsAt p (record played { receivers = receivers })
-    × ((0 < length played.records) ⊎ (receivers ≡ asked)) × IsSome p.world
 
 -- why a record is not played after these: not all are rows, or it is the first and there is no memory for a world
 abbrev pub IsRowRefused : Played → Record → RowRefused → Type 0

@@ -10,10 +10,10 @@ pub enum AuditFault {
     /// No text, or no name, has the segment beside those sent before it.
     #[error("the segments are not of one text")]
     NotOneText,
-    /// The flag changed again too soon: the text or name before the last had not been gone for the dwell.
+    /// The flag changed again too soon: the text or name before the last had not been gone for M + K slots.
     #[error("the flag changed too early")]
     EarlyFlag,
-    /// Tags came before any text, or before their text had been on air for the dwell.
+    /// Tags came before any text, or before their text had been on air for M + K slots.
     #[error("tags came too early")]
     EarlyTag,
     /// A tag ends past the end of its text.

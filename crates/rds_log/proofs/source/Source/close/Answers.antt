@@ -1,7 +1,4 @@
-use Rattle.std.proofs.Common.{◌++◌, Err, Ok, refl, take}
-use Rattle.rds_log.specs.LogLines.{IsLine, Line}
-use Rattle.rds_log.specs.Inside.Cutter.{CutterStandsAt}
-use Rattle.rds_log.specs.Inside.Source.{waiting}
+use Rattle.std.proofs.Common.{refl}
 use Rattle.rds_log.proofs.Reading.{gives_either, line_of, line_told}
 use Rattle.rds_log.proofs.source.Source.close.Goals as goal
 

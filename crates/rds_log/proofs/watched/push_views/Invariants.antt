@@ -4,8 +4,8 @@ use Rattle.rds_world.specs.World.StandsAt.{IsViewOfInput, WhereItStands}
 use Rattle.rds_world.specs.World.State.{distance}
 use Rattle.rds_log.specs.Inside.KeptView.{view_kept}
 use Rattle.rds_log.specs.Outcomes.{receiver_changes, view_at}
-use Rattle.rds_log.specs.Inside.Player.{WereShown}
-use Rattle.rds_log.proofs.player.push_views.Given as goal
+use Rattle.rds_log.specs.Inside.Watched.{WereShown}
+use Rattle.rds_log.proofs.watched.push_views.Given as goal
 
 abbrev pub invariant-loop-i : goal.invariant-loop-i
 invariant-loop-i l = record {

@@ -1,7 +1,7 @@
 use Rattle.std.proofs.Common.{◌≡◌, [], length, map}
 use Rattle.rds_log.specs.Inside.KeptView.{view_kept}
-use Rattle.rds_log.specs.Inside.Player.{AreKept}
-use Rattle.rds_log.proofs.player.nothing_shown.Given as goal
+use Rattle.rds_log.specs.Inside.Watched.{AreKept}
+use Rattle.rds_log.proofs.watched.nothing_shown.Given as goal
 
 abbrev pub invariant-loop : goal.invariant-loop
 invariant-loop l = record {

@@ -7,7 +7,7 @@ use Rattle.rds_log.specs.Inside.KeptView.{view_kept}
 use Rattle.rds_log.specs.Outcomes.{view_at}
 use Rattle.rds_log.proofs.Changes.{at_last, at_set, next_changes, no_changes, other_set, stay_changes}
 use Rattle.rds_log.proofs.Playing.{still_shown}
-use Rattle.rds_log.proofs.player.push_views.Goals as goal
+use Rattle.rds_log.proofs.watched.push_views.Goals as goal
 
 pub loop-i-init : goal.loop-i-init
 loop-i-init c = record {
