@@ -1,5 +1,5 @@
 -- How a station goes on by a row, and why a record is no row.
-use Rattle.std.proofs.Common.{◌≡◌, ◌⊎◌, ◌<◌, ◌≤◌, ◌+◌, ◌∙◌, ◌∷◌, ◌++◌, [], ℕ, suc, add-one, List, Option, Some, ap, ap₂, arith, inl, inr, length, refl, subst, sym}
+use Rattle.std.proofs.Common.{◌≡◌, ◌⊎◌, ◌<◌, ◌≤◌, ◌+◌, ◌∙◌, ◌∷◌, ◌++◌, [], ℕ, suc, add-one, List, None, Option, Some, ap, ap₂, arith, inl, inr, length, refl, subst, sym}
 use Rattle.std.specs.Prelude.{Err, IfErr, Ok, OnOk, Result}
 use Rattle.rds_world.specs.World.Event.{Event}
 use Rattle.rds_world.specs.World.State.{distance}
@@ -9,7 +9,7 @@ use Rattle.rds_log.proofs.Views.{view_of_none}
 use Rattle.rds_world.specs.World.Slots.{input_of}
 use Rattle.rds_world.specs.World.StandsAt.{IsViewOfInput, ShowsStill, tuned_to}
 use Rattle.rds_log.specs.Outcomes.{AreOutcomes, IsOutcome, Outcome, answer_lines, lines_of, newest_views, receiver_changes, slot_lines, view_at}
-use Rattle.rds_log.specs.Inside.Player.{HasWatched, IsRowRefused, Played, PlayerStandsAt, PlaysRow}
+use Rattle.rds_log.specs.Inside.Player.{HasWatched, IsBegun, IsRowRefused, Played, PlayerStandsAt, PlaysRow}
 use Rattle.rds_log.specs.Inside.Watched.{AreKept, WatchedStandsAt, WereShown, views_kept}
 use Rattle.rds_log.specs.declared.player.Player.{Player}
 use Rattle.rds_log.specs.declared.row.RowRefused.{RowRefused}
@@ -91,6 +91,35 @@ pub none_shown : (config : Config) (events : List Event) (outcomes : List Outcom
 none_shown config [] [] are none = refl
 none_shown config [] (o ∷ older) are none = absurd are
 none_shown config (e ∷ before) outcomes are none = absurd (omega (arith, ap length none))
+
+-- the world that a row begins with: with as many receivers as the rows before have, or the first row asks for
+pub record IsReady (played : Played) (events : List Event) (outcomes : List Outcome) (asked : ℕ) (w : Watched) : Type 0 where
+  pub receivers : ℕ
+  pub allowed : IsAllowed played.form receivers
+  pub rows : AreRows played.config.late receivers played.records events
+  pub stands : WatchedStandsAt played.config receivers w events
+  pub same : AreKept (views_kept w) (newest_views outcomes)
+  pub how : (0 < length played.records) ⊎ (receivers ≡ asked)
+
+pub is_ready : (before : Option Watched) (w : Watched) (played : Played) (asked : ℕ) (events : List Event) (outcomes : List Outcome) → IsAllowed played.form played.receivers → IsAllowed played.form asked
+    → AreRows played.config.late played.receivers played.records events → AreOutcomes played.config events outcomes → HasWatched played.config played.receivers before events outcomes
+    → IsBegun played.config asked before w → IsReady played events outcomes asked w
+is_ready None w played asked events outcomes had allowed rows are none begun = record {
+  receivers = asked;
+  allowed = allowed;
+  rows = none_played played.config.late played.receivers asked played.records events rows none;
+  stands = rw none begun.0;
+  same = rw (none_shown played.config events outcomes are none) begun.1;
+  how = inr refl;
+}
+is_ready (Some before) w played asked events outcomes had allowed rows are has begun = record {
+  receivers = played.receivers;
+  allowed = had;
+  rows = rows;
+  stands = rw begun has.1;
+  same = rw begun has.2;
+  how = inl (let counted = as_many_rows played.config.late played.receivers played.records events rows in omega (arith, has.0, counted));
+}
 
 -- a slot more is played in a world whose receivers are watched
 pub plays_on : {T E : Type 0} (r : Result T E) (before now : Player) (played : Played) (s : PlayerStandsAt before played) (receivers : ℕ) (kept : List ShownView) (w : Watched) (row : Record) (e : Event) (lines : List ℕ)

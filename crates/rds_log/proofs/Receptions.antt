@@ -1,18 +1,16 @@
 -- A field spells one list of receptions: the digits after a letter end where the next letter stands.
-use Rattle.std.proofs.Common.{◌≡◌, ◌<◌, ◌≤◌, ◌∙◌, ◌++◌, ◌^◌, ℕ, zero, suc, List, [], ◌∷◌, append_assoc, ap, ap₂, arith, drop, get_or, length, length-append, refl, subst, sym, take}
-use Rattle.std.proofs.lemmas.List.{append-nil, take-append-drop}
+use Rattle.std.proofs.Common.{◌≡◌, ◌<◌, ◌≤◌, ◌∙◌, ◌++◌, ◌+◌, ◌-◌, ◌*◌, ◌^◌, ℕ, zero, suc, List, [], ◌∷◌, append_assoc, ap, ap₂, arith, drop, get_or, length, length-append, refl, subst, sym, take}
+use Rattle.std.proofs.lemmas.List.{append-nil, length-take-le, take-append-drop}
 use Rattle.std.proofs.lemmas.Bool.Decides.{nat_tests}
-use Rattle.std.proofs.lemmas.Int.Digits.{digits_value-lt}
-use Rattle.std.proofs.lemmas.Str.{IsUtf8-from_ascii, digit_value_digit}
+use Rattle.std.proofs.lemmas.Int.Digits.{digits_value-lt, digits_value_more}
+use Rattle.std.proofs.lemmas.Str.{digit_value_digit}
 use Rattle.std.proofs.lemmas.Str.Parse.{digit_from_value}
 use Rattle.std.proofs.Math.Nat.{pow-le-pow_right}
 use Rattle.std.specs.Char.{IsAsciiDigit, IsNotAsciiDigit, digit_value}
-use Rattle.std.specs.Prelude.{Err, IfNone, IsUtf8, Ok, Result, slice_index}
-use Rattle.std.specs.Result.{result_ok}
-use Rattle.std.specs.Str.Parse.{AllDigits, ParsesUnsigned, digits_value, without_leading_plus}
+use Rattle.std.specs.Str.Parse.{AllDigits, digits_value}
 use Rattle.rds_world.specs.declared.world.event.Reception.{Reception}
 use Rattle.rds_world.specs.declared.world.event.Reception.TheVariants.{Got, Lost, Restart}
-use Rattle.rds_log.specs.Receptions.{AreReceptions, HasDigits, IsLateness, letter}
+use Rattle.rds_log.specs.Receptions.{AreReceptions, HasDigits, letter}
 
 -- the text is empty or begins with another byte than a digit
 abbrev pub HasNoDigitFirst : List ℕ → Type 0
@@ -169,31 +167,25 @@ digit_cut text digits rest n within are ends first later = record {
     back [] (suc n) within ends = absurd (omega arith)
     back (b ∷ text) (suc n) within ends = back text n (omega arith) (λ below. ends (omega arith))
 
--- digits are a text of their own
-pub digits_are_text : (digits : List ℕ) → AllDigits 10 digits → IsUtf8 digits
-digits_are_text digits all = IsUtf8-from_ascii digits (ascii digits all)
+pub digit_at : (digits : List ℕ) (i : ℕ) → AllDigits 10 digits → i < length digits → IsAsciiDigit (get_or digits i 0)
+digit_at [] i all within = absurd (omega arith)
+digit_at (b ∷ digits) zero all within = digit_from_value b all.0
+digit_at (b ∷ digits) (suc i) all within = digit_at digits i all.1 (omega arith)
+
+-- less than four digits write less than a thousand
+pub three_digits : (digits : List ℕ) (i late : ℕ) → AllDigits 10 digits → i < length digits → length digits ≤ 4 → late ≡ digits_value 10 (take i digits) → late < 1000
+three_digits digits i late all within short value =
+    let size : length (take i digits) ≡ i = length-take-le i digits (omega arith) in
+    let small : digits_value 10 (take i digits) < 10 ^ length (take i digits) = digits_value-lt 10 (take i digits) (fewer digits i all) in
+    let power : 10 ^ length (take i digits) ≤ 10 ^ 3 = pow-le-pow_right {n = 10} (omega arith) {i = length (take i digits)} {j = 3} (omega arith) in
+    omega (arith, small, power, value)
   where
-    ascii : (digits : List ℕ) → AllDigits 10 digits → (i : ℕ) → slice_index digits i < 128
-    ascii [] all i = omega arith
-    ascii (b ∷ digits) all zero = let digit = digit_from_value b all.0 in omega (arith, digit)
-    ascii (b ∷ digits) all (suc i) = ascii digits all.1 i
+    fewer : (digits : List ℕ) (i : ℕ) → AllDigits 10 digits → AllDigits 10 (take i digits)
+    fewer digits zero all = tt
+    fewer [] (suc i) all = tt
+    fewer (b ∷ digits) (suc i) all = (all.0, fewer digits i all.1)
 
--- no digit is a sign
-pub no_sign : (digits : List ℕ) → AllDigits 10 digits → without_leading_plus digits ≡ digits
-no_sign [] all = refl
-no_sign (b ∷ digits) all = let digit = digit_from_value b all.0 in search (arith, nat_tests, digit)
-
--- four digits write less than ten thousand
-pub four_digits : (digits : List ℕ) → AllDigits 10 digits → length digits ≤ 4 → digits_value 10 digits < 10000
-four_digits digits all short =
-    let small : digits_value 10 digits < 10 ^ length digits = digits_value-lt 10 digits all in
-    let power : 10 ^ length digits ≤ 10 ^ 4 = pow-le-pow_right {n = 10} (omega arith) {i = length digits} {j = 4} (omega arith) in
-    omega (arith, small, power)
-
--- so they are read as a number of 16 bits
-pub four_digits_parse : {E : Type 0} (digits : List ℕ) (r : Result ℕ E) → AllDigits 10 digits → 0 < length digits → length digits ≤ 4 → ParsesUnsigned 16 10 digits r → IfNone (result_ok r) ((late : ℕ) → IsLateness digits late → ⊥)
-four_digits_parse digits (Ok late) all some short parses = tt
-four_digits_parse digits (Err why) all some short parses =
-    let plain = no_sign digits all in
-    let small = four_digits digits all short in
-    absurd (parses (rw plain (some, all), rw plain (omega (arith, small))))
+pub one_more_digit : (digits : List ℕ) (i late : ℕ) → AllDigits 10 digits → i < length digits → late ≡ digits_value 10 (take i digits) → late * 10 + (get_or digits i 0 - 48) ≡ digits_value 10 (take (i + 1) digits)
+one_more_digit digits i late all within value =
+    let digit : digit_value (get_or digits i 0) + 48 ≡ get_or digits i 0 = digit_value_digit (get_or digits i 0) (digit_at digits i all within) in
+    omega (arith, digit, value, digits_value_more 10 digits i within)

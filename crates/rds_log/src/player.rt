@@ -1,6 +1,8 @@
 //! A station that plays the rows of a script.
-ghost use Rattle.std.specs.Prelude.{◌≡◌, ◌<◌, ◌+◌, ◌-◌, ◌^◌, [], IfErr, OnOk};
+ghost use Rattle.std.specs.Prelude.{◌≡◌, ◌<◌, ◌≤◌, ◌+◌, ◌-◌, ◌^◌, [], IfErr, None, OnOk, Some};
 ghost use Rattle.csv.specs.Records.{fields_of};
+ghost use Rattle.rds_log.specs.declared.row.RowRefused.TheVariants as refused;
+ghost use Rattle.rds_log.specs.declared.watched.Watched.{Watched};
 
 use crate::form::Form;
 use crate::row::{RowRefused, event_of};
@@ -21,7 +23,7 @@ pub(crate) struct Player {
 }
 
 impl Player {
-    ghost use Rattle.rds_log.specs.Inside.Player.{IsRowRefused, PlayerStandsAt, PlaysRow, WherePlayerStands, nothing_played};
+    ghost use Rattle.rds_log.specs.Inside.Player.{IsBegun, IsRowRefused, PlayerStandsAt, PlaysRow, WherePlayerStands, nothing_played};
 
     /// Before the first row, with no world yet.
     pub(crate) fn new(alloc: Global, form: Form, config: Config) -> Player
@@ -56,14 +58,41 @@ impl Player {
         if !self.form.allows(receivers) {
             return Err(RowRefused::NoRow);
         }
-        let slot = self.slot;
-        self.slot += 1;
+        self.begin(receivers)?;
         match &mut self.watched {
-            Some(watched) => watched.play(self.form, slot, &event, lines),
-            None => self
-                .watched
-                .insert(Watched::new(self.alloc, self.config, receivers)?)
-                .play(self.form, slot, &event, lines),
+            Some(watched) => {
+                let slot = self.slot;
+                self.slot += 1;
+                watched.play(self.form, slot, &event, lines)
+            }
+            None => unreachable!(),
         }
+    }
+
+    /// Makes the world, with so many receivers, where there is none yet.
+    fn begin(&mut self, receivers: usize) -> Result<(), RowRefused>
+        requires few { receivers ≤ 8 }
+        ensures begins { OnOk result ((w : Watched) × (self.new ≡ record self.old { watched = Some w })
+            × IsBegun self.old.config receivers self.old.watched w) }
+        ensures memory { IfErr result (λ why. (why ≡ refused.Memory) × (self.old.watched ≡ None)) }
+    {
+        if self.watched.is_some() {
+            return Ok(());
+        }
+        self.make_world(receivers)
+    }
+
+    /// Makes the world of the first row.
+    ///
+    /// It stands apart so that the other rows pay nothing for its copies.
+    #[inline(never)]
+    fn make_world(&mut self, receivers: usize) -> Result<(), RowRefused>
+        requires few { receivers ≤ 8 }
+        ensures made { OnOk result ((w : Watched) × (self.new ≡ record self.old { watched = Some w })
+            × IsBegun self.old.config receivers None w) }
+        ensures memory { IfErr result (λ why. why ≡ refused.Memory) }
+    {
+        self.watched = Some(Watched::new(self.alloc, self.config, receivers)?);
+        Ok(())
     }
 }

@@ -21,7 +21,6 @@ use rds_assembly::{Name, Text};
 use rds_charset::{read_text, text_is_read_one_way};
 use rds_fields::{Tag, TagPair};
 use rds_world::{Command, Reception, SlotEvent};
-use std::str::from_utf8;
 
 /// The most bytes of a text, and more than those of a name.
 const LONGEST: usize = 64;
@@ -292,11 +291,12 @@ fn lateness_of(digits: &[u8]) -> Option<u16>
     ensures some { IfSome result (IsLateness digits.now) }
     ensures none { IfNone result ((late : ℕ) → IsLateness digits.now late → ⊥) }
 {
-    if digits.is_empty() {
-        return Some(0);
-    }
     if digits.len() > 4 {
         return None;
     }
-    from_utf8(digits).ok()?.parse().ok()
+    let mut late = 0;
+    for digit in digits {
+        late = late * 10 + u16::from(*digit - b'0');
+    }
+    Some(late)
 }

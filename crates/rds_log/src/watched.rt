@@ -41,9 +41,6 @@ impl Watched {
     ghost use Rattle.rds_log.specs.Inside.Watched.{WatchedStandsAt, WhereWatchedStands, views_kept};
 
     /// A world with so many receivers, before its first slot.
-    ///
-    /// It stands apart so that the rows after the first pay nothing for its copies.
-    #[inline(never)]
     pub(crate) fn new(
         alloc: Global,
         config: Config,

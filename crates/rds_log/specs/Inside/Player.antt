@@ -37,8 +37,8 @@ pub record ScriptStandsAt {R : Type 0} {g h : _} (remaining : R → Option (List
 abbrev pub IsReadFault : Type 0 → LogFault → Type 0
 IsReadFault ReadFailed fault = (fault ≡ Memory) ⊎ ((fault ≡ Read) × ReadFailed)
 
--- after slots there is a world that is watched, and what is kept of it is the newest outcome's; before the first there is
--- none
+-- after slots there is a world whose receivers are watched, and what is kept of them is what the newest outcome shows;
+-- before the first slot there is none
 abbrev pub HasWatched : Config → ℕ → Option Watched → List Event → List Outcome → Type 0
 HasWatched config receivers None events outcomes = events ≡ []
 HasWatched config receivers (Some w) events outcomes =
@@ -82,6 +82,11 @@ WherePlayerStands p Holds = (played : Played) → PlayerStandsAt p played → Ho
 -- the player goes on by this row, and gives these lines
 abbrev pub PlaysRow : Player → Record → List ℕ → Played → Type 0
 PlaysRow p row lines before = (receivers : ℕ) × PlayerStandsAt p (with_row receivers row lines before)
+
+-- the world that is watched where there was this one or none
+abbrev pub IsBegun : Config → ℕ → Option Watched → Watched → Type 0
+IsBegun config receivers None w = WatchedStandsAt config receivers w [] × AreKept (views_kept w) []
+IsBegun config receivers (Some before) w = w ≡ before
 
 -- why a record is not played after these: not all are rows, or it is the first and there is no memory for a world
 abbrev pub IsRowRefused : Played → Record → RowRefused → Type 0
