@@ -22,7 +22,7 @@ pub use safety::{
     each_bound_is_needed, groups_listen, late_as_messages, on_time, one_source, own_clocks,
     safe_by_plans, the_dwell_is_the_least,
 };
-pub use world::event::{Command, Reception, SlotEvent};
+pub use world::event::{Command, MOST_RECEIVERS, Reception, SlotEvent};
 pub use world::reply::{Answer, Reply, StepRefused, WorldRefused};
 pub use world::slots::{PlayRefused, play};
 pub use world::station_laws::{

@@ -10,6 +10,7 @@ ghost use Rattle.rds_world.specs.World.SafeSlots.{OnlyWhatWasOnAirIsShown};
 ghost use Rattle.rds_world.specs.World.Slots.{entries, input_of, sent_at};
 ghost use Rattle.rds_world.specs.World.State.{distance};
 ghost use Rattle.rds_world.specs.World.StandsAt.{HasHeard, IsViewOfInput, Shows, ShowsStill, StandsAt, WhereItStands};
+ghost use Rattle.rds_world.specs.declared.world.event.TheConstants.{MOST_RECEIVERS};
 
 pub(crate) mod event;
 pub(crate) mod reach;
@@ -24,7 +25,9 @@ use crate::world::reach::{Reach, reaches_after};
 use crate::world::receivers::{eight_receivers, hand_out};
 use crate::world::recent::Recent;
 use crate::world::station::obey;
-use crate::{Answer, SlotEvent, StepRefused, WorldRefused, only_what_was_on_air_is_shown};
+use crate::{
+    Answer, MOST_RECEIVERS, SlotEvent, StepRefused, WorldRefused, only_what_was_on_air_is_shown,
+};
 use rds_encoder::{Encoder, Late};
 use rds_fields::{Dwell, Head};
 use rds_receiver::{Receiver, heard};
@@ -48,9 +51,9 @@ pub struct Config {
 pub struct World {
     config: Config,
     encoder: Encoder,
-    receivers: [Receiver; 8],
-    stays: [bool; 8],
-    reaches: [Reach; 8],
+    receivers: [Receiver; MOST_RECEIVERS],
+    stays: [bool; MOST_RECEIVERS],
+    reaches: [Reach; MOST_RECEIVERS],
     count: usize,
     recent: Recent,
 }
@@ -60,6 +63,7 @@ impl Model for World {
     ghost use Rattle.std.specs.Coded.{codes};
     ghost use Rattle.rds_receiver.specs.Codes.{receiver_code};
     ghost use Rattle.rds_world.specs.World.State.{WorldState};
+    ghost use Rattle.rds_world.specs.declared.world.event.TheConstants.{MOST_RECEIVERS};
 
     ghost Value = { WorldState };
 
@@ -74,21 +78,21 @@ impl Model for World {
       sent = w.recent.items;
     } };
 
-    ghost invariant = { λ w. (w.count ≤ 8) × (length w.receivers ≡ 8)
-        × (length w.reaches ≡ 8) × (w.recent.capacity ≡ w.config.late + 1) };
+    ghost invariant = { λ w. (w.count ≤ MOST_RECEIVERS) × (length w.receivers ≡ MOST_RECEIVERS)
+        × (length w.reaches ≡ MOST_RECEIVERS) × (w.recent.capacity ≡ w.config.late + 1) };
 }
 
 impl World {
     /// A world before its first slot: the encoder at a restart, and receivers that heard nothing yet. It takes the
     /// memory for the groups of as many slots as one may be late, and one more; no later call takes any.
     pub fn new(alloc: Global, config: Config, receivers: usize) -> Result<World, WorldRefused>
-        ensures refused { IsErrOf result WorldRefused.TooManyReceivers ↔ (8 < receivers) }
-        ensures few { IsOk result → receivers ≤ 8 }
+        ensures refused { IsErrOf result WorldRefused.TooManyReceivers ↔ (MOST_RECEIVERS < receivers) }
+        ensures few { IsOk result → receivers ≤ MOST_RECEIVERS }
         ensures count { IfOk result (λ w. length w.receivers ≡ receivers) }
         ensures stands { IfOk result (λ w.
             StandsAt config w []) }
     {
-        if receivers > 8 {
+        if receivers > MOST_RECEIVERS {
             return Err(WorldRefused::TooManyReceivers);
         }
         let Ok(recent) = Recent::new(alloc, config.late) else {
@@ -98,8 +102,8 @@ impl World {
             config,
             encoder: Encoder::new(config.head, config.dwell, config.late),
             receivers: eight_receivers(&config),
-            stays: [false; 8],
-            reaches: [Reach::new(); 8],
+            stays: [false; MOST_RECEIVERS],
+            reaches: [Reach::new(); MOST_RECEIVERS],
             count: receivers,
             recent,
         })

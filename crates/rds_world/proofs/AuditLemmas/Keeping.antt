@@ -5,22 +5,22 @@ use Rattle.rds_fields.specs.Tag.{PairFields}
 use Rattle.rds_receiver.specs.Receipts.{Fragment}
 use Rattle.rds_receiver.specs.Run.{is_same}
 use Rattle.rds_world.specs.Audit.Dense.{IsBridged, IsMarked}
-use Rattle.rds_world.specs.Safety.Marks.{IsSent, Mark, Nothing, Sends, Tagged}
+use Rattle.rds_world.specs.Safety.Marks.{IsMarkIn, Mark, Nothing, Sends, Tagged}
 use Rattle.rds_world.specs.Audit.Reigns.{Reign, after_fragment, after_tags, joins, opened_by, reigns, with_fragment}
 use Rattle.rds_world.proofs.AuditLemmas.Sending.{bridged_later, early, marked_before, marked_early, marked_later, fragment_is_marked, sent_before}
 
 -- the slot is not after the newest of these reigns; where there is none, no fragment was sent in it
 abbrev pub IsBehind : List Mark → List Reign → ℕ → Type 0
-IsBehind sent [] u = (p : Fragment) → IsSent sent u (Sends p) → ⊥
+IsBehind sent [] u = (p : Fragment) → IsMarkIn sent u (Sends p) → ⊥
 IsBehind sent (r ∷ older) u = u ≤ r.last
 
 -- a fragment opened the reign, something was sent in its last slot, and its fragments stand as in a dense plan
 pub record IsKept (d : ℕ) (sent : List Mark) (r : Reign) : Type 0 where
   pub first : Fragment
-  pub opened : IsSent sent r.opened (Sends first)
+  pub opened : IsMarkIn sent r.opened (Sends first)
   pub ends : IsMarked sent r.last
   pub until : r.opened ≤ r.last
-  pub dense : (u t : ℕ) (q p : Fragment) → IsSent sent u (Sends q) → IsSent sent t (Sends p) → r.opened ≤ u → u < t → t ≤ r.last → IsBridged d sent u t
+  pub dense : (u t : ℕ) (q p : Fragment) → IsMarkIn sent u (Sends q) → IsMarkIn sent t (Sends p) → r.opened ≤ u → u < t → t ≤ r.last → IsBridged d sent u t
 
 abbrev pub AllBehind : List Mark → List Reign → Type 0
 AllBehind sent rs = (u : ℕ) → IsMarked sent u → IsBehind sent rs u
@@ -59,7 +59,7 @@ are_kept_later d x sent (r ∷ older) k =
 nothing_behind : (sent : List Mark) (rs : List Reign) → AllBehind sent rs → AllBehind (Nothing ∷ sent) rs
 nothing_behind sent rs h u m = by m.mark m.some m.is_sent
   where
-    by : (x : Mark) → (x ≡ Nothing → ⊥) → IsSent (Nothing ∷ sent) u x → IsBehind (Nothing ∷ sent) rs u
+    by : (x : Mark) → (x ≡ Nothing → ⊥) → IsMarkIn (Nothing ∷ sent) u x → IsBehind (Nothing ∷ sent) rs u
     by x some (inl s) = absurd (some s.1)
     by x some (inr s) = behind_later Nothing sent rs u (early sent u x s) (h u record { mark = x; some = some; is_sent = s })
 
@@ -67,7 +67,7 @@ nothing_behind sent rs h u m = by m.mark m.some m.is_sent
 tags_behind : (sent : List Mark) (pair : PairFields) (rs : List Reign) → AllBehind sent rs → AllBehind (Tagged pair ∷ sent) (after_tags (length sent) pair rs)
 tags_behind sent pair [] h u m = none
   where
-    none : (p : Fragment) → IsSent (Tagged pair ∷ sent) u (Sends p) → ⊥
+    none : (p : Fragment) → IsMarkIn (Tagged pair ∷ sent) u (Sends p) → ⊥
     none p (inl q) = (let e : Sends p ≡ Tagged pair = q.1 in cc)
     none p (inr q) = h u (fragment_is_marked sent u p q) p q
 tags_behind sent pair (r ∷ older) h u m = omega (arith, marked_early (Tagged pair ∷ sent) u m)
@@ -88,7 +88,7 @@ tags_kept d sent pair (r ∷ older) h k =
       rest.2,
     )
   where
-    dense : (u t : ℕ) (q p : Fragment) → IsSent (Tagged pair ∷ sent) u (Sends q) → IsSent (Tagged pair ∷ sent) t (Sends p) → r.opened ≤ u → u < t → IsBridged d (Tagged pair ∷ sent) u t
+    dense : (u t : ℕ) (q p : Fragment) → IsMarkIn (Tagged pair ∷ sent) u (Sends q) → IsMarkIn (Tagged pair ∷ sent) t (Sends p) → r.opened ≤ u → u < t → IsBridged d (Tagged pair ∷ sent) u t
     dense u t q p su (inl st) from lt = (let e : Sends p ≡ Tagged pair = st.1 in absurd (cc))
     dense u t q p su (inr st) from lt =
         let now = early sent t (Sends p) st in
@@ -125,7 +125,7 @@ joined_kept d sent p r older near h k =
       rest.2,
     )
   where
-    dense : (u t : ℕ) (q g : Fragment) → IsSent (Sends p ∷ sent) u (Sends q) → IsSent (Sends p ∷ sent) t (Sends g) → r.opened ≤ u → u < t → IsBridged d (Sends p ∷ sent) u t
+    dense : (u t : ℕ) (q g : Fragment) → IsMarkIn (Sends p ∷ sent) u (Sends q) → IsMarkIn (Sends p ∷ sent) t (Sends g) → r.opened ≤ u → u < t → IsBridged d (Sends p ∷ sent) u t
     dense u t q g su (inl st) from lt =
         let before = sent_before (Sends p) sent u (Sends q) (omega arith) su in
         record {

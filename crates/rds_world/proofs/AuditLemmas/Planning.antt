@@ -10,7 +10,7 @@ use Rattle.rds_encoder.specs.Laws.{ANumberIsBelowTheLength}
 use Rattle.rds_world.specs.Audit.AuditLaws.{SomeReign}
 use Rattle.rds_world.specs.Audit.Dense.{HasFragmentBefore, HasPlan, IsBridged, IsMarked}
 use Rattle.rds_world.specs.Safety.Lawful.{HasOne, HasFragment, HasTags, IsFragmentOf, Kind}
-use Rattle.rds_world.specs.Safety.Marks.{IsSent, Mark, Nothing, Sends, Tagged}
+use Rattle.rds_world.specs.Safety.Marks.{IsMarkIn, Mark, Nothing, Sends, Tagged}
 use Rattle.rds_world.proofs.AuditLemmas.Members.{IsIn, all_in}
 use Rattle.rds_world.specs.Audit.Reigns.{Reign, SentTags, after_fragment, after_tags, joins, past_newest, reigns, start_after, with_fragment}
 use Rattle.rds_world.specs.Audit.Rules.{CanBeBroadcast, Passes}
@@ -90,7 +90,7 @@ new_fragment d now p sent (r ∷ older) e k =
     })
     (λ _. inl record { from = omega arith; to = omega arith; flag = refl; listed = inl refl })
 
-pub fragment_held : (d : ℕ) (sent : List Mark) (t : ℕ) (p : Fragment) → IsSent sent t (Sends p) → SomeReign (HoldsFragment t p) (reigns d sent)
+pub fragment_held : (d : ℕ) (sent : List Mark) (t : ℕ) (p : Fragment) → IsMarkIn sent t (Sends p) → SomeReign (HoldsFragment t p) (reigns d sent)
 fragment_held d [] t p s = absurd s
 fragment_held d (Nothing ∷ sent) t p (inl s) = (let e : Sends p ≡ Nothing = s.1 in absurd (cc))
 fragment_held d (Nothing ∷ sent) t p (inr s) = fragment_held d sent t p s
@@ -109,13 +109,13 @@ after_before x sent h t pair s =
     let now = early sent t (Tagged pair) s in
     record { slot = w.slot; fragment = w.fragment; is_sent = sent_before x sent w.slot (Sends w.fragment) (omega (arith, w.before)) w.is_sent; before = w.before }
 
-new_tags : (d : ℕ) (pair : PairFields) (sent : List Mark) (rs : List Reign) → (u : ℕ) (p : Fragment) → IsSent (Tagged pair ∷ sent) u (Sends p) → u < length sent → Keeps d sent rs
+new_tags : (d : ℕ) (pair : PairFields) (sent : List Mark) (rs : List Reign) → (u : ℕ) (p : Fragment) → IsMarkIn (Tagged pair ∷ sent) u (Sends p) → u < length sent → Keeps d sent rs
     → SomeReign (HoldsTags (length sent) pair) (after_tags (length sent) pair rs)
 new_tags d pair sent [] u p (inl s) lt k = absurd (omega arith)
 new_tags d pair sent [] u p (inr s) lt k = absurd (k.1 u (fragment_is_marked sent u p s) p s)
 new_tags d pair sent (r ∷ older) u p s lt k = inl record { to = omega arith; listed = inl refl }
 
-pub tags_held : (d : ℕ) (sent : List Mark) → TagsAreAfter sent → (t : ℕ) (pair : PairFields) → IsSent sent t (Tagged pair) → SomeReign (HoldsTags t pair) (reigns d sent)
+pub tags_held : (d : ℕ) (sent : List Mark) → TagsAreAfter sent → (t : ℕ) (pair : PairFields) → IsMarkIn sent t (Tagged pair) → SomeReign (HoldsTags t pair) (reigns d sent)
 tags_held d [] h t pair s = absurd s
 tags_held d (Nothing ∷ sent) h t pair (inl s) = (let e : Tagged pair ≡ Nothing = s.1 in absurd (cc))
 tags_held d (Nothing ∷ sent) h t pair (inr s) = tags_held d sent (after_before Nothing sent h) t pair s
@@ -221,12 +221,12 @@ tags_planned d kind t pair (r ∷ older) a (inl h) = record {
 }
 
 -- what is sent in a reign's broadcast is sent since the reign was opened
-since_opened : (d : ℕ) (sent : List Mark) (r : Reign) (older : List Reign) (u : ℕ) → 0 < d → r.start ≡ start_after d r.flag older → r.start ≤ u → IsBehind sent older u → (q : Fragment) → IsSent sent u (Sends q) → ⊥
+since_opened : (d : ℕ) (sent : List Mark) (r : Reign) (older : List Reign) (u : ℕ) → 0 < d → r.start ≡ start_after d r.flag older → r.start ≤ u → IsBehind sent older u → (q : Fragment) → IsMarkIn sent u (Sends q) → ⊥
 since_opened d sent r [] u pos c from b q s = b q s
 since_opened d sent r (e ∷ older) u pos c from b q s = omega (arith, starts_after d r.flag e older pos)
 
 dense_fragments : (d : ℕ) (kind : Kind) (sent : List Mark) (rs : List Reign) (a : AllByRecursion (CanBeBroadcast d kind) rs) → 0 < d → IsChained d rs → AreKept d sent rs
-    → (k : ℕ) (b : Broadcast) (u t : ℕ) (q p : Fragment) → HasNumber (plan_from d kind rs a) k b → Covers b u → Covers b t → IsSent sent u (Sends q) → IsSent sent t (Sends p) → u < t
+    → (k : ℕ) (b : Broadcast) (u t : ℕ) (q p : Fragment) → HasNumber (plan_from d kind rs a) k b → Covers b u → Covers b t → IsMarkIn sent u (Sends q) → IsMarkIn sent t (Sends p) → u < t
     → IsBridged d sent u t
 dense_fragments d kind sent [] a pos c keep k b u t q p n cu ct su st lt = absurd n
 dense_fragments d kind sent (r ∷ older) a pos c keep k b u t q p (inr n) cu ct su st lt = dense_fragments d kind sent older a.1 pos c.1 keep.2 k b u t q p n cu ct su st lt
@@ -240,12 +240,12 @@ dense_fragments d kind sent (r ∷ older) a pos c keep k b u t q p (inl n) cu ct
 
 -- tags that are sent in a reign's broadcast come after the reign's first fragment
 opened_before : (d : ℕ) (sent : List Mark) (r : Reign) (older : List Reign) (t : ℕ) (pair : PairFields) → 0 < d → TagsAreAfter sent → r.start ≡ start_after d r.flag older → r.start ≤ t
-    → ((u : ℕ) → IsMarked sent u → u < r.opened → IsBehind sent older u) → IsSent sent t (Tagged pair) → t < r.opened → ⊥
+    → ((u : ℕ) → IsMarked sent u → u < r.opened → IsBehind sent older u) → IsMarkIn sent t (Tagged pair) → t < r.opened → ⊥
 opened_before d sent r [] t pair pos h c from gap s lt = (let w = h t pair s in gap w.slot (fragment_is_marked sent w.slot w.fragment w.is_sent) (omega (arith, w.before)) w.fragment w.is_sent)
 opened_before d sent r (e ∷ older) t pair pos h c from gap s lt = omega (arith, starts_after d r.flag e older pos, gap t (tags_are_marked sent t pair s) lt)
 
 dense_tags : (d : ℕ) (kind : Kind) (sent : List Mark) (rs : List Reign) (a : AllByRecursion (CanBeBroadcast d kind) rs) → 0 < d → TagsAreAfter sent → IsChained d rs → AreKept d sent rs
-    → (k : ℕ) (b : Broadcast) (t : ℕ) (pair : PairFields) → HasNumber (plan_from d kind rs a) k b → Covers b t → IsSent sent t (Tagged pair)
+    → (k : ℕ) (b : Broadcast) (t : ℕ) (pair : PairFields) → HasNumber (plan_from d kind rs a) k b → Covers b t → IsMarkIn sent t (Tagged pair)
     → HasFragmentBefore sent b t
 dense_tags d kind sent [] a pos h c keep k b t pair n ct st = absurd n
 dense_tags d kind sent (r ∷ older) a pos h c keep k b t pair (inr n) ct st = dense_tags d kind sent older a.1 pos h c.1 keep.2 k b t pair n ct st
@@ -259,7 +259,7 @@ dense_tags d kind sent (r ∷ older) a pos h c keep k b t pair (inl n) ct st =
       covers = record { from = omega (arith, a.0.begun); to = omega (arith, keep.0.until) };
       before = elim (cases_order r.opened t) [
         | inl same ↦
-            let tags : IsSent sent r.opened (Tagged pair) = subst (λ (n : ℕ). IsSent sent n (Tagged pair)) (sym same) st in
+            let tags : IsMarkIn sent r.opened (Tagged pair) = subst (λ (n : ℕ). IsMarkIn sent n (Tagged pair)) (sym same) st in
             let e : Sends keep.0.first ≡ Tagged pair = one_mark sent r.opened (Sends keep.0.first) (Tagged pair) keep.0.opened tags in
             absurd (cc)
         | inr other ↦ elim other [ inl less ↦ less | inr more ↦ absurd (opened_before d sent r older t pair pos h c.0 (omega (arith, ct.from)) keep.1 st more) ]

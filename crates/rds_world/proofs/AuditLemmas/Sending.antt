@@ -5,10 +5,10 @@ use Rattle.rds_receiver.specs.Receipts.{Fragment}
 use Rattle.rds_encoder.specs.Plan.{Broadcast}
 use Rattle.rds_world.specs.Audit.Dense.{IsBridged, IsDense, IsMarked}
 use Rattle.rds_world.specs.Safety.Lawful.{IsLawful, Kind}
-use Rattle.rds_world.specs.Safety.Marks.{IsSent, Mark, Sends, Tagged}
+use Rattle.rds_world.specs.Safety.Marks.{IsMarkIn, Mark, Sends, Tagged}
 use Rattle.rds_world.specs.Audit.Rules.{IsAfterFragment}
 
-pub early : (sent : List Mark) (t : ℕ) (m : Mark) → IsSent sent t m → t < length sent
+pub early : (sent : List Mark) (t : ℕ) (m : Mark) → IsMarkIn sent t m → t < length sent
 early [] t m s = absurd s
 early (n ∷ before) t m (inl s) = omega arith
 early (n ∷ before) t m (inr s) = omega (arith, early before t m s)
@@ -16,7 +16,7 @@ early (n ∷ before) t m (inr s) = omega (arith, early before t m s)
 pub marked_early : (sent : List Mark) (t : ℕ) → IsMarked sent t → t < length sent
 marked_early sent t m = early sent t m.mark m.is_sent
 
-pub one_mark : (sent : List Mark) (t : ℕ) (m n : Mark) → IsSent sent t m → IsSent sent t n → m ≡ n
+pub one_mark : (sent : List Mark) (t : ℕ) (m n : Mark) → IsMarkIn sent t m → IsMarkIn sent t n → m ≡ n
 one_mark [] t m n p q = absurd p
 one_mark (x ∷ before) t m n (inl p) (inl q) = p.1 ∙ sym q.1
 one_mark (x ∷ before) t m n (inl p) (inr q) = absurd (omega (arith, early before t n q))
@@ -24,7 +24,7 @@ one_mark (x ∷ before) t m n (inr p) (inl q) = absurd (omega (arith, early befo
 one_mark (x ∷ before) t m n (inr p) (inr q) = one_mark before t m n p q
 
 -- what was sent in an earlier slot than the newest
-pub sent_before : (x : Mark) (before : List Mark) (t : ℕ) (m : Mark) → t < length before → IsSent (x ∷ before) t m → IsSent before t m
+pub sent_before : (x : Mark) (before : List Mark) (t : ℕ) (m : Mark) → t < length before → IsMarkIn (x ∷ before) t m → IsMarkIn before t m
 sent_before x before t m h (inl s) = absurd (omega arith)
 sent_before x before t m h (inr s) = s
 
@@ -37,15 +37,15 @@ marked_later x before t m = record { mark = m.mark; some = m.some; is_sent = inr
 pub bridged_later : (d : ℕ) (x : Mark) (before : List Mark) (u t : ℕ) → IsBridged d before u t → IsBridged d (x ∷ before) u t
 bridged_later d x before u t b = record { slot = b.slot; marked = marked_later x before b.slot b.marked; from = b.from; before = b.before; near = b.near }
 
-pub fragment_is_marked : (sent : List Mark) (t : ℕ) (p : Fragment) → IsSent sent t (Sends p) → IsMarked sent t
+pub fragment_is_marked : (sent : List Mark) (t : ℕ) (p : Fragment) → IsMarkIn sent t (Sends p) → IsMarked sent t
 fragment_is_marked sent t p s = record { mark = Sends p; some = λ e. (cc); is_sent = s }
 
-pub tags_are_marked : (sent : List Mark) (t : ℕ) (pair : PairFields) → IsSent sent t (Tagged pair) → IsMarked sent t
+pub tags_are_marked : (sent : List Mark) (t : ℕ) (pair : PairFields) → IsMarkIn sent t (Tagged pair) → IsMarked sent t
 tags_are_marked sent t pair s = record { mark = Tagged pair; some = λ e. (cc); is_sent = s }
 
 -- tags come after a fragment
 abbrev pub TagsAreAfter : List Mark → Type 0
-TagsAreAfter sent = (t : ℕ) (pair : PairFields) → IsSent sent t (Tagged pair) → IsAfterFragment sent t
+TagsAreAfter sent = (t : ℕ) (pair : PairFields) → IsMarkIn sent t (Tagged pair) → IsAfterFragment sent t
 
 pub after_later : (x : Mark) (sent : List Mark) (t : ℕ) → IsAfterFragment sent t → IsAfterFragment (x ∷ sent) t
 after_later x sent t w = record { slot = w.slot; fragment = w.fragment; is_sent = inr w.is_sent; before = w.before }

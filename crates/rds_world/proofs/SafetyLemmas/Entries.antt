@@ -2,7 +2,7 @@
 use Rattle.std.proofs.Common.{◌≡◌, ◌+◌, ◌<◌, ℕ, suc, List, [], ◌∷◌, length, Option, Some, None, refl, sym, ap, ◌∙◌, inl, inr, arith}
 use Rattle.rds_fields.specs.declared.message.Message.{Message}
 use Rattle.rds_world.specs.Safety.Late.{CameFrom, HasEntry, Input, InputOf, IsHeardInOrder, SentIn}
-use Rattle.rds_world.specs.Safety.Marks.{IsSent, Mark, marks}
+use Rattle.rds_world.specs.Safety.Marks.{IsMarkIn, Mark, marks}
 
 -- an entry's slot comes before the end of the list
 pub before_end : {X : Type 0} (first : ℕ) (entries : List X) (t : ℕ) (x : X) → HasEntry first entries t x → t < first + length entries
@@ -30,7 +30,7 @@ marks_long of [] = refl
 marks_long of (x ∷ log) = ap suc (marks_long of log)
 
 -- what was sent is among the log's marks
-pub mark_sent : (of : Option Message → Mark) (log : List (Option Message)) (s : ℕ) (message : Option Message) → SentIn log s message → IsSent (marks of log) s (of message)
+pub mark_sent : (of : Option Message → Mark) (log : List (Option Message)) (s : ℕ) (message : Option Message) → SentIn log s message → IsMarkIn (marks of log) s (of message)
 mark_sent of [] s message a = absurd a
 mark_sent of (x ∷ log) s message (inl a) = inl (omega (arith, marks_long of log), ap of a.1)
 mark_sent of (x ∷ log) s message (inr a) = inr (mark_sent of log s message a)

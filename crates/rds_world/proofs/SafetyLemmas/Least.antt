@@ -25,7 +25,7 @@ use Rattle.rds_receiver.specs.Tags.{item_of, pair_held, tag_of}
 use Rattle.rds_world.specs.Safety.Late.{CameFrom, HasEntry, Input, IsHeardInOrder, IsHeardLate, SentIn}
 use Rattle.rds_world.specs.Safety.Lawful.{HasOne, HasFragment, HasTags, IsLawful, names, texts}
 use Rattle.rds_world.specs.Safety.Laws.{ShowsAMix}
-use Rattle.rds_world.specs.Safety.Marks.{IsSent, Mark, Nothing, Sends, Tagged, marks, name_mark, text_mark}
+use Rattle.rds_world.specs.Safety.Marks.{IsMarkIn, Mark, Nothing, Sends, Tagged, marks, name_mark, text_mark}
 use Rattle.rds_world.specs.Safety.OwnClock.{ListensByOwnClock, ListensBySlowClock}
 use Rattle.rds_world.specs.Safety.Plans.{AreLawful}
 use Rattle.rds_world.specs.Safety.Safe.{AreSafe, Listener, ListensTo, WasOnAir}
@@ -137,13 +137,13 @@ marks_long : (j : ℕ) → length (marks text_mark (quiet j)) ≡ suc j
 marks_long zero = refl
 marks_long (suc j) = ap suc (marks_long j)
 
-quiet_texts : (j t : ℕ) (m : Mark) → IsSent (marks text_mark (quiet j)) t m → (m ≡ Nothing) ⊎ ((t ≡ 0) × (m ≡ Sends first_fragment))
+quiet_texts : (j t : ℕ) (m : Mark) → IsMarkIn (marks text_mark (quiet j)) t m → (m ≡ Nothing) ⊎ ((t ≡ 0) × (m ≡ Sends first_fragment))
 quiet_texts zero t m (inl s) = inr s
 quiet_texts zero t m (inr s) = absurd s
 quiet_texts (suc j) t m (inl s) = inl s.1
 quiet_texts (suc j) t m (inr s) = quiet_texts j t m s
 
-quiet_names : (j t : ℕ) (m : Mark) → IsSent (marks name_mark (quiet j)) t m → m ≡ Nothing
+quiet_names : (j t : ℕ) (m : Mark) → IsMarkIn (marks name_mark (quiet j)) t m → m ≡ Nothing
 quiet_names zero t m (inl s) = s.1
 quiet_names zero t m (inr s) = absurd s
 quiet_names (suc j) t m (inl s) = s.1
@@ -161,7 +161,7 @@ texts_lawful j = record {
   tags = tags;
 }
   where
-    fragments : (t : ℕ) (p : Fragment) → IsSent (marks text_mark (log j)) t (Sends p) → HasOne (plan (j + 1)) (HasFragment texts t p)
+    fragments : (t : ℕ) (p : Fragment) → IsMarkIn (marks text_mark (log j)) t (Sends p) → HasOne (plan (j + 1)) (HasFragment texts t p)
     fragments t p (inl s) =
         let same : p ≡ last_fragment = (let e = s.1 in cc) in
         let slot : t ≡ j + 1 = omega (arith, s.0, marks_long j) in
@@ -183,7 +183,7 @@ texts_lawful j = record {
           }
     ]
 
-    tags : (t : ℕ) (pair : PairFields) → IsSent (marks text_mark (log j)) t (Tagged pair) → HasOne (plan (j + 1)) (HasTags (j + 1) t pair)
+    tags : (t : ℕ) (pair : PairFields) → IsMarkIn (marks text_mark (log j)) t (Tagged pair) → HasOne (plan (j + 1)) (HasTags (j + 1) t pair)
     tags t pair (inl s) = (let e = s.1 in absurd (cc))
     tags t pair (inr s) = elim (quiet_texts j t (Tagged pair) s) [ inl none ↦ absurd (cc) | inr one ↦ (let e = one.1 in absurd (cc)) ]
 
@@ -195,7 +195,7 @@ names_lawful d j = record {
   tags = λ t pair s. absurd (none t (Tagged pair) s (λ e. (cc)));
 }
   where
-    none : (t : ℕ) (m : Mark) → IsSent (marks name_mark (log j)) t m → m ≢ Nothing → ⊥
+    none : (t : ℕ) (m : Mark) → IsMarkIn (marks name_mark (log j)) t m → m ≢ Nothing → ⊥
     none t m (inl s) ne = ne s.1
     none t m (inr s) ne = ne (quiet_names j t m s)
 

@@ -23,7 +23,7 @@ use Rattle.rds_world.specs.Safety.ClockBounds.{Bounds, ListensWithin, own_bounds
 use Rattle.rds_world.specs.Safety.Late.{CameFrom, HasEntry, Input}
 use Rattle.rds_world.specs.Safety.Lawful.{HasOne, HasFragment, HasTags, IsLawful, names, texts}
 use Rattle.rds_world.specs.Safety.Laws.{IsUnsafe, ShowsAMix}
-use Rattle.rds_world.specs.Safety.Marks.{IsSent, Mark, Nothing, Sends, Tagged, marks, name_mark, text_mark}
+use Rattle.rds_world.specs.Safety.Marks.{IsMarkIn, Mark, Nothing, Sends, Tagged, marks, name_mark, text_mark}
 use Rattle.rds_world.specs.Safety.OwnClock.{ListensByOwnClock}
 use Rattle.rds_world.specs.Safety.Plans.{AreLawful}
 use Rattle.rds_world.specs.Safety.Safe.{Listener, WasOnAir}
@@ -147,18 +147,18 @@ nothing_long : (a : ℕ) → length (nothing a) ≡ a
 nothing_long zero = refl
 nothing_long (suc a) = ap suc (nothing_long a)
 
-marks_of_nothing : (of : Option Message → Mark) (a t : ℕ) (m : Mark) → of None ≡ Nothing → IsSent (marks of (nothing a)) t m → m ≡ Nothing
+marks_of_nothing : (of : Option Message → Mark) (a t : ℕ) (m : Mark) → of None ≡ Nothing → IsMarkIn (marks of (nothing a)) t m → m ≡ Nothing
 marks_of_nothing of zero t m e s = absurd s
 marks_of_nothing of (suc a) t m e (inl s) = s.1 ∙ e
 marks_of_nothing of (suc a) t m e (inr s) = marks_of_nothing of a t m e s
 
-once_texts : (a j t : ℕ) (m : Mark) → IsSent (marks text_mark (sent_once a j)) t m → (m ≡ Nothing) ⊎ ((t ≡ a) × (m ≡ Sends fragment))
+once_texts : (a j t : ℕ) (m : Mark) → IsMarkIn (marks text_mark (sent_once a j)) t m → (m ≡ Nothing) ⊎ ((t ≡ a) × (m ≡ Sends fragment))
 once_texts a zero t m (inl s) = inr (omega (arith, s.0, marks_long text_mark (nothing a), nothing_long a), s.1)
 once_texts a zero t m (inr s) = inl (marks_of_nothing text_mark a t m refl s)
 once_texts a (suc j) t m (inl s) = inl s.1
 once_texts a (suc j) t m (inr s) = once_texts a j t m s
 
-once_names : (a j t : ℕ) (m : Mark) → IsSent (marks name_mark (sent_once a j)) t m → m ≡ Nothing
+once_names : (a j t : ℕ) (m : Mark) → IsMarkIn (marks name_mark (sent_once a j)) t m → m ≡ Nothing
 once_names a zero t m (inl s) = s.1
 once_names a zero t m (inr s) = marks_of_nothing name_mark a t m refl s
 once_names a (suc j) t m (inl s) = s.1
@@ -183,7 +183,7 @@ once_spaced d a = record {
 once_lawful : (d a j : ℕ) → AreLawful d record { text = once a ∷ []; name = [] } (sent_once a j)
 once_lawful d a j = record { text = of_texts; name = of_names }
   where
-    fragments : (t : ℕ) (p : Fragment) → IsSent (marks text_mark (sent_once a j)) t (Sends p) → HasOne (once a ∷ []) (HasFragment texts t p)
+    fragments : (t : ℕ) (p : Fragment) → IsMarkIn (marks text_mark (sent_once a j)) t (Sends p) → HasOne (once a ∷ []) (HasFragment texts t p)
     fragments t p s = elim (once_texts a j t (Sends p) s) [
       | inl none ↦ absurd (cc)
       | inr one ↦
@@ -196,7 +196,7 @@ once_lawful d a j = record { text = of_texts; name = of_names }
           }
     ]
 
-    tags : (t : ℕ) (pair : PairFields) → IsSent (marks text_mark (sent_once a j)) t (Tagged pair) → HasOne (once a ∷ []) (HasTags d t pair)
+    tags : (t : ℕ) (pair : PairFields) → IsMarkIn (marks text_mark (sent_once a j)) t (Tagged pair) → HasOne (once a ∷ []) (HasTags d t pair)
     tags t pair s = elim (once_texts a j t (Tagged pair) s) [ inl none ↦ absurd (cc) | inr one ↦ (let e = one.1 in absurd (cc)) ]
 
     of_texts : IsLawful d texts (once a ∷ []) (marks text_mark (sent_once a j))

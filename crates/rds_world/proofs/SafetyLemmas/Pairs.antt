@@ -17,7 +17,7 @@ use Rattle.rds_receiver.specs.Tags.{cut_by, is_known, item_of, pair_from, pair_h
 use Rattle.rds_world.specs.Safety.Late.{CameFrom, HasEntry, Input}
 use Rattle.rds_world.specs.Safety.Lawful.{IsLawful, Kind, texts}
 use Rattle.rds_world.specs.Safety.Laws.{PlanLaws}
-use Rattle.rds_world.specs.Safety.Marks.{IsSent, Tagged, marks, text_mark}
+use Rattle.rds_world.specs.Safety.Marks.{IsMarkIn, Tagged, marks, text_mark}
 use Rattle.rds_world.specs.Safety.OwnClock.{IsHeardByOwnClock}
 use Rattle.rds_world.specs.Safety.Safe.{NamesPiece, ShowsNoTags, ShowsTagsOf}
 use Rattle.rds_world.specs.Safety.Source.{text_run}
@@ -74,7 +74,7 @@ begins kind input b g (h ∷ older) all =
 -- the pair was sent in the broadcast, d slots after its start or later
 record WasSentFor (d : ℕ) (log : List (Option Message)) (b : Broadcast) (pair : PairFields) : Type 0 where
   slot : ℕ
-  tagged : IsSent (marks text_mark log) slot (Tagged pair)
+  tagged : IsMarkIn (marks text_mark log) slot (Tagged pair)
   lasted : b.start + d ≤ slot
   to : slot ≤ b.end
 
@@ -85,7 +85,7 @@ sent_for laws d m t plan log input g older pair law hears l e =
     let b = begins texts input l.broadcast g older l.all in
     let f = was_heard input.first b.since input.heard pair (rw b.begins at e) in
     let came = arrival log input f.slot (Tags pair) hears.order f.came in
-    let tagged : IsSent (marks text_mark log) came.slot (Tagged pair) = mark_sent text_mark log came.slot (Some (Tags pair)) came.sent in
+    let tagged : IsMarkIn (marks text_mark log) came.slot (Tagged pair) = mark_sent text_mark log came.slot (Some (Tags pair)) came.sent in
     let lies = law.tags came.slot pair tagged in
     let last = l.all.0 in
     let sent_later = hears.order.rising b.since f.slot b.slot came.slot b.from came.from f.later in

@@ -15,7 +15,7 @@ use Rattle.rds_world.specs.declared.world.event.Command.{Command}
 use Rattle.rds_world.specs.declared.world.event.Command.TheVariants.{Quiet, Restart, SetText, SetName, SetTags}
 use Rattle.rds_world.specs.World.Event.{Event}
 use Rattle.rds_world.specs.Safety.Lawful.{HasOne, HasFragment, HasTags, IsLawful, Kind, names, texts}
-use Rattle.rds_world.specs.Safety.Marks.{IsSent, Mark, Sends, Tagged, marks, name_mark, text_mark}
+use Rattle.rds_world.specs.Safety.Marks.{IsMarkIn, Mark, Sends, Tagged, marks, name_mark, text_mark}
 use Rattle.rds_world.specs.Safety.Plans.{AreLawful}
 use Rattle.rds_world.specs.World.Slots.{SetValues, SetsAValue, commanded, entries, log, plans_of, sent_at}
 
@@ -159,7 +159,7 @@ module _ (IsValue : List ℕ → Type 0) (of : Option Message → Mark) (moves :
   marked d [] = refl
   marked d (e ∷ before) = omega (arith, marked d before)
 
-  sent_in_slot : (d : ℕ) (events : List Event) (slot : ℕ) (mark : Mark) → IsSent (marks of (log d events)) slot mark → WasSentIn of moves d events slot mark
+  sent_in_slot : (d : ℕ) (events : List Event) (slot : ℕ) (mark : Mark) → IsMarkIn (marks of (log d events)) slot mark → WasSentIn of moves d events slot mark
   sent_in_slot d [] slot mark sent = absurd sent
   sent_in_slot d (e ∷ before) slot mark (inl now) =
       let here : slot ≡ length before = now.0 ∙ marked d before in
@@ -258,13 +258,13 @@ texts_lawful laws d events some set = record {
   tags = tags;
 }
   where
-    fragments : (slot : ℕ) (p : Fragment) → IsSent (marks text_mark (log d events)) slot (Sends p) → HasOne (plans_of d events).text (HasFragment texts slot p)
+    fragments : (slot : ℕ) (p : Fragment) → IsMarkIn (marks text_mark (log d events)) slot (Sends p) → HasOne (plans_of d events).text (HasFragment texts slot p)
     fragments slot p sent =
         let w = sent_in_slot IsText text_mark text_moves text_service d events slot (Sends p) sent in
         let air = laws.text d w.event.free (commanded w.event.command (entries w.before)) p.flag p.address p.bytes (text_of_mark (sent_at d w.event w.before) p w.is) in
         has_fragment texts slot p (plans_of d events).text air.0 air.2 (planned_then IsText text_mark text_moves text_service laws d events slot (Sends p) w air.0 air.1)
 
-    tags : (slot : ℕ) (pair : PairFields) → IsSent (marks text_mark (log d events)) slot (Tagged pair) → HasOne (plans_of d events).text (HasTags d slot pair)
+    tags : (slot : ℕ) (pair : PairFields) → IsMarkIn (marks text_mark (log d events)) slot (Tagged pair) → HasOne (plans_of d events).text (HasTags d slot pair)
     tags slot pair sent =
         let w = sent_in_slot IsText text_mark text_moves text_service d events slot (Tagged pair) sent in
         let told = commanded w.event.command (entries w.before) in
@@ -282,7 +282,7 @@ names_lawful laws d events some set = record {
   tags = λ slot pair sent. absurd (no_tags_of_names _ pair (sent_in_slot IsName name_mark name_moves name_service d events slot (Tagged pair) sent).is);
 }
   where
-    fragments : (slot : ℕ) (p : Fragment) → IsSent (marks name_mark (log d events)) slot (Sends p) → HasOne (plans_of d events).name (HasFragment names slot p)
+    fragments : (slot : ℕ) (p : Fragment) → IsMarkIn (marks name_mark (log d events)) slot (Sends p) → HasOne (plans_of d events).name (HasFragment names slot p)
     fragments slot p sent =
         let w = sent_in_slot IsName name_mark name_moves name_service d events slot (Sends p) sent in
         let air = laws.name d w.event.free (commanded w.event.command (entries w.before)) p.flag p.address p.bytes (name_of_mark (sent_at d w.event w.before) p w.is) in

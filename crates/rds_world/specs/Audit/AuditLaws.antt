@@ -8,7 +8,7 @@ use Rattle.rds_receiver.specs.Receipts.{Fragment}
 use Rattle.rds_world.specs.declared.audit.audit_fault.AuditFault.{AuditFault}
 use Rattle.rds_world.specs.Audit.Dense.{AreDense, HasPlans, IsDense}
 use Rattle.rds_world.specs.Safety.Lawful.{HasFragment, IsLawful, IsFragmentOf, Kind}
-use Rattle.rds_world.specs.Safety.Marks.{IsSent, Mark, Sends}
+use Rattle.rds_world.specs.Safety.Marks.{IsMarkIn, Mark, Sends}
 use Rattle.rds_world.specs.Safety.OwnClock.{ListensByOwnClock}
 use Rattle.rds_world.specs.Safety.Plans.{AreLawful, Plans}
 use Rattle.rds_world.specs.Audit.Reigns.{Reign, SentTags, reigns}
@@ -48,7 +48,7 @@ SomeReign Is (r ∷ older) = Is r ⊎ SomeReign Is older
 pub record AreTheReigns (d : ℕ) (kind : Kind) (plan : List Broadcast) (sent : List Mark) : Type 0 where
   pub each : AreReignsOf d kind plan (length plan) (reigns d sent)
   pub all : (k : ℕ) (b : Broadcast) (slot : ℕ) (p : Fragment) → HasNumber plan k b → HasFragment kind slot p b
-      → IsSent sent slot (Sends p)
+      → IsMarkIn sent slot (Sends p)
       → SomeReign (IsReignOf d kind b) (reigns d sent)
 
 -- so it is for every plan that is lawful and dense

@@ -7,14 +7,14 @@ use Rattle.rds_fields.specs.Tag.{PairFields}
 use Rattle.rds_encoder.specs.Plan.{Broadcast, Covers, HasNumber}
 use Rattle.rds_receiver.specs.Receipts.{Fragment}
 use Rattle.rds_world.specs.Safety.Lawful.{IsLawful, Kind}
-use Rattle.rds_world.specs.Safety.Marks.{IsSent, Mark, Nothing, Sends, Tagged, marks, name_mark, text_mark}
+use Rattle.rds_world.specs.Safety.Marks.{IsMarkIn, Mark, Nothing, Sends, Tagged, marks, name_mark, text_mark}
 use Rattle.rds_world.specs.Safety.Plans.{AreLawful, Plans}
 
 -- a fragment or tags were sent in the slot
 pub record IsMarked (sent : List Mark) (slot : ℕ) : Type 0 where
   pub mark : Mark
   pub some : mark ≢ Nothing
-  pub is_sent : IsSent sent slot mark
+  pub is_sent : IsMarkIn sent slot mark
 
 -- after slot u, or in it, and less than d slots before slot t something was sent
 pub record IsBridged (d : ℕ) (sent : List Mark) (u t : ℕ) : Type 0 where
@@ -28,7 +28,7 @@ pub record IsBridged (d : ℕ) (sent : List Mark) (u t : ℕ) : Type 0 where
 pub record HasFragmentBefore (sent : List Mark) (b : Broadcast) (t : ℕ) : Type 0 where
   pub slot : ℕ
   pub fragment : Fragment
-  pub is_sent : IsSent sent slot (Sends fragment)
+  pub is_sent : IsMarkIn sent slot (Sends fragment)
   pub covers : Covers b slot
   pub before : slot < t
 
@@ -36,9 +36,9 @@ pub record HasFragmentBefore (sent : List Mark) (b : Broadcast) (t : ℕ) : Type
 -- that were sent since; and tags come after a fragment
 pub record IsDense (d : ℕ) (plan : List Broadcast) (sent : List Mark) : Type 0 where
   pub fragments : (k : ℕ) (b : Broadcast) (u t : ℕ) (earlier later : Fragment) → HasNumber plan k b → Covers b u
-      → Covers b t → IsSent sent u (Sends earlier) → IsSent sent t (Sends later) → u < t → IsBridged d sent u t
+      → Covers b t → IsMarkIn sent u (Sends earlier) → IsMarkIn sent t (Sends later) → u < t → IsBridged d sent u t
   pub tags : (k : ℕ) (b : Broadcast) (t : ℕ) (pair : PairFields) → HasNumber plan k b → Covers b t
-      → IsSent sent t (Tagged pair) → HasFragmentBefore sent b t
+      → IsMarkIn sent t (Tagged pair) → HasFragmentBefore sent b t
 
 -- both plans are dense for the log
 pub record AreDense (d : ℕ) (plans : Plans) (log : List (Option Message)) : Type 0 where

@@ -9,7 +9,7 @@ use Rattle.rds_receiver.specs.Receipts.{Fragment}
 use Rattle.rds_world.specs.declared.audit.audit_fault.AuditFault.{AuditFault}
 use Rattle.rds_world.specs.declared.audit.audit_fault.AuditFault.TheVariants.{Changed, NotOneText, EarlyFlag, EarlyTag, TagOutside}
 use Rattle.rds_world.specs.Safety.Lawful.{IsFragmentOf, Kind, names, texts}
-use Rattle.rds_world.specs.Safety.Marks.{IsSent, Mark, Nothing, Sends, Tagged, marks, name_mark, text_mark}
+use Rattle.rds_world.specs.Safety.Marks.{IsMarkIn, Mark, Nothing, Sends, Tagged, marks, name_mark, text_mark}
 use Rattle.rds_world.specs.Audit.Reigns.{Reign, SentTags, reigns}
 
 -- some value has all of the fragments, and all of the tags end in it
@@ -30,13 +30,13 @@ pub record CanBeBroadcast (d : ℕ) (kind : Kind) (r : Reign) : Type 0 where
 pub record IsAfterFragment (sent : List Mark) (t : ℕ) : Type 0 where
   pub slot : ℕ
   pub fragment : Fragment
-  pub is_sent : IsSent sent slot (Sends fragment)
+  pub is_sent : IsMarkIn sent slot (Sends fragment)
   pub before : slot < t
 
 -- what a service was sent passes: each reign can be a broadcast, and tags come after a fragment
 pub record Passes (d : ℕ) (kind : Kind) (sent : List Mark) : Type 0 where
   pub reigns : AllByRecursion (CanBeBroadcast d kind) (reigns d sent)
-  pub tagged : (t : ℕ) (pair : PairFields) → IsSent sent t (Tagged pair) → IsAfterFragment sent t
+  pub tagged : (t : ℕ) (pair : PairFields) → IsMarkIn sent t (Tagged pair) → IsAfterFragment sent t
 
 -- a log passes, for its texts and for its names
 pub record LogPasses (d : ℕ) (log : List (Option Message)) : Type 0 where

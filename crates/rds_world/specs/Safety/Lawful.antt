@@ -9,7 +9,7 @@ use Rattle.rds_assembly.specs.Value.{IsName, IsText}
 use Rattle.rds_encoder.specs.Plan.{Broadcast, Covers, HasNumber}
 use Rattle.rds_encoder.specs.Spaced.{IsSpaced}
 use Rattle.rds_receiver.specs.Receipts.{Fragment}
-use Rattle.rds_world.specs.Safety.Marks.{IsSent, Mark, Sends, Tagged}
+use Rattle.rds_world.specs.Safety.Marks.{IsMarkIn, Mark, Sends, Tagged}
 
 -- a service: which values may be sent, and what is sent of one
 pub record Kind : Type 1 where
@@ -50,5 +50,5 @@ pub record HasOne (plan : List Broadcast) (Is : Broadcast → Type 0) : Type 0 w
 pub record IsLawful (d : ℕ) (kind : Kind) (plan : List Broadcast) (sent : List Mark) : Type 0 where
   pub spaced : IsSpaced d plan
   pub values : (k : ℕ) (b : Broadcast) → HasNumber plan k b → kind.IsValue b.bytes
-  pub fragments : (slot : ℕ) (p : Fragment) → IsSent sent slot (Sends p) → HasOne plan (HasFragment kind slot p)
-  pub tags : (slot : ℕ) (pair : PairFields) → IsSent sent slot (Tagged pair) → HasOne plan (HasTags d slot pair)
+  pub fragments : (slot : ℕ) (p : Fragment) → IsMarkIn sent slot (Sends p) → HasOne plan (HasFragment kind slot p)
+  pub tags : (slot : ℕ) (pair : PairFields) → IsMarkIn sent slot (Tagged pair) → HasOne plan (HasTags d slot pair)

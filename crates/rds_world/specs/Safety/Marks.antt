@@ -35,6 +35,6 @@ marks of [] = []
 marks of (sent ∷ before) = of sent ∷ marks of before
 
 -- the mark was sent in the slot
-abbrev pub IsSent : List Mark → ℕ → Mark → Type 0
-IsSent [] slot mark = ⊥
-IsSent (newest ∷ before) slot mark = ((slot ≡ length before) × (mark ≡ newest)) ⊎ IsSent before slot mark
+abbrev pub IsMarkIn : List Mark → ℕ → Mark → Type 0
+IsMarkIn [] slot mark = ⊥
+IsMarkIn (newest ∷ before) slot mark = ((slot ≡ length before) × (mark ≡ newest)) ⊎ IsMarkIn before slot mark

@@ -9,7 +9,7 @@ use Rattle.rds_encoder.specs.Plan.{Broadcast, Covers}
 use Rattle.rds_receiver.specs.Receipts.{Segment}
 use Rattle.rds_receiver.specs.Shown.{ShowsView, ShownView}
 use Rattle.rds_world.specs.Safety.Late.{Input, IsHeardLate}
-use Rattle.rds_world.specs.Safety.Marks.{IsSent, Mark, Tagged, marks, text_mark}
+use Rattle.rds_world.specs.Safety.Marks.{IsMarkIn, Mark, Tagged, marks, text_mark}
 use Rattle.rds_world.specs.Safety.Plans.{Plans}
 use Rattle.rds_world.specs.Safety.Source.{IsSource, name_run, text_run}
 
@@ -67,7 +67,7 @@ pub record ShowsTagsOf (d : ℕ) (plan : List Broadcast) (sent : List Mark) (inp
   pub source : IsSource plan input the_run number broadcast
   pub pair : PairFields
   pub slot : ℕ
-  pub tagged : IsSent sent slot (Tagged pair)
+  pub tagged : IsMarkIn sent slot (Tagged pair)
   pub lasted : broadcast.start + d ≤ slot
   pub to : slot ≤ broadcast.end
   pub item : view.item ≡ Some (pair.toggle, pair.running)

@@ -7,6 +7,7 @@ use Rattle.rds_encoder.specs.Reply as encoder
 use Rattle.rds_encoder.specs.Tags.{tags_reply}
 use Rattle.rds_world.specs.declared.world.event.Command.{Command}
 use Rattle.rds_world.specs.declared.world.event.Command.TheVariants.{Quiet, Restart, SetText, SetName, SetTags}
+use Rattle.rds_world.specs.declared.world.event.TheConstants.{MOST_RECEIVERS}
 use Rattle.rds_world.specs.declared.world.reply.StepRefused.{StepRefused}
 use Rattle.rds_world.specs.declared.world.reply.StepRefused.TheVariants as step
 use Rattle.rds_world.specs.declared.world.reply.Reply.{Reply}
@@ -52,19 +53,19 @@ IsTaken k receivers events place =
 
 -- slots that can be played: with at most eight receivers, and each of them can be taken
 pub record CanBePlayed (k receivers : ℕ) (events : List Event) : Type 0 where
-  pub few : receivers ≤ 8
+  pub few : receivers ≤ MOST_RECEIVERS
   pub each : (place : ℕ) → place < length events → IsTaken k receivers events place
 
 -- there are at most eight receivers, the event at this place is the first that is refused, and this is why
 pub record IsFirstRefused (k receivers : ℕ) (events : List Event) (place : ℕ) (why : StepRefused) : Type 0 where
-  pub few : receivers ≤ 8
+  pub few : receivers ≤ MOST_RECEIVERS
   pub refused : IfSome (slice_get events place) (λ e. IsStepRefused k receivers e (reverse (take place events)) why)
   pub there : place < length events
   pub first : (before : ℕ) → before < place → IsTaken k receivers events before
 
 -- why slots are not played: for too many receivers exactly where there are more than eight
 abbrev pub IsPlayRefused : ℕ → ℕ → List Event → PlayRefused → Type 0
-IsPlayRefused k receivers events TooManyReceivers = 8 < receivers
-IsPlayRefused k receivers events Memory = receivers ≤ 8
+IsPlayRefused k receivers events TooManyReceivers = MOST_RECEIVERS < receivers
+IsPlayRefused k receivers events Memory = receivers ≤ MOST_RECEIVERS
 IsPlayRefused k receivers events (ReceiverCount place) = IsFirstRefused k receivers events place step.ReceiverCount
 IsPlayRefused k receivers events (Late place r) = IsFirstRefused k receivers events place (step.Late r)

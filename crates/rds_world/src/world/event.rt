@@ -7,6 +7,9 @@ use rds_assembly::{Name, Text};
 use rds_fields::TagPair;
 use std::marker::Model;
 
+/// The most receivers of a world (this project's own rule).
+pub const MOST_RECEIVERS: usize = 8;
+
 /// What the encoder is told at the start of a slot: at most one thing.
 #[derive(Clone, Copy, Debug, PartialEq, Eq)]
 pub enum Command {
@@ -47,7 +50,7 @@ impl Default for Reception {
 pub struct SlotEvent {
     pub command: Command,
     pub free: bool,
-    pub receptions: ArrayVec<Reception, 8>,
+    pub receptions: ArrayVec<Reception, MOST_RECEIVERS>,
 }
 
 impl Model for SlotEvent {

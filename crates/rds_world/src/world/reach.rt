@@ -3,8 +3,9 @@ ghost use Rattle.std.specs.Prelude.{◌≡◌, ◌<◌, ◌≤◌, ◌+◌, ◌�
 ghost use Rattle.rds_world.specs.World.Due.{IsDue, IsDueToAll, IsFirstLate, named, reach_of};
 ghost use Rattle.rds_world.specs.World.Event.{Event};
 ghost use Rattle.rds_world.specs.World.StandsAt.{HaveReaches};
+ghost use Rattle.rds_world.specs.declared.world.event.TheConstants.{MOST_RECEIVERS};
 
-use crate::{Reception, SlotEvent};
+use crate::{MOST_RECEIVERS, Reception, SlotEvent};
 use rds_encoder::Late;
 use std::marker::Model;
 
@@ -66,9 +67,9 @@ pub(crate) fn reaches_after(
     reaches: &[Reach],
     late: Late,
     event: &SlotEvent,
-) -> Result<[Reach; 8], usize>
+) -> Result<[Reach; MOST_RECEIVERS], usize>
     requires same { length event.now.receptions ≡ length reaches.now }
-    requires few { length reaches.now ≤ 8 }
+    requires few { length reaches.now ≤ MOST_RECEIVERS }
     ensures due { (before : List Event) → HaveReaches late before reaches.now
         → MatchResult result
         (λ _. IsDueToAll late event.now before) (IsFirstLate late event.now before) }
@@ -76,7 +77,7 @@ pub(crate) fn reaches_after(
         → IfOk result (λ next. HaveReaches late (event.now ∷ before) (take (length reaches.now) next)) }
 {
     let receptions = event.receptions.as_slice();
-    let mut next = [Reach::new(); 8];
+    let mut next = [Reach::new(); MOST_RECEIVERS];
     for i in 0..receptions.len() {
         let reach = reaches[i];
         let reception = receptions[i];

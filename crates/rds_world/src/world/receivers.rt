@@ -3,17 +3,18 @@ ghost use Rattle.std.specs.Prelude.{◌≡◌, ◌≤◌, ℕ, List, Option, IsT
 ghost use Rattle.std.specs.List.{AllByRecursion};
 ghost use Rattle.rds_fields.specs.declared.message.Message.{Message};
 ghost use Rattle.rds_world.specs.declared.world.event.Reception.TheVariants.{Lost};
+ghost use Rattle.rds_world.specs.declared.world.event.TheConstants.{MOST_RECEIVERS};
 ghost use Rattle.rds_world.specs.World.Due.{IsDue};
 ghost use Rattle.rds_world.specs.Safety.Late.{Input};
 ghost use Rattle.rds_world.specs.World.Slots.{received};
 ghost use Rattle.rds_world.specs.World.StandsAt.{AllHaveHeard, AreLastSent, HasHeard, IsNew, StaysShown, WhereTheyListen, all_received};
 
 use crate::world::recent::Recent;
-use crate::{Config, Reception};
+use crate::{Config, MOST_RECEIVERS, Reception};
 use rds_receiver::Receiver;
 
 /// Eight receivers that heard nothing yet.
-pub(crate) fn eight_receivers(config: &Config) -> [Receiver; 8]
+pub(crate) fn eight_receivers(config: &Config) -> [Receiver; MOST_RECEIVERS]
     ensures { AllByRecursion (IsNew config.now) result }
 {
     let pi = config.head.pi;
@@ -37,9 +38,9 @@ pub(crate) fn hand_out(
     config: &Config,
     receptions: &[Reception],
     recent: &Recent,
-) -> [bool; 8]
+) -> [bool; MOST_RECEIVERS]
     requires same { length receptions.now ≡ length receivers.old }
-    requires few { length receivers.old ≤ 8 }
+    requires few { length receivers.old ≤ MOST_RECEIVERS }
     ensures count { length receivers.new ≡ length receivers.old }
     ensures heard { WhereTheyListen config.now receptions.now recent.now.items receivers.old
         (λ slot sent inputs. AllHaveHeard config.now
@@ -48,7 +49,7 @@ pub(crate) fn hand_out(
         (λ slot sent inputs. (i : ℕ) → slice_index_or result i false ≡ true
         → StaysShown config.now (inputs i) (all_received receptions.now slot sent inputs i)) }
 {
-    let mut stays = [false; 8];
+    let mut stays = [false; MOST_RECEIVERS];
     for i in 0..receivers.len() {
         stays[i] = receive(&mut receivers[i], config, receptions[i], recent);
     }
