@@ -9,6 +9,7 @@ use Rattle.rds_assembly.specs.Body.{name_body}
 use Rattle.rds_assembly.specs.Value.{IsGivenName, IsText}
 use Rattle.rds_world.specs.declared.world.event.Command.{Command}
 use Rattle.rds_world.specs.declared.world.event.Command.TheVariants.{Quiet, Restart, SetText, SetName, SetTags}
+use Rattle.rds_world.specs.declared.world.event.TheConstants.{MOST_RECEIVERS}
 use Rattle.rds_world.specs.World.Event.{Event}
 use Rattle.rds_world.specs.World.Replies.{CanBeTaken}
 use Rattle.rds_log.specs.Receptions.{AreReceptions}
@@ -86,7 +87,7 @@ pub record SaysEvent (row : Record) (e : Event) : Type 0 where
 
 -- a script that is simulated names up to eight receivers, and one that is encoded names none
 abbrev pub IsAllowed : Form → ℕ → Type 0
-IsAllowed Simulation receivers = receivers ≤ 8
+IsAllowed Simulation receivers = receivers ≤ MOST_RECEIVERS
 IsAllowed Log receivers = receivers ≡ 0
 
 -- the records are rows that say these events, each with so many receivers, to which each reception is due: at most

@@ -1,5 +1,6 @@
 //! What a script is played for.
 ghost use Rattle.std.specs.Prelude.{◌≤◌, ◌↔◌, IsTrue};
+ghost use Rattle.rds_world.specs.declared.world.event.TheConstants.{MOST_RECEIVERS};
 
 /// What is written for the slots of a script.
 #[derive(Clone, Copy, PartialEq, Eq)]
@@ -13,9 +14,9 @@ pub enum Form {
 impl Form {
     ghost use Rattle.rds_log.specs.Rows.{IsAllowed};
 
-    /// Whether a row may name so many receivers, of the eight that a world can have.
+    /// Whether a row may name so many receivers, of those that a world can have.
     pub(crate) fn allows(self, receivers: usize) -> bool
-        requires { receivers ≤ 8 }
+        requires { receivers ≤ MOST_RECEIVERS }
         ensures { IsTrue result ↔ IsAllowed self receivers }
     {
         self == Form::Simulation || receivers == 0

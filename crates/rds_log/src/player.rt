@@ -1,6 +1,7 @@
 //! A station that plays the rows of a script.
 ghost use Rattle.std.specs.Prelude.{◌≡◌, ◌<◌, ◌≤◌, ◌+◌, ◌-◌, ◌^◌, [], IfErr, None, OnOk, Some};
 ghost use Rattle.csv.specs.Records.{fields_of};
+ghost use Rattle.rds_world.specs.declared.world.event.TheConstants.{MOST_RECEIVERS};
 ghost use Rattle.rds_log.specs.declared.row.RowRefused.TheVariants as refused;
 ghost use Rattle.rds_log.specs.declared.watched.Watched.{Watched};
 
@@ -71,7 +72,7 @@ impl Player {
 
     /// Makes the world, with so many receivers, where there is none yet.
     fn begin(&mut self, receivers: usize) -> Result<(), RowRefused>
-        requires few { receivers ≤ 8 }
+        requires few { receivers ≤ MOST_RECEIVERS }
         ensures begins { OnOk result ((w : Watched) × (self.new ≡ record self.old { watched = Some w })
             × IsBegun self.old.config receivers self.old.watched w) }
         ensures memory { IfErr result (λ why. (why ≡ refused.Memory) × (self.old.watched ≡ None)) }
@@ -87,7 +88,7 @@ impl Player {
     /// It stands apart so that the other rows pay nothing for its copies.
     #[inline(never)]
     fn make_world(&mut self, receivers: usize) -> Result<(), RowRefused>
-        requires few { receivers ≤ 8 }
+        requires few { receivers ≤ MOST_RECEIVERS }
         ensures made { OnOk result ((w : Watched) × (self.new ≡ record self.old { watched = Some w })
             × IsBegun self.old.config receivers None w) }
         ensures memory { IfErr result (λ why. why ≡ refused.Memory) }

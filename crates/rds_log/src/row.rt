@@ -10,6 +10,7 @@ ghost use Rattle.rds_assembly.specs.Value.{IsText};
 ghost use Rattle.rds_world.specs.World.Event.{Event};
 ghost use Rattle.rds_world.specs.declared.world.event.Command.{Command};
 ghost use Rattle.rds_world.specs.declared.world.event.Reception.{Reception};
+ghost use Rattle.rds_world.specs.declared.world.event.TheConstants.{MOST_RECEIVERS};
 ghost use Rattle.rds_log.specs.declared.row.Verb.{Verb};
 ghost use Rattle.rds_log.specs.Verbs.{verb_word};
 ghost use Rattle.rds_log.specs.Receptions.{AreReceptions, HasDigits, IsLateness, letter};
@@ -20,7 +21,7 @@ use csv::ByteRecord;
 use rds_assembly::{Name, Text};
 use rds_charset::{read_text, text_is_read_one_way};
 use rds_fields::{Tag, TagPair};
-use rds_world::{Command, Reception, SlotEvent};
+use rds_world::{Command, MOST_RECEIVERS, Reception, SlotEvent};
 
 /// The most bytes of a text, and more than those of a name.
 const LONGEST: usize = 64;
@@ -47,7 +48,7 @@ pub(crate) enum RowRefused {
 /// What happens in the slot of a row; `None` for a record that is no row.
 pub(crate) fn event_of(row: &ByteRecord) -> Option<SlotEvent>
     ensures some { IfSome result (λ e. SaysEvent (fields_of row.now) e) }
-    ensures none { IfNone result ((e : Event) → length e.receptions ≤ 8
+    ensures none { IfNone result ((e : Event) → length e.receptions ≤ MOST_RECEIVERS
         → SaysEvent (fields_of row.now) e → ⊥) }
 {
     let fields = four_fields(row)?;
@@ -239,9 +240,9 @@ fn free_of(field: &[u8]) -> Option<bool>
 }
 
 /// What each receiver gets; `None` also for more than eight receivers.
-fn receptions_of(field: &[u8]) -> Option<ArrayVec<Reception, 8>>
+fn receptions_of(field: &[u8]) -> Option<ArrayVec<Reception, MOST_RECEIVERS>>
     ensures some { IfSome result (λ receptions. AreReceptions field.now receptions.items) }
-    ensures none { IfNone result ((receptions : List Reception) → length receptions ≤ 8
+    ensures none { IfNone result ((receptions : List Reception) → length receptions ≤ MOST_RECEIVERS
         → AreReceptions field.now receptions → ⊥) }
 {
     let mut receptions = ArrayVec::new();

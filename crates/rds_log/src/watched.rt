@@ -1,5 +1,6 @@
 //! A world whose receivers are watched.
 ghost use Rattle.std.specs.Prelude.{◌≡◌, ◌≤◌, ◌<◌, ◌++◌, ◌∷◌, [], ℕ, IfErr, IfOk, OnOk, length, map};
+ghost use Rattle.rds_world.specs.declared.world.event.TheConstants.{MOST_RECEIVERS};
 ghost use Rattle.rds_world.specs.World.State.{distance};
 ghost use Rattle.rds_world.specs.World.Slots.{input_of};
 ghost use Rattle.rds_world.specs.World.Replies.{CanBeTaken};
@@ -18,14 +19,11 @@ use crate::row::RowRefused;
 use crate::view_lines::show;
 use arrayvec::ArrayVec;
 use rds_charset::Lines;
-use rds_world::{Config, SlotEvent, World};
+use rds_world::{Config, MOST_RECEIVERS, SlotEvent, World};
 use std::alloc::Global;
 
-/// The most receivers of a world.
-const RECEIVERS: usize = 8;
-
 /// Room for the output of a row: the reply, the group, and what changed at each receiver.
-pub(crate) const ROW_ROOM: usize = RECEIVERS * SLOT_ROOM + ANSWER_ROOM;
+pub(crate) const ROW_ROOM: usize = MOST_RECEIVERS * SLOT_ROOM + ANSWER_ROOM;
 
 /// The output of a row.
 pub(crate) type RowLines = Lines<ROW_ROOM>;
@@ -34,7 +32,7 @@ pub(crate) type RowLines = Lines<ROW_ROOM>;
 #[derive(Drop)]
 pub(crate) struct Watched {
     world: World,
-    shown: ArrayVec<KeptView, RECEIVERS>,
+    shown: ArrayVec<KeptView, MOST_RECEIVERS>,
 }
 
 impl Watched {
@@ -46,7 +44,7 @@ impl Watched {
         config: Config,
         receivers: usize,
     ) -> Result<Watched, RowRefused>
-        requires few { receivers ≤ 8 }
+        requires few { receivers ≤ MOST_RECEIVERS }
         ensures stands { IfOk result (λ w. WatchedStandsAt config receivers w []) }
         ensures nothing { IfOk result (λ w. AreKept (views_kept w) []) }
         ensures memory { IfErr result (λ why. why ≡ refused.Memory) }
@@ -89,8 +87,8 @@ impl Watched {
 }
 
 /// Nothing is shown by so many receivers.
-fn nothing_shown(receivers: usize) -> ArrayVec<KeptView, RECEIVERS>
-    requires { receivers ≤ 8 }
+fn nothing_shown(receivers: usize) -> ArrayVec<KeptView, MOST_RECEIVERS>
+    requires { receivers ≤ MOST_RECEIVERS }
     ensures nothing { AreKept (map view_kept result.items) [] }
     ensures count { length result.items ≡ receivers }
 {
@@ -104,7 +102,7 @@ fn nothing_shown(receivers: usize) -> ArrayVec<KeptView, RECEIVERS>
 /// Appends what changed at each receiver, and keeps what it shows now. Where a receiver shows what it showed in the
 /// slot before, nothing of it is looked at.
 fn push_views(slot: u64, world: &World, shown: &mut [KeptView], lines: &mut RowLines)
-    requires few { length shown.old ≤ 8 }
+    requires few { length shown.old ≤ MOST_RECEIVERS }
     requires room { length lines.old ≤ ANSWER_ROOM }
     ensures lines { length shown.old ≡ length world.now.receivers
         → lines.new ≡ lines.old ++ receiver_changes slot (length shown.old)

@@ -6,7 +6,7 @@ use std::test::Fail;
 const AUDIT: [&str; 6] = ["rdsrt", "audit", "--pi", "C201", "--m", "4"];
 
 /// A text, its tags in good time, with four slots before and where another group would be.
-const TAGS_ON_AIR: &[u8] = b"---- ---- ---- ----
+const TAGGED_LOG: &[u8] = b"---- ---- ---- ----
 ---- ---- ---- ----
 ---- ---- ---- ----
 ---- ---- ---- ----
@@ -27,7 +27,7 @@ const AUDITED: [Case; 16] = [
     Case {
         name: "tags_on_air",
         words: &AUDIT,
-        input: TAGS_ON_AIR,
+        input: TAGGED_LOG,
         output: b"yes 12\n",
         status: 0,
     },
@@ -184,7 +184,7 @@ const AUDITED_LATE: [Case; 7] = [
     Case {
         name: "tags_on_air",
         words: &AUDIT_TWO_LATE,
-        input: TAGS_ON_AIR,
+        input: TAGGED_LOG,
         output: b"yes 12\n",
         status: 0,
     },
@@ -247,7 +247,7 @@ fn audited_logs(rt: HostRuntime) -> Result<(), Fail> {
 #[test]
 fn reads_up_to_the_no(rt: HostRuntime) -> Result<(), Fail> {
     let mut log = Vec::from_slice(rt.alloc(), CHANGED)?;
-    log.extend_from_slice(TAGS_ON_AIR)?;
+    log.extend_from_slice(TAGGED_LOG)?;
     for (most, last) in [(1, 40), (2, 20), (3, 14), (7, 6), (20, 2), (40, 1)] {
         let (status, output, reads) = ran_in_pieces(rt.alloc(), &AUDIT, log.as_slice(), most, 0);
         same(&rt, output.as_slice(), b"no 1 Changed\n".as_slice());
@@ -260,7 +260,7 @@ fn reads_up_to_the_no(rt: HostRuntime) -> Result<(), Fail> {
 #[test]
 fn audit_reader_fails(rt: HostRuntime) -> Result<(), Fail> {
     for fails_at in 1..242 {
-        let (status, output, reads) = ran_in_pieces(rt.alloc(), &AUDIT, TAGS_ON_AIR, 1, fails_at);
+        let (status, output, reads) = ran_in_pieces(rt.alloc(), &AUDIT, TAGGED_LOG, 1, fails_at);
         same(
             &rt,
             (fails_at, output.as_slice()),
@@ -274,6 +274,6 @@ fn audit_reader_fails(rt: HostRuntime) -> Result<(), Fail> {
 /// Each write of the answer fails in turn, of a yes and of a no.
 #[test]
 fn audit_writer_fails(rt: HostRuntime) -> Result<(), Fail> {
-    each_write_fails(&rt, rt.alloc(), &AUDIT, TAGS_ON_AIR, b"yes 12\n")?;
+    each_write_fails(&rt, rt.alloc(), &AUDIT, TAGGED_LOG, b"yes 12\n")?;
     each_write_fails(&rt, rt.alloc(), &AUDIT, CHANGED, b"no 1 Changed\n")
 }
