@@ -34,12 +34,6 @@ as_many_rows k receivers [] (e ∷ older) are = absurd are
 as_many_rows k receivers (row ∷ before) [] are = absurd are
 as_many_rows k receivers (row ∷ before) (e ∷ older) are = ap suc (as_many_rows k receivers before older are.2)
 
-pub as_many_outcomes : (config : Config) (events : List Event) (outcomes : List Outcome) → AreOutcomes config events outcomes → length events ≡ length outcomes
-as_many_outcomes config [] [] are = refl
-as_many_outcomes config [] (o ∷ older) are = absurd are
-as_many_outcomes config (e ∷ before) [] are = absurd are
-as_many_outcomes config (e ∷ before) (o ∷ older) are = ap suc (as_many_outcomes config before older are.1)
-
 -- a row has one number of receptions
 pub same_count : (row : Record) (e f : Event) → SaysEvent row e → SaysEvent row f → length e.receptions ≡ length f.receptions
 same_count row e f p q =
@@ -144,19 +138,6 @@ plays_on (Ok done) before now played s receivers kept w row e lines form config 
     watched = subst (λ (x : Option Watched). HasWatched played.config receivers x (e ∷ s.events) (o ∷ s.outcomes)) (sym watched) (omega arith, stands, λ i. ap (λ (views : List ShownView). view_at views i) (sym views));
   },
 )
-
--- a player that counts slots has played rows
-pub has_played : (p : Player) (played : Played) → PlayerStandsAt p played → p.slot ≡ length played.records
-has_played p played s =
-    s.slot ∙ sym (as_many_outcomes played.config s.events s.outcomes s.are) ∙ sym (as_many_rows played.config.late played.receivers played.records s.events s.rows)
-
--- before the first row
-pub none_yet : (form : Form) (config : Config) (receivers : ℕ) (records : List Record) (events : List Event) (outcomes : List Outcome) → AreRows config.late receivers records events → AreOutcomes config events outcomes
-    → length records ≡ 0 → (records ≡ []) × (lines_of form outcomes ≡ [])
-none_yet form config receivers [] [] [] rows are none = (refl, refl)
-none_yet form config receivers [] [] (o ∷ older) rows are none = absurd are
-none_yet form config receivers [] (e ∷ events) outcomes rows are none = absurd rows
-none_yet form config receivers (row ∷ records) events outcomes rows are none = absurd (omega (arith, none))
 
 -- a slot that is refused can't be taken
 pub not_taken : (k receivers : ℕ) (e : Event) (before : List Event) (why : StepRefused) → IsStepRefused k receivers e before why → CanBeTaken k receivers e before → ⊥
