@@ -1,7 +1,7 @@
 //! Whose turn a free slot is.
 
 /// What a free slot is for.
-#[derive(Clone, Copy, Debug, PartialEq, Eq)]
+#[derive(Clone, Copy, PartialEq)]
 pub(crate) enum Turn {
     /// The next segment of the text.
     Text,

@@ -6,7 +6,7 @@ use rds_charset::WriteFault;
 use thiserror::Error;
 
 /// This line of a log, counted from 1 over all of them, is no log line.
-#[derive(Clone, Copy, Debug, PartialEq, Eq)]
+#[derive(Clone, Copy)]
 pub(crate) struct BadLine {
     pub(crate) number: u64,
 }

@@ -44,12 +44,3 @@ pub use laws::{
     script_writes_one_output, what_an_answer_means,
 };
 pub use scripts::{encode, encode_within, simulate, simulate_within};
-
-#[cfg(test)]
-mod audit_tests;
-#[cfg(test)]
-mod script_tests;
-#[cfg(test)]
-mod stop_tests;
-#[cfg(test)]
-mod tests;

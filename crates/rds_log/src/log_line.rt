@@ -17,7 +17,7 @@ const BLOCKS: usize = 19;
 pub(crate) const DECIDING: usize = 21;
 
 /// What a line says.
-#[derive(Clone, Copy, Debug, PartialEq, Eq)]
+#[derive(Clone, Copy)]
 pub(crate) enum LogLine {
     /// The line is no slot.
     Skip,
@@ -26,7 +26,7 @@ pub(crate) enum LogLine {
 }
 
 /// A block of a slot line.
-#[derive(Clone, Copy, Debug, PartialEq, Eq)]
+#[derive(Clone, Copy)]
 pub(crate) enum Block {
     /// Four hexadecimal digits.
     Word(u16),

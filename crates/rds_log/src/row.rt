@@ -37,7 +37,7 @@ enum Verb {
 }
 
 /// Why a record is not played.
-#[derive(Clone, Copy, Debug, PartialEq, Eq)]
+#[derive(Clone, Copy)]
 pub(crate) enum RowRefused {
     /// It is no row.
     NoRow,

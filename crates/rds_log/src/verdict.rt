@@ -9,7 +9,7 @@ use rds_world::AuditFault;
 pub(crate) const ANSWER: usize = 64;
 
 /// What the audit of a log comes to.
-#[derive(Clone, Copy, Debug, PartialEq, Eq)]
+#[derive(Clone, Copy)]
 pub(crate) enum Verdict {
     /// All slots pass; this is their number.
     Yes(u64),

@@ -29,6 +29,3 @@ pub use world::station_laws::{
     on_air_is_delivered, only_what_was_on_air_is_shown, the_encoder_is_lawful,
 };
 pub use world::{Config, World};
-
-#[cfg(test)]
-mod tests;

@@ -79,23 +79,3 @@ pub fn each_bound_is_needed()
     ensures since { OneSlotMoreSinceIsUnsafe }
     ensures past { OneSlotAheadIsUnsafe }
 {}
-
-#[cfg(test)]
-mod tests {
-    use super::*;
-    use std::test::Fail;
-
-    /// Laws do nothing when they run.
-    #[test]
-    fn laws(_rt: HostRuntime) -> Result<(), Fail> {
-        safe_by_plans();
-        one_source();
-        on_time();
-        own_clocks();
-        late_as_messages();
-        groups_listen();
-        the_dwell_is_the_least();
-        each_bound_is_needed();
-        Ok(())
-    }
-}

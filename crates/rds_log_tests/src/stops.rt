@@ -1,12 +1,12 @@
 //! Where the engines stop: no read is made after the one that brought it, and no engine says that a read failed where
 //! none did.
 
-use crate::tests::same;
-use crate::{LogFault, audit, encode, simulate};
+use crate::logs::same;
 use rds_block::Place;
 use rds_charset::Told;
 use rds_encoder::Late;
 use rds_fields::{Dwell, Head};
+use rds_log::{LogFault, audit, encode, simulate};
 use rds_world::Config;
 use std::alloc::Global;
 use std::cell::Cell;

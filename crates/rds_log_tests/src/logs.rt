@@ -1,11 +1,11 @@
 //! Long lines and much output, and readers and writers that are slow, or fail. Worked logs are tests of rds_run.
 
-use crate::{
+use rds_charset::{TellingRead, Told};
+use rds_fields::Dwell;
+use rds_log::{
     LogFault, bytes_have_one_verdict, bytes_write_one_output, decode, decode_within,
     rows_write_one_output, script_writes_one_output, what_an_answer_means,
 };
-use rds_charset::{TellingRead, Told};
-use rds_fields::Dwell;
 use std::alloc::Global;
 use std::cell::Cell;
 use std::fmt::Debug;

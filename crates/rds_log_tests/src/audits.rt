@@ -1,10 +1,10 @@
 //! `audit` and `audit_within` over readers and writers.
 
-use crate::tests::{Endless, same};
-use crate::{LogFault, audit, audit_within};
+use crate::logs::{Endless, same};
 use rds_charset::Told;
 use rds_encoder::Late;
 use rds_fields::Dwell;
+use rds_log::{LogFault, audit, audit_within};
 use std::cell::Cell;
 use std::test::Fail;
 

@@ -1,9 +1,9 @@
 //! An audit that is stored and restored.
 
-use crate::{Audit, AuditFault};
 use rds_block::Group;
 use rds_encoder::Late;
 use rds_fields::Dwell;
+use rds_world::{Audit, AuditFault};
 use std::test::Fail;
 
 fn text(flags: u16, bytes: u16) -> Option<Group> {

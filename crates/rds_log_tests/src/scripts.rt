@@ -1,12 +1,12 @@
 //! Scripts without an end, readers and writers that fail, and memory that is refused. Worked scripts are tests of rds_run.
 
-use crate::tests::same;
-use crate::{LogFault, encode, encode_within, simulate, simulate_within};
+use crate::logs::same;
 use arrayvec::ArrayVec;
 use rds_block::Place;
 use rds_charset::Told;
 use rds_encoder::Late;
 use rds_fields::{Dwell, Head};
+use rds_log::{LogFault, encode, encode_within, simulate, simulate_within};
 use rds_world::Config;
 use std::alloc::{AllocError, Global};
 use std::cell::Cell;

@@ -1,17 +1,14 @@
 //! Worked rows of a station and its receivers: what each slot answers and sends, and what is shown at its end.
 
-mod audits;
-mod plain;
-mod plain_plans;
-mod plain_rules;
-mod stored_audit;
-
-use super::*;
 use arrayvec::ArrayVec;
 use rds_assembly::{Name, Text};
 use rds_block::Place;
 use rds_encoder::{Late, Refusal};
 use rds_fields::{Dwell, Head, Tag, TagPair, Which};
+use rds_world::{
+    Answer, Command, Config, PlayRefused, Reception, Reply, SlotEvent, StepRefused, World,
+    WorldRefused, play,
+};
 use std::alloc::Global;
 use std::fmt::Debug;
 use std::process::Abort;
@@ -130,11 +127,7 @@ fn assert_texts(rt: &impl Abort, world: &World, receivers: usize, row: &Row) -> 
     Ok(())
 }
 
-pub(crate) fn slot_event(
-    command: Command,
-    free: bool,
-    each: &[Reception],
-) -> Result<SlotEvent, Fail> {
+fn slot_event(command: Command, free: bool, each: &[Reception]) -> Result<SlotEvent, Fail> {
     let mut receptions = ArrayVec::new();
     for reception in each {
         receptions.try_push(*reception).ok().ok_or("receptions")?;
@@ -147,7 +140,7 @@ pub(crate) fn slot_event(
 }
 
 /// PI C201, TP 0, PTY 10, a dwell of four slots, and receivers that are on time.
-pub(crate) fn config() -> Result<Config, Fail> {
+fn config() -> Result<Config, Fail> {
     let head = Head {
         pi: 0xC201,
         tp: false,
@@ -161,7 +154,7 @@ pub(crate) fn config() -> Result<Config, Fail> {
 }
 
 /// The same with groups that come up to so many slots late.
-pub(crate) fn late_config(slots: u16) -> Result<Config, Fail> {
+fn late_config(slots: u16) -> Result<Config, Fail> {
     Ok(Config {
         late: Late::new(slots).ok_or("late")?,
         ..config()?
@@ -644,13 +637,4 @@ fn worlds_of_all_sizes(rt: HostRuntime) -> Result<(), Fail> {
         plays_hundreds(&rt, rt.alloc(), station, receivers)?;
     }
     plays_hundreds(&rt, rt.alloc(), (0xFFFF, 65535, 1024), 8)
-}
-
-/// Laws do nothing when they run.
-#[test]
-fn station_laws(_rt: HostRuntime) -> Result<(), Fail> {
-    the_encoder_is_lawful();
-    only_what_was_on_air_is_shown();
-    on_air_is_delivered();
-    Ok(())
 }

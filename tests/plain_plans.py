@@ -1,0 +1,103 @@
+"""A plain search for plans beside the audit: all plans of some short logs are tried, slot by slot."""
+import collections
+import random
+
+import plain_audit
+
+SLOTS, LOGS = 8, 2000
+# what a service is sent in a slot: a segment with its flag, or tags (no flag), and which of four values have them
+Mark = collections.namedtuple("Mark", "flag values")
+# the broadcast that goes on: `values` have all that was sent in it, and `marked` is the last slot with some of it
+Broadcast = collections.namedtuple("Broadcast", "start end flag values marked")
+# a plan so far: the broadcast that goes on, or None, and flag and end of the last two that ended
+Plan = collections.namedtuple("Plan", "now ended")
+Letter = collections.namedtuple("Letter", "line text name")
+ALL = frozenset(range(4))
+
+
+def text(flag, words, *values):
+    return Letter(f"C201 {0x2140 | flag << 4:04X} {words}".split(), Mark(flag, frozenset(values)), None)
+
+
+def name(flag, address, words, *values):
+    return Letter(f"C201 {0xA140 | flag << 4 | address:04X} {words}".split(), None, Mark(flag, frozenset(values)))
+
+
+NOTHING = Letter(None, None, None)
+# The texts are HI, YO, ABCD and one of 64 bytes that begins with ABCD: where any text has some of these segments and
+# tags, one of the four has. The names are `JAZZ FM ` and `NEWS FM `.
+LETTERS = (
+    NOTHING,
+    Letter("F000 2140 4849 0D20".split(), None, None),
+    text(0, "4849 0D20", 0), text(1, "4849 0D20", 0),
+    text(0, "594F 0D20", 1), text(1, "594F 0D20", 1),
+    text(0, "4142 4344", 2, 3), text(1, "4142 4344", 2, 3),
+    Letter("C201 2141 0D20 2020".split(), Mark(0, frozenset([2])), None),
+    text(0, "0D41 2020"),
+    # tags that end at 2, and at 4 and 15
+    Letter("C201 B148 2002 0000".split(), Mark(None, ALL), None),
+    Letter("C201 B158 8006 08E7".split(), Mark(None, frozenset([3])), None),
+    name(0, 0, "4A41 5A5A", 0), name(0, 1, "2046 4D20", 0, 1), name(0, 0, "4E45 5753", 1), name(1, 0, "4E45 5753", 1),
+)
+
+
+def may_begin(plan, dwell, slot, flag):
+    """Whether a broadcast may begin in the slot: the dwell after the second before, and after the one before where that
+    has its flag."""
+    *_, second, last = (None, None, *plan.ended)
+    is_apart = last is None or last[0] != flag or slot >= last[1] + dwell
+    return is_apart and (second is None or slot >= second[1] + dwell)
+
+
+def followed(plan, dwell, slot):
+    """What a plan does in the slot: the broadcast goes on, or it ends, and one of either flag may begin."""
+    if plan.now is not None:
+        yield plan._replace(now=plan.now._replace(end=slot))
+        plan = Plan(None, (*plan.ended, (plan.now.flag, plan.now.end))[-2:])
+    yield plan
+    for flag in (0, 1):
+        if may_begin(plan, dwell, slot, flag):
+            yield plan._replace(now=Broadcast(slot, slot, flag, ALL, None))
+
+
+def has(plan, dwell, slot, mark):
+    """The plan after what was sent in the slot; None where that is not of its broadcast, or leaves a gap."""
+    if mark is None:
+        return plan
+    now = plan.now
+    if now is None or not now.values & mark.values:
+        return None
+    if mark.flag is None:
+        is_right = now.marked is not None and slot >= now.start + dwell
+    else:
+        is_right = mark.flag == now.flag and (now.marked is None or slot < now.marked + dwell)
+    return plan._replace(now=now._replace(values=now.values & mark.values, marked=slot)) if is_right else None
+
+
+def first_without_a_plan(dwell, marks):
+    """The first slot up to which no plan is lawful and dense; None where one is for all."""
+    plans = {Plan(None, ())}
+    for slot, mark in enumerate(marks):
+        plans = {has(after, dwell, slot, mark) for plan in plans for after in followed(plan, dwell, slot)} - {None}
+        if not plans:
+            return slot
+    return None
+
+
+def cases(check, ran):
+    """The audit answers no in the first slot up to which no plan is found, as the rules say; each answer occurs."""
+    rng, answers = random.Random(20261124), collections.Counter()
+    for number in range(LOGS):
+        dwell, pool = rng.randrange(1, 5), rng.choices(LETTERS, k=3)
+        log = [NOTHING if rng.random() < 1 / 3 else rng.choice(pool) for _ in range(SLOTS)]
+        blocks = [it.line if it.line and it.line[0] == "C201" else None for it in log]
+        answer = plain_audit.audit(blocks, dwell)
+        first = [first_without_a_plan(dwell, marks) for marks in ([it.text for it in log], [it.name for it in log])]
+        planned = min((it for it in first if it is not None), default=None)
+        ruled = int(answer.split()[1]) if answer.startswith("no") else None
+        check(f"short log {number}: plans and rules", planned, ruled)
+        given = "".join(" ".join(it.line or ["----"] * 4) + "\n" for it in log).encode()
+        words, status = ["audit", "--pi", "C201", "--m", str(dwell)], 0 if answer.startswith("yes") else 1
+        check(f"short log {number}: the audit", ran(words, given), (status, answer.encode()))
+        answers[answer.split()[-1]] += 1
+    check("answers to short logs", (len(answers), min(answers.values()) > 9), (6, True))

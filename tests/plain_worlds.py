@@ -1,0 +1,198 @@
+"""The headline, looked up: worlds by chance beside a diary of all that was on air.
+
+What was accepted and what is shown is read off the lines that the program prints. The diary keeps the whole list of
+slots where the receivers keep ages, and shares no code with them.
+"""
+import collections
+import itertools
+import random
+
+DWELL, SLOTS, WORLDS = 4, 64, 200
+LOST = "---- ---- ---- ----"
+TEXTS = ("FIRST SONG", "THIRD SONG", "OTHER SONG", "HI")
+NAMES = ("JAZZ FM ", "NEWS NOW")
+CLASSES = {1: "ITEM.TITLE", 4: "ITEM.ARTIST", 63: "63"}
+# one that doesn't end in the text of two characters, pieces that differ from text to text, and the class of no tag
+TAGS = ((1, 0, 4), (4, 2, 2), (63, 0, 0), (0, 0, 0))
+Row = collections.namedtuple("Row", "command argument free")
+
+
+def random_rows(rng):
+    """What a station is told, slot by slot, and which slots are free."""
+    for _ in range(SLOTS):
+        command = rng.choices(("restart", "text", "name", "tags", "-"), weights=(3, 21, 8, 12, 20))[0]
+        tags = " ".join(str(it) for tag in rng.choices(TAGS, k=2) for it in tag)
+        argument = {"text": rng.choice(TEXTS), "name": rng.choice(NAMES), "tags": f"1 1 {tags}"}.get(command, "")
+        yield Row(command, argument, int(rng.random() < 7 / 8))
+
+
+def random_reception(rng, slot, late, last):
+    """What a receiver is handed that was handed that of the slot `last` before, and the slot that is its last then."""
+    draw = rng.randrange(64)
+    if draw < 16:
+        return "R" if draw < 2 else "L", last
+    named = slot - (0 if draw < 44 else draw % 4)
+    return (f"G{slot - named}", named) if named > last and slot - named <= late else ("L", last)
+
+
+def script(rows, receptions):
+    return "".join(f"{row.command},{row.argument},{row.free},{got}\n" for row, got in zip(rows, receptions)).encode()
+
+
+class Diary:
+    """What was on air at the end of each slot: for each service the number of its broadcast and its characters."""
+
+    def __init__(self, rows, accepted):
+        self.slots, self.pieces = [], collections.defaultdict(set)
+        now, counts = {}, collections.Counter()
+        for slot, row in enumerate(rows):
+            if row.command == "restart":
+                now = {}
+            elif slot in accepted and row.command == "tags":
+                number, text = now["text"]
+                self.pieces[number] |= pieces(row.argument, text)
+            elif slot in accepted:
+                counts[row.command] += 1
+                now = {**now, row.command: (counts[row.command], row.argument)}
+            self.slots.append(now)
+
+    def numbers(self, service, value, slot, within):
+        """The broadcasts with these characters that were on air in so many slots up to this one."""
+        lately = [it[service] for it in self.slots[max(0, slot + 1 - within):slot + 1] if service in it]
+        return {number for number, sent in lately if sent == value}
+
+    def wrongs(self, slot, within, views):
+        """What receivers show that was not on air lately, not sent for what is shown, or of two that are no neighbours.
+        """
+        found, texts = [], []
+        for view in views:
+            for service in ("text", "name"):
+                if service in view and not self.numbers(service, view[service], slot, within):
+                    found.append((slot, service, view[service]))
+            numbers = self.numbers("text", view.get("text"), slot, within)
+            sent = set().union(*(self.pieces[it] for it in numbers))
+            found += [(slot, part, view[part]) for part in ("tag1", "tag2") if part in view and view[part] not in sent]
+            texts.append(numbers)
+        for one, two in itertools.combinations(texts, 2):
+            if one and two and min(abs(it - other) for it in one for other in two) > 1:
+                found.append((slot, "apart", views))
+        return found
+
+
+def pieces(argument, text):
+    """What the tags of an argument show of a text, as it is printed."""
+    numbers = [int(it) for it in argument.split()][2:]
+    tags = (numbers[:3], numbers[3:])
+    return {f'{CLASSES[kind]} "{text[start:start + extra + 1]}"' for kind, start, extra in tags if kind}
+
+
+def shown(lines, slots):
+    """What is shown at the end of each of so many slots, by lines of `decode`: part and value."""
+    changes, view, views = collections.defaultdict(dict), {}, []
+    for line in lines:
+        slot, part, value = line.split(" ", 2)
+        changes[int(slot)][part] = value.strip('"') if part in ("text", "name") else value
+    for slot in range(slots):
+        view = {part: value for part, value in {**view, **changes[slot]}.items() if value != "none"}
+        views.append(view)
+    return views
+
+
+def accepted_in(lines):
+    """The slots in which a text, a name or tags were accepted."""
+    return {int(line.split(" ")[0]) for line in lines if line.endswith((" text ok", " name ok", " tags ok"))}
+
+
+def worlds(check, ran):
+    """All that two receivers of a world show is right, whatever they lose, and however late they get it; and they show
+    something of each kind."""
+    seen = collections.Counter()
+    for seed in range(WORLDS):
+        rng, late = random.Random(seed), seed % 4
+        rows, lasts, receptions = list(random_rows(rng)), [-1, -1], []
+        for slot in range(SLOTS):
+            got = [random_reception(rng, slot, late, last) for last in lasts]
+            lasts = [last for _, last in got]
+            receptions.append("".join(it for it, _ in got))
+        words = ["sim", "--pi", "C201", "--m", str(DWELL), "--k", str(late)]
+        status, output = ran(words, script(rows, receptions))
+        lines = output.decode().splitlines()
+        diary = Diary(rows, accepted_in(lines))
+        views = [shown([it.replace(f" r{i} ", " ", 1) for it in lines if f" r{i} " in it], SLOTS) for i in range(2)]
+        found = [it for slot, pair in enumerate(zip(*views)) for it in diary.wrongs(slot, DWELL + late, pair)]
+        check(f"world {seed}: what is shown", (status, found), (0, []))
+        seen.update(part for pair in zip(*views) for view in pair for part in view)
+    check("worlds: slots with each part", min(seen[it] for it in ("text", "name", "item", "tag1", "tag2")) > 100, True)
+
+
+def encoded(rng, ran, late):
+    """The slots that an encoder sends, and the diary of it."""
+    rows = list(random_rows(rng))
+    words = ["encode", "--pi", "C201", "--m", str(DWELL), "--k", str(late)]
+    lines = ran(words, script(rows, itertools.repeat("")))[1].decode().splitlines()
+    notes = [it[2:] for it in lines if it[0] == "#"]
+    return [it for it in lines if it[0] != "#"], Diary(rows, accepted_in(notes))
+
+
+def decoded(ran, dwell, log):
+    """What a receiver shows at the end of each of its slots."""
+    lines = ran(["decode", "--pi", "C201", "--m", str(dwell)], "".join(f"{it}\n" for it in log).encode())[1]
+    return shown(lines.decode().splitlines(), len(log))
+
+
+def twice_the_dwell_mixes(check, ran):
+    """The look can find a mix: some receivers of twice the encoder's dwell show one."""
+    found = []
+    for seed in range(WORLDS):
+        rng = random.Random(seed)
+        slots, diary = encoded(rng, ran, 0)
+        log = [LOST if rng.random() < 1 / 4 else it for it in slots]
+        for slot, view in enumerate(decoded(ran, 2 * DWELL, log)):
+            found += diary.wrongs(slot, 2 * DWELL, [view])
+    check("twice the dwell: some show what was not on air", {"text"} <= {part for _, part, _ in found}, True)
+
+
+def own_slots(rng, slots, may_lose):
+    """The slots as a clock of its own counts them, each with the station's: one is not counted, where fewer than it may
+    were lost within a dwell, or is counted twice, or its group is lost, or it is as it is."""
+    own, lost = [], []
+    for slot, line in enumerate(slots):
+        draw = rng.randrange(64)
+        if draw < 16 and sum(place + DWELL > len(own) for place in lost) < may_lose:
+            lost.append(len(own))
+        elif 16 <= draw < 32:
+            own += [(slot, LOST)] + ([(slot, line)] if draw < 24 else [])
+        else:
+            own.append((slot, line))
+    return own
+
+
+def shown_by_the_clock(rng, ran, slots, may_lose):
+    """What a receiver with a clock of its own shows at the end of each slot of the station."""
+    own = own_slots(rng, slots, may_lose)
+    views = dict(zip((slot for slot, _ in own), decoded(ran, DWELL, [line for _, line in own])))
+    # a slot that isn't counted leaves what is shown
+    return list(itertools.accumulate(range(len(slots)), lambda view, slot: views.get(slot, view), initial={}))[1:]
+
+
+def clocks(ran, late, may_lose):
+    """All that is wrong in what receivers show whose clocks may lose so many slots within a dwell."""
+    for seed in range(WORLDS):
+        rng = random.Random(seed)
+        slots, diary = encoded(rng, ran, late)
+        pair = [shown_by_the_clock(rng, ran, slots, may_lose) for _ in range(2)]
+        for slot, views in enumerate(zip(*pair)):
+            yield from diary.wrongs(slot, DWELL + late, views)
+
+
+def own_clocks(check, ran):
+    """Clocks that run fast, and lose up to K slots within a dwell, show what was on air; where they lose more, some do
+    not."""
+    for late in range(4):
+        check(f"clocks that lose up to {late} slots", list(clocks(ran, late, late)), [])
+    check("clocks that lose more: some are wrong", any(clocks(ran, 0, DWELL)), True)
+
+
+def cases(check, ran):
+    for part in (worlds, twice_the_dwell_mixes, own_clocks):
+        part(check, ran)
