@@ -1,4 +1,5 @@
-//! Long lines and much output, and readers and writers that are slow, or fail. Worked logs are tests of rds_run.
+//! Long lines and much output, and readers and writers that are slow, or fail. Worked logs are rows of
+//! rds_run_tests.
 
 use rds_charset::{TellingRead, Told};
 use rds_fields::Dwell;

@@ -1,4 +1,5 @@
-//! Scripts without an end, readers and writers that fail, and memory that is refused. Worked scripts are tests of rds_run.
+//! Scripts without an end, readers and writers that fail, and memory that is refused. Worked scripts are rows
+//! of rds_run_tests.
 
 use crate::logs::same;
 use arrayvec::ArrayVec;

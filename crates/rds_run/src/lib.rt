@@ -2,10 +2,6 @@
 //! with. The contract of `run` says which output each input has.
 #![tactic(auto)]
 
-#[cfg(test)]
-mod audit_tests;
 mod program;
-#[cfg(test)]
-mod tests;
 
 pub use program::{run, run_lent};

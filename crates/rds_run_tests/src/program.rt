@@ -1,7 +1,7 @@
 //! The program through `run`: words, input, output and status.
 
-use crate::program::run;
 use rds_charset::Told;
+use rds_run::run;
 use std::alloc::Global;
 use std::cell::Cell;
 use std::fmt::Debug;
