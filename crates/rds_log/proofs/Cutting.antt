@@ -48,10 +48,6 @@ pub begun_empty : (begun : Line) → length (take 21 begun) ≡ 0 → begun ≡ 
 begun_empty [] h = refl
 begun_empty (b ∷ rest) h = absurd (omega (arith, length-take 21 (b ∷ rest)))
 
-pub begun_some : (begun : Line) → length (take 21 begun) ≢ 0 → begun ≢ []
-begun_some [] h e = h refl
-begun_some (b ∷ rest) h e = cc
-
 -- more bytes of the line that is begun were kept
 pub cuts_on : (c after : Cutter) (closed : List Line) (begun bytes : Line) → CutterStandsAt c closed begun → IsLine bytes
     → after.kept.items ≡ take 21 (c.kept.items ++ bytes) → after.lines ≡ c.lines → CutterStandsAt after closed (begun ++ bytes)

@@ -11,7 +11,6 @@ pub mod OneVerdict
 pub mod Numbers
 pub mod Commands
 pub mod Records
-pub mod Appending
 pub mod Changes
 pub mod Receptions
 pub mod OneEvent

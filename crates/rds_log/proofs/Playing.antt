@@ -1,5 +1,5 @@
 -- How a station goes on by a row, and why a record is no row.
-use Rattle.std.proofs.Common.{◌≡◌, ◌⊎◌, ◌<◌, ◌≤◌, ◌+◌, ◌∙◌, ◌∷◌, ◌++◌, [], ℕ, suc, add-one, List, None, Option, Some, ap, ap₂, arith, inl, inr, length, refl, subst, sym}
+use Rattle.std.proofs.Common.{◌≡◌, ◌⊎◌, ◌<◌, ◌+◌, ◌∙◌, ◌∷◌, ◌++◌, [], ℕ, suc, add-one, List, None, Option, Some, ap, ap₂, arith, inl, inr, length, refl, subst, sym}
 use Rattle.std.specs.Prelude.{Err, IfErr, Ok, OnOk, Result}
 use Rattle.rds_world.specs.World.Event.{Event}
 use Rattle.rds_world.specs.World.State.{distance}
@@ -16,15 +16,12 @@ use Rattle.rds_log.specs.declared.row.RowRefused.{RowRefused}
 use Rattle.rds_log.specs.declared.row.RowRefused.TheVariants as refused
 use Rattle.rds_log.specs.declared.watched.Watched.{Watched}
 use Rattle.rds_charset.specs.Laws.{TextIsReadOneWay}
-use Rattle.rds_world.specs.World.Replies.{CanBeTaken, IsStepRefused}
-use Rattle.rds_world.specs.declared.world.reply.StepRefused.{StepRefused}
-use Rattle.rds_world.specs.declared.world.reply.StepRefused.TheVariants.{Late, ReceiverCount}
+use Rattle.rds_world.specs.World.Replies.{CanBeTaken}
 use Rattle.rds_log.specs.Receptions.{AreReceptions}
 use Rattle.rds_log.specs.Rows.{AreNoRows, AreRows, IsAllowed, Record, SaysEvent}
 use Rattle.rds_log.proofs.OneEvent.{same_event, same_events}
 use Rattle.rds_log.proofs.Receptions.{same_receptions}
 use Rattle.rds_log.specs.declared.form.Form.{Form}
-use Rattle.rds_log.specs.declared.form.Form.TheVariants.{Simulation, Log}
 use Rattle.rds_world.specs.declared.world.Config.{Config}
 
 -- a record, an event and an outcome for each slot
@@ -42,15 +39,6 @@ same_count row e f p q =
   where
     fourth : {a b c d a' b' c' d' : List ℕ} → a ∷ b ∷ c ∷ d ∷ [] ≡ a' ∷ b' ∷ c' ∷ d' ∷ [] → d ≡ d'
     fourth e = (cc)
-
-at_most_eight : (form : Form) (receivers : ℕ) → IsAllowed form receivers → receivers ≤ 8
-at_most_eight Simulation receivers h = h
-at_most_eight Log receivers h = omega (arith, h)
-
--- a record that says no event
-pub says_none : (k : ℕ) (form : Form) (row : Record) (records : List Record) → ((e : Event) → length e.receptions ≤ 8 → SaysEvent row e → ⊥) → AreNoRows k form (row ∷ records)
-says_none k form row records none [] say = say.rows
-says_none k form row records none (e ∷ older) say = none e (let few = at_most_eight form say.receivers say.allowed in let count = say.rows.1.count in omega (arith, few, count)) say.rows.0
 
 -- a row with more receivers than its script may name
 pub names_receivers : (k : ℕ) (form : Form) (row : Record) (records : List Record) (e : Event) → SaysEvent row e → (IsAllowed form (length e.receptions) → ⊥) → AreNoRows k form (row ∷ records)
@@ -138,11 +126,6 @@ plays_on (Ok done) before now played s receivers kept w row e lines form config 
     watched = subst (λ (x : Option Watched). HasWatched played.config receivers x (e ∷ s.events) (o ∷ s.outcomes)) (sym watched) (omega arith, stands, λ i. ap (λ (views : List ShownView). view_at views i) (sym views));
   },
 )
-
--- a slot that is refused can't be taken
-pub not_taken : (k receivers : ℕ) (e : Event) (before : List Event) (why : StepRefused) → IsStepRefused k receivers e before why → CanBeTaken k receivers e before → ⊥
-not_taken k receivers e before ReceiverCount other taken = other taken.count
-not_taken k receivers e before (Late r) is taken = is.late.late (taken.due r)
 
 -- a record whose event was refused, after rows or as the first one
 pub refused_row : TextIsReadOneWay → (form : Form) (k receivers : ℕ) (row : Record) (records : List Record) (e : Event) (events : List Event) → AreRows k receivers records events → SaysEvent row e

@@ -104,9 +104,6 @@ pub record ReadSoFar (text : List ℕ) (receptions : List Reception) (rest : Lis
   pub forward : (more : List Reception) → AreReceptions rest more → AreReceptions text (receptions ++ more)
   pub backward : (all : List Reception) → AreReceptions text all → (more : List Reception) × (all ≡ receptions ++ more) × AreReceptions rest more
 
-pub none_yet : (text : List ℕ) → ReadSoFar text [] text
-none_yet text = record { forward = λ more are. are; backward = λ all are. (all, refl, are) }
-
 pub one_more : (text rest after digits later : List ℕ) (receptions : List Reception) (b : ℕ) (r : Reception) → ReadSoFar text receptions rest → rest ≡ b ∷ after → IsDigitCut after digits later → b ≡ letter r → HasDigits r digits
     → ReadSoFar text (receptions ++ r ∷ []) later
 unfolding AreReceptions

@@ -16,14 +16,6 @@ use Rattle.rds_receiver.proofs.Shows.{name_cells, name_shown, pair_is, text_cell
 pub makes_itself : (IsWhole : Cells → List ℕ → Type 0) (cells : Cells) → MakeAlike IsWhole cells cells
 makes_itself IsWhole cells shown = (λ h. h, λ h. h)
 
-pub makes_same : (IsWhole : Cells → List ℕ → Type 0) (cells after : Cells) → after ≡ cells → MakeAlike IsWhole cells after
-makes_same IsWhole cells after e = subst (λ (c : Cells). MakeAlike IsWhole cells c) (sym e) (makes_itself IsWhole cells)
-
--- where both make nothing whole
-pub make_nothing : (IsWhole : Cells → List ℕ → Type 0) (cells after : Cells) → IsShown IsWhole cells None → IsShown IsWhole after None → MakeAlike IsWhole cells after
-make_nothing IsWhole cells after none none_after None = (λ h. none_after, λ h. none)
-make_nothing IsWhole cells after none none_after (Some x) = (λ h. absurd (none x h), λ h. absurd (none_after x h))
-
 pub alike_by : (a b c : ReceiverState) → ShowsAlike a b → ShowsAlike b c → ShowsAlike a c
 alike_by a b c p q = record {
   text = λ shown. (λ h. (q.text shown).0 ((p.text shown).0 h), λ h. (p.text shown).1 ((q.text shown).1 h));

@@ -225,13 +225,6 @@ name_fragments fragments tags h =
       ends = omega (arith, w.1, ends_most (length x) tags h.ends);
     }
 
-allowed_name : (p : Fragment) (n : ℕ) → Allows n (name_lengths p.address p.bytes) → (are_name_bytes p.bytes ≡ true) × (n ≡ 8)
-allowed_name p n a = by (are_name_bytes p.bytes) refl a
-  where
-    by : (v : Bool) → are_name_bytes p.bytes ≡ v → Allows n (cond v (Some record { least = 8; most = 8 }) None) → (are_name_bytes p.bytes ≡ true) × (n ≡ 8)
-    by true e a = (e, omega (arith, a.0, a.1))
-    by false e a = absurd a
-
 name_has : (fragments : List Fragment) (p : Fragment) → AreUnchanged fragments → IsIn p fragments → IsFormed 2 p → IsFragmentOf (name_body (fill fragments 0 8)) p
 name_has fragments p u i well =
     let x = fill fragments 0 8 in

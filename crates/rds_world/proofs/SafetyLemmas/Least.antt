@@ -129,10 +129,6 @@ pub quiet_long : (j : ℕ) → length (quiet j) ≡ suc j
 quiet_long zero = refl
 quiet_long (suc j) = ap suc (quiet_long j)
 
-origins_long : (j : ℕ) → length (quiet_origins j) ≡ suc j
-origins_long zero = refl
-origins_long (suc j) = ap suc (origins_long j)
-
 marks_long : (j : ℕ) → length (marks text_mark (quiet j)) ≡ suc j
 marks_long zero = refl
 marks_long (suc j) = ap suc (marks_long j)

@@ -1,27 +1,20 @@
 -- How far back a receiver may be handed what was sent, slot by slot, and what is kept of what was sent.
-use Rattle.std.proofs.Common.{◌≡◌, ◌+◌, ◌-◌, ◌<◌, ◌≤◌, ◌↔◌, ℕ, zero, suc, List, [], ◌∷◌, Option, Some, None, refl, sym, ap, ◌∙◌, subst, arith, length, take, min}
+use Rattle.std.proofs.Common.{◌≡◌, ◌+◌, ◌<◌, ◌≤◌, ℕ, zero, suc, List, [], ◌∷◌, Option, Some, None, refl, sym, ap, ◌∙◌, subst, arith, length, take}
 use Rattle.std.specs.Prelude.{IfSome, slice_get, slice_index_or}
 use Rattle.std.proofs.lemmas.List.{get_or_default, get_or_past, get_or-take}
 use Rattle.rds_block.specs.declared.group.Group.{Group}
-use Rattle.rds_fields.specs.declared.head.Head.{Head}
 use Rattle.rds_fields.specs.declared.message.Message.{Message}
 use Rattle.rds_encoder.specs.Sent.{IsSent}
 use Rattle.rds_receiver.specs.Receipts.{Hears}
 use Rattle.rds_world.specs.declared.world.event.Reception.{Reception}
 use Rattle.rds_world.specs.declared.world.event.Reception.TheVariants.{Got, Lost, Restart}
-use Rattle.rds_world.specs.World.Due.{IsDue, IsDueBack, IsDueTo, last_named, named, reach_of}
+use Rattle.rds_world.specs.World.Due.{IsDue, IsDueTo, last_named, named, reach_of}
 use Rattle.rds_world.specs.World.Event.{Event}
 use Rattle.rds_world.specs.World.Slots.{sent_back}
 use Rattle.rds_receiver.specs.OneView.{same_heard_in}
 use Rattle.rds_world.specs.World.StandsAt.{AreLastSent, IsHeardOfSome}
 use Rattle.rds_world.specs.declared.world.Config.{Config}
 use Rattle.rds_world.proofs.WorldLemmas.Received.{hears_sent}
-
--- below the reach what was sent is due, and nothing else is
-pub due_below : (k slot : ℕ) (last : Option ℕ) (back : ℕ) → (back < reach_of k slot last) ↔ IsDueBack k slot last back
-due_below k slot None back = ((λ h. record { soon = omega (arith, h); there = omega (arith, h); after = tt }), (λ due. (let soon = due.soon in let there = due.there in omega (arith, soon, there))))
-due_below k slot (Some s) back =
-    ((λ h. record { soon = omega (arith, h); there = omega (arith, h); after = omega (arith, h) }), (λ due. (let soon = due.soon in let there = due.there in let after = due.after in omega (arith, soon, there, after))))
 
 -- the slot named last came before this one
 pub named_past : (i : ℕ) (events : List Event) → IfSome (last_named i events) (λ s. s < length events)
@@ -34,14 +27,6 @@ named_past i (e ∷ before) = by (slice_index_or e.receptions i Lost) (last_name
     by Lost (Some s) h = omega (arith, h)
     by Restart None h = tt
     by Restart (Some s) h = omega (arith, h)
-
--- one slot later the reach is one more, up to its limit
-pub one_further : (k slot : ℕ) (last : Option ℕ) (reach : ℕ) → IfSome last (λ s. s < slot) → reach ≡ reach_of k slot last → min reach k + 1 ≡ reach_of k (slot + 1) last
-one_further k slot None reach past e = omega (arith, e)
-one_further k slot (Some s) reach past e = omega (arith, e, past)
-
-pub after_got : (k slot : ℕ) (last : Option ℕ) (back : ℕ) → IsDueBack k slot last back → min back k + 1 ≡ reach_of k (slot + 1) (Some (slot - back))
-after_got k slot last back due = (let soon = due.soon in let there = due.there in omega (arith, soon, there))
 
 -- what is kept after one more slot
 pub one_more_sent : (config : Config) (sent : Option Message) (group : Option Group) (message : Option Message) (before messages : List (Option Message)) → IsSent config.head sent group
