@@ -92,7 +92,9 @@ def cases(check, ran):
         log = [NOTHING if rng.random() < 1 / 3 else rng.choice(pool) for _ in range(SLOTS)]
         blocks = [it.line if it.line and it.line[0] == "C201" else None for it in log]
         answer = plain_audit.audit(blocks, dwell)
-        first = [first_without_a_plan(dwell, marks) for marks in ([it.text for it in log], [it.name for it in log])]
+        # a service of which nothing was sent needs no broadcast
+        sent = [marks for marks in ([it.text for it in log], [it.name for it in log]) if any(marks)]
+        first = [first_without_a_plan(dwell, marks) for marks in sent]
         planned = min((it for it in first if it is not None), default=None)
         ruled = int(answer.split()[1]) if answer.startswith("no") else None
         check(f"short log {number}: plans and rules", planned, ruled)

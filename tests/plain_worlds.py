@@ -7,6 +7,9 @@ import collections
 import itertools
 import random
 
+import outputs
+import random_scripts
+
 DWELL, SLOTS, WORLDS = 4, 64, 200
 LOST = "---- ---- ---- ----"
 TEXTS = ("FIRST SONG", "THIRD SONG", "OTHER SONG", "HI")
@@ -14,29 +17,19 @@ NAMES = ("JAZZ FM ", "NEWS NOW")
 CLASSES = {1: "ITEM.TITLE", 4: "ITEM.ARTIST", 63: "63"}
 # one that doesn't end in the text of two characters, pieces that differ from text to text, and the class of no tag
 TAGS = ((1, 0, 4), (4, 2, 2), (63, 0, 0), (0, 0, 0))
-Row = collections.namedtuple("Row", "command argument free")
 
 
 def random_rows(rng):
-    """What a station is told, slot by slot, and which slots are free."""
+    """What a station is told, slot by slot, and which slots are free; no receiver is there."""
     for _ in range(SLOTS):
         command = rng.choices(("restart", "text", "name", "tags", "-"), weights=(3, 21, 8, 12, 20))[0]
         tags = " ".join(str(it) for tag in rng.choices(TAGS, k=2) for it in tag)
         argument = {"text": rng.choice(TEXTS), "name": rng.choice(NAMES), "tags": f"1 1 {tags}"}.get(command, "")
-        yield Row(command, argument, int(rng.random() < 7 / 8))
+        yield random_scripts.Row(command, argument, "1" if rng.random() < 7 / 8 else "0", "")
 
 
-def random_reception(rng, slot, late, last):
-    """What a receiver is handed that was handed that of the slot `last` before, and the slot that is its last then."""
-    draw = rng.randrange(64)
-    if draw < 16:
-        return "R" if draw < 2 else "L", last
-    named = slot - (0 if draw < 44 else draw % 4)
-    return (f"G{slot - named}", named) if named > last and slot - named <= late else ("L", last)
-
-
-def script(rows, receptions):
-    return "".join(f"{row.command},{row.argument},{row.free},{got}\n" for row, got in zip(rows, receptions)).encode()
+def script(rows):
+    return b"".join(map(random_scripts.line, rows))
 
 
 class Diary:
@@ -98,9 +91,9 @@ def shown(lines, slots):
     return views
 
 
-def accepted_in(lines):
+def accepted_in(replies):
     """The slots in which a text, a name or tags were accepted."""
-    return {int(line.split(" ")[0]) for line in lines if line.endswith((" text ok", " name ok", " tags ok"))}
+    return {slot for slot, _, answer in replies if answer == "ok "}
 
 
 def worlds(check, ran):
@@ -109,16 +102,15 @@ def worlds(check, ran):
     seen = collections.Counter()
     for seed in range(WORLDS):
         rng, late = random.Random(seed), seed % 4
-        rows, lasts, receptions = list(random_rows(rng)), [-1, -1], []
-        for slot in range(SLOTS):
-            got = [random_reception(rng, slot, late, last) for last in lasts]
+        rows, lasts = [], [-1, -1]
+        for slot, row in enumerate(random_rows(rng)):
+            got = [random_scripts.reception(rng, slot, late, last) for last in lasts]
             lasts = [last for _, last in got]
-            receptions.append("".join(it for it, _ in got))
-        words = ["sim", "--pi", "C201", "--m", str(DWELL), "--k", str(late)]
-        status, output = ran(words, script(rows, receptions))
-        lines = output.decode().splitlines()
-        diary = Diary(rows, accepted_in(lines))
-        views = [shown([it.replace(f" r{i} ", " ", 1) for it in lines if f" r{i} " in it], SLOTS) for i in range(2)]
+            rows.append(row._replace(receptions="".join(it for it, _ in got)))
+        status, output = ran(["sim", "--pi", "C201", "--m", str(DWELL), "--k", str(late)], script(rows))
+        replies, _, changes, _ = outputs.parts_of(output, False)
+        diary = Diary(rows, accepted_in(replies))
+        views = [shown(changes[receiver], SLOTS) for receiver in range(2)]
         found = [it for slot, pair in enumerate(zip(*views)) for it in diary.wrongs(slot, DWELL + late, pair)]
         check(f"world {seed}: what is shown", (status, found), (0, []))
         seen.update(part for pair in zip(*views) for view in pair for part in view)
@@ -128,10 +120,9 @@ def worlds(check, ran):
 def encoded(rng, ran, late):
     """The slots that an encoder sends, and the diary of it."""
     rows = list(random_rows(rng))
-    words = ["encode", "--pi", "C201", "--m", str(DWELL), "--k", str(late)]
-    lines = ran(words, script(rows, itertools.repeat("")))[1].decode().splitlines()
-    notes = [it[2:] for it in lines if it[0] == "#"]
-    return [it for it in lines if it[0] != "#"], Diary(rows, accepted_in(notes))
+    output = ran(["encode", "--pi", "C201", "--m", str(DWELL), "--k", str(late)], script(rows))[1]
+    replies, groups, _, slots = outputs.parts_of(output, True)
+    return [groups.get(slot, LOST) for slot in range(slots)], Diary(rows, accepted_in(replies))
 
 
 def decoded(ran, dwell, log):
