@@ -36,6 +36,3 @@ pub use refused::TextRefused;
 pub use service::Service;
 pub use text::{Text, is_text_byte};
 pub use type_name::TypeName;
-
-#[cfg(test)]
-mod tests;

@@ -18,6 +18,3 @@ mod place;
 pub use group::Group;
 pub use laws::words_are_one_to_one;
 pub use place::Place;
-
-#[cfg(test)]
-mod tests;

@@ -17,8 +17,6 @@ mod output;
 mod printing;
 mod reading;
 mod table;
-#[cfg(test)]
-mod tests;
 mod told;
 
 pub use hexadecimal::{digits_of, four_words, word_at};

@@ -37,8 +37,3 @@ pub use laws::{
 pub use refusal::Refusal;
 pub use stored::{StoredEncoder, StoredHold, StoredName, StoredText};
 pub use wait::Wait;
-
-#[cfg(test)]
-mod stored_tests;
-#[cfg(test)]
-mod tests;

@@ -28,6 +28,3 @@ pub use pair::{TagPair, Which};
 pub use radiotext_plus::{RTPLUS_AID, RTPLUS_CODE, rtplus_announcement};
 pub use stored::{StoredPair, StoredTag};
 pub use tag::{Tag, TagRefused};
-
-#[cfg(test)]
-mod tests;

@@ -21,8 +21,3 @@ pub use laws::{one_view, run_is_the_longest};
 pub use receiver::{Receiver, heard};
 pub use stored::{StoredReceiver, StoredSegments};
 pub use view::View;
-
-#[cfg(test)]
-mod stored_tests;
-#[cfg(test)]
-mod tests;

@@ -8,38 +8,21 @@
 //! ```
 #![tactic(auto)]
 
-mod gather;
-
-ghost use Rattle.std.specs.Prelude.{◌≡◌, ◌⊎◌, IfOk, false, map, string_bytes, true};
+ghost use Rattle.std.specs.Prelude.{◌≡◌, ◌⊎◌, map};
 ghost use Rattle.rds_words.specs.CommandLine.{AreRefused, AskForHelp};
 
-use gather::{Flushing, Gathered, Gathering, send};
 use rds_charset::{Told, put};
+use rds_host::{Flushing, Gathered, Gathering, send, status_at_end, texts};
 use rds_run::run_lent;
-use std::alloc::{AllocError, Global};
+use std::alloc::Global;
 use std::cell::RefCell;
 use std::env;
 use std::io::{self, ErrorKind, Read, Write};
 use std::process::ExitCode;
 
-/// The status where not all of the output could be written.
-const FAULT: u8 = 1;
-
 /// The words of the command line, the program's own name first.
 fn words_of(rt: &HostRuntime) -> io::Result<Vec<String>> {
     Ok(env::args(rt)?.collect(rt.alloc())?)
-}
-
-/// The texts of the words, each as it is and in their order.
-fn texts<'a>(rt: &HostRuntime, words: &'a [String]) -> Result<Vec<&'a str>, AllocError>
-    ensures { IfOk result
-        (λ texts. map (λ p. p.now) texts.items ≡ map string_bytes words.entry.now) }
-{
-    let mut texts = Vec::new(rt.alloc());
-    for word in words {
-        texts.push(word.as_str())?;
-    }
-    Ok(texts)
 }
 
 /// The status where the words can't be taken: for want of memory, which is told, or for another cause.
@@ -70,22 +53,12 @@ fn status_of<R: Read + Drop, W: Write + Drop>(
     status_at_end(status, reader.reads() > 0, all_out)
 }
 
-/// The status where all is out is the one that was found. Where it isn't, that is a fault if anything was read: help
-/// and why the words are refused need not be out.
-fn status_at_end(status: u8, was_read: bool, all_out: bool) -> u8
-    ensures out { all_out ≡ true → result ≡ status }
-    ensures words_alone { was_read ≡ false → result ≡ status }
-    ensures fault { was_read ≡ true → all_out ≡ false → result ≡ 1 }
-{
-    if was_read && !all_out { FAULT } else { status }
-}
-
 fn main(rt: HostRuntime) -> ExitCode {
     let words = match words_of(&rt) {
         Ok(words) => words,
         Err(error) => return no_words(&rt, error.kind() == ErrorKind::OutOfMemory),
     };
-    let Ok(words) = texts(&rt, words.as_slice()) else {
+    let Ok(words) = texts(rt.alloc(), words.as_slice()) else {
         return no_words(&rt, true);
     };
     ExitCode::from(status_of(rt.alloc(), words.as_slice(), rt.stdin(), rt.stdout()))

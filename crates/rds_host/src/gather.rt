@@ -2,7 +2,7 @@
 //! of all that a read gave, and all of that is out before a read can wait for more.
 ghost use Rattle.std.specs.Prelude.{◌≡◌, ◌<◌, ◌≤◌, ◌++◌, ◌-◌, IfOk, IsErr, OnErr, OnOk, [], length, take};
 ghost use Rattle.std.specs.Io.KnownBytes.{Appends};
-ghost use Rattle.rdsrt.specs.Gathered.{failures_in, given_to, kept_in, writer_in};
+ghost use Rattle.rds_host.specs.Gathered.{failures_in, given_to, kept_in, writer_in};
 
 use rds_charset::{TellingWrite, Told, WriteFault, put};
 use std::cell::RefCell;

@@ -1,12 +1,8 @@
-use super::*;
-use std::fmt::Debug;
-use std::process::Abort;
-use std::test::Fail;
+//! Groups and their four blocks.
 
-/// Ends the test where two values are not the same. An `assert_eq!` in each place would be proved anew there.
-fn same<T: PartialEq + Debug + Drop>(rt: &impl Abort, found: T, wanted: T) {
-    assert_eq!(rt; found, wanted);
-}
+use crate::same::same;
+use rds_block::{Group, Place, words_are_one_to_one};
+use std::test::Fail;
 
 /// The fields of a text segment of PI C201, TP 0, PTY 10, with flag 1 and address 0.
 #[test]

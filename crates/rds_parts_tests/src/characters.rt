@@ -1,19 +1,13 @@
 //! What no clause says: the characters themselves, and readers and writers that fail.
 
-use crate::{
+use crate::same::same;
+use rds_charset::{
     Lines, TellingRead, TellingWrite, TextFault, Told, WriteFault, digits_of, four_words,
     read_text, word_at, write_text,
 };
-use std::fmt::Debug;
 use std::io::{self, ErrorKind, Read, Write};
-use std::process::Abort;
 use std::str;
 use std::test::Fail;
-
-/// Ends the test where two values are not the same. An `assert_eq!` in each place would be proved anew there.
-fn same<T: PartialEq + Debug + Drop>(rt: &impl Abort, found: T, wanted: T) {
-    assert_eq!(rt; found, wanted);
-}
 
 /// A writer that takes so many bytes a call at most, and none at one of its calls.
 #[derive(Drop)]

@@ -1,12 +1,10 @@
-use super::*;
-use std::fmt::Debug;
-use std::process::Abort;
-use std::test::Fail;
+//! Segments that are put together, texts and names.
 
-/// Ends the test where two values are not the same. An `assert_eq!` in each place would be proved anew there.
-fn same<T: PartialEq + Debug + Drop>(rt: &impl Abort, found: T, wanted: T) {
-    assert_eq!(rt; found, wanted);
-}
+use crate::same::same;
+use rds_assembly::{
+    Assembly, CARRIAGE_RETURN, Name, RadioText, Text, TextRefused, TypeName, is_text_byte,
+};
+use std::test::Fail;
 
 /// What is done to the segments held.
 #[derive(Clone, Copy)]

@@ -2,7 +2,7 @@
 use Rattle.std.specs.Prelude.{ℕ, List, Option}
 use Rattle.std.specs.Io.KnownBytes.{append_known}
 use Rattle.rds_charset.specs.Told.{failures_of, inner_of}
-use Rattle.rdsrt.specs.declared.gather.Gathered.{Gathered}
+use Rattle.rds_host.specs.declared.gather.Gathered.{Gathered}
 
 -- the writer that it is for
 abbrev pub writer_in : {W : Type 0} → Gathered W → W

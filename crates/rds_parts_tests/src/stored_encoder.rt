@@ -1,8 +1,8 @@
 //! An encoder that is stored and restored.
 
-use crate::{Encoder, Late, Refusal, StoredEncoder};
 use rds_assembly::{Name, Text};
 use rds_block::Place;
+use rds_encoder::{Encoder, Late, Refusal, StoredEncoder};
 use rds_fields::{Dwell, Head};
 use std::test::Fail;
 

@@ -1,16 +1,11 @@
 //! Tables of slots and of what is shown at the end of each.
 
-use super::*;
+use crate::same::same;
 use rds_block::Group;
 use rds_fields::{Dwell, Which};
-use std::fmt::Debug;
+use rds_receiver::{Receiver, heard, one_view, run_is_the_longest};
 use std::process::Abort;
 use std::test::Fail;
-
-/// Ends the test where two values are not the same. An `assert_eq!` in each place would be proved anew there.
-fn same<T: PartialEq + Debug + Drop>(rt: &impl Abort, found: T, wanted: T) {
-    assert_eq!(rt; found, wanted);
-}
 
 /// The programme that the receivers are of.
 const PI: u16 = 0xC201;

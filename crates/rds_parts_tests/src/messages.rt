@@ -1,13 +1,13 @@
-use super::*;
+//! Groups and what they say: texts, names, announcements and tags.
+
+use crate::same::same;
 use rds_block::{Group, Place};
-use std::fmt::Debug;
+use rds_fields::{
+    Dwell, Head, Message, Tag, TagPair, TagRefused, Which, one_group, one_message,
+    rtplus_announcement,
+};
 use std::process::Abort;
 use std::test::Fail;
-
-/// Ends the test where two values are not the same. An `assert_eq!` in each place would be proved anew there.
-fn same<T: PartialEq + Debug + Drop>(rt: &impl Abort, found: T, wanted: T) {
-    assert_eq!(rt; found, wanted);
-}
 
 /// The head of PI C201, TP 0, PTY 10.
 fn head() -> Result<Head, Fail> {

@@ -1,17 +1,16 @@
 //! Worked rows of an encoder by itself: what each call answers and what each slot sends.
 
-use super::*;
+use crate::same::same;
 use rds_assembly::{Name, Text};
 use rds_block::Place;
+use rds_encoder::{
+    Distance, Encoder, Late, Refusal, Wait, broadcasts_are_spaced, even_turns_are_the_texts,
+    numbers_name_broadcasts, on_air_from_its_start_on, on_air_is_sent_whole,
+    on_air_is_what_covers_the_slot, planned_is_what_was_on_air, sent_is_of_what_is_on_air,
+};
 use rds_fields::{Dwell, Head, Tag, TagPair, Which};
-use std::fmt::Debug;
 use std::process::Abort;
 use std::test::Fail;
-
-/// Ends the test where two values are not the same. An `assert_eq!` in each place would be proved anew there.
-fn same<T: PartialEq + Debug + Drop>(rt: &impl Abort, found: T, wanted: T) {
-    assert_eq!(rt; found, wanted);
-}
 
 /// A text, a name or tags that are set, with the reply; so many free slots, with what each sends; so many that
 /// belong to other services and send nothing of these.

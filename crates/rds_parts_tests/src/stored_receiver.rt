@@ -1,8 +1,8 @@
 //! A receiver that is stored and restored.
 
-use crate::{Receiver, StoredReceiver, StoredSegments};
 use rds_block::Group;
 use rds_fields::{Dwell, Message, StoredPair};
+use rds_receiver::{Receiver, StoredReceiver, StoredSegments};
 use std::test::Fail;
 
 /// What is restored goes on where what was stored stood.

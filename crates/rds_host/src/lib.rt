@@ -1,0 +1,11 @@
+//! What stands between the program and its host: the words of the command line as texts, output that is gathered until
+//! the next read, and the status where not all of it could be written.
+#![tactic(auto)]
+
+mod gather;
+mod status;
+mod words;
+
+pub use gather::{Flushing, Gathered, Gathering, Kept, send};
+pub use status::status_at_end;
+pub use words::texts;
