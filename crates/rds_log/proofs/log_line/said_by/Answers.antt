@@ -7,3 +7,6 @@ pub returns-in_err-slot-clause-none : goal.returns-in_err-slot-clause-none
 returns-in_err-slot-clause-none c =
     let no_mark : IsSkipped c.args.line.now → ⊥ = search rules in
     rw c.from_residual.ensures (bad_by_slot c.args.line.now no_mark c.in_err-slot.ensures.none)
+
+pub returns-clause-some : goal.returns-clause-some
+returns-clause-some c = search rules

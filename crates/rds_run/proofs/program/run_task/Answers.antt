@@ -1,4 +1,4 @@
-use Rattle.std.proofs.Common.{◌^◌}
+use Rattle.std.proofs.Common.{rules, ◌^◌}
 use Rattle.rds_charset.specs.Told.{traffic}
 use Rattle.rds_log.specs.LentReads.{failed_behind, plays_by}
 use Rattle.rds_log.specs.declared.form.Form.TheVariants.{Log, Simulation}
@@ -33,3 +33,6 @@ returns-in-Simulate g c =
       ran = rw c.station_of-station-in-Simulate.ensures at played;
       ended = rw c.in-Simulate.is at c.end_with-in-Simulate.ensures;
     }
+
+pub returns-in-Decode : goal.returns-in-Decode
+returns-in-Decode g c = search rules

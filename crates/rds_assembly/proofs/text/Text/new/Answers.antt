@@ -7,3 +7,6 @@ pub invariant_of-result : goal.invariant_of-result
 invariant_of-result c =
     let text : IsText c.args.bytes.now = search rules in
     written _ _ (ap length c.copy_from_slice.ensures.after) (subst IsText (sym c.copy_from_slice.ensures.after) text)
+
+pub returns-in-Some-clause-refused : goal.returns-in-Some-clause-refused
+returns-in-Some-clause-refused c = search rules

@@ -1,4 +1,4 @@
-use Rattle.std.proofs.Common.{◌≡◌, ◌∷◌, None, refl, sym, ap, ◌∙◌, subst}
+use Rattle.std.proofs.Common.{rules, ◌≡◌, ◌∷◌, None, refl, sym, ap, ◌∙◌, subst}
 use Rattle.rds_receiver.specs.Receipts.{Hears}
 use Rattle.rds_world.specs.Audit.AuditState.{AuditState}
 use Rattle.rds_world.specs.Audit.AuditStandsAt.{HoldsLog, HoldsSlot}
@@ -30,3 +30,9 @@ returns-clause-stands c pi d log s =
     let now : HoldsSlot c.args.self.now.distance c.heard-message.result heard c.take_slot.new.self = c.in_default-take_slot.ensures.holds heard h in
     subst (λ n. HoldsLog n (c.heard-message.result ∷ heard) c.end_slot.new.self) same
     (c.end_slot.ensures.holds heard c.heard-message.result (subst (λ n. HoldsSlot n c.heard-message.result heard c.take_slot.new.self) (sym same) now)))
+
+pub returns-in-Err-clause-fault : goal.returns-in-Err-clause-fault
+returns-in-Err-clause-fault c = search rules
+
+pub returns-in-Err-clause-which : goal.returns-in-Err-clause-which
+returns-in-Err-clause-which c = search rules

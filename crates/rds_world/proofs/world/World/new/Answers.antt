@@ -1,4 +1,4 @@
-use Rattle.std.proofs.Common.{◌≡◌, ◌∙◌, [], None, Option, arith, refl, subst, sym}
+use Rattle.std.proofs.Common.{rules, ◌≡◌, ◌∙◌, [], None, Option, arith, refl, subst, sym}
 use Rattle.circular_buffer.specs.Buffer.{Buffer}
 use Rattle.rds_fields.specs.declared.message.Message.{Message}
 use Rattle.rds_world.specs.World.StandsAt.{AreLastSent, IsNew}
@@ -27,3 +27,18 @@ returns-clause-stands c =
       sent = subst (λ (b : Buffer (Option Message)). AreLastSent config [] b.items) (sym c.in-Ok.ensures) (λ back within. (refl, (None, refl)));
       stay = λ i is. tt;
     }
+
+pub returns-in_default-clause-refused : goal.returns-in_default-clause-refused
+returns-in_default-clause-refused c = search rules
+
+pub invariant_of-result : goal.invariant_of-result
+invariant_of-result c = search rules
+
+pub returns-clause-refused : goal.returns-clause-refused
+returns-clause-refused c = search rules
+
+pub returns-clause-few : goal.returns-clause-few
+returns-clause-few c = search rules
+
+pub returns-clause-count : goal.returns-clause-count
+returns-clause-count c = search rules
