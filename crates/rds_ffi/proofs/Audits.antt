@@ -3,12 +3,12 @@ use Rattle.std.proofs.Common.{◌≡◌, ℕ, List, Option, sym, subst}
 use Rattle.std.specs.Prelude.{Result, Ok, Err, MatchOption, MatchResult}
 use Rattle.rds_block.specs.declared.group.Group.{Group}
 use Rattle.rds_fields.specs.declared.message.Message.{Message}
-use Rattle.rds_world.specs.Audit.AuditStandsAt.{AuditStandsAt, WhereTheAuditStands}
-use Rattle.rds_world.specs.Audit.AuditState.{AuditState}
-use Rattle.rds_world.specs.Audit.Rules.{IsFaultOf, LogPasses}
-use Rattle.rds_world.specs.Audit.Stored.{IsStored, audit_stored}
-use Rattle.rds_world.specs.declared.audit.audit_fault.AuditFault.{AuditFault}
-use Rattle.rds_world.specs.declared.audit.stored.StoredAudit.{StoredAudit}
+use Rattle.rds_audit.specs.AuditStandsAt.{AuditStandsAt, WhereTheAuditStands}
+use Rattle.rds_audit.specs.AuditState.{AuditState}
+use Rattle.rds_audit.specs.Rules.{IsFaultOf, LogPasses}
+use Rattle.rds_audit.specs.Stored.{IsStored, audit_stored}
+use Rattle.rds_audit.specs.declared.audit_fault.AuditFault.{AuditFault}
+use Rattle.rds_audit.specs.declared.stored.StoredAudit.{StoredAudit}
 use Rattle.rds_ffi.specs.AuditLies.{AuditLies, Tells, WhereItHeard, fault_in}
 use Rattle.rds_ffi.specs.Codes.{code_of}
 

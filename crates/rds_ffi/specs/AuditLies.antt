@@ -2,11 +2,11 @@
 use Rattle.std.specs.Prelude.{◌≡◌, ℕ, List, Option, Some, None, Result, Ok, Err, MatchOption}
 use Rattle.rds_block.specs.declared.group.Group.{Group}
 use Rattle.rds_fields.specs.declared.message.Message.{Message}
-use Rattle.rds_world.specs.Audit.AuditStandsAt.{AuditStandsAt}
-use Rattle.rds_world.specs.Audit.Rules.{IsFaultOf, LogPasses}
-use Rattle.rds_world.specs.Audit.Stored.{IsStored, audit_stored}
-use Rattle.rds_world.specs.declared.audit.audit_fault.AuditFault.{AuditFault}
-use Rattle.rds_world.specs.declared.audit.stored.StoredAudit.{StoredAudit}
+use Rattle.rds_audit.specs.AuditStandsAt.{AuditStandsAt}
+use Rattle.rds_audit.specs.Rules.{IsFaultOf, LogPasses}
+use Rattle.rds_audit.specs.Stored.{IsStored, audit_stored}
+use Rattle.rds_audit.specs.declared.audit_fault.AuditFault.{AuditFault}
+use Rattle.rds_audit.specs.declared.stored.StoredAudit.{StoredAudit}
 use Rattle.rds_ffi.specs.Codes.{code_of}
 
 -- the audit of programme pi and of d slots lies there, and stands at the log

@@ -1,18 +1,18 @@
 //! An audit in the caller's memory.
 ghost use Rattle.std.specs.Prelude.{◌≡◌, ◌≢◌, ◌+◌, ◌<◌, ◌≤◌, ◌↔◌, ℕ, [], ◌∷◌, Option};
 ghost use Rattle.rds_block.specs.declared.group.Group.{Group};
-ghost use Rattle.rds_world.specs.Audit.AuditLaws.{IsSafeLog};
-ghost use Rattle.rds_world.specs.Audit.Dense.{HasPlans};
-ghost use Rattle.rds_world.specs.Audit.Rules.{LogPasses};
+ghost use Rattle.rds_audit.specs.AuditLaws.{IsSafeLog};
+ghost use Rattle.rds_audit.specs.Dense.{HasPlans};
+ghost use Rattle.rds_audit.specs.Rules.{LogPasses};
 ghost use Rattle.rds_ffi.specs.AuditLies.{AuditLies, IsAnswer, Tells, WhereItHeard, WhereItLies, fault_in};
 ghost use Rattle.rds_ffi.specs.Codes.{RDSRT_BAD_ARGUMENT, RDSRT_OK, code_of};
 ghost use Rattle.rds_ffi.specs.Slots.{Bring, IsCount};
 
 use crate::codes;
 use crate::slots::brought;
+use rds_audit::{Audit, AuditFault, StoredAudit};
 use rds_encoder::Late;
 use rds_fields::Dwell;
-use rds_world::{Audit, AuditFault, StoredAudit};
 
 /// Makes an audit of this programme before the first slot. The dwell and the lateness are in slots.
 ///

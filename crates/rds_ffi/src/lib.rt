@@ -20,7 +20,7 @@ const _: () = prove!(size_of::<rds_receiver::StoredReceiver>() == 154);
 
 const _: () = prove!(size_of::<rds_encoder::StoredEncoder>() == 116);
 
-const _: () = prove!(size_of::<rds_world::StoredAudit>() == 208);
+const _: () = prove!(size_of::<rds_audit::StoredAudit>() == 208);
 
 const _: () = prove!(size_of::<view::RdsrtView>() == 84);
 

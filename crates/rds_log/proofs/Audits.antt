@@ -2,10 +2,10 @@
 use Rattle.std.proofs.Common.{◌≡◌, ◌+◌, ℕ, List, ◌∷◌, None, Option, Ok, subst, refl, inr, arith}
 use Rattle.std.specs.Prelude.{MatchOption}
 use Rattle.rds_block.specs.declared.group.Group.{Group}
-use Rattle.rds_world.specs.Audit.AuditState.{AuditState}
-use Rattle.rds_world.specs.Audit.AuditStandsAt.{AuditStandsAt, HoldsLog}
-use Rattle.rds_world.specs.Audit.Rules.{IsFaultOf}
-use Rattle.rds_world.specs.declared.audit.audit_fault.AuditFault.{AuditFault}
+use Rattle.rds_audit.specs.AuditState.{AuditState}
+use Rattle.rds_audit.specs.AuditStandsAt.{AuditStandsAt, HoldsLog}
+use Rattle.rds_audit.specs.Rules.{IsFaultOf}
+use Rattle.rds_audit.specs.declared.audit_fault.AuditFault.{AuditFault}
 use Rattle.rds_log.specs.LogLines.{Line}
 use Rattle.rds_log.specs.LineSays.{LineSays}
 use Rattle.rds_log.specs.Inside.Source.{ReaderState, SourceStandsAt, since}

@@ -8,13 +8,3 @@ pub mod Audits
 pub mod WholeBytes
 pub mod OneOutput
 pub mod OneVerdict
-pub mod Numbers
-pub mod Commands
-pub mod Records
-pub mod Changes
-pub mod Receptions
-pub mod OneEvent
-pub mod Playing
-pub mod Plays
-pub mod OneOutcome
-pub mod OneScript

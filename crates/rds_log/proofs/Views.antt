@@ -1,16 +1,14 @@
 -- How the views and their changes go on by a slot.
-use Rattle.std.proofs.Common.{◌≡◌, ◌+◌, ◌++◌, ℕ, Bool, true, false, List, [], ◌∷◌, Option, Some, None, length, refl, sym, ap, ◌∙◌, arith}
+use Rattle.std.proofs.Common.{◌≡◌, ◌+◌, ◌++◌, ℕ, List, [], ◌∷◌, Option, Some, None, length, refl, sym, ap, ◌∙◌, arith}
 use Rattle.std.proofs.lemmas.List.{append-nil}
-use Rattle.std.proofs.lemmas.Bool.{eq-eqb}
-use Rattle.std.proofs.lemmas.Slice.Eq.{bytes_eq-Decides}
-use Rattle.rds_assembly.specs.ServiceLaws.{no_name_of_none, no_text_of_none}
 use Rattle.rds_block.specs.declared.group.Group.{Group}
 use Rattle.rds_receiver.specs.Receipts.{Tuning}
 use Rattle.rds_receiver.specs.Shown.{IsView, ShownView}
 use Rattle.rds_receiver.specs.StandsAt.{StandsAt}
-use Rattle.rds_log.specs.Output.{change, is_same_item, is_same_tag, is_same_text, newest, nothing_shown, slot_stamp}
+use Rattle.rds_output.specs.NoChange.{no_change, view_of_none}
+use Rattle.rds_output.specs.Output.{change, newest, nothing_shown, slot_stamp}
 use Rattle.rds_log.specs.LogWrites.{AreViews}
-use Rattle.rds_log.specs.Inside.KeptView.{view_kept}
+use Rattle.rds_output.specs.KeptView.{view_kept}
 use Rattle.rds_log.specs.Inside.ViewLines.{ViewsStandAt}
 use Rattle.rds_log.specs.declared.view_lines.ViewLines.{ViewLines}
 
@@ -35,29 +33,6 @@ slot_given t v after slots written before now group view s receiver is slot show
   where
     one_more : (views : List ShownView) (view : ShownView) → length views + 1 ≡ length (view ∷ views)
     one_more views view = omega arith
-
--- a part that stays as it was has no line
-same_text : (o : Option (List ℕ)) → is_same_text o o ≡ true
-same_text None = refl
-same_text (Some x) = (bytes_eq-Decides x x).1 refl
-
-same_item : (o : Option (Bool × Bool)) → is_same_item o o ≡ true
-same_item None = refl
-same_item (Some (true, true)) = refl
-same_item (Some (true, false)) = refl
-same_item (Some (false, true)) = refl
-same_item (Some (false, false)) = refl
-
-same_tag : (o : Option (ℕ × List ℕ)) → is_same_tag o o ≡ true
-same_tag None = refl
-same_tag (Some (n, x)) = rw (eq-eqb n n refl, (bytes_eq-Decides x x).1 refl) refl
-
-pub no_change : (stamp : List ℕ) (v : ShownView) → change stamp v v ≡ []
-no_change stamp v = rw (same_text v.text, same_text v.name, same_item v.item, same_tag v.one, same_tag v.two) refl
-
--- before the first slot nothing is shown
-pub view_of_none : (t : Tuning) → IsView t [] nothing_shown
-view_of_none t = ([], tt, record { text = no_text_of_none; name = no_name_of_none; item = refl; one = refl; two = refl })
 
 newest_view : (t : Tuning) (slots : List (Option Group)) (views : List ShownView) → AreViews t slots views → IsView t slots (newest views)
 newest_view t [] [] are = view_of_none t

@@ -2,10 +2,5 @@
 -- that are written.
 pub mod Cutter
 pub mod Source
-pub mod KeptView
-pub mod Part
 pub mod ViewLines
 pub mod Decoder
-pub mod Asked
-pub mod Watched
-pub mod Player

@@ -4,15 +4,15 @@ ghost use Rattle.rds_charset.specs.Told.{traffic};
 ghost use Rattle.rds_log.specs.Audit.{Audits, Judges};
 ghost use Rattle.rds_log.specs.Reads.{MadeReads};
 
-use crate::LogFault;
 use crate::decoding::MOST_READS;
 use crate::log_line::LogLine;
 use crate::source::Source;
 use crate::verdict::Verdict;
+use rds_audit::Audit;
 use rds_charset::{Lines, TellingRead, TellingWrite, put};
 use rds_encoder::Late;
 use rds_fields::Dwell;
-use rds_world::Audit;
+use rds_output::LogFault;
 
 /// Audits a log of what a station sent, a slot a line, and writes the answer line: `yes` with the number of
 /// slots, or `no` with the first slot up to which they do not pass and the name of the fault.

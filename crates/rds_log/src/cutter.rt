@@ -3,10 +3,10 @@ ghost use Rattle.std.specs.Prelude.{◌≡◌, ◌≤◌, ◌<◌, ◌+◌, ◌-
 ghost use Rattle.rds_log.specs.LineSays.{IsBad, LineSays, deciding};
 ghost use Rattle.rds_log.specs.LogLines.{EndsAt, IsLine, Line};
 
-use crate::fault::BadLine;
 use crate::log_line::{DECIDING, LogLine, said_by};
 use arrayvec::ArrayVec;
 use memchr::memchr;
+use rds_output::BadLine;
 
 /// Takes the bytes of a log, however they are cut, and tells what each line says that is closed.
 ///

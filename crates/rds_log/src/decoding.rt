@@ -5,12 +5,12 @@ ghost use Rattle.rds_log.specs.Decode.{Decodes};
 ghost use Rattle.rds_log.specs.LogWrites.{tuned};
 ghost use Rattle.rds_log.specs.Reads.{MadeReads};
 
-use crate::LogFault;
 use crate::decoder::Decoder;
 use crate::log_line::LogLine;
 use crate::source::Source;
 use rds_charset::{TellingRead, TellingWrite};
 use rds_fields::Dwell;
+use rds_output::LogFault;
 
 /// How many reads are made before a log is too long.
 pub(crate) const MOST_READS: u64 = 1 << 32;

@@ -1,27 +1,19 @@
-//! What holds of all logs and of all scripts.
+//! What holds of all logs.
 ghost use Rattle.std.specs.Prelude.{◌≡◌, ◌+◌, ◌<◌, ℕ, Bool, List, Ok, Option, Some};
-ghost use Rattle.std.specs.Io.KnownBytes.{Appends};
 ghost use Rattle.rds_block.specs.declared.group.Group.{Group};
 ghost use Rattle.rds_charset.specs.Told.{Traffic};
 ghost use Rattle.rds_receiver.specs.Receipts.{Tuning};
-ghost use Rattle.rds_log.specs.Alike.{WriteAlike};
+ghost use Rattle.rds_output.specs.Alike.{WriteAlike};
 ghost use Rattle.rds_log.specs.Audit.{AnswersVerdictOf, Audits, IsVerdictOf, SlotsAreSafe, SlotsFail, SlotsHaveNoPlans, SlotsPass};
 ghost use Rattle.rds_log.specs.LogLines.{Line};
 ghost use Rattle.rds_log.specs.LineSays.{LineSays};
 ghost use Rattle.rds_log.specs.LogWrites.{LogWrites};
 ghost use Rattle.rds_log.specs.Decode.{DecodesAll};
-ghost use Rattle.rds_log.specs.Rows.{Record, SaysEvent};
-ghost use Rattle.rds_log.specs.Play.{PlaysAll, RowsWrite, ScriptWrites};
-ghost use Rattle.rds_log.specs.declared.form.Form.{Form};
 ghost use Rattle.rds_log.specs.declared.log_line.LogLine.{LogLine};
 ghost use Rattle.rds_log.specs.declared.verdict.Verdict.{Verdict};
-ghost use Rattle.rds_world.specs.declared.audit.audit_fault.AuditFault.{AuditFault};
-ghost use Rattle.rds_world.specs.declared.world.Config.{Config};
-ghost use Rattle.rds_world.specs.World.Event.{Event};
+ghost use Rattle.rds_audit.specs.declared.audit_fault.AuditFault.{AuditFault};
 
-use rds_charset::text_is_read_one_way;
-use rds_fields::one_group;
-use rds_world::{one_fault, passes_by_plans, what_passes_is_safe};
+use rds_audit::{one_fault, passes_by_plans, what_passes_is_safe};
 
 /// The output of a log is a function of its bytes: a line says one thing, the bytes write one output, and two calls of
 /// `decode` that end well wrote the same.
@@ -61,34 +53,4 @@ pub fn what_an_answer_means()
     one_fault();
     passes_by_plans();
     what_passes_is_safe();
-}
-
-/// The output of a script is a function of its records: a row says one event, and rows write one output.
-pub fn rows_write_one_output()
-    ensures one_event { (row : Record) (e f : Event) → SaysEvent row e → SaysEvent row f → e ≡ f }
-    ensures one_output { (form : Form) (config : Config) (records : List Record)
-        (written other : List ℕ) → RowsWrite form config records written
-        → RowsWrite form config records other → written ≡ other }
-{
-    // the laws by which a text is read one way, and a message is one group
-    text_is_read_one_way();
-    one_group();
-}
-
-/// The output of a script is a function of its bytes: they write one output, a call of `simulate` or `encode` that ends
-/// well wrote it, and two such calls wrote the same.
-pub fn script_writes_one_output()
-    ensures one_output { (form : Form) (config : Config) (script written other : List ℕ)
-        → ScriptWrites form config script written → ScriptWrites form config script other
-        → written ≡ other }
-    ensures written { (form : Form) (config : Config) (most : ℕ) (script : List ℕ) (w : Traffic)
-        → PlaysAll form config most (Some script) w
-        → (written : List ℕ) × ScriptWrites form config script written
-        × Appends w.before w.after written }
-    ensures alike { (form : Form) (config : Config) (most others : ℕ) (script : List ℕ)
-        (w v : Traffic) → PlaysAll form config most (Some script) w
-        → PlaysAll form config others (Some script) v → WriteAlike w v }
-{
-    text_is_read_one_way();
-    one_group();
 }

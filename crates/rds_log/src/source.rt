@@ -2,13 +2,12 @@
 ghost use Rattle.std.specs.Prelude.{◌≡◌, ◌≢◌, ◌≤◌, ◌<◌, ◌+◌, ◌-◌, ◌*◌, ◌^◌, ◌↔◌, [], ℕ, List, None, Some, IfErr, IfOk, IsTrue, MatchResult, OnOk, false, true};
 ghost use Rattle.rds_log.specs.LogLines.{Line};
 ghost use Rattle.rds_log.specs.Reads.{MadeReads, to_come};
-ghost use Rattle.rds_log.specs.declared.fault.LogFault.TheVariants as faults;
+ghost use Rattle.rds_output.specs.declared.fault.LogFault.TheVariants as faults;
 
-use crate::LogFault;
 use crate::cutter::{Cutter, line_end};
-use crate::fault::BadLine;
 use crate::log_line::LogLine;
 use rds_charset::TellingRead;
+use rds_output::{BadLine, LogFault};
 
 /// How many bytes one read asks for.
 const CHUNK: usize = 65536;

@@ -2,8 +2,8 @@
 ghost use Rattle.std.specs.Prelude.{◌≡◌, ◌≤◌, ◌+◌, ◌++◌, ◌↔◌, IsTrue, length};
 ghost use Rattle.rds_log.specs.Audit.{IsYes, fault_name, verdict_line};
 
+use rds_audit::AuditFault;
 use rds_charset::Lines;
-use rds_world::AuditFault;
 
 /// Room for the line of a verdict.
 pub(crate) const ANSWER: usize = 64;

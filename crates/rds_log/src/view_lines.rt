@@ -1,13 +1,12 @@
 //! The output lines for what a receiver shows.
 ghost use Rattle.std.specs.Prelude.{◌≡◌, ◌≤◌, ◌<◌, ◌+◌, ◌-◌, ◌^◌, ◌++◌, ℕ, List, [], ◌∷◌, Option, length};
 ghost use Rattle.rds_block.specs.declared.group.Group.{Group};
-ghost use Rattle.rds_log.specs.declared.change.TheConstants.{SLOT_ROOM};
+ghost use Rattle.rds_output.specs.declared.change.TheConstants.{SLOT_ROOM};
 
-use crate::change::{Stamp, push_changes};
-use crate::kept::KeptView;
 use rds_block::Group;
 use rds_charset::Lines;
 use rds_fields::Dwell;
+use rds_output::{KeptView, Stamp, show};
 use rds_receiver::Receiver;
 
 /// Feeds a receiver slot by slot, and gives a line for each part of its view that changed.
@@ -55,31 +54,4 @@ impl ViewLines {
         );
         self.slot += 1;
     }
-}
-
-ghost use Rattle.rds_receiver.specs.Shown.{IsView};
-ghost use Rattle.rds_receiver.specs.StandsAt.{WhereItStands};
-ghost use Rattle.rds_log.specs.Inside.KeptView.{view_kept};
-ghost use Rattle.rds_log.specs.Output.{change};
-ghost use Rattle.rds_log.specs.Inside.Part.{stamp_of};
-
-/// Appends the line of each part that differs from what was shown, and keeps what the receiver shows now.
-///
-/// Few slots come here. It stands apart so that the others pay nothing for its copies.
-#[inline(never)]
-pub(crate) fn show<const N: usize>(
-    stamp: Stamp,
-    shown: &mut KeptView,
-    receiver: &Receiver,
-    lines: &mut Lines<N>,
-)
-    requires { length lines.old + SLOT_ROOM ≤ N }
-    ensures changes { lines.new
-        ≡ lines.old ++ change (stamp_of stamp) (view_kept shown.old) (view_kept shown.new) }
-    ensures shows { WhereItStands receiver.now (λ t input. IsView t input (view_kept shown.new)) }
-    ensures room { length lines.new ≤ length lines.old + SLOT_ROOM }
-{
-    let now = receiver.view();
-    push_changes(stamp, shown.lent(), now, lines);
-    *shown = KeptView::of(now);
 }

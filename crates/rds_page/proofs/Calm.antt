@@ -2,11 +2,11 @@
 use Rattle.std.proofs.Common.{◌^◌, ℕ, List, Option, arith, inl, inr}
 use Rattle.std.proofs.Math.Logic.{∥∥₁_elim}
 use Rattle.rds_charset.specs.Told.{Failed, Traffic}
-use Rattle.rds_log.specs.ReadFailed.{SomeReadFailed}
-use Rattle.rds_log.specs.LentReads.{plays_by}
-use Rattle.rds_log.specs.Play.{Plays}
-use Rattle.rds_log.specs.declared.form.Form.{Form}
-use Rattle.rds_log.specs.declared.form.Form.TheVariants.{Log, Simulation}
+use Rattle.rds_output.specs.ReadFailed.{SomeReadFailed}
+use Rattle.rds_script.specs.LentReads.{plays_by}
+use Rattle.rds_script.specs.Play.{Plays}
+use Rattle.rds_script.specs.declared.form.Form.{Form}
+use Rattle.rds_script.specs.declared.form.Form.TheVariants.{Log, Simulation}
 use Rattle.rds_receiver.specs.Receipts.{Tuning}
 use Rattle.rds_world.specs.declared.world.Config.{Config}
 use Rattle.rds_words.specs.declared.request.Task.{Task}

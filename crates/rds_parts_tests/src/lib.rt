@@ -1,15 +1,19 @@
-//! The tests of the crates below rds_world: blocks, fields, segments, characters, the encoder and the receiver. They make
-//! the public calls of these as any crate above them does.
+//! The tests of the crates that know of no log and no script: blocks, fields, segments, characters, the encoder, the
+//! receiver, the world and the audit. They make the public calls of these as any crate above them does.
 //!
 //! They stand in one crate of their own, since a crate with tests is proved once more for them.
 #![tactic(auto)]
 
+#[cfg(test)]
+mod audits;
 #[cfg(test)]
 mod blocks;
 #[cfg(test)]
 mod characters;
 #[cfg(test)]
 mod encoders;
+#[cfg(test)]
+mod laws;
 #[cfg(test)]
 mod messages;
 #[cfg(test)]
@@ -19,6 +23,10 @@ mod same;
 #[cfg(test)]
 mod segments;
 #[cfg(test)]
+mod stored_audit;
+#[cfg(test)]
 mod stored_encoder;
 #[cfg(test)]
 mod stored_receiver;
+#[cfg(test)]
+mod worlds;

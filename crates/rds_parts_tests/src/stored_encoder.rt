@@ -1,45 +1,33 @@
 //! An encoder that is stored and restored.
 
+use crate::encoders::restarted;
+use crate::same::same;
 use rds_assembly::{Name, Text};
-use rds_block::Place;
-use rds_encoder::{Encoder, Late, Refusal, StoredEncoder};
-use rds_fields::{Dwell, Head};
+use rds_encoder::{Encoder, Refusal, StoredEncoder};
 use std::test::Fail;
-
-fn station() -> Result<Encoder, Fail> {
-    let head = Head {
-        pi: 0xC201,
-        tp: true,
-        pty: Place::new(10).ok_or("pty")?,
-    };
-    let dwell = Dwell::new(1).ok_or("dwell")?;
-    Ok(Encoder::new(head, dwell, Late::new(0).ok_or("late")?))
-}
 
 /// What is restored goes on where what was stored stood.
 #[test]
 fn goes_on_from_what_is_stored(rt: HostRuntime) -> Result<(), Fail> {
-    let mut encoder = station()?;
-    assert_eq!(rt; encoder.tick(true).is_some(), false);
+    let mut encoder = restarted(1)?;
+    same(&rt, encoder.tick(true).is_some(), false);
     let mut encoder = Encoder::restore(&encoder.store());
     encoder.set_text(Text::new(b"HI").map_err(|_| "text")?)?;
     encoder.set_name(Name::new(b"POP").map_err(|_| "name")?)?;
     let mut encoder = Encoder::restore(&encoder.store());
-    assert_eq!(rt; encoder.text(), Some(b"HI".as_slice()));
-    assert_eq!(rt; encoder.name(), Some(b"POP     ".as_slice()));
-    assert_eq!(rt;
-        encoder.set_text(Text::new(b"YO").map_err(|_| "text")?),
-        Err(Refusal::Held(2))
-    );
+    same(&rt, encoder.text(), Some(b"HI".as_slice()));
+    same(&rt, encoder.name(), Some(b"POP     ".as_slice()));
+    let refused = encoder.set_text(Text::new(b"YO").map_err(|_| "text")?);
+    same(&rt, refused, Err(Refusal::Held(2)));
     let sent = encoder.tick(true).ok_or("a group")?;
-    assert_eq!(rt; sent.to_blocks(), [0xC201, 0x2540, 0x4849, 0x0D20]);
+    same(&rt, sent.to_blocks(), [0xC201, 0x2140, 0x4849, 0x0D20]);
     Ok(())
 }
 
 /// Numbers that no encoder is stored as are restored too: what is no text is none on air.
 #[test]
 fn restores_any_numbers(rt: HostRuntime) -> Result<(), Fail> {
-    let mut stored: StoredEncoder = station()?.store();
+    let mut stored: StoredEncoder = restarted(1)?.store();
     stored.pty = 255;
     stored.round = 255;
     stored.distance = 0xFFFF_FFFF;
@@ -48,8 +36,9 @@ fn restores_any_numbers(rt: HostRuntime) -> Result<(), Fail> {
     stored.name.is_on_air = 2;
     stored.name.bytes[7] = 1;
     let encoder = Encoder::restore(&stored);
-    assert_eq!(rt; (encoder.text(), encoder.name()), (None, None));
+    same(&rt, (encoder.text(), encoder.name()), (None, None));
     let again = encoder.store();
-    assert_eq!(rt; (again.pty, again.round, again.distance), (0, 0, 66559));
+    let numbers = (again.pty, again.round, again.distance);
+    same(&rt, numbers, (0, 0, 66559));
     Ok(())
 }

@@ -1,5 +1,6 @@
 //! A receiver that is stored and restored.
 
+use crate::same::same;
 use rds_block::Group;
 use rds_fields::{Dwell, Message, StoredPair};
 use rds_receiver::{Receiver, StoredReceiver, StoredSegments};
@@ -10,11 +11,11 @@ use std::test::Fail;
 fn goes_on_from_what_is_stored(rt: HostRuntime) -> Result<(), Fail> {
     let mut receiver = Receiver::new(0xC201, Dwell::new(2).ok_or("dwell")?);
     let group = Group::from_blocks([0xC201, 0x2140, 0x4849, 0x0D20]);
-    assert_eq!(rt; receiver.slot(Some(group)), true);
+    same(&rt, receiver.slot(Some(group)), true);
     let mut again = Receiver::restore(&receiver.store());
-    assert_eq!(rt; again.text(), Some(b"HI".as_slice()));
-    assert_eq!(rt; again.slot(None), false);
-    assert_eq!(rt; Receiver::restore(&again.store()).slot(None), true);
+    same(&rt, again.text(), Some(b"HI".as_slice()));
+    same(&rt, again.slot(None), false);
+    same(&rt, Receiver::restore(&again.store()).slot(None), true);
     Ok(())
 }
 
@@ -30,7 +31,7 @@ fn rests_until_something_is_given_up(rt: HostRuntime) -> Result<(), Fail> {
     let other = stored.rest(Some(Message::Other));
     let given_up = stored.rest(None);
     let answers = (segment, nothing, other, given_up, stored.text.age);
-    assert_eq!(rt; answers, (false, true, true, false, 2));
+    same(&rt, answers, (false, true, true, false, 2));
     Ok(())
 }
 
@@ -54,8 +55,8 @@ fn restores_any_numbers(rt: HostRuntime) -> Result<(), Fail> {
         pair,
         is_known: 3,
     });
-    assert_eq!(rt; receiver.text(), Some([b'A'; 64].as_slice()));
-    assert_eq!(rt; receiver.pair(), None);
-    assert_eq!(rt; receiver.store().dwell, 1);
+    same(&rt, receiver.text(), Some([b'A'; 64].as_slice()));
+    same(&rt, receiver.pair(), None);
+    same(&rt, receiver.store().dwell, 1);
     Ok(())
 }

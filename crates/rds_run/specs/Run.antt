@@ -9,11 +9,11 @@ use Rattle.rds_world.specs.declared.world.Config.{Config}
 use Rattle.rds_log.specs.Audit.{Audits}
 use Rattle.rds_log.specs.Decode.{Decodes}
 use Rattle.rds_log.specs.LogWrites.{tuned}
-use Rattle.rds_log.specs.ReadFailed.{SomeReadFailed}
-use Rattle.rds_log.specs.Play.{Plays, Reading}
-use Rattle.rds_log.specs.declared.fault.LogFault.{LogFault}
-use Rattle.rds_log.specs.declared.fault.LogFault.TheVariants.{BadLine, BadRow, Read, Write, TooLong, Memory}
-use Rattle.rds_log.specs.declared.form.Form.TheVariants.{Log, Simulation}
+use Rattle.rds_output.specs.ReadFailed.{SomeReadFailed}
+use Rattle.rds_script.specs.Play.{Plays, Reading}
+use Rattle.rds_output.specs.declared.fault.LogFault.{LogFault}
+use Rattle.rds_output.specs.declared.fault.LogFault.TheVariants.{BadLine, BadRow, Read, Write, TooLong, Memory}
+use Rattle.rds_script.specs.declared.form.Form.TheVariants.{Log, Simulation}
 use Rattle.rds_words.specs.CommandLine.{AreRefused, AskFor, AskForHelp, Asked, IsPi, TakesWords, asked_in}
 use Rattle.rds_words.specs.declared.request.Programme.{Programme}
 use Rattle.rds_words.specs.declared.request.Task.{Task}

@@ -1,6 +1,7 @@
 //! `audit` through `run`: words, log, answer and status.
 
-use crate::program::{Case, check, each_write_fails, ran_in_pieces, same};
+use crate::program::{Case, check, each_write_fails, ran_in_pieces};
+use crate::same::same;
 use std::test::Fail;
 
 const AUDIT: [&str; 6] = ["rdsrt", "audit", "--pi", "C201", "--m", "4"];

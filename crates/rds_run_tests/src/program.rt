@@ -1,18 +1,14 @@
 //! The program through `run`: words, input, output and status.
 
+use crate::same::same;
+use crate::stubborn::Stubborn;
 use rds_charset::Told;
 use rds_run::run;
 use std::alloc::Global;
 use std::cell::Cell;
-use std::fmt::Debug;
 use std::io::{self, ErrorKind, Read, Write};
 use std::process::Abort;
 use std::test::Fail;
-
-/// Ends the test where two values are not the same. An `assert_eq!` in each place would be proved anew there.
-pub(crate) fn same<T: PartialEq + Debug + Drop>(rt: &impl Abort, found: T, wanted: T) {
-    assert_eq!(rt; found, wanted);
-}
 
 const DECODE: [&str; 4] = ["rdsrt", "decode", "--pi", "C201"];
 
@@ -1039,36 +1035,6 @@ impl Read for Slow<'_> {
         buf[..count].copy_from_slice(&self.left[..count]);
         self.left = &self.left[count..];
         Ok(count)
-    }
-}
-
-/// Takes at most so many bytes a write, and from one write on none, with an error or without.
-#[derive(Drop)]
-struct Stubborn<'a> {
-    taken: &'a mut Vec<u8>,
-    most: usize,
-    fails_at: u64,
-    with_error: bool,
-    writes: &'a Cell<u64>,
-}
-
-impl Write for Stubborn<'_> {
-    fn write(&mut self, buf: &[u8]) -> io::Result<usize> {
-        self.writes.set(self.writes.get().wrapping_add(1));
-        if self.writes.get() == self.fails_at {
-            return if self.with_error {
-                Err(io::Error::from(ErrorKind::Other))
-            } else {
-                Ok(0)
-            };
-        }
-        let count = buf.len().min(self.most);
-        self.taken.extend_from_slice(&buf[..count])?;
-        Ok(count)
-    }
-
-    fn flush(&mut self) -> io::Result<()> {
-        Ok(())
     }
 }
 

@@ -1,4 +1,9 @@
-pub mod SafetyLemmas
-pub mod WorldLemmas
-pub mod AuditLemmas
+pub mod Received
+pub mod DueSteps
+pub mod Stepped
+pub mod LawfulStation
+pub mod InTime
+pub mod SafeWorld
+pub mod SentWhole
+pub mod Delivered
 pub mod WorkedRows

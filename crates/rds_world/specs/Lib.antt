@@ -1,4 +1,10 @@
--- Three rooms: what is safe, then a world, then the audit. The last two know nothing of each other.
-pub mod Safety
-pub mod World
-pub mod Audit
+-- The station and its receivers, slot by slot. Read in this order; SafeSlots and Delivery are what a world promises.
+pub mod Event
+pub mod Due
+pub mod Slots
+pub mod State
+pub mod Replies
+pub mod StandsAt
+pub mod Station
+pub mod SafeSlots
+pub mod Delivery

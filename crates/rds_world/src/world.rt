@@ -5,26 +5,17 @@ ghost use Rattle.rds_encoder.specs.Entries.{name_moves, text_moves};
 ghost use Rattle.rds_encoder.specs.Plan.{bytes_of, on_air};
 ghost use Rattle.rds_encoder.specs.Sent.{IsSent};
 ghost use Rattle.rds_receiver.specs.Shown.{ShownView};
-ghost use Rattle.rds_world.specs.World.Replies.{CanBeTaken, IsStepRefused, reply_at};
-ghost use Rattle.rds_world.specs.World.SafeSlots.{OnlyWhatWasOnAirIsShown};
-ghost use Rattle.rds_world.specs.World.Slots.{entries, input_of, sent_at};
-ghost use Rattle.rds_world.specs.World.State.{distance};
-ghost use Rattle.rds_world.specs.World.StandsAt.{HasHeard, IsViewOfInput, Shows, ShowsStill, StandsAt, WhereItStands};
-ghost use Rattle.rds_world.specs.declared.world.event.TheConstants.{MOST_RECEIVERS};
+ghost use Rattle.rds_world.specs.Replies.{CanBeTaken, IsStepRefused, reply_at};
+ghost use Rattle.rds_world.specs.SafeSlots.{OnlyWhatWasOnAirIsShown};
+ghost use Rattle.rds_world.specs.Slots.{entries, input_of, sent_at};
+ghost use Rattle.rds_world.specs.State.{distance};
+ghost use Rattle.rds_world.specs.StandsAt.{HasHeard, IsViewOfInput, Shows, ShowsStill, StandsAt, WhereItStands};
+ghost use Rattle.rds_world.specs.declared.event.TheConstants.{MOST_RECEIVERS};
 
-pub(crate) mod event;
-pub(crate) mod reach;
-pub(crate) mod receivers;
-pub(crate) mod recent;
-pub(crate) mod reply;
-pub(crate) mod slots;
-pub(crate) mod station;
-pub(crate) mod station_laws;
-
-use crate::world::reach::{Reach, reaches_after};
-use crate::world::receivers::{eight_receivers, hand_out};
-use crate::world::recent::Recent;
-use crate::world::station::obey;
+use crate::reach::{Reach, reaches_after};
+use crate::receivers::{eight_receivers, hand_out};
+use crate::recent::Recent;
+use crate::station::obey;
 use crate::{
     Answer, MOST_RECEIVERS, SlotEvent, StepRefused, WorldRefused, only_what_was_on_air_is_shown,
 };
@@ -62,8 +53,8 @@ impl Model for World {
     ghost use Rattle.std.specs.Prelude.{◌≡◌, ◌≤◌, ◌+◌, length, take};
     ghost use Rattle.std.specs.Coded.{codes};
     ghost use Rattle.rds_receiver.specs.Codes.{receiver_code};
-    ghost use Rattle.rds_world.specs.World.State.{WorldState};
-    ghost use Rattle.rds_world.specs.declared.world.event.TheConstants.{MOST_RECEIVERS};
+    ghost use Rattle.rds_world.specs.State.{WorldState};
+    ghost use Rattle.rds_world.specs.declared.event.TheConstants.{MOST_RECEIVERS};
 
     ghost Value = { WorldState };
 

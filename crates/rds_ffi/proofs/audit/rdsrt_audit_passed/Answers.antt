@@ -1,7 +1,7 @@
 use Rattle.std.proofs.Common.{◌≡◌, ◌<◌, ◌+◌, ◌↔◌, ◌∙◌, ℕ, IsTrue, sym}
-use Rattle.rds_world.specs.Audit.AuditLaws.{IsSafeLog}
-use Rattle.rds_world.specs.Audit.Dense.{HasPlans}
-use Rattle.rds_world.specs.Audit.Rules.{LogPasses}
+use Rattle.rds_audit.specs.AuditLaws.{IsSafeLog}
+use Rattle.rds_audit.specs.Dense.{HasPlans}
+use Rattle.rds_audit.specs.Rules.{LogPasses}
 use Rattle.rds_ffi.proofs.Audits.{lying}
 use Rattle.rds_ffi.proofs.Bits.{one, set}
 use Rattle.rds_ffi.proofs.audit.rdsrt_audit_passed.Goals as goal

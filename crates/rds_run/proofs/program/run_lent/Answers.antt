@@ -5,7 +5,7 @@ use Rattle.clap.specs.Words.{kind_of}
 use Rattle.rds_words.specs.Asks.{asked_by}
 use Rattle.rds_words.specs.CommandLine.{Asked, is_shown}
 use Rattle.rds_log.specs.LogWrites.{tuned}
-use Rattle.rds_log.specs.ReadFailed.{SomeReadFailed}
+use Rattle.rds_output.specs.ReadFailed.{SomeReadFailed}
 use Rattle.rds_words.specs.CommandLine.{IsPi}
 use Rattle.rds_run.specs.Run.{RefusesPi, TaskRuns}
 use Rattle.rds_run.proofs.program.run_lent.Goals as goal

@@ -1,7 +1,7 @@
 use Rattle.std.proofs.Common.{rules, ◌^◌}
 use Rattle.rds_charset.specs.Told.{traffic}
-use Rattle.rds_log.specs.LentReads.{failed_behind, plays_by}
-use Rattle.rds_log.specs.declared.form.Form.TheVariants.{Log, Simulation}
+use Rattle.rds_script.specs.LentReads.{failed_behind, plays_by}
+use Rattle.rds_script.specs.declared.form.Form.TheVariants.{Log, Simulation}
 use Rattle.rds_run.proofs.program.run_task.Goals as goal
 
 pub returns-in-Encode : goal.returns-in-Encode

@@ -1,9 +1,9 @@
 use Rattle.std.proofs.Common.{rules, ◌≡◌, ◌∙◌, [], None, Option, arith, refl, subst, sym}
 use Rattle.circular_buffer.specs.Buffer.{Buffer}
 use Rattle.rds_fields.specs.declared.message.Message.{Message}
-use Rattle.rds_world.specs.World.StandsAt.{AreLastSent, IsNew}
-use Rattle.rds_world.proofs.WorldLemmas.DueSteps.{at_first}
-use Rattle.rds_world.proofs.WorldLemmas.Received.{heard_nothing, one_of_first, some_slots}
+use Rattle.rds_world.specs.StandsAt.{AreLastSent, IsNew}
+use Rattle.rds_world.proofs.DueSteps.{at_first}
+use Rattle.rds_world.proofs.Received.{heard_nothing, one_of_first, some_slots}
 use Rattle.rds_world.proofs.world.World.new.Goals as goal
 
 pub returns-clause-stands : goal.returns-clause-stands

@@ -3,16 +3,16 @@ use Rattle.std.specs.Prelude.{slice_index_or}
 use Rattle.circular_buffer.specs.Buffer.{Buffer}
 use Rattle.rds_fields.specs.declared.message.Message.{Message}
 use Rattle.rds_receiver.specs.State.{ReceiverState}
-use Rattle.rds_world.specs.declared.world.event.Reception.{Reception}
-use Rattle.rds_world.specs.declared.world.event.Reception.TheVariants.{Lost}
-use Rattle.rds_world.specs.World.Due.{IsDue, IsDueToAll, last_named}
-use Rattle.rds_world.specs.World.Event.{Event}
-use Rattle.rds_world.specs.Safety.Late.{Input}
-use Rattle.rds_world.specs.World.Slots.{commanded, entries, input_of, log, received, sent_at}
-use Rattle.rds_world.specs.World.StandsAt.{AllHaveHeard, AreLastSent, HaveReaches, StandsAt}
-use Rattle.rds_world.specs.World.State.{WorldState, distance}
-use Rattle.rds_world.proofs.WorldLemmas.DueSteps.{one_more_sent}
-use Rattle.rds_world.proofs.WorldLemmas.Stepped.{by_own, front_is, stepped}
+use Rattle.rds_world.specs.declared.event.Reception.{Reception}
+use Rattle.rds_world.specs.declared.event.Reception.TheVariants.{Lost}
+use Rattle.rds_world.specs.Due.{IsDue, IsDueToAll, last_named}
+use Rattle.rds_world.specs.Event.{Event}
+use Rattle.rds_safety.specs.Late.{Input}
+use Rattle.rds_world.specs.Slots.{commanded, entries, input_of, log, received, sent_at}
+use Rattle.rds_world.specs.StandsAt.{AllHaveHeard, AreLastSent, HaveReaches, StandsAt}
+use Rattle.rds_world.specs.State.{WorldState, distance}
+use Rattle.rds_world.proofs.DueSteps.{one_more_sent}
+use Rattle.rds_world.proofs.Stepped.{by_own, front_is, stepped}
 use Rattle.std.proofs.lemmas.List.{length-take-le}
 use Rattle.rds_world.proofs.world.World.step.Goals as goal
 

@@ -1,0 +1,36 @@
+-- Each broadcast of which a fragment was sent has a reign.
+use Rattle.std.proofs.Common.{◌≡◌, ℕ, List, [], ◌∷◌, length, subst, inl, inr, arith}
+use Rattle.std.proofs.lemmas.Bool.{cases_order}
+use Rattle.rds_encoder.specs.Plan.{Broadcast, Covers, HasNumber}
+use Rattle.rds_encoder.specs.Spaced.{IsSpaced}
+use Rattle.rds_receiver.specs.Receipts.{Fragment}
+use Rattle.rds_audit.specs.AuditLaws.{AreReignsOf, AreTheReigns, IsReignOf, SomeReign}
+use Rattle.rds_audit.specs.Dense.{IsDense}
+use Rattle.rds_safety.specs.Lawful.{IsLawful, Kind}
+use Rattle.rds_safety.specs.Laws.{PlanLaws}
+use Rattle.rds_safety.specs.Marks.{Mark}
+use Rattle.rds_audit.specs.Reigns.{Reign, reigns}
+use Rattle.rds_audit.proofs.Matching.{are_reigns_of}
+use Rattle.rds_audit.proofs.Planning.{HoldsFragment, fragment_held}
+
+module _ (laws : PlanLaws) (d : ℕ) (kind : Kind) (plan : List Broadcast) (spaced : IsSpaced d plan) where
+  has_reign : (n k t : ℕ) (b : Broadcast) (p : Fragment) (rs : List Reign) → AreReignsOf d kind plan n rs → HasNumber plan k b → Covers b t → SomeReign (HoldsFragment t p) rs
+      → SomeReign (IsReignOf d kind b) rs
+  has_reign n k t b p [] a q c h = absurd h
+  has_reign n k t b p (r ∷ older) a q c (inr h) = inr (has_reign a.0 k t b p older a.5 q c h)
+  has_reign n k t b p (r ∷ older) a q c (inl h) =
+      elim (cases_order a.0 k) [
+        | inl same ↦
+            let one : a.1 ≡ b = laws.one plan k a.1 b (subst (λ (i : ℕ). HasNumber plan i a.1) {x = a.0} same a.3) q in
+            inl (subst (λ (x : Broadcast). IsReignOf d kind x r) {x = a.1} one a.4)
+        | inr other ↦ elim other [
+          | inl less ↦ absurd (omega (arith, laws.order d plan a.0 k a.1 b spaced a.3 q less, a.4.to, h.to, c.from))
+          | inr more ↦ absurd (omega (arith, laws.order d plan k a.0 b a.1 spaced q a.3 more, a.4.from, h.from, c.to))
+        ]
+      ]
+
+pub the_reigns : PlanLaws → (d : ℕ) (kind : Kind) (plan : List Broadcast) (sent : List Mark) → IsLawful d kind plan sent → IsDense d plan sent → AreTheReigns d kind plan sent
+the_reigns laws d kind plan sent law dense = record {
+  each = are_reigns_of laws d kind plan sent law dense;
+  all = λ k b t p q has s. has_reign laws d kind plan law.spaced (length plan) k t b p (reigns d sent) (are_reigns_of laws d kind plan sent law dense) q has.covers (fragment_held d sent t p s);
+}

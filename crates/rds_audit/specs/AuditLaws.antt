@@ -1,0 +1,96 @@
+-- What holds of all logs that are audited. Lists have the newest first.
+use Rattle.std.specs.Prelude.{◌≡◌, ◌+◌, ◌<◌, ◌≤◌, ◌⊎◌, ◌↔◌, ℕ, List, [], ◌∷◌, Option, length}
+use Rattle.std.specs.List.{All, AllByRecursion}
+use Rattle.rds_fields.specs.declared.message.Message.{Message}
+use Rattle.rds_fields.specs.Tag.{BothEndIn}
+use Rattle.rds_encoder.specs.Plan.{Broadcast, HasNumber}
+use Rattle.rds_receiver.specs.Receipts.{Fragment}
+use Rattle.rds_audit.specs.declared.audit_fault.AuditFault.{AuditFault}
+use Rattle.rds_audit.specs.Dense.{AreDense, HasPlans, IsDense}
+use Rattle.rds_safety.specs.Lawful.{HasFragment, IsLawful, IsFragmentOf, Kind}
+use Rattle.rds_safety.specs.Marks.{IsMarkIn, Mark, Sends}
+use Rattle.rds_safety.specs.OwnClock.{ListensByOwnClock}
+use Rattle.rds_safety.specs.Plans.{AreLawful, Plans}
+use Rattle.rds_audit.specs.Reigns.{Reign, SentTags, reigns}
+use Rattle.rds_audit.specs.Rules.{IsFaultOf, LogPasses}
+use Rattle.rds_safety.specs.Safe.{AreSafe, Listener, ListensTo}
+
+-- a log passes exactly where it has plans that are lawful and dense
+abbrev pub PassesExactlyByPlans : Type 0
+PassesExactlyByPlans = (d : ℕ) (log : List (Option Message)) → 0 < d → LogPasses d log ↔ HasPlans d log
+
+-- the tags can be those of the broadcast
+pub record AreTagsOf (d : ℕ) (b : Broadcast) (s : SentTags) : Type 0 where
+  pub lasted : b.start + d ≤ s.slot
+  pub ends : BothEndIn (length b.bytes) s.pair
+
+-- the reign is of the broadcast, which starts no earlier than the reign and ends no earlier than its last slot
+pub record IsReignOf (d : ℕ) (kind : Kind) (b : Broadcast) (r : Reign) : Type 0 where
+  pub start : r.start ≤ b.start
+  pub from : b.start ≤ r.opened
+  pub to : r.last ≤ b.end
+  pub flag : r.flag ≡ b.flag
+  pub fragments : AllByRecursion (IsFragmentOf (kind.body b.bytes)) r.fragments
+  pub tags : AllByRecursion (AreTagsOf d b) r.tags
+
+-- the reigns are of broadcasts of the plan, in order: their numbers are below n and fall
+abbrev pub AreReignsOf : ℕ → Kind → List Broadcast → ℕ → List Reign → Type 0
+AreReignsOf d kind plan n [] = Unit {0}
+AreReignsOf d kind plan n (r ∷ older) =
+    (k : ℕ) × (b : Broadcast) × (k < n) × HasNumber plan k b × IsReignOf d kind b r × AreReignsOf d kind plan k older
+
+-- one of the reigns is so
+abbrev pub SomeReign : (Reign → Type 0) → List Reign → Type 0
+SomeReign Is [] = ⊥
+SomeReign Is (r ∷ older) = Is r ⊎ SomeReign Is older
+
+-- the reigns are the broadcasts of which a fragment was sent, in order: each reign is of one, and each has a reign
+pub record AreTheReigns (d : ℕ) (kind : Kind) (plan : List Broadcast) (sent : List Mark) : Type 0 where
+  pub each : AreReignsOf d kind plan (length plan) (reigns d sent)
+  pub all : (k : ℕ) (b : Broadcast) (slot : ℕ) (p : Fragment) → HasNumber plan k b → HasFragment kind slot p b
+      → IsMarkIn sent slot (Sends p)
+      → SomeReign (IsReignOf d kind b) (reigns d sent)
+
+-- so it is for every plan that is lawful and dense
+abbrev pub BroadcastsAreTheReigns : Kind → Type 0
+BroadcastsAreTheReigns kind = (d : ℕ) (plan : List Broadcast) (sent : List Mark) → IsLawful d kind plan sent
+    → IsDense d plan sent → AreTheReigns d kind plan sent
+
+-- a log that has a fault does not pass
+abbrev pub WhatHasAFaultDoesNotPass : Type 0
+WhatHasAFaultDoesNotPass =
+    (d : ℕ) (log : List (Option Message)) (fault : AuditFault) → 0 < d → IsFaultOf d log fault → LogPasses d log → ⊥
+
+-- and it has one fault
+abbrev pub ALogHasOneFault : Type 0
+ALogHasOneFault = (d : ℕ) (log : List (Option Message)) (f g : AuditFault) → 0 < d → IsFaultOf d log f
+    → IsFaultOf d log g → f ≡ g
+
+-- some plans of the log are lawful and dense, and make every slot safe for any number of receivers of dwell m: of those
+-- that are at most k slots late, and of those with clocks of their own by which less than m slots are less than m + k
+-- of the station's
+pub record IsSafeLog (m k : ℕ) (log : List (Option Message)) : Type 0 where
+  pub plans : Plans
+  pub lawful : AreLawful (m + k) plans log
+  pub dense : AreDense (m + k) plans log
+  pub safe : (t : ℕ) (receivers : List Listener) → All (ListensTo k m t log) receivers
+      → AreSafe (m + k) m t plans log receivers
+  pub own_clocks : (now : ℕ) (receivers : List Listener) → All (ListensByOwnClock (m + k) m now log) receivers
+      → AreSafe (m + k) m now plans log receivers
+
+-- a log that passes with the dwell and the lateness is safe
+abbrev pub WhatPassesIsSafe : Type 0
+WhatPassesIsSafe = (m k : ℕ) (log : List (Option Message)) → 0 < m → LogPasses (m + k) log → IsSafeLog m k log
+
+-- some plans of the log are lawful and dense, and make every slot safe for any number of receivers of dwell m,
+-- whatever they lose and whenever they restart
+pub record IsSafeOnTime (m : ℕ) (log : List (Option Message)) : Type 0 where
+  pub plans : Plans
+  pub lawful : AreLawful m plans log
+  pub dense : AreDense m plans log
+  pub safe : (t : ℕ) (receivers : List Listener) → All (ListensTo 0 m t log) receivers
+      → AreSafe m m t plans log receivers
+
+-- so is a log that passes with the dwell, where all receivers are on time
+abbrev pub WhatPassesIsSafeOnTime : Type 0
+WhatPassesIsSafeOnTime = (m : ℕ) (log : List (Option Message)) → 0 < m → LogPasses m log → IsSafeOnTime m log

@@ -1,0 +1,143 @@
+-- What an audit holds.
+use Rattle.std.specs.Prelude.{◌≡◌, ◌≤◌, ◌<◌, ◌⊎◌, ◌==◌, ℕ, Bool, true, List, Option, Some, None, is_some, max, refl, replicate, slice_index_or, slice_set, if◌then◌else◌}
+use Rattle.std.specs.Coded.{Coded, code_by, coded×, coded_ℕ, coded_bool, coded_list, coded_option}
+use Rattle.rds_fields.specs.Tag.{PairFields}
+use Rattle.rds_audit.specs.declared.ages.Ages.{Ages}
+use Rattle.rds_audit.specs.declared.audit_fault.AuditFault.{AuditFault}
+use Rattle.rds_audit.specs.declared.audit_fault.AuditFault.TheVariants.{Changed, NotOneText, EarlyFlag, EarlyTag, TagOutside}
+use Rattle.rds_audit.specs.declared.lengths.Lengths.{Lengths}
+use Rattle.rds_audit.specs.Ages.{opened_ages}
+use Rattle.rds_audit.specs.Lengths.{narrowed, pair_end}
+
+-- of a reign: the bytes at each address, the lengths that its fragments allow, and the greatest end of its tags
+pub record ContentState : Type 0 where
+  pub cells : List (Option (List ℕ))
+  pub lengths : Lengths
+  pub tags_end : ℕ
+
+-- of a service: the ages of its reigns, and the content of the current one
+pub record ReignsState : Type 0 where
+  pub ages : Ages
+  pub content : ContentState
+
+-- of a log: its programme, the dwell and the lateness together in slots, both services, and the fault, where there is
+-- one
+pub record AuditState : Type 0 where
+  pub programme : ℕ
+  pub distance : ℕ
+  pub text : ReignsState
+  pub name : ReignsState
+  pub fault : Option AuditFault
+
+-- nothing of a reign
+abbrev pub no_content : ℕ → ContentState
+no_content longest = record { cells = replicate 16 None; lengths = record { least = 0; most = longest }; tags_end = 0 }
+
+-- what is held at an address
+abbrev pub cell_at : ℕ → ContentState → Option (List ℕ)
+cell_at a c = slice_index_or c.cells a None
+
+-- the address holds nothing, or these bytes
+abbrev pub HoldsNoOther : ℕ → List ℕ → ContentState → Type 0
+HoldsNoOther address bytes c = (cell_at address c ≡ None) ⊎ (cell_at address c ≡ Some bytes)
+
+-- some length is in both ranges
+pub record HasRoom (allowed : Option Lengths) (l : Lengths) : Type 0 where
+  pub some : is_some allowed ≡ true
+  pub room : (narrowed allowed l).least ≤ (narrowed allowed l).most
+
+-- these bytes, which allow such lengths, can be sent at the address beside what is held
+pub record CanTake (allowed : Option Lengths) (address : ℕ) (bytes : List ℕ) (c : ContentState) : Type 0 where
+  pub unchanged : HoldsNoOther address bytes c
+  pub lengths : HasRoom allowed c.lengths
+  pub ends : c.tags_end ≤ (narrowed allowed c.lengths).most
+
+-- why they can't: the address holds others; no length is left; or one is, and a tag ends past all that are
+abbrev pub CannotTake : Option Lengths → ℕ → List ℕ → ContentState → AuditFault → Type 0
+CannotTake allowed address bytes c Changed = HoldsNoOther address bytes c → ⊥
+CannotTake allowed address bytes c NotOneText = HoldsNoOther address bytes c × (HasRoom allowed c.lengths → ⊥)
+CannotTake allowed address bytes c TagOutside =
+    HoldsNoOther address bytes c × HasRoom allowed c.lengths × ((narrowed allowed c.lengths).most < c.tags_end)
+CannotTake allowed address bytes c EarlyFlag = ⊥
+CannotTake allowed address bytes c EarlyTag = ⊥
+
+-- the content with four more bytes at an address
+abbrev pub taken : Option Lengths → ℕ → List ℕ → ContentState → ContentState
+taken allowed address bytes c =
+    record {
+      cells = slice_set c.cells address (Some bytes);
+      lengths = narrowed allowed c.lengths;
+      tags_end = c.tags_end;
+    }
+
+-- the content with one more pair of tags
+abbrev pub tagged : PairFields → ContentState → ContentState
+tagged pair c = record { cells = c.cells; lengths = c.lengths; tags_end = max c.tags_end (pair_end pair) }
+
+-- the state once a fragment joined the current reign
+abbrev pub joined_state : Option Lengths → ℕ → List ℕ → ReignsState → ReignsState
+joined_state allowed address bytes st =
+    record { ages = record st.ages { since_last = 0 }; content = taken allowed address bytes st.content }
+
+-- the state in which a fragment opens a reign
+abbrev pub opened_state : ℕ → ℕ → Bool → ReignsState → ReignsState
+opened_state d longest flag st = record { ages = opened_ages d flag st.ages; content = no_content longest }
+
+-- the state once tags were sent
+abbrev pub tagged_state : PairFields → ReignsState → ReignsState
+tagged_state pair st = record { ages = record st.ages { since_last = 0 }; content = tagged pair st.content }
+
+abbrev pub lengths_code : Coded Lengths
+lengths_code = code_by (ℕ × ℕ) (coded× coded_ℕ coded_ℕ) (λ l. (l.least, l.most))
+    (λ p. record { least = p.0; most = p.1 }) (λ _. refl)
+
+abbrev pub content_code : Coded ContentState
+content_code =
+    code_by (List (Option (List ℕ)) × (Lengths × ℕ))
+    (coded× (coded_list (coded_option (coded_list coded_ℕ))) (coded× lengths_code coded_ℕ))
+    (λ c. (c.cells, (c.lengths, c.tags_end))) (λ p. record { cells = p.0; lengths = p.1.0; tags_end = p.1.1 })
+    (λ _. refl)
+
+abbrev pub ages_code : Coded Ages
+ages_code =
+    code_by ((Bool × Bool) × (ℕ × (ℕ × ℕ)))
+    (coded× (coded× coded_bool coded_bool) (coded× coded_ℕ (coded× coded_ℕ coded_ℕ)))
+    (λ a. ((a.is_open, a.flag), (a.since_last, (a.since_before, a.since_start))))
+    (λ p. record { is_open = p.0.0; flag = p.0.1; since_last = p.1.0; since_before = p.1.1.0; since_start = p.1.1.1 })
+    (λ _. refl)
+
+abbrev pub reigns_code : Coded ReignsState
+reigns_code = code_by (Ages × ContentState) (coded× ages_code content_code) (λ r. (r.ages, r.content))
+    (λ p. record { ages = p.0; content = p.1 }) (λ _. refl)
+
+abbrev pub fault_number : AuditFault → ℕ
+fault_number Changed = 0
+fault_number NotOneText = 1
+fault_number EarlyFlag = 2
+fault_number EarlyTag = 3
+fault_number TagOutside = 4
+
+abbrev pub numbered_fault : ℕ → AuditFault
+numbered_fault n =
+    if n == 0 then Changed
+    else if n == 1 then NotOneText
+    else if n == 2 then EarlyFlag
+    else if n == 3 then EarlyTag
+    else TagOutside
+
+pub fault_back : (f : AuditFault) → numbered_fault (fault_number f) ≡ f
+fault_back Changed = refl
+fault_back NotOneText = refl
+fault_back EarlyFlag = refl
+fault_back EarlyTag = refl
+fault_back TagOutside = refl
+
+abbrev pub fault_code : Coded AuditFault
+fault_code = code_by ℕ coded_ℕ fault_number numbered_fault fault_back
+
+abbrev pub audit_code : Coded AuditState
+audit_code =
+    code_by ((ℕ × ℕ) × ((ReignsState × ReignsState) × Option AuditFault))
+    (coded× (coded× coded_ℕ coded_ℕ) (coded× (coded× reigns_code reigns_code) (coded_option fault_code)))
+    (λ a. ((a.programme, a.distance), ((a.text, a.name), a.fault)))
+    (λ p. record { programme = p.0.0; distance = p.0.1; text = p.1.0.0; name = p.1.0.1; fault = p.1.1 }) (λ _. refl)

@@ -1,0 +1,94 @@
+-- The reigns of a log (this project's own rule): what can be told of its broadcasts from what a service was
+-- sent. A fragment joins the current reign where it has its flag and comes less than d slots after its last slot;
+-- every other fragment opens a reign. Tags lengthen the current reign. Lists have the newest first.
+use Rattle.std.specs.Prelude.{◌+◌, ◌&&◌, ℕ, Bool, List, [], ◌∷◌, length, nat_lt, max, if◌then◌else◌}
+use Rattle.rds_fields.specs.Tag.{PairFields}
+use Rattle.rds_receiver.specs.Receipts.{Fragment}
+use Rattle.rds_receiver.specs.Run.{is_same}
+use Rattle.rds_safety.specs.Marks.{Mark, Nothing, Sends, Tagged}
+
+-- tags, with the slot they were sent in
+pub record SentTags : Type 0 where
+  pub slot : ℕ
+  pub pair : PairFields
+
+-- a reign: the first slot in which its broadcast can have started, the slots of its first fragment and of the last
+-- of its fragments and tags, its flag, its fragments and its tags
+pub record Reign : Type 0 where
+  pub start : ℕ
+  pub opened : ℕ
+  pub last : ℕ
+  pub flag : Bool
+  pub fragments : List Fragment
+  pub tags : List SentTags
+
+-- a fragment of this flag joins the reign
+abbrev pub joins : ℕ → ℕ → Bool → Reign → Bool
+joins d slot flag r = is_same r.flag flag && nat_lt slot (r.last + d)
+
+-- d slots after the last slot of the newest of these reigns, where there is one
+abbrev pub past_newest : ℕ → List Reign → ℕ
+past_newest d [] = 0
+past_newest d (r ∷ older) = r.last + d
+
+-- the first slot in which a broadcast of this flag can start after these reigns: the newest one of the same
+-- flag is d slots away; one of the other flag is over, and the one before it is d slots away
+abbrev pub start_after : ℕ → Bool → List Reign → ℕ
+start_after d flag [] = 0
+start_after d flag (r ∷ older) = if is_same r.flag flag then r.last + d else max (r.last + 1) (past_newest d older)
+
+-- the reign that the fragment opens after these
+abbrev pub opened_by : ℕ → ℕ → Fragment → List Reign → Reign
+opened_by d slot p older =
+    record {
+      start = start_after d p.flag older;
+      opened = slot;
+      last = slot;
+      flag = p.flag;
+      fragments = p ∷ [];
+      tags = [];
+    }
+
+-- the reign with one more fragment
+abbrev pub with_fragment : ℕ → Fragment → Reign → Reign
+with_fragment slot p r = record {
+  start = r.start;
+  opened = r.opened;
+  last = slot;
+  flag = r.flag;
+  fragments = p ∷ r.fragments;
+  tags = r.tags;
+}
+
+-- the reign with one more pair of tags
+abbrev pub with_tags : ℕ → PairFields → Reign → Reign
+with_tags slot pair r = record {
+  start = r.start;
+  opened = r.opened;
+  last = slot;
+  flag = r.flag;
+  fragments = r.fragments;
+  tags = record { slot = slot; pair = pair } ∷ r.tags;
+}
+
+-- these reigns, and a fragment
+abbrev pub after_fragment : ℕ → ℕ → Fragment → List Reign → List Reign
+after_fragment d slot p [] = opened_by d slot p [] ∷ []
+after_fragment d slot p (r ∷ older) =
+    if joins d slot p.flag r then with_fragment slot p r ∷ older else opened_by d slot p (r ∷ older) ∷ r ∷ older
+
+-- these reigns, and tags
+abbrev pub after_tags : ℕ → PairFields → List Reign → List Reign
+after_tags slot pair [] = []
+after_tags slot pair (r ∷ older) = with_tags slot pair r ∷ older
+
+-- these reigns, and what was sent in the slot
+abbrev pub after_mark : ℕ → ℕ → Mark → List Reign → List Reign
+after_mark d slot Nothing rs = rs
+after_mark d slot (Sends p) rs = after_fragment d slot p rs
+after_mark d slot (Tagged pair) rs = after_tags slot pair rs
+
+-- the reigns of what a service was sent
+abbrev pub reigns : ℕ → List Mark → List Reign
+reigns d [] = []
+reigns d (mark ∷ before) = after_mark d (length before) mark (reigns d before)

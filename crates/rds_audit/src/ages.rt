@@ -1,0 +1,101 @@
+//! How long ago the reigns of a service started and ended.
+ghost use Rattle.std.specs.Prelude.{◌≡◌, ◌≢◌, ◌+◌, ◌*◌, ◌<◌, ◌≤◌, ◌↔◌, IsTrue, IsErr, IfErr, IfOk, min, true, false};
+ghost use Rattle.rds_audit.specs.Ages.{HasLasted, IsEarly, Joins, aged, opened_ages};
+
+use crate::AuditFault;
+use rds_encoder::Distance;
+
+/// The ages, in slots, of the current reign and of the one before it. They stop at a limit: those of last slots
+/// at twice the distance, that of the start at the distance. Before the first reign the log counts as older than it is
+/// by the distance.
+#[derive(Clone, Copy)]
+pub(crate) struct Ages {
+    pub(crate) is_open: bool,
+    pub(crate) flag: bool,
+    pub(crate) since_last: u32,
+    pub(crate) since_before: u32,
+    pub(crate) since_start: u32,
+}
+
+impl Ages {
+    /// No reign yet.
+    pub(crate) fn new(distance: Distance) -> Ages
+        ensures { result ≡ record {
+          is_open = false;
+          flag = false;
+          since_last = distance;
+          since_before = distance;
+          since_start = 0;
+        } }
+    {
+        Ages {
+            is_open: false,
+            flag: false,
+            since_last: distance.get(),
+            since_before: distance.get(),
+            since_start: 0,
+        }
+    }
+
+    /// Whether a segment with this flag joins the current reign.
+    pub(crate) fn joins(&self, distance: Distance, flag: bool) -> bool
+        ensures { IsTrue result ↔ Joins distance flag self.now }
+    {
+        flag == self.flag && self.since_last < distance.get()
+    }
+
+    /// Opens a reign in this slot. Its start is the first slot in which its text can have begun; `EarlyFlag`
+    /// where that is still to come.
+    pub(crate) fn open(&mut self, distance: Distance, flag: bool) -> Result<(), AuditFault>
+        ensures early { IsErr result ↔ IsEarly distance flag self.old }
+        ensures fault { IfErr result (λ fault. fault ≡ AuditFault.EarlyFlag) }
+        ensures opened { IfOk result (λ _. self.new ≡ opened_ages distance flag self.old) }
+    {
+        if flag != self.flag && self.since_before < distance.get() {
+            return Err(AuditFault::EarlyFlag);
+        }
+        let past_last = self.since_last.saturating_sub(distance.get());
+        let past_before = self.since_before.saturating_sub(distance.get());
+        self.since_start = if flag == self.flag {
+            past_last
+        } else {
+            past_before.min(self.since_last.saturating_sub(1))
+        };
+        self.since_before = self.since_last;
+        self.is_open = true;
+        self.flag = flag;
+        Ok(())
+    }
+
+    /// This slot is the last of the current reign so far.
+    pub(crate) fn renew(&mut self)
+        ensures { self.new ≡ record self.old { since_last = 0 } }
+    {
+        self.since_last = 0;
+    }
+
+    /// Whether the text of the current reign has been on air for so many slots, so that tags may be sent.
+    pub(crate) fn has_lasted(&self, distance: Distance) -> bool
+        ensures { IsTrue result ↔ HasLasted distance self.now }
+    {
+        self.is_open && self.since_start >= distance.get()
+    }
+
+    /// One slot older.
+    pub(crate) fn grow_older(&mut self, distance: Distance)
+        ensures { self.new ≡ aged distance self.old }
+    {
+        let slots = distance.get();
+        self.since_last = one_more(self.since_last, 2 * slots);
+        self.since_before = one_more(self.since_before, 2 * slots);
+        self.since_start = one_more(self.since_start, slots);
+    }
+}
+
+/// One more, up to the limit.
+fn one_more(age: u32, limit: u32) -> u32
+    requires { limit ≤ 2 * 66559 }
+    ensures { result ≡ min (age + 1) limit }
+{
+    if age < limit { age + 1 } else { limit }
+}

@@ -1,0 +1,197 @@
+//! The audit of a log.
+ghost use Rattle.std.specs.Prelude.{◌≡◌, ◌+◌, ◌<◌, ◌≤◌, ◌↔◌, ℕ, List, [], ◌∷◌, Option, Some, None, Ok, Err, IsErr, IsTrue, IfOk, IfErr, MatchResult};
+ghost use Rattle.rds_block.specs.declared.group.Group.{Group};
+ghost use Rattle.rds_fields.specs.declared.message.Message.{Message};
+ghost use Rattle.rds_audit.specs.declared.audit_fault.AuditFault.{AuditFault};
+ghost use Rattle.rds_audit.specs.AuditLaws.{IsSafeLog};
+ghost use Rattle.rds_audit.specs.AuditStandsAt.{AuditStandsAt, HoldsLog, HoldsSlot, WhereTheAuditStands};
+ghost use Rattle.rds_audit.specs.Dense.{HasPlans};
+ghost use Rattle.rds_audit.specs.Rules.{BreaksFirst, IsFaultOf, LogPasses};
+ghost use Rattle.rds_audit.specs.Stored.{IsStored, audit_stored};
+
+use crate::audited::{Names, Texts};
+use crate::reigns::Reigns;
+use crate::stored::StoredAudit;
+use crate::{AuditFault, one_fault, passes_by_plans, what_passes_is_safe};
+use rds_block::Group;
+use rds_encoder::{Distance, Late};
+use rds_fields::{Dwell, Message};
+use rds_receiver::heard;
+use std::marker::Model;
+
+/// The audit of a log: what a station sent, slot by slot. It passes the log where some texts and names of a
+/// station that keeps them apart by the dwell and the lateness could have been sent so.
+///
+/// It holds ages that stop at a limit and no slot numbers, so it takes any number of slots. `AuditStandsAt` is
+/// the relation between an audit and its log: a new one stands at the empty log, and each `slot` goes on to the
+/// log with that slot.
+#[derive(Drop)]
+pub struct Audit {
+    pi: u16,
+    distance: Distance,
+    text: Reigns<Texts>,
+    name: Reigns<Names>,
+    fault: Option<AuditFault>,
+}
+
+impl Model for Audit {
+    ghost use Rattle.std.specs.Prelude.{◌<◌};
+    ghost use Rattle.rds_audit.specs.AuditState.{AuditState, audit_code};
+
+    ghost Value = { AuditState };
+
+    ghost coded = { audit_code };
+
+    ghost view = { λ a. record {
+      programme = a.pi;
+      distance = a.distance;
+      text = a.text;
+      name = a.name;
+      fault = a.fault;
+    } };
+
+    ghost invariant = { λ a. 0 < a.distance };
+}
+
+impl Audit {
+    /// The audit of this programme before the first slot, for receivers of this dwell whose groups come no later
+    /// than so.
+    pub fn new(pi: u16, dwell: Dwell, late: Late) -> Audit
+        ensures stands { AuditStandsAt pi (dwell + late) result [] }
+        ensures passed { result.fault ≡ None }
+    {
+        let distance = Distance::new(dwell, late);
+        Audit {
+            pi,
+            distance,
+            text: Reigns::new(distance),
+            name: Reigns::new(distance),
+            fault: None,
+        }
+    }
+
+    /// The audit that was stored, where these are numbers that one is stored as; some audit of the programme where
+    /// they are not.
+    pub fn restore(stored: &StoredAudit) -> Audit
+        ensures { IsStored stored.now → result ≡ audit_stored stored.now }
+    {
+        Audit {
+            pi: stored.pi,
+            distance: Distance::restore(stored.distance),
+            text: Reigns::restore(&stored.text),
+            name: Reigns::restore(&stored.name),
+            fault: AuditFault::numbered(stored.fault),
+        }
+    }
+
+    /// The audit, to be stored.
+    pub fn store(&self) -> StoredAudit
+        ensures same { audit_stored result ≡ self.now }
+        ensures good { IsStored result }
+    {
+        StoredAudit {
+            distance: self.distance.get(),
+            text: self.text.store(),
+            name: self.name.store(),
+            pi: self.pi,
+            fault: AuditFault::number(self.fault),
+        }
+    }
+
+    /// Takes the next slot: the group that was sent in it, or nothing. A group of another programme counts as
+    /// nothing. After a fault every call answers that fault again and changes nothing.
+    pub fn slot(&mut self, group: Option<Group>) -> Result<(), AuditFault>
+        ensures stands { (pi d : ℕ) (log : List (Option Group))
+            → AuditStandsAt pi d self.old log → AuditStandsAt pi d self.new (group ∷ log) }
+        ensures fault { MatchResult result
+            (λ _. self.new.fault ≡ None) (λ fault. self.new.fault ≡ Some fault) }
+        ensures which { WhereTheAuditStands self.new (λ d heard.
+            MatchResult result (λ _. LogPasses d heard) (λ fault. IsFaultOf d heard fault)) }
+        ensures again { (fault : AuditFault) → self.old.fault ≡ Some fault
+            → (result ≡ Err fault) × (self.new ≡ self.old) }
+    {
+        let message = heard(self.pi, group);
+        if let Some(known) = self.fault {
+            return Err(known);
+        }
+        if let Err(fault) = self.take_slot(message) {
+            self.fault = Some(fault);
+            return Err(fault);
+        }
+        self.end_slot();
+        Ok(())
+    }
+
+    /// Whether the log passes so far. What passes with a dwell and a lateness is safe for every receiver of that
+    /// dwell whose groups come no later than so.
+    pub fn passed(&self) -> bool
+        ensures fault { IsTrue result ↔ (self.now.fault ≡ None) }
+        ensures passes { WhereTheAuditStands self.now (λ d heard. IsTrue result ↔ LogPasses d heard) }
+        ensures plans { WhereTheAuditStands self.now (λ d heard. IsTrue result ↔ HasPlans d heard) }
+        ensures safe { WhereTheAuditStands self.now (λ d heard. (m k : ℕ) → 0 < m → m + k ≡ d
+            → IsTrue result → IsSafeLog m k heard) }
+    {
+        // the laws by which `plans` and `safe` hold
+        one_fault();
+        passes_by_plans();
+        what_passes_is_safe();
+        self.fault.is_none()
+    }
+
+    /// Takes what was sent in this slot.
+    fn take_slot(&mut self, message: Option<Message>) -> Result<(), AuditFault>
+        ensures programme { self.new.programme ≡ self.old.programme }
+        ensures distance { self.new.distance ≡ self.old.distance }
+        ensures fault { self.new.fault ≡ self.old.fault }
+        ensures holds { (heard : List (Option Message)) → HoldsLog self.old.distance heard self.old
+            → IfOk result (λ _. HoldsSlot self.old.distance message heard self.new) }
+        ensures breaks { (heard : List (Option Message)) → HoldsLog self.old.distance heard self.old
+            → IfErr result (λ fault. BreaksFirst self.old.distance message heard fault) }
+    {
+        match message {
+            Some(message) => self.hear(message),
+            None => Ok(()),
+        }
+    }
+
+    /// Takes a message that was sent in this slot.
+    fn hear(&mut self, message: Message) -> Result<(), AuditFault>
+        ensures programme { self.new.programme ≡ self.old.programme }
+        ensures distance { self.new.distance ≡ self.old.distance }
+        ensures fault { self.new.fault ≡ self.old.fault }
+        ensures holds { (heard : List (Option Message)) → HoldsLog self.old.distance heard self.old
+            → IfOk result (λ _. HoldsSlot self.old.distance (Some message) heard self.new) }
+        ensures breaks { (heard : List (Option Message)) → HoldsLog self.old.distance heard self.old
+            → IfErr result (λ fault. BreaksFirst self.old.distance (Some message) heard fault) }
+    {
+        let distance = self.distance;
+        match message {
+            Message::Text {
+                flag,
+                address,
+                bytes,
+            } => self.text.take(distance, flag, address.get(), bytes),
+            Message::Name {
+                flag,
+                address,
+                bytes,
+            } => self.name.take(distance, flag, address.get(), bytes),
+            Message::Tags(pair) => self.text.take_tags(distance, pair),
+            Message::Announce { .. } | Message::Other => Ok(()),
+        }
+    }
+
+    /// The slot ends.
+    fn end_slot(&mut self)
+        ensures programme { self.new.programme ≡ self.old.programme }
+        ensures distance { self.new.distance ≡ self.old.distance }
+        ensures fault { self.new.fault ≡ self.old.fault }
+        ensures holds { (heard : List (Option Message)) (message : Option Message)
+            → HoldsSlot self.old.distance message heard self.old
+            → HoldsLog self.old.distance (message ∷ heard) self.new }
+    {
+        let distance = self.distance;
+        self.text.grow_older(distance);
+        self.name.grow_older(distance);
+    }
+}

@@ -1,0 +1,149 @@
+//! The reigns of a service.
+ghost use Rattle.std.specs.Prelude.{◌≡◌, ◌+◌, ◌<◌, ◌≤◌, List, [], IfOk, IfErr};
+ghost use Rattle.rds_audit.specs.Ages.{IsEarly, aged};
+ghost use Rattle.rds_audit.specs.AuditStandsAt.{HoldsMarks, HoldsNewest};
+ghost use Rattle.rds_audit.specs.AuditState.{CanTake, CannotTake, joined_state, no_content, opened_state};
+ghost use Rattle.rds_safety.specs.Marks.{Mark, Sends, Tagged};
+ghost use Rattle.rds_audit.specs.Rules.{IsBrokenBy};
+ghost use Rattle.rds_audit.specs.Stored.{reigns_stored};
+
+use crate::AuditFault;
+use crate::ages::Ages;
+use crate::audited::Audited;
+use crate::content::Content;
+use crate::stored::StoredReigns;
+use rds_encoder::Distance;
+use rds_fields::TagPair;
+use std::marker::Model;
+
+/// The current reign of a service, and how long ago the one before it ended.
+#[derive(Drop)]
+pub(crate) struct Reigns<S: Audited> {
+    ages: Ages,
+    content: Content<S>,
+}
+
+impl<S: Audited> Model for Reigns<S> {
+    ghost use Rattle.rds_audit.specs.AuditState.{ReignsState, reigns_code};
+
+    ghost Value = { ReignsState };
+
+    ghost coded = { reigns_code };
+
+    ghost view = { λ r. record { ages = r.ages; content = r.content } };
+}
+
+impl<S: Audited> Reigns<S> {
+    /// No reign yet.
+    pub(crate) fn new(distance: Distance) -> Self
+        requires { 0 < distance }
+        ensures { HoldsMarks S.gauge distance [] result }
+    {
+        Reigns {
+            ages: Ages::new(distance),
+            content: Content::new(),
+        }
+    }
+
+    /// What was stored.
+    pub(crate) fn restore(stored: &StoredReigns) -> Self
+        ensures { result ≡ reigns_stored stored.now }
+    {
+        Reigns {
+            ages: Ages {
+                is_open: stored.is_open != 0,
+                flag: stored.flag != 0,
+                since_last: stored.since_last,
+                since_before: stored.since_before,
+                since_start: stored.since_start,
+            },
+            content: Content::restore(stored),
+        }
+    }
+
+    /// All of it, to be stored.
+    pub(crate) fn store(&self) -> StoredReigns
+        ensures { reigns_stored result ≡ self.now }
+    {
+        self.content.store(&self.ages)
+    }
+
+    /// Takes a segment that is sent in this slot: it joins the current reign, or opens one.
+    pub(crate) fn take(
+        &mut self,
+        distance: Distance,
+        flag: bool,
+        address: u8,
+        bytes: [u8; 4],
+    ) -> Result<(), AuditFault>
+        requires address { address < S.gauge.segments }
+        requires some { 0 < distance }
+        ensures holds { (sent : List Mark) → HoldsMarks S.gauge distance sent self.old
+            → IfOk result (λ _. HoldsNewest S.gauge distance
+            (Sends record { flag = flag; address = address; bytes = bytes }) sent self.new) }
+        ensures fault { (sent : List Mark) → HoldsMarks S.gauge distance sent self.old
+            → IfErr result (λ fault. IsBrokenBy distance S.gauge.kind
+            (Sends record { flag = flag; address = address; bytes = bytes }) sent fault) }
+    {
+        // the law by which the lengths tell whether the segments are of one value
+        S::exact();
+        if self.ages.joins(distance, flag) {
+            return self.join(address, bytes);
+        }
+        self.open(distance, flag)?;
+        self.join(address, bytes)
+    }
+
+    /// Takes tags that are sent in this slot.
+    pub(crate) fn take_tags(&mut self, distance: Distance, pair: TagPair) -> Result<(), AuditFault>
+        requires { 0 < distance }
+        ensures holds { (sent : List Mark) → HoldsMarks S.gauge distance sent self.old
+            → IfOk result (λ _. HoldsNewest S.gauge distance (Tagged pair) sent self.new) }
+        ensures fault { (sent : List Mark) → HoldsMarks S.gauge distance sent self.old
+            → IfErr result (λ fault. IsBrokenBy distance S.gauge.kind (Tagged pair) sent fault) }
+    {
+        // the law by which the lengths tell whether the tags end in one value
+        S::exact();
+        let ages = &mut self.ages;
+        if !ages.has_lasted(distance) {
+            return Err(AuditFault::EarlyTag);
+        }
+        self.content.take_tags(pair)?;
+        ages.renew();
+        Ok(())
+    }
+
+    /// One slot older.
+    pub(crate) fn grow_older(&mut self, distance: Distance)
+        ensures { self.new ≡ record self.old { ages = aged distance self.old.ages } }
+    {
+        self.ages.grow_older(distance);
+    }
+
+    /// Takes a segment of the current reign.
+    fn join(&mut self, address: u8, bytes: [u8; 4]) -> Result<(), AuditFault>
+        requires { address < S.gauge.segments }
+        ensures can { IfOk result
+            (λ _. CanTake (S.gauge.allowed address bytes) address bytes self.old.content) }
+        ensures cannot { IfErr result
+            (λ fault. CannotTake (S.gauge.allowed address bytes) address bytes self.old.content fault) }
+        ensures joined { IfOk result
+            (λ _. self.new ≡ joined_state (S.gauge.allowed address bytes) address bytes self.old) }
+    {
+        self.content.take(address, bytes)?;
+        self.ages.renew();
+        Ok(())
+    }
+
+    /// Opens a reign, with nothing sent yet.
+    fn open(&mut self, distance: Distance, flag: bool) -> Result<(), AuditFault>
+        ensures late { IfOk result (λ _. IsEarly distance flag self.old.ages → ⊥) }
+        ensures early { IfErr result
+            (λ fault. IsEarly distance flag self.old.ages × (fault ≡ AuditFault.EarlyFlag)) }
+        ensures opened { IfOk result (λ _. self.new ≡ opened_state distance S.LONGEST flag self.old) }
+    {
+        self.ages.open(distance, flag)?;
+        self.content = Content::new();
+        Ok(())
+    }
+}

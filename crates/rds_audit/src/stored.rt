@@ -1,0 +1,110 @@
+//! All that an audit holds, as plain numbers, which another program can hold. A bit is 0, or any other number.
+ghost use Rattle.std.specs.Prelude.{◌≡◌, map};
+ghost use Rattle.rds_audit.specs.Stored.{cell_stored, fault_stored, number_of_fault};
+
+use crate::AuditFault;
+
+/// The bytes that were sent at one address, where any were.
+#[repr(C)]
+#[derive(Clone, Copy)]
+pub struct StoredCell {
+    pub bytes: [u8; 4],
+    pub is_sent: u8,
+}
+
+/// The current reign of a service, and the ages of it and of the one before, in slots.
+#[repr(C)]
+#[derive(Clone, Copy)]
+pub struct StoredReigns {
+    pub since_last: u32,
+    pub since_before: u32,
+    pub since_start: u32,
+    pub cells: [StoredCell; 16],
+    pub is_open: u8,
+    pub flag: u8,
+    /// The bounds of the number of bytes that its value can have.
+    pub least: u8,
+    pub most: u8,
+    /// Where the last of its tags ends, in bytes.
+    pub tags_end: u8,
+}
+
+/// All that an audit holds.
+#[repr(C)]
+#[derive(Clone, Copy)]
+pub struct StoredAudit {
+    /// The dwell and the lateness together, in slots.
+    pub distance: u32,
+    pub text: StoredReigns,
+    pub name: StoredReigns,
+    pub pi: u16,
+    /// The number of the fault that was found, and 0 where none was.
+    pub fault: u8,
+}
+
+impl AuditFault {
+    /// The number of the fault, and 0 where there is none.
+    pub(crate) fn number(fault: Option<AuditFault>) -> u8
+        ensures value { result ≡ number_of_fault fault }
+        ensures back { fault_stored result ≡ fault }
+    {
+        match fault {
+            None => 0,
+            Some(AuditFault::Changed) => 1,
+            Some(AuditFault::NotOneText) => 2,
+            Some(AuditFault::EarlyFlag) => 3,
+            Some(AuditFault::EarlyTag) => 4,
+            Some(AuditFault::TagOutside) => 5,
+        }
+    }
+
+    /// The fault that a number stands for.
+    pub(crate) fn numbered(number: u8) -> Option<AuditFault>
+        ensures { result ≡ fault_stored number }
+    {
+        match number {
+            0 => None,
+            1 => Some(AuditFault::Changed),
+            2 => Some(AuditFault::NotOneText),
+            3 => Some(AuditFault::EarlyFlag),
+            4 => Some(AuditFault::EarlyTag),
+            _ => Some(AuditFault::TagOutside),
+        }
+    }
+}
+
+/// What was sent at each address.
+pub(crate) fn cells_restored(stored: &[StoredCell; 16]) -> [Option<[u8; 4]>; 16]
+    ensures { result ≡ map cell_stored stored.now }
+{
+    let mut cells = [None; 16];
+    for i in 0..16 {
+        let cell = stored[i];
+        cells[i] = if cell.is_sent != 0 {
+            Some(cell.bytes)
+        } else {
+            None
+        };
+    }
+    cells
+}
+
+/// What was sent at each address, to be stored.
+pub(crate) fn cells_stored(sent: &[Option<[u8; 4]>; 16]) -> [StoredCell; 16]
+    ensures { map cell_stored result ≡ sent.now }
+{
+    let mut cells = [StoredCell {
+        bytes: [0; 4],
+        is_sent: 0,
+    }; 16];
+    for i in 0..16 {
+        cells[i] = match sent[i] {
+            Some(bytes) => StoredCell { bytes, is_sent: 1 },
+            None => StoredCell {
+                bytes: [0; 4],
+                is_sent: 0,
+            },
+        };
+    }
+    cells
+}

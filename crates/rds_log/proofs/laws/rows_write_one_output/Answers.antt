@@ -1,9 +1,0 @@
-use Rattle.rds_log.proofs.OneEvent.{same_event}
-use Rattle.rds_log.proofs.OneOutcome.{same_written}
-use Rattle.rds_log.proofs.laws.rows_write_one_output.Goals as goal
-
-pub returns-clause-one_event : goal.returns-clause-one_event
-returns-clause-one_event c row e f p q = same_event c.text_is_read_one_way.ensures row e f p q
-
-pub returns-clause-one_output : goal.returns-clause-one_output
-returns-clause-one_output c form config records written other p q = same_written c.text_is_read_one_way.ensures c.one_group.ensures form config records written other p q

@@ -1,0 +1,28 @@
+//! An audit that is stored and restored.
+
+use crate::same::same;
+use rds_audit::{Audit, AuditFault};
+use rds_block::Group;
+use rds_encoder::Late;
+use rds_fields::Dwell;
+use std::test::Fail;
+
+fn text(flags: u16, bytes: u16) -> Option<Group> {
+    Some(Group::from_blocks([0xC201, flags, bytes, 0x0D20]))
+}
+
+/// What is restored finds the fault of the whole log, and keeps it.
+#[test]
+fn goes_on_from_what_is_stored(rt: HostRuntime) -> Result<(), Fail> {
+    let dwell = Dwell::new(8).ok_or("dwell")?;
+    let mut audit = Audit::new(0xC201, dwell, Late::new(0).ok_or("late")?);
+    same(&rt, audit.slot(text(0x2140, 0x4849)), Ok(()));
+    let mut audit = Audit::restore(&audit.store());
+    same(&rt, audit.slot(text(0x2150, 0x594F)), Ok(()));
+    let mut audit = Audit::restore(&audit.store());
+    let early = audit.slot(text(0x2140, 0x4849));
+    same(&rt, early, Err(AuditFault::EarlyFlag));
+    let again = Audit::restore(&audit.store()).slot(None);
+    same(&rt, again, Err(AuditFault::EarlyFlag));
+    Ok(())
+}

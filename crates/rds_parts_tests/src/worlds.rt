@@ -1,0 +1,691 @@
+//! Worked rows of a station and its receivers: what each slot answers and sends, and what is shown at its end.
+
+use crate::same::same;
+use arrayvec::ArrayVec;
+use rds_assembly::{Name, Text};
+use rds_block::Place;
+use rds_encoder::{Late, Refusal};
+use rds_fields::{Dwell, Head, Tag, TagPair, Which};
+use rds_world::{
+    Answer, Command, Config, PlayRefused, Reception, Reply, SlotEvent, StepRefused, World,
+    WorldRefused, play,
+};
+use std::alloc::Global;
+use std::process::Abort;
+use std::test::Fail;
+
+const GOT: Reception = Reception::Got(0);
+
+const LOST: Reception = Reception::Lost;
+
+/// So many slots of a world of up to three receivers: what happens in each, its reply and what it sends, and
+/// the text that each receiver shows at its end.
+#[derive(Clone, Copy)]
+struct Row {
+    slots: u32,
+    command: Command,
+    free: bool,
+    receptions: [Reception; 3],
+    reply: Reply,
+    sent: Option<[u16; 4]>,
+    texts: [Option<Text>; 3],
+}
+
+/// So many free slots with no command that every receiver gets; nothing is sent, and nothing is shown.
+fn quiet(slots: u32) -> Row {
+    Row {
+        slots,
+        command: Command::Quiet,
+        free: true,
+        receptions: [GOT, GOT, GOT],
+        reply: Reply::Quiet,
+        sent: None,
+        texts: [None, None, None],
+    }
+}
+
+/// Such a slot with a command and its reply.
+fn told(command: Command, reply: Reply) -> Row {
+    Row {
+        command,
+        reply,
+        ..quiet(1)
+    }
+}
+
+impl Row {
+    fn of_others(self) -> Row {
+        Row {
+            free: false,
+            ..self
+        }
+    }
+
+    fn got_by(self, receptions: [Reception; 3]) -> Row {
+        Row { receptions, ..self }
+    }
+
+    fn sends(self, words: [u16; 4]) -> Row {
+        Row {
+            sent: Some(words),
+            ..self
+        }
+    }
+
+    fn shows(self, texts: [Option<Text>; 3]) -> Row {
+        Row { texts, ..self }
+    }
+}
+
+/// Plays the slots, and promises nothing: what `play` promises would burden the proof of each test.
+fn play_slots(
+    alloc: Global,
+    config: Config,
+    receivers: usize,
+    slots: &[SlotEvent],
+) -> Result<World, PlayRefused> {
+    play(alloc, config, receivers, slots)
+}
+
+/// Plays a slot in the world, and promises nothing either.
+fn play_slot(world: &mut World, slot: &SlotEvent) -> Result<Answer, StepRefused> {
+    world.step(slot)
+}
+
+/// A new world of so many receivers, whose dwell is four slots, and which are on time.
+fn new_world(alloc: Global, receivers: usize) -> Result<World, Fail> {
+    world_of(alloc, config()?, receivers)
+}
+
+fn world_of(alloc: Global, config: Config, receivers: usize) -> Result<World, Fail> {
+    Ok(World::new(alloc, config, receivers).ok().ok_or("world")?)
+}
+
+/// Plays the rows on a new world of so many receivers, and gives that world.
+fn played(rt: &impl Abort, alloc: Global, receivers: usize, rows: &[Row]) -> Result<World, Fail> {
+    let mut world = new_world(alloc, receivers)?;
+    step_rows(rt, &mut world, receivers, rows)?;
+    Ok(world)
+}
+
+/// Plays the rows on this world of so many receivers.
+fn step_rows(
+    rt: &impl Abort,
+    world: &mut World,
+    receivers: usize,
+    rows: &[Row],
+) -> Result<(), Fail> {
+    for (place, row) in rows.iter().enumerate() {
+        for slot in 0..row.slots {
+            let receptions = row.receptions.get(..receivers).ok_or("receivers")?;
+            let event = slot_event(row.command, row.free, receptions)?;
+            let answer = play_slot(world, &event).ok().ok_or("receptions")?;
+            same(rt, (place, slot, answer.reply), (place, slot, row.reply));
+            let sent = answer.sent.map(|group| group.to_blocks());
+            same(rt, (place, slot, sent), (place, slot, row.sent));
+            assert_texts(rt, world, receivers, row)?;
+        }
+    }
+    Ok(())
+}
+
+fn assert_texts(rt: &impl Abort, world: &World, receivers: usize, row: &Row) -> Result<(), Fail> {
+    for (i, text) in row.texts.iter().take(receivers).enumerate() {
+        assert_text(rt, world, i, text.as_ref().map(|text| text.bytes()))?;
+    }
+    Ok(())
+}
+
+/// Holds what a receiver shows to a text. What a world promises of its receivers burdens no test that calls this.
+fn assert_text(
+    rt: &impl Abort,
+    world: &World,
+    receiver: usize,
+    wanted: Option<&[u8]>,
+) -> Result<(), Fail> {
+    let shown = world.receiver(receiver).ok_or("receiver")?.text();
+    same(rt, (receiver, shown), (receiver, wanted));
+    Ok(())
+}
+
+/// Holds what a receiver shows to a name.
+fn assert_name(
+    rt: &impl Abort,
+    world: &World,
+    receiver: usize,
+    wanted: Option<&[u8]>,
+) -> Result<(), Fail> {
+    let shown = world.receiver(receiver).ok_or("receiver")?.name();
+    same(rt, (receiver, shown), (receiver, wanted));
+    Ok(())
+}
+
+/// Holds what is on air to a text and a name.
+fn assert_on_air(rt: &impl Abort, world: &World, wanted: (Option<&[u8]>, Option<&[u8]>)) {
+    same(rt, world.on_air(), wanted);
+}
+
+/// A tag that is shown: its class and its piece.
+type Shown<'a> = Option<(u8, &'a [u8])>;
+
+/// Holds what a receiver shows to the item's bits and to tags.
+fn assert_tags(
+    rt: &impl Abort,
+    world: &World,
+    receiver: usize,
+    item: Option<(bool, bool)>,
+    tags: (Shown, Shown),
+) -> Result<(), Fail> {
+    let shown = world.receiver(receiver).ok_or("receiver")?;
+    same(rt, (receiver, shown.item()), (receiver, item));
+    same(rt, (receiver, shown.tag(Which::One)), (receiver, tags.0));
+    same(rt, (receiver, shown.tag(Which::Two)), (receiver, tags.1));
+    Ok(())
+}
+
+fn slot_event(command: Command, free: bool, each: &[Reception]) -> Result<SlotEvent, Fail> {
+    let mut receptions = ArrayVec::new();
+    for reception in each {
+        receptions.try_push(*reception).ok().ok_or("receptions")?;
+    }
+    Ok(SlotEvent {
+        command,
+        free,
+        receptions,
+    })
+}
+
+/// PI C201, TP 0, PTY 10, a dwell of four slots, and receivers that are on time.
+fn config() -> Result<Config, Fail> {
+    let head = Head {
+        pi: 0xC201,
+        tp: false,
+        pty: Place::new(10).ok_or("pty")?,
+    };
+    Ok(Config {
+        head,
+        dwell: Dwell::new(4).ok_or("dwell")?,
+        late: Late::new(0).ok_or("late")?,
+    })
+}
+
+/// The same with groups that come up to so many slots late.
+fn late_config(slots: u16) -> Result<Config, Fail> {
+    Ok(Config {
+        late: Late::new(slots).ok_or("late")?,
+        ..config()?
+    })
+}
+
+fn set_text(bytes: &[u8]) -> Result<Command, Fail> {
+    Ok(Command::SetText(text(bytes)?))
+}
+
+fn text(bytes: &[u8]) -> Result<Text, Fail> {
+    Ok(Text::new(bytes)?)
+}
+
+/// A pair of a running item with toggle 1; its tags by class, start and length marker.
+fn set_tags(one: (u8, u8, u8), two: (u8, u8, u8)) -> Result<Command, Fail> {
+    let one = Tag::new(one.0, one.1, one.2)?;
+    let two = Tag::new(two.0, two.1, two.2)?;
+    Ok(Command::SetTags(TagPair::new(true, true, one, two)?))
+}
+
+/// The texts `HI` and `YO` with flag 0.
+const HI: [u16; 4] = [0xC201, 0x2140, 0x4849, 0x0D20];
+
+const YO: [u16; 4] = [0xC201, 0x2140, 0x594F, 0x0D20];
+
+/// The text `YO` with flag 1.
+const YO_AGAIN: [u16; 4] = [0xC201, 0x2150, 0x594F, 0x0D20];
+
+const ANNOUNCEMENT: [u16; 4] = [0xC201, 0x3156, 0x0000, 0x4BD7];
+
+/// The first receiver shows this.
+fn first(bytes: &[u8]) -> Result<[Option<Text>; 3], Fail> {
+    Ok([Some(text(bytes)?), None, None])
+}
+
+/// Silent for four slots; the text set in slot 4 is sent in it, and shown up to slot 7.
+#[test]
+fn silence_dwell_and_age(rt: HostRuntime) -> Result<(), Fail> {
+    let hi = set_text(b"HI")?;
+    let rows = [
+        told(hi, Reply::Refused(Refusal::Silent(4))),
+        quiet(2),
+        told(hi, Reply::Refused(Refusal::Silent(1))),
+        told(hi, Reply::Done).sends(HI).shows(first(b"HI")?),
+        quiet(3).of_others().shows(first(b"HI")?),
+        quiet(1).of_others(),
+    ];
+    played(&rt, rt.alloc(), 1, &rows)?;
+    Ok(())
+}
+
+/// A text accepted in slot 4 holds the next one back up to slot 11; no slot before 12 is free.
+#[test]
+fn held_for_twice_the_dwell(rt: HostRuntime) -> Result<(), Fail> {
+    let yo = set_text(b"YO")?;
+    let rows = [
+        quiet(4).of_others(),
+        told(set_text(b"HI")?, Reply::Done).of_others(),
+        quiet(6).of_others(),
+        told(yo, Reply::Refused(Refusal::Held(1))).of_others(),
+        told(yo, Reply::Done).sends(YO_AGAIN).shows(first(b"YO")?),
+    ];
+    let world = played(&rt, rt.alloc(), 1, &rows)?;
+    assert_on_air(&rt, &world, (Some(b"YO".as_slice()), None));
+
+    let tags = set_tags((4, 0, 3), (1, 7, 7))?;
+    let rows = [quiet(4), told(tags, Reply::Refused(Refusal::NoText))];
+    played(&rt, rt.alloc(), 0, &rows)?;
+    Ok(())
+}
+
+/// A restart in slot 5: nothing is on air, the encoder is silent up to slot 8, and the next text has flag 0
+/// again. The receiver shows the text of before for the dwell.
+#[test]
+fn restart_keeps_silence(rt: HostRuntime) -> Result<(), Fail> {
+    let yo = set_text(b"YO")?;
+    let rows = [
+        quiet(4),
+        told(set_text(b"HI")?, Reply::Done)
+            .sends(HI)
+            .shows(first(b"HI")?),
+        told(Command::Restart, Reply::Restarted).shows(first(b"HI")?),
+        quiet(2).shows(first(b"HI")?),
+        told(yo, Reply::Refused(Refusal::Silent(1))),
+        told(yo, Reply::Done).sends(YO).shows(first(b"YO")?),
+    ];
+    let silent = played(&rt, rt.alloc(), 1, &rows[..5])?;
+    assert_on_air(&rt, &silent, (None, None));
+    played(&rt, rt.alloc(), 1, &rows)?;
+    Ok(())
+}
+
+/// The second receiver loses the announcement, and the third every segment: only the first shows the tags.
+#[test]
+fn tags_on_air(rt: HostRuntime) -> Result<(), Fail> {
+    let song = text(b"ABBA - WATERLOO")?;
+    let third_loses = [GOT, GOT, LOST];
+    let whole = quiet(1).shows([Some(song), Some(song), None]);
+    let rows = [
+        quiet(4),
+        told(Command::SetText(song), Reply::Done)
+            .sends([0xC201, 0x2140, 0x4142, 0x4241])
+            .got_by(third_loses),
+        told(set_tags((4, 0, 3), (1, 7, 7))?, Reply::Done).got_by(third_loses),
+        quiet(1)
+            .sends([0xC201, 0x2141, 0x202D, 0x2057])
+            .got_by(third_loses),
+        quiet(1).got_by(third_loses),
+        quiet(1)
+            .sends([0xC201, 0x2142, 0x4154, 0x4552])
+            .got_by(third_loses),
+        quiet(1).sends(ANNOUNCEMENT).got_by([GOT, LOST, GOT]),
+        whole
+            .sends([0xC201, 0x2143, 0x4C4F, 0x4F0D])
+            .got_by(third_loses),
+        whole.sends([0xC201, 0xB158, 0x8006, 0x08E7]),
+    ];
+    let world = played(&rt, rt.alloc(), 3, &rows)?;
+    let shown = (
+        Some((4, b"ABBA".as_slice())),
+        Some((1, b"WATERLOO".as_slice())),
+    );
+    assert_tags(&rt, &world, 0, Some((true, true)), shown)?;
+    for i in 1..3 {
+        assert_tags(&rt, &world, i, None, (None, None))?;
+    }
+    Ok(())
+}
+
+/// Two segments of the first song are received, none of the second, and all of the third, which has the flag of
+/// the first. With the other third text the segments of the first song would make it whole four slots too early.
+#[test]
+fn two_skipped_flags(rt: HostRuntime) -> Result<(), Fail> {
+    for third in [b"THIRD SONG", b"THIRT SONG"] {
+        let mut world = new_world(rt.alloc(), 1)?;
+        for slot in 0..25 {
+            let command = match slot {
+                4 => set_text(b"FIRST SONG")?,
+                12 => set_text(b"OTHER SONG")?,
+                20 => set_text(third)?,
+                _ => Command::Quiet,
+            };
+            let reception = match slot {
+                6 | 8 | 20..25 => GOT,
+                _ => LOST,
+            };
+            let answer = play_slot(&mut world, &slot_event(command, true, &[reception])?);
+            let reply = answer.ok().ok_or("receptions")?.reply;
+            let wanted = match slot {
+                4 | 12 | 20 => Reply::Done,
+                _ => Reply::Quiet,
+            };
+            same(&rt, (slot, reply), (slot, wanted));
+            assert_text(&rt, &world, 0, (slot == 24).then_some(third.as_slice()))?;
+        }
+    }
+    Ok(())
+}
+
+/// The second receiver loses the first segment of the next text: in slots 12 and 13 it shows the one before.
+#[test]
+fn neighbours_in_one_slot(rt: HostRuntime) -> Result<(), Fail> {
+    let one = Some(text(b"ONE")?);
+    let two = Some(text(b"TWO")?);
+    let first = [0xC201, 0x2140, 0x4F4E, 0x450D];
+    let second = [0xC201, 0x2150, 0x5457, 0x4F0D];
+    let ones = quiet(1).shows([one, one, None]);
+    let rows = [
+        quiet(4),
+        told(set_text(b"ONE")?, Reply::Done)
+            .sends(first)
+            .shows([one, one, None]),
+        ones,
+        ones.sends(first),
+        ones,
+        ones.sends(first),
+        ones.sends(ANNOUNCEMENT),
+        ones.sends(first),
+        ones,
+        told(set_text(b"TWO")?, Reply::Done)
+            .sends(second)
+            .got_by([GOT, LOST, LOST])
+            .shows([two, one, None]),
+        quiet(1).shows([two, one, None]),
+        quiet(1).sends(second).shows([two, two, None]),
+    ];
+    played(&rt, rt.alloc(), 2, &rows)?;
+    Ok(())
+}
+
+/// A world takes memory, and where it is refused says so; here it isn't. `rt try --test --fail-alloc N` refuses the
+/// request N of each test.
+#[test]
+fn refused_memory(rt: HostRuntime) -> Result<(), Fail> {
+    let events = [slot_event(Command::Quiet, true, &[LOST])?];
+    let made = World::new(rt.alloc(), late_config(2)?, 1).err();
+    assert!(rt; made.is_none_or(|why| why == WorldRefused::Memory));
+    let played = play_slots(rt.alloc(), late_config(2)?, 1, &events).err();
+    assert!(rt; played.is_none_or(|why| why == PlayRefused::Memory));
+    Ok(())
+}
+
+/// Two texts in fifteen slots; the second receiver loses the slot in which the second text begins.
+fn neighbours(alloc: Global) -> Result<Vec<SlotEvent>, Fail> {
+    let mut events = Vec::new(alloc);
+    for slot in 0..15 {
+        let command = match slot {
+            4 => set_text(b"ONE")?,
+            12 => set_text(b"TWO")?,
+            _ => Command::Quiet,
+        };
+        let second = if slot == 12 { LOST } else { GOT };
+        events.push(slot_event(command, true, &[GOT, second])?)?;
+    }
+    Ok(events)
+}
+
+/// The slots of these two neighbours in one call, up to slot 12 and up to slot 14.
+#[test]
+fn neighbours_played(rt: HostRuntime) -> Result<(), Fail> {
+    let events = neighbours(rt.alloc())?;
+    let one = Some(b"ONE".as_slice());
+    let two = Some(b"TWO".as_slice());
+    for (slots, second) in [(13, one), (15, two)] {
+        let slots = events.get(..slots).ok_or("slots")?;
+        let world = play_slots(rt.alloc(), config()?, 2, slots)
+            .ok()
+            .ok_or("played")?;
+        assert_text(&rt, &world, 0, two)?;
+        assert_text(&rt, &world, 1, second)?;
+    }
+    Ok(())
+}
+
+/// A dwell of four slots and groups up to two slots late: the text set in slot 6 is sent in it and in slot 8. The
+/// receiver gets the first of these groups in slot 8, and shows it for four slots.
+#[test]
+fn late_group(rt: HostRuntime) -> Result<(), Fail> {
+    let hi = set_text(b"HI")?;
+    let none = [LOST, LOST, LOST];
+    let rows = [
+        quiet(5),
+        told(hi, Reply::Refused(Refusal::Silent(1))),
+        told(hi, Reply::Done).sends(HI).got_by(none),
+        quiet(1).got_by(none),
+        quiet(1)
+            .sends(HI)
+            .got_by([Reception::Got(2), LOST, LOST])
+            .shows(first(b"HI")?),
+        quiet(3).of_others().got_by(none).shows(first(b"HI")?),
+        quiet(1).of_others().got_by(none),
+    ];
+    let mut world = world_of(rt.alloc(), late_config(2)?, 1)?;
+    step_rows(&rt, &mut world, 1, &rows)
+}
+
+/// What is not due is refused, and the first receiver of it named; the world stays as it was.
+#[test]
+fn late_group_refused(rt: HostRuntime) -> Result<(), Fail> {
+    let early = [GOT, Reception::Got(3)];
+    let event = slot_event(Command::Restart, true, &early)?;
+    let mut world = world_of(rt.alloc(), late_config(2)?, 2)?;
+    let refused = play_slot(&mut world, &event).err();
+    same(&rt, refused, Some(StepRefused::Late(1)));
+    let quiet = slot_event(Command::Quiet, true, &[GOT, GOT])?;
+    let answer = play_slot(&mut world, &quiet).ok().ok_or("first slot")?;
+    same(&rt, answer.reply, Reply::Quiet);
+    let events = [slot_event(Command::Restart, true, &early)?];
+    let refused = play_slots(rt.alloc(), late_config(2)?, 2, &events).err();
+    same(&rt, refused, Some(PlayRefused::Late(0, 1)));
+    Ok(())
+}
+
+/// What one receiver of a world with groups up to two slots late is handed, slot by slot (a digit tells how late the
+/// group comes, `-` that none does, `r` a restart), and the first slot that is refused: before the first slot, more than
+/// two slots late, the same slot again, also after the receiver or the encoder restarted, and an earlier one.
+#[test]
+fn receptions_in_order(rt: HostRuntime) -> Result<(), Fail> {
+    let cases: [(&[u8], Option<usize>); 9] = [
+        (b"000", None),
+        (b"--22", None),
+        (b"1", Some(0)),
+        (b"---3", Some(3)),
+        (b"01", Some(1)),
+        (b"-0r2", Some(3)),
+        (b"-0r1", None),
+        (b"--02", Some(3)),
+        (b"0----2", None),
+    ];
+    for (receptions, wanted) in cases.iter() {
+        let quiet = first_refused(rt.alloc(), Command::Quiet, receptions)?;
+        let restarting = first_refused(rt.alloc(), Command::Restart, receptions)?;
+        same(&rt, (quiet, restarting), (*wanted, *wanted));
+    }
+    Ok(())
+}
+
+/// The first slot that is refused, with a lateness of two, where the station is told this in each.
+fn first_refused(
+    alloc: Global,
+    command: Command,
+    receptions: &[u8],
+) -> Result<Option<usize>, Fail> {
+    let mut world = world_of(alloc, late_config(2)?, 1)?;
+    for (slot, letter) in receptions.iter().enumerate() {
+        let event = slot_event(command, true, &[reception(*letter)])?;
+        if play_slot(&mut world, &event).is_err() {
+            return Ok(Some(slot));
+        }
+    }
+    Ok(None)
+}
+
+/// What a receiver is handed, by its letter in such a case.
+fn reception(letter: u8) -> Reception {
+    match letter {
+        b'-' => LOST,
+        b'r' => Reception::Restart,
+        digit => Reception::Got(u16::from(digit.wrapping_sub(b'0'))),
+    }
+}
+
+/// A name is sent in two turns; a receiver that restarts between them does not show it.
+#[test]
+fn jazz_name(rt: HostRuntime) -> Result<(), Fail> {
+    let name = Some(b"JAZZ FM ".as_slice());
+    let set_name = Command::SetName(Name::new(b"JAZZ FM")?);
+    for (reception, shown) in [(GOT, name), (LOST, name), (Reception::Restart, None)] {
+        let rows = [
+            quiet(4),
+            told(set_name, Reply::Done),
+            quiet(1).sends([0xC201, 0xA140, 0x4A41, 0x5A5A]),
+            quiet(1).got_by([reception, LOST, LOST]),
+            quiet(1).sends([0xC201, 0xA141, 0x2046, 0x4D20]),
+        ];
+        let world = played(&rt, rt.alloc(), 1, &rows)?;
+        assert_name(&rt, &world, 0, shown)?;
+        assert_on_air(&rt, &world, (None, name));
+    }
+    Ok(())
+}
+
+/// A receiver shows what it showed but where a text becomes whole or is given up; of one that is not there nothing is
+/// known.
+#[test]
+fn stays(rt: HostRuntime) -> Result<(), Fail> {
+    let mut world = new_world(rt.alloc(), 1)?;
+    for slot in 0..9 {
+        let command = if slot == 4 {
+            set_text(b"HI")?
+        } else {
+            Command::Quiet
+        };
+        let free = slot < 5;
+        assert!(rt; play_slot(&mut world, &slot_event(command, free, &[GOT])?).is_ok());
+        same(&rt, (slot, world.stays(0)), (slot, slot != 4 && slot != 8));
+        assert!(rt; !world.stays(1));
+    }
+    Ok(())
+}
+
+/// A ninth receiver, and a slot with one reception in a world of two, which leaves the world as it was. (The refusals
+/// are compared here: by `same` the kit's borrow checker has no proof of this test.)
+#[test]
+fn refused_words(rt: HostRuntime) -> Result<(), Fail> {
+    let nine = World::new(rt.alloc(), config()?, 9).err();
+    assert_eq!(rt; nine, Some(WorldRefused::TooManyReceivers));
+    let hi = text(b"HI")?;
+    let both = [Some(hi), Some(hi), None];
+    let rows = [
+        quiet(4),
+        told(Command::SetText(hi), Reply::Done)
+            .sends(HI)
+            .shows(both),
+    ];
+    let mut world = played(&rt, rt.alloc(), 2, &rows)?;
+    let short = slot_event(Command::Restart, true, &[LOST])?;
+    let refused: Result<Answer, StepRefused> = world.step(&short);
+    assert_eq!(rt; refused, Err(StepRefused::ReceiverCount));
+    assert_on_air(&rt, &world, (Some(b"HI".as_slice()), None));
+    assert!(rt; world.receiver(2).is_none());
+    Ok(())
+}
+
+/// Slots that are not played: for nine receivers, and one with another number of receptions.
+#[test]
+fn slots_not_played(rt: HostRuntime) -> Result<(), Fail> {
+    let events = [
+        slot_event(Command::Quiet, true, &[GOT, LOST])?,
+        slot_event(Command::Quiet, true, &[GOT])?,
+    ];
+    let refusals = [
+        (9, PlayRefused::TooManyReceivers),
+        (2, PlayRefused::ReceiverCount(1)),
+    ];
+    for (receivers, why) in refusals.iter() {
+        let refused = play_slots(rt.alloc(), config()?, *receivers, &events).err();
+        same(&rt, refused, Some(*why));
+    }
+    Ok(())
+}
+
+/// Slots in one call: what is on air after them, and what is shown by a receiver that got them and by one that got none.
+#[test]
+fn played_slots(rt: HostRuntime) -> Result<(), Fail> {
+    let both = [GOT, Reception::default()];
+    let slots = [
+        slot_event(Command::Quiet, true, &both)?,
+        slot_event(Command::Quiet, true, &both)?,
+        slot_event(Command::Quiet, true, &both)?,
+        slot_event(Command::Quiet, true, &both)?,
+        slot_event(set_text(b"HI")?, true, &both)?,
+    ];
+    let hi = Some(b"HI".as_slice());
+    let world = play_slots(rt.alloc(), config()?, 2, &slots)
+        .ok()
+        .ok_or("played")?;
+    assert_on_air(&rt, &world, (hi, None));
+    assert_text(&rt, &world, 0, hi)?;
+    assert_text(&rt, &world, 1, None)?;
+    Ok(())
+}
+
+/// A world of this programme, dwell and lateness, with so many receivers: it is made, and plays some hundreds of slots;
+/// a slot late in the list with another number of receptions is told by its place, and so is one with a group that is
+/// not due, with its receiver.
+fn plays_hundreds(
+    rt: &impl Abort,
+    alloc: Global,
+    (pi, dwell, late): (u16, u16, u16),
+    receivers: usize,
+) -> Result<(), Fail> {
+    let config = Config {
+        head: Head {
+            pi,
+            ..config()?.head
+        },
+        dwell: Dwell::new(dwell).ok_or("dwell")?,
+        ..late_config(late)?
+    };
+    assert!(rt; World::new(alloc, config, receivers).is_ok());
+    let receptions = [LOST; 9];
+    let mut events = Vec::new(alloc);
+    for _slot in 0..300 {
+        let each = receptions.get(..receivers).ok_or("receivers")?;
+        events.push(slot_event(Command::Restart, true, each)?)?;
+    }
+    assert!(rt; play_slots(alloc, config, receivers, &events).is_ok());
+    if let Some(last) = receivers.checked_sub(1) {
+        let event = events.get_mut(299).ok_or("event")?;
+        *event.receptions.get_mut(last).ok_or("reception")? = Reception::Got(late.wrapping_add(1));
+        let refused = play_slots(alloc, config, receivers, &events).err();
+        same(rt, refused, Some(PlayRefused::Late(299, last)));
+    }
+    let other = if receivers == 0 { 1 } else { 0 };
+    let each = receptions.get(..other).ok_or("other")?;
+    *events.get_mut(257).ok_or("event")? = slot_event(Command::Quiet, false, each)?;
+    let refused = play_slots(alloc, config, receivers, &events).err();
+    same(rt, refused, Some(PlayRefused::ReceiverCount(257)));
+    Ok(())
+}
+
+/// All numbers of receivers, other programmes, and the ends of the dwell and of the lateness.
+#[test]
+fn worlds_of_all_sizes(rt: HostRuntime) -> Result<(), Fail> {
+    let stations = [
+        (0xC201, 4, 0),
+        (0, 1, 0),
+        (0xF201, 128, 1),
+        (0xFFFF, 65535, 1024),
+    ];
+    for receivers in 0..9 {
+        let station = stations[receivers % 4];
+        plays_hundreds(&rt, rt.alloc(), station, receivers)?;
+    }
+    plays_hundreds(&rt, rt.alloc(), (0xFFFF, 65535, 1024), 8)
+}

@@ -1,0 +1,84 @@
+//! `audit` and `audit_within` over readers and writers.
+
+use crate::logs::Endless;
+use crate::same::same;
+use rds_charset::Told;
+use rds_encoder::Late;
+use rds_fields::Dwell;
+use rds_log::{audit, audit_within};
+use rds_output::LogFault;
+use std::cell::Cell;
+use std::test::Fail;
+
+/// A text with its tags four slots after it.
+const TAGGED: &[u8] = b"C201 2140 4849 0D20
+---- ---- ---- ----
+---- ---- ---- ----
+---- ---- ---- ----
+C201 B148 2002 0000
+";
+
+fn four_slots() -> Result<Dwell, Fail> {
+    Ok(Dwell::new(4).ok_or("dwell")?)
+}
+
+fn on_time() -> Result<Late, Fail> {
+    Ok(Late::new(0).ok_or("late")?)
+}
+
+/// A yes with the number of slots, and a no with the slot and the fault: here the tags count as early where the
+/// dwell is longer.
+#[test]
+fn yes_and_no(rt: HostRuntime) -> Result<(), Fail> {
+    let rows: [(u16, Result<bool, LogFault>, &[u8]); 2] = [
+        (4, Ok(true), b"yes 5\n"),
+        (5, Ok(false), b"no 4 EarlyTag\n"),
+    ];
+    for (slots, answer, line) in rows {
+        let dwell = Dwell::new(slots).ok_or("dwell")?;
+        let mut output = Vec::new(rt.alloc());
+        let given = audit(
+            &mut Told::new(TAGGED),
+            &mut Told::new(&mut output),
+            0xC201,
+            dwell,
+            on_time()?,
+        );
+        same(&rt, given, answer);
+        same(&rt, output.as_slice(), line);
+    }
+    Ok(())
+}
+
+/// A log that has no end within the bound is too long, and nothing is written; a log that ends in the last read
+/// is not.
+#[test]
+fn as_many_reads_as_may_be(rt: HostRuntime) -> Result<(), Fail> {
+    for most in [0, 1, 3] {
+        let reads = Cell::new(0);
+        let mut output = Vec::new(rt.alloc());
+        let given = audit_within(
+            &mut Told::new(Endless { reads: &reads }),
+            &mut Told::new(&mut output),
+            0xC201,
+            four_slots()?,
+            on_time()?,
+            most,
+        );
+        same(&rt, given, Err(LogFault::TooLong));
+        same(&rt, (reads.get(), output.len()), (most, 0));
+    }
+    for (most, answer) in [(1, Err(LogFault::TooLong)), (2, Ok(true))] {
+        let mut output = Vec::new(rt.alloc());
+        let given = audit_within(
+            &mut Told::new(TAGGED),
+            &mut Told::new(&mut output),
+            0xC201,
+            four_slots()?,
+            on_time()?,
+            most,
+        );
+        same(&rt, given, answer);
+    }
+    Ok(())
+}

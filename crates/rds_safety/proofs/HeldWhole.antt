@@ -1,0 +1,196 @@
+-- A run holds each recent segment, so that a broadcast of which each segment came recently is shown.
+use Rattle.std.proofs.Common.{◌≡◌, ◌+◌, ◌<◌, ◌≤◌, ◌⊎◌, ℕ, Bool, true, false, List, [], ◌∷◌, Option, Some, None, cond, length, nat_eq, nat_lt, ◌&&◌, refl, sym, ap, ◌∙◌, subst, inl, inr, arith}
+use Rattle.std.specs.FinMap.{get}
+use Rattle.std.specs.List.{AllByRecursion}
+use Rattle.std.proofs.lemmas.Bool.{cases_order, eqb-false, eqb-true, lt-ltb}
+use Rattle.rds_fields.specs.declared.message.Message.{Message}
+use Rattle.rds_assembly.specs.Body.{AreAllHeld, segment_count, segment_of}
+use Rattle.rds_assembly.specs.Cells.{Cells}
+use Rattle.rds_encoder.specs.Plan.{Broadcast, Covers, HasNumber}
+use Rattle.rds_encoder.specs.Spaced.{IsSpaced}
+use Rattle.rds_receiver.specs.Receipts.{Fragment, Segment, picked, segments, with_segment}
+use Rattle.rds_receiver.specs.Run.{cells_of, is_same, run, run_at, run_before}
+use Rattle.rds_receiver.specs.Shown.{IsShown}
+use Rattle.rds_safety.specs.Late.{CameFrom, HasEntry, Input, IsHeardLate}
+use Rattle.rds_safety.specs.Lawful.{IsLawful, Kind}
+use Rattle.rds_safety.specs.Marks.{Mark, marks}
+use Rattle.rds_safety.specs.OwnClock.{IsHeardByOwnClock}
+use Rattle.rds_safety.specs.Flags.{is_same_flag}
+use Rattle.rds_safety.proofs.Bytes.{IsService, bytes_of_run, get-put}
+use Rattle.rds_safety.proofs.Entries.{arrival, mark_sent}
+use Rattle.rds_safety.proofs.Hearing.{AreFalling, IsPicked, all_picked, segments_fall}
+use Rattle.rds_safety.specs.Laws.{PlanLaws}
+use Rattle.rds_safety.proofs.OwnClocks.{late_hears}
+use Rattle.rds_safety.proofs.OneBroadcast.{AreOf, IsSegmentOf, PicksWhatIsMarked, RunLiesInOne, heard_run_lies}
+
+-- one of the segments
+abbrev pub IsIn : List Segment → Segment → Type 0
+IsIn [] g = ⊥
+IsIn (newest ∷ older) g = (g ≡ newest) ⊎ IsIn older g
+
+all_in : (P : Segment → Type 0) (gs : List Segment) (g : Segment) → AllByRecursion P gs → IsIn gs g → P g
+all_in P [] g all is_in = absurd is_in
+all_in P (h ∷ older) g all (inl e) = subst P (sym e) all.0
+all_in P (h ∷ older) g all (inr is_in) = all_in P older g all.1 is_in
+
+abbrev pub came_in : ℕ → Fragment → Segment
+came_in slot p = record { slot = slot; fragment = p }
+
+-- what was heard of the service is among its segments
+pub in_segments : (pick : Message → Option Fragment) (first : ℕ) (heard : List (Option Message)) (u : ℕ) (message : Message) (p : Fragment)
+    → HasEntry first heard u (Some message) → pick message ≡ Some p → IsIn (segments pick first heard) (came_in u p)
+in_segments pick first [] u message p has is = absurd has
+in_segments pick first (x ∷ before) u message p (inl now) is =
+    let picks : picked pick x ≡ Some p = ap (picked pick) (sym now.1) ∙ is in
+    subst (λ (o : Option Fragment). IsIn (with_segment (first + length before) o (segments pick first before)) (came_in u p)) (sym picks) (inl (ap (λ n. came_in n p) now.0))
+in_segments pick first (x ∷ before) u message p (inr earlier) is = by (picked pick x) (in_segments pick first before u message p earlier is)
+  where
+    by : (o : Option Fragment) → IsIn (segments pick first before) (came_in u p) → IsIn (with_segment (first + length before) o (segments pick first before)) (came_in u p)
+    by None has = has
+    by (Some q) has = inr has
+
+in_below : (n : ℕ) (gs : List Segment) (g : Segment) → AreFalling n gs → IsIn gs g → g.slot < n
+in_below n [] g falls is_in = absurd is_in
+in_below n (h ∷ older) g falls (inl e) = subst (λ (x : Segment). x.slot < n) (sym e) falls.0
+in_below n (h ∷ older) g falls (inr is_in) = omega (arith, falls.0, in_below h.slot older g falls.1 is_in)
+
+-- where one of the segments came since slot s, so did the newest
+newest_since : (s : ℕ) (h : Segment) (older : List Segment) (g : Segment) → AreFalling h.slot older → s ≤ g.slot → IsIn (h ∷ older) g → s ≤ h.slot
+newest_since s h older g falls since (inl e) = subst (λ (x : Segment). s ≤ x.slot) e since
+newest_since s h older g falls since (inr is_in) = omega (arith, since, in_below h.slot older g falls is_in)
+
+-- those that came since slot s have the flag
+abbrev HaveFlag : Bool → ℕ → List Segment → Type 0
+HaveFlag f s gs = AllByRecursion (λ (g : Segment). s ≤ g.slot → g.fragment.flag ≡ f) gs
+
+both_true : (a b : Bool) → a ≡ true → b ≡ true → (a && b) ≡ true
+both_true true true p q = refl
+both_true true false p q = absurd (cc)
+both_true false b p q = absurd (cc)
+
+-- slots from s to t are fewer than m: the run at slot t holds each segment that came since slot s
+module _ (m t s : ℕ) (f : Bool) (soon : t < s + m) where
+  kept_before : (n : ℕ) (gs : List Segment) (g : Segment) → n ≤ t → AreFalling n gs → HaveFlag f s gs → s ≤ g.slot → IsIn gs g → IsIn (run_before m f n gs) g
+  kept_before n [] g past falls flags since is_in = absurd is_in
+  kept_before n (h ∷ older) g past falls flags since is_in =
+      let new : s ≤ h.slot = newest_since s h older g falls.1 since is_in in
+      let below = falls.0 in
+      let joins : (is_same f h.fragment.flag && nat_lt n (h.slot + m)) ≡ true =
+      both_true (is_same f h.fragment.flag) (nat_lt n (h.slot + m)) (is_same_flag f h.fragment.flag (sym (flags.0 new))) (lt-ltb n (h.slot + m) (omega (arith, soon, new, past))) in
+      subst (λ (b : Bool). IsIn (cond b (h ∷ run_before m f h.slot older) []) g) (sym joins)
+      (by is_in (kept_before h.slot older g (omega (arith, below, past)) falls.1 flags.1 since))
+    where
+      by : (g ≡ h) ⊎ IsIn older g → (IsIn older g → IsIn (run_before m f h.slot older) g) → (g ≡ h) ⊎ IsIn (run_before m f h.slot older) g
+      by (inl e) rest = inl e
+      by (inr is_in) rest = inr (rest is_in)
+
+  kept : (gs : List Segment) (g : Segment) → AreFalling (t + 1) gs → HaveFlag f s gs → s ≤ g.slot → IsIn gs g → IsIn (run m t gs) g
+  kept [] g falls flags since is_in = absurd is_in
+  kept (h ∷ older) g falls flags since is_in =
+      let new : s ≤ h.slot = newest_since s h older g falls.1 since is_in in
+      let below = falls.0 in
+      subst (λ (b : Bool). IsIn (cond b (h ∷ run_before m h.fragment.flag h.slot older) []) g) (sym (lt-ltb t (h.slot + m) (omega (arith, soon, new))))
+      (subst (λ (x : Bool). IsIn (h ∷ run_before m x h.slot older) g) (sym (flags.0 new))
+      (by is_in (kept_before h.slot older g (omega (arith, below)) falls.1 flags.1 since)))
+    where
+      by : (g ≡ h) ⊎ IsIn older g → (IsIn older g → IsIn (run_before m f h.slot older) g) → (g ≡ h) ⊎ IsIn (run_before m f h.slot older) g
+      by (inl e) rest = inl e
+      by (inr is_in) rest = inr (rest is_in)
+
+-- at the address of each segment of a run in one broadcast that broadcast's segment is held
+held_own : (kind : Kind) (input : Input) (b : Broadcast) (gs : List Segment) (g : Segment) → AreOf kind input b gs → IsIn gs g
+    → get (cells_of gs) g.fragment.address ≡ Some (segment_of (kind.body b.bytes) g.fragment.address)
+held_own kind input b [] g all is_in = absurd is_in
+held_own kind input b (h ∷ older) g all is_in =
+    get-put (cells_of older) h.fragment.address h.fragment.bytes g.fragment.address ∙ by (nat_eq g.fragment.address h.fragment.address) refl is_in (held_own kind input b older g all.1)
+  where
+    by : (same : Bool) → nat_eq g.fragment.address h.fragment.address ≡ same → IsIn (h ∷ older) g
+        → (IsIn older g → get (cells_of older) g.fragment.address ≡ Some (segment_of (kind.body b.bytes) g.fragment.address))
+        → cond same (Some h.fragment.bytes) (get (cells_of older) g.fragment.address) ≡ Some (segment_of (kind.body b.bytes) g.fragment.address)
+    by true e is_in rest = ap Some (all.0.has.fragment.bytes ∙ ap (segment_of (kind.body b.bytes)) (sym (eqb-true g.fragment.address h.fragment.address e)))
+    by false e (inl own) rest = absurd (eqb-false g.fragment.address h.fragment.address e (ap (λ (x : Segment). x.fragment.address) own))
+    by false e (inr is_in) rest = rest is_in
+
+-- one broadcast covers a slot
+one_covers : PlanLaws → (d : ℕ) (plan : List Broadcast) (k l : ℕ) (a b : Broadcast) (u : ℕ) → IsSpaced d plan → HasNumber plan k a → HasNumber plan l b → Covers a u → Covers b u → a ≡ b
+one_covers laws d plan k l a b u spaced p q v w =
+    elim (cases_order k l) [
+      | inl same ↦ laws.one plan l a b (subst (λ (n : ℕ). HasNumber plan n a) {x = k} same p) q
+      | inr o ↦ elim o [
+        | inl less ↦ absurd (omega (arith, laws.order d plan k l a b spaced p q less, v.to, w.from))
+        | inr more ↦ absurd (omega (arith, laws.order d plan l k b a spaced q p more, v.from, w.to))
+      ]
+    ]
+
+-- a segment at this address came since slot s
+pub record CameSince (gs : List Segment) (s address : ℕ) : Type 0 where
+  pub segment : Segment
+  pub since : s ≤ segment.slot
+  pub at : segment.fragment.address ≡ address
+  pub is_in : IsIn gs segment
+
+module _ (laws : PlanLaws) (m t s : ℕ) (kind : Kind) (pick : Message → Option Fragment) (of : Option Message → Mark) (plan : List Broadcast) (log : List (Option Message)) (input : Input) (number : ℕ) (b : Broadcast)
+    (alike : PicksWhatIsMarked pick of) (k : ℕ) (law : IsLawful (m + k) kind plan (marks of log)) (late : IsHeardLate k log input) (now : input.first + length input.heard ≡ t + 1)
+    (fresh : (u r : ℕ) → s ≤ u → CameFrom input u r → s ≤ r) (planned : HasNumber plan number b) (from : b.start ≤ s) (to : t ≤ b.end) (soon : t < s + m) where
+  hears : IsHeardByOwnClock (m + k) m t log input
+  hears = late_hears k m t log input late now
+
+  abbrev pub its_segments : List Segment
+  its_segments = segments pick input.first input.heard
+
+  flags : (xs : List Segment) → AllByRecursion (IsPicked pick input.first input.heard) xs → HaveFlag b.flag s xs
+  flags [] all = tt
+  flags (g ∷ xs) all = (flag, flags xs all.1)
+    where
+      flag : s ≤ g.slot → g.fragment.flag ≡ b.flag
+      flag since =
+          let came = arrival log input g.slot all.0.message hears.order all.0.came in
+          let sent = rw (alike all.0.message g.fragment all.0.fragment) at (mark_sent of log came.slot (Some all.0.message) came.sent) in
+          let lies = law.fragments came.slot g.fragment sent in
+          let mine : Covers b came.slot = record { from = omega (arith, from, fresh g.slot came.slot since came.from); to = omega (arith, to, hears.past g.slot came.slot came.from) } in
+          let same : lies.broadcast ≡ b = one_covers laws (m + k) plan lies.number number lies.broadcast b came.slot law.spaced lies.planned planned lies.is.covers mine in
+          lies.is.flag ∙ ap (λ (x : Broadcast). x.flag) same
+
+  run_is : (heard : List (Option Message)) → input.first + length heard ≡ t + 1 → run_at pick m input.first heard ≡ run m t (segments pick input.first heard)
+  run_is [] e = refl
+  run_is (x ∷ before) e = (let slot : input.first + length before ≡ t = omega arith in ap (λ (n : ℕ). run m n (segments pick input.first (x ∷ before))) slot)
+
+  in_run : (g : Segment) → s ≤ g.slot → IsIn its_segments g → IsIn (run m t its_segments) g
+  in_run g since is_in =
+      kept m t s b.flag soon its_segments g (subst (λ (n : ℕ). AreFalling n its_segments) now (segments_fall pick input.first input.heard)) (flags its_segments (all_picked pick input.first input.heard)) since is_in
+
+  -- what is shown of a run that lies in one broadcast, and has each segment of this one
+  shown_of : (IsWhole : Cells → List ℕ → Type 0) → IsService kind IsWhole → (the_run : List Segment) → RunLiesInOne (m + k) t kind plan input the_run → ((g : Segment) → s ≤ g.slot → IsIn its_segments g → IsIn the_run g)
+      → ((cells : Cells) → AreAllHeld (kind.body b.bytes) cells → IsWhole cells b.bytes) → 0 < segment_count (kind.body b.bytes)
+      → ((a : ℕ) → a < segment_count (kind.body b.bytes) → CameSince its_segments s a) → (shown : Option (List ℕ)) → IsShown IsWhole (cells_of the_run) shown → shown ≡ Some b.bytes
+  shown_of IsWhole service [] lies holds all some each shown is = absurd (holds (each 0 some).segment (each 0 some).since (each 0 some).is_in)
+  shown_of IsWhole service (h ∷ older) lies holds all some each shown is = by shown is
+    where
+      same : lies.broadcast ≡ b
+      same =
+          let w = each 0 some in
+          let g = w.segment in
+          let own : IsSegmentOf kind input g lies.broadcast = all_in (λ (x : Segment). IsSegmentOf kind input x lies.broadcast) (h ∷ older) g lies.all (holds g w.since w.is_in) in
+          let mine : Covers b own.slot = record { from = omega (arith, from, fresh g.slot own.slot w.since own.from); to = omega (arith, to, hears.past g.slot own.slot own.from) } in
+          one_covers laws (m + k) plan lies.number number lies.broadcast b own.slot law.spaced lies.planned planned own.has.covers mine
+
+      own_run : AreOf kind input b (h ∷ older)
+      own_run = subst (λ (x : Broadcast). AreOf kind input x (h ∷ older)) same lies.all
+
+      held : (a : ℕ) → a < segment_count (kind.body b.bytes) → get (cells_of (h ∷ older)) a ≡ Some (segment_of (kind.body b.bytes) a)
+      held a within =
+          let w = each a within in
+          subst (λ (n : ℕ). get (cells_of (h ∷ older)) n ≡ Some (segment_of (kind.body b.bytes) n)) w.at
+          (held_own kind input b (h ∷ older) w.segment own_run (holds w.segment w.since w.is_in))
+
+      by : (shown : Option (List ℕ)) → IsShown IsWhole (cells_of (h ∷ older)) shown → shown ≡ Some b.bytes
+      by None is = absurd (is b.bytes (all (cells_of (h ∷ older)) record { held = held }))
+      by (Some x) is = ap Some (bytes_of_run (m + k) t kind IsWhole plan input h older x service law.values lies is ∙ ap (λ (y : Broadcast). y.bytes) same)
+
+  pub shown_whole : (IsWhole : Cells → List ℕ → Type 0) → IsService kind IsWhole → ((cells : Cells) → AreAllHeld (kind.body b.bytes) cells → IsWhole cells b.bytes) → 0 < segment_count (kind.body b.bytes)
+      → ((a : ℕ) → a < segment_count (kind.body b.bytes) → CameSince its_segments s a) → (shown : Option (List ℕ)) → IsShown IsWhole (cells_of (run_at pick m input.first input.heard)) shown → shown ≡ Some b.bytes
+  shown_whole IsWhole service all some each shown is =
+      let the_run : run_at pick m input.first input.heard ≡ run m t its_segments = run_is input.heard now in
+      shown_of IsWhole service (run m t its_segments)
+      (subst (λ (xs : List Segment). RunLiesInOne (m + k) t kind plan input xs) the_run (heard_run_lies laws (m + k) m t kind pick of plan log input alike law hears))
+      in_run all some each shown (subst (λ (xs : List Segment). IsShown IsWhole (cells_of xs) shown) the_run is)

@@ -1,0 +1,389 @@
+-- The dwell and the lateness are the least. `AAAACCC` is on air in slot 0 alone and `BBBBDDD` in slot j + 1 alone,
+-- both with flag 0. The receiver begins in slot k: it is handed the first segment of the one, n slots of nothing, and
+-- then the second segment of the other. For it the two came less than its dwell apart, so it shows `AAAADDD`, which
+-- nobody set. Where j is n + k, the first came k slots late and the second on time; by a clock of its own any j will do.
+use Rattle.std.proofs.Common.{◌≡◌, ◌≢◌, ◌⊎◌, ◌+◌, ◌-◌, ◌<◌, ◌≤◌, ℕ, zero, suc, true, false, List, [], ◌∷◌, length, slice_index, Option, Some, None, refl, sym, ap, ◌∙◌, subst, inl, inr, arith}
+use Rattle.std.specs.Prelude.{IfSome, nat_lt}
+use Rattle.std.specs.FinMap.{empty, get, insert}
+use Rattle.std.proofs.lemmas.Bool.{cond-true, lt-ltb}
+use Rattle.rds_fields.specs.declared.message.Message.{Message}
+use Rattle.rds_fields.specs.declared.message.Message.TheVariants.{Text}
+use Rattle.rds_fields.specs.declared.pair.Which.TheVariants.{One, Two}
+use Rattle.rds_fields.specs.Tag.{PairFields}
+use Rattle.rds_assembly.specs.Body.{segment_of, text_body}
+use Rattle.rds_assembly.specs.Cells.{Cells}
+use Rattle.rds_assembly.specs.OwnSegments.{all_text}
+use Rattle.rds_assembly.specs.ServiceLaws.{no_name_of_none}
+use Rattle.rds_assembly.specs.Value.{IsText, is_text_byte}
+use Rattle.rds_assembly.specs.Whole.{IsWholeText}
+use Rattle.rds_encoder.specs.Plan.{Broadcast, HasNumber}
+use Rattle.rds_encoder.specs.Spaced.{IsSpaced}
+use Rattle.rds_receiver.specs.Receipts.{Fragment, Segment, name_fragment, segments, text_fragment}
+use Rattle.rds_receiver.specs.Run.{run, run_at, run_before}
+use Rattle.rds_receiver.specs.Shown.{ShowsView, ShownView}
+use Rattle.rds_receiver.specs.Tags.{item_of, pair_held, tag_of}
+use Rattle.rds_safety.specs.Late.{CameFrom, HasEntry, Input, IsHeardInOrder, IsHeardLate, SentIn}
+use Rattle.rds_safety.specs.Lawful.{HasOne, HasFragment, HasTags, IsLawful, names, texts}
+use Rattle.rds_safety.specs.Laws.{ShowsAMix}
+use Rattle.rds_safety.specs.Marks.{IsMarkIn, Mark, Nothing, Sends, Tagged, marks, name_mark, text_mark}
+use Rattle.rds_safety.specs.OwnClock.{ListensByOwnClock, ListensBySlowClock}
+use Rattle.rds_safety.specs.Plans.{AreLawful}
+use Rattle.rds_safety.specs.Safe.{AreSafe, Listener, ListensTo, WasOnAir}
+use Rattle.rds_safety.specs.Source.{text_run}
+use Rattle.rds_safety.proofs.Bytes.{get-put}
+use Rattle.rds_safety.proofs.OnTime.{input_of, nothing_heard, nothing_in_order, one_more, one_more_in_order}
+use Rattle.rds_safety.proofs.OwnClocks.{late_listens}
+
+-- a segment of one character, and one of three and a carriage return
+abbrev pub four : ℕ → List ℕ
+four a = a ∷ a ∷ a ∷ a ∷ []
+
+abbrev pub three_and_end : ℕ → List ℕ
+three_and_end b = b ∷ b ∷ b ∷ 13 ∷ []
+
+-- the text of such segments
+abbrev pub text_of_two : ℕ → ℕ → List ℕ
+text_of_two a b = a ∷ a ∷ a ∷ a ∷ b ∷ b ∷ b ∷ []
+
+-- `AAAACCC`, `BBBBDDD`, and the first segment of the one with the second of the other
+abbrev pub older_text : List ℕ
+older_text = text_of_two 65 67
+
+abbrev pub newer_text : List ℕ
+newer_text = text_of_two 66 68
+
+abbrev pub mix : List ℕ
+mix = text_of_two 65 68
+
+abbrev pub first_fragment : Fragment
+first_fragment = record { flag = false; address = 0; bytes = four 65 }
+
+abbrev pub last_fragment : Fragment
+last_fragment = record { flag = false; address = 1; bytes = three_and_end 68 }
+
+abbrev pub first_message : Option Message
+first_message = Some (Text false 0 (four 65))
+
+abbrev pub last_message : Option Message
+last_message = Some (Text false 1 (three_and_end 68))
+
+of_seven : (P : ℕ → Type 0) (a b : ℕ) → P a → P b → (i : ℕ) → i < 7 → P (slice_index (text_of_two a b) i)
+of_seven P a b p q zero h = p
+of_seven P a b p q (suc zero) h = p
+of_seven P a b p q (suc (suc zero)) h = p
+of_seven P a b p q (suc (suc (suc zero))) h = p
+of_seven P a b p q (suc (suc (suc (suc zero)))) h = q
+of_seven P a b p q (suc (suc (suc (suc (suc zero))))) h = q
+of_seven P a b p q (suc (suc (suc (suc (suc (suc zero)))))) h = q
+of_seven P a b p q (suc (suc (suc (suc (suc (suc (suc i))))))) h = absurd (omega arith)
+
+pub is_text : (a b : ℕ) → a < 256 → b < 256 → is_text_byte a ≡ true → is_text_byte b ≡ true → IsText (text_of_two a b)
+is_text a b p q x y = record {
+  at_most = omega arith;
+  bytes = of_seven (λ n. n < 256) a b p q;
+  allowed = of_seven (λ n. is_text_byte n ≡ true) a b x y;
+}
+
+-- the plan
+abbrev pub older : Broadcast
+older = record { start = 0; end = 0; flag = false; bytes = older_text }
+
+abbrev pub newer : ℕ → Broadcast
+newer c = record { start = c; end = c; flag = false; bytes = newer_text }
+
+abbrev pub plan : ℕ → List Broadcast
+plan c = newer c ∷ older ∷ []
+
+which : (c k : ℕ) (b : Broadcast) → HasNumber (plan c) k b → ((k ≡ 1) × (b ≡ newer c)) ⊎ ((k ≡ 0) × (b ≡ older))
+which c k b (inl p) = inl p
+which c k b (inr (inl p)) = inr p
+which c k b (inr (inr p)) = absurd p
+
+spaced : (c : ℕ) → 0 < c → IsSpaced c (plan c)
+spaced c later = record {
+  lasts = λ k b p. elim (which c k b p) [ inl q ↦ rw q.1 (omega arith) | inr q ↦ rw q.1 (omega arith) ];
+  order = λ k a b p q. elim (which c k a p) [
+    | inl u ↦ absurd (elim (which c (k + 1) b q) [ inl v ↦ omega arith | inr v ↦ omega arith ])
+    | inr u ↦ elim (which c (k + 1) b q) [ inl v ↦ rw (u.1, v.1) later | inr v ↦ absurd (omega arith) ]
+  ];
+  apart = λ k a b p q. elim (which c k a p) [
+    | inl u ↦ absurd (elim (which c (k + 1) b q) [ inl v ↦ omega arith | inr v ↦ omega arith ])
+    | inr u ↦ elim (which c (k + 1) b q) [ inl v ↦ inr (rw (u.1, v.1) (omega arith)) | inr v ↦ absurd (omega arith) ]
+  ];
+  far = λ k a b p q. absurd (elim (which c k a p) [
+    | inl u ↦ elim (which c (k + 2) b q) [ inl v ↦ omega arith | inr v ↦ omega arith ]
+    | inr u ↦ elim (which c (k + 2) b q) [ inl v ↦ omega arith | inr v ↦ omega arith ]
+  ]);
+}
+
+-- the first segment, and then j slots of nothing
+abbrev pub quiet : ℕ → List (Option Message)
+quiet zero = first_message ∷ []
+quiet (suc j) = None ∷ quiet j
+
+abbrev pub quiet_origins : ℕ → List (Option ℕ)
+quiet_origins zero = Some 0 ∷ []
+quiet_origins (suc j) = None ∷ quiet_origins j
+
+pub quiet_long : (j : ℕ) → length (quiet j) ≡ suc j
+quiet_long zero = refl
+quiet_long (suc j) = ap suc (quiet_long j)
+
+marks_long : (j : ℕ) → length (marks text_mark (quiet j)) ≡ suc j
+marks_long zero = refl
+marks_long (suc j) = ap suc (marks_long j)
+
+quiet_texts : (j t : ℕ) (m : Mark) → IsMarkIn (marks text_mark (quiet j)) t m → (m ≡ Nothing) ⊎ ((t ≡ 0) × (m ≡ Sends first_fragment))
+quiet_texts zero t m (inl s) = inr s
+quiet_texts zero t m (inr s) = absurd s
+quiet_texts (suc j) t m (inl s) = inl s.1
+quiet_texts (suc j) t m (inr s) = quiet_texts j t m s
+
+quiet_names : (j t : ℕ) (m : Mark) → IsMarkIn (marks name_mark (quiet j)) t m → m ≡ Nothing
+quiet_names zero t m (inl s) = s.1
+quiet_names zero t m (inr s) = absurd s
+quiet_names (suc j) t m (inl s) = s.1
+quiet_names (suc j) t m (inr s) = quiet_names j t m s
+
+-- what was sent: after that the second segment
+abbrev pub log : ℕ → List (Option Message)
+log j = last_message ∷ quiet j
+
+texts_lawful : (j : ℕ) → IsLawful (j + 1) texts (plan (j + 1)) (marks text_mark (log j))
+texts_lawful j = record {
+  spaced = spaced (j + 1) (omega arith);
+  values = λ k b p. elim (which (j + 1) k b p) [ inl q ↦ rw q.1 (is_text 66 68 (omega arith) (omega arith) refl refl) | inr q ↦ rw q.1 (is_text 65 67 (omega arith) (omega arith) refl refl) ];
+  fragments = fragments;
+  tags = tags;
+}
+  where
+    fragments : (t : ℕ) (p : Fragment) → IsMarkIn (marks text_mark (log j)) t (Sends p) → HasOne (plan (j + 1)) (HasFragment texts t p)
+    fragments t p (inl s) =
+        let same : p ≡ last_fragment = (let e = s.1 in cc) in
+        let slot : t ≡ j + 1 = omega (arith, s.0, marks_long j) in
+        record {
+          number = 1;
+          broadcast = newer (j + 1);
+          planned = inl (refl, refl);
+          is = rw (same, slot) record { covers = record { from = omega arith; to = omega arith }; flag = refl; fragment = record { within = omega arith; bytes = refl } };
+        }
+    fragments t p (inr s) = elim (quiet_texts j t (Sends p) s) [
+      | inl none ↦ absurd (cc)
+      | inr one ↦
+          let same : p ≡ first_fragment = (let e = one.1 in cc) in
+          record {
+            number = 0;
+            broadcast = older;
+            planned = inr (inl (refl, refl));
+            is = rw (same, one.0) record { covers = record { from = omega arith; to = omega arith }; flag = refl; fragment = record { within = omega arith; bytes = refl } };
+          }
+    ]
+
+    tags : (t : ℕ) (pair : PairFields) → IsMarkIn (marks text_mark (log j)) t (Tagged pair) → HasOne (plan (j + 1)) (HasTags (j + 1) t pair)
+    tags t pair (inl s) = (let e = s.1 in absurd (cc))
+    tags t pair (inr s) = elim (quiet_texts j t (Tagged pair) s) [ inl none ↦ absurd (cc) | inr one ↦ (let e = one.1 in absurd (cc)) ]
+
+names_lawful : (d j : ℕ) → IsLawful d names [] (marks name_mark (log j))
+names_lawful d j = record {
+  spaced = record { lasts = λ k b p. absurd p; order = λ k a b p q. absurd p; apart = λ k a b p q. absurd p; far = λ k a b p q. absurd p };
+  values = λ k b p. absurd p;
+  fragments = λ t p s. absurd (none t (Sends p) s (λ e. (cc)));
+  tags = λ t pair s. absurd (none t (Tagged pair) s (λ e. (cc)));
+}
+  where
+    none : (t : ℕ) (m : Mark) → IsMarkIn (marks name_mark (log j)) t m → m ≢ Nothing → ⊥
+    none t m (inl s) ne = ne s.1
+    none t m (inr s) ne = ne (quiet_names j t m s)
+
+-- what the receiver was handed, from slot k on
+abbrev pub heard : ℕ → List (Option Message)
+heard n = last_message ∷ quiet n
+
+abbrev pub input : ℕ → ℕ → ℕ → Input
+input k n j = input_of k (heard n) (Some (j + 1) ∷ quiet_origins n)
+
+first_sent : (j : ℕ) → HasEntry 0 (quiet j) 0 first_message
+first_sent zero = inl (omega arith, refl)
+first_sent (suc j) = inr (first_sent j)
+
+pub all_from_first : (k n u s : ℕ) → HasEntry k (quiet_origins n) u (Some s) → s ≡ 0
+all_from_first k zero u s (inl p) = (let e = p.1 in cc)
+all_from_first k zero u s (inr p) = absurd p
+all_from_first k (suc n) u s (inl p) = (let e = p.1 in absurd (cc))
+all_from_first k (suc n) u s (inr p) = all_from_first k n u s p
+
+quiet_late : (k n : ℕ) (sent : List (Option Message)) → SentIn sent 0 first_message → IsHeardLate k sent (input_of k (quiet n) (quiet_origins n))
+quiet_late k zero sent s = one_more k sent k [] [] (Some 0) first_message (nothing_heard k sent k) s (omega arith, omega arith) (λ r u s e a. absurd a)
+quiet_late k (suc n) sent s = one_more k sent k (quiet n) (quiet_origins n) None None (quiet_late k n sent s) refl tt (λ r u s e a. absurd (cc))
+
+is_late : (k n : ℕ) → IsHeardLate k (log (n + k)) (input k n (n + k))
+is_late k n = one_more k (log (n + k)) k (quiet n) (quiet_origins n) (Some (n + k + 1)) last_message (quiet_late k n (log (n + k)) (inr (first_sent (n + k))))
+    (inl (omega (arith, quiet_long (n + k)), refl)) (omega (arith, quiet_long n), omega (arith, quiet_long n))
+    (λ r u s e a. (let r_is : n + k + 1 ≡ r = cc in omega (arith, all_from_first k n u s a)))
+
+quiet_in_order : (n : ℕ) (sent : List (Option Message)) → SentIn sent 0 first_message → IsHeardInOrder sent (input_of 0 (quiet n) (quiet_origins n))
+quiet_in_order zero sent s = one_more_in_order sent 0 [] [] (Some 0) first_message (nothing_in_order sent 0) s (λ r u s e a. absurd a)
+quiet_in_order (suc n) sent s = one_more_in_order sent 0 (quiet n) (quiet_origins n) None None (quiet_in_order n sent s) refl (λ r u s e a. absurd (cc))
+
+pub in_order : (n j : ℕ) → IsHeardInOrder (log j) (input 0 n j)
+in_order n j = one_more_in_order (log j) 0 (quiet n) (quiet_origins n) (Some (j + 1)) last_message (quiet_in_order n (log j) (inr (first_sent j)))
+    (inl (omega (arith, quiet_long j), refl))
+    (λ r u s e a. (let r_is : j + 1 ≡ r = cc in omega (arith, all_from_first 0 n u s a)))
+
+-- it hears what was sent by slot j + 1
+pub sent_by : (n j t s : ℕ) → CameFrom (input 0 n j) t s → s ≤ j + 1
+sent_by n j t s (inl p) = (let e = p.1 in let s_is : s ≡ j + 1 = cc in omega arith)
+sent_by n j t s (inr p) = omega (arith, all_from_first 0 n t s p)
+
+-- its run is both segments
+abbrev pub first_segment : ℕ → Segment
+first_segment k = record { slot = k + 0; fragment = first_fragment }
+
+abbrev pub last_segment : ℕ → Segment
+last_segment t = record { slot = t; fragment = last_fragment }
+
+quiet_segments : (k n : ℕ) → segments text_fragment k (quiet n) ≡ first_segment k ∷ []
+quiet_segments k zero = refl
+quiet_segments k (suc n) = quiet_segments k n
+
+pub no_segments : (k n : ℕ) → segments name_fragment k (quiet n) ≡ []
+no_segments k zero = refl
+no_segments k (suc n) = no_segments k n
+
+-- so it is up to the slot in which the last of them is as old as the dwell
+pub mixed_by : (k n now : ℕ) → now < k + length (quiet n) + (n + 2) → run (n + 2) now (segments text_fragment k (heard n)) ≡ last_segment (k + length (quiet n)) ∷ first_segment k ∷ []
+mixed_by k n now soon =
+    let t : ℕ = k + length (quiet n) in
+    let recent : nat_lt now (t + (n + 2)) ≡ true = lt-ltb _ _ soon in
+    let joins : nat_lt t (k + 0 + (n + 2)) ≡ true = lt-ltb _ _ (omega (arith, quiet_long n)) in
+    ap (λ gs. run (n + 2) now (last_segment t ∷ gs)) (quiet_segments k n)
+    ∙ cond-true (nat_lt now (t + (n + 2))) (last_segment t ∷ run_before (n + 2) false t (first_segment k ∷ [])) [] recent
+    ∙ ap (λ gs. last_segment t ∷ gs) (cond-true (nat_lt t (k + 0 + (n + 2))) (first_segment k ∷ []) [] joins)
+
+mixed : (k n : ℕ) → run_at text_fragment (n + 2) k (heard n) ≡ last_segment (k + length (quiet n)) ∷ first_segment k ∷ []
+mixed k n = mixed_by k n (k + length (quiet n)) (omega arith)
+
+no_name : (k n : ℕ) → run_at name_fragment (n + 2) k (heard n) ≡ []
+no_name k n = ap (λ gs. run (n + 2) (k + length (quiet n)) gs) (no_segments k n)
+
+abbrev pub both_cells : Cells
+both_cells = insert (insert empty 0 (four 65)) 1 (three_and_end 68)
+
+both_held : (a : ℕ) → a < 2 → get both_cells a ≡ Some (segment_of (text_body mix) a)
+both_held zero h = get-put (insert empty 0 (four 65)) 1 (three_and_end 68) 0 ∙ get-put empty 0 (four 65) 0
+both_held (suc zero) h = get-put (insert empty 0 (four 65)) 1 (three_and_end 68) 1
+both_held (suc (suc a)) h = absurd (omega arith)
+
+pub mix_is_whole : IsWholeText both_cells mix
+mix_is_whole = all_text both_cells mix (is_text 65 68 (omega arith) (omega arith) refl refl) record { held = both_held }
+
+abbrev view : ℕ → ℕ → ShownView
+view k n = record {
+  text = Some mix;
+  name = None;
+  item = item_of (Some mix) (pair_held (n + 2) k (heard n));
+  one = tag_of One (Some mix) (pair_held (n + 2) k (heard n));
+  two = tag_of Two (Some mix) (pair_held (n + 2) k (heard n));
+}
+
+shows : (k n : ℕ) → ShowsView (n + 2) k (heard n) (view k n)
+shows k n = record {
+  text = rw (mixed k n) mix_is_whole;
+  name = rw (no_name k n) no_name_of_none;
+  item = refl;
+  one = refl;
+  two = refl;
+}
+
+abbrev receiver : ℕ → ℕ → ℕ → Listener
+receiver k n j = record { input = input k n j; view = view k n }
+
+listens : (k n : ℕ) → ListensTo k (n + 2) (n + k + 1) (log (n + k)) (receiver k n (n + k))
+listens k n = record { late = is_late k n; now = omega (arith, quiet_long n); shows = shows k n }
+
+listens_by_own_clock : (n j : ℕ) → ListensByOwnClock (j + 2) (n + 2) (j + 1) (log j) (receiver 0 n j)
+listens_by_own_clock n j = record {
+  heard = record {
+    order = in_order n j;
+    between = λ t u r s p q near. omega (arith, sent_by n j u s q);
+    since = λ t s p near. omega arith;
+    past = sent_by n j;
+  };
+  shows = shows 0 n;
+}
+
+-- no broadcast has that text, so it was not on air
+one_byte : (a b : ℕ) (xs ys : List ℕ) → ◌≡◌ {A = List ℕ} (a ∷ xs) (b ∷ ys) → a ≡ b
+one_byte a b xs ys e = cc
+
+fifth_byte : (a b a' b' : ℕ) → text_of_two a b ≡ text_of_two a' b' → b ≡ b'
+fifth_byte a b a' b' e = cc
+
+of_none : (c k : ℕ) (b : Broadcast) → HasNumber (plan c) k b → b.bytes ≡ mix → ⊥
+of_none c k b p same = elim (which c k b p) [
+  | inl q ↦ (let e : newer_text ≡ mix = ap (λ (x : Broadcast). x.bytes) (sym q.1) ∙ same in omega (arith, one_byte _ _ _ _ e))
+  | inr q ↦ (let e : older_text ≡ mix = ap (λ (x : Broadcast). x.bytes) (sym q.1) ∙ same in omega (arith, fifth_byte 65 67 65 68 e))
+]
+
+not_safe : (c d m t : ℕ) (sent : List (Option Message)) (r : Listener) → r.view.text ≡ Some mix → AreSafe d m t record { text = plan c; name = [] } sent (r ∷ []) → ⊥
+not_safe c d m t sent r shown safe =
+    let w = subst (λ (x : Option (List ℕ)). IfSome x (WasOnAir d t (plan c) r.input (text_run m r.input))) shown (safe.texts 0 r (omega arith)) in
+    of_none c w.number w.broadcast w.source.planned w.bytes
+
+pub lawful : (j : ℕ) → AreLawful (j + 1) record { text = plan (j + 1); name = [] } (log j)
+lawful j = record { text = texts_lawful j; name = names_lawful (j + 1) j }
+
+-- a receiver that listens so to that log, and shows the mix
+pub mixes : (n j now : ℕ) (Listens : ℕ → List (Option Message) → Listener → Type 0) (r : Listener) → r.view.text ≡ Some mix → Listens now (log j) r → ShowsAMix (j + 1) n Listens
+mixes n j now Listens r shown listens = record {
+  plans = record { text = plan (j + 1); name = [] };
+  log = log j;
+  lawful = lawful j;
+  t = now;
+  receiver = r;
+  listens = listens;
+  mix = mix;
+  shown = shown;
+  of_none = of_none (j + 1);
+  fails = λ d. not_safe (j + 1) d n now (log j) r shown;
+}
+
+at_two_or_more : (n k : ℕ) → ShowsAMix (n + k + 1) (n + 2) (ListensTo k (n + 2))
+at_two_or_more n k = mixes (n + 2) (n + k) (n + k + 1) (ListensTo k (n + 2)) (receiver k n (n + k)) refl (listens k n)
+
+pub one_slot_less : (m k : ℕ) → 1 < m → ShowsAMix (m + k - 1) m (ListensTo k m)
+one_slot_less m k h =
+    let e : m - 2 + 2 ≡ m = omega arith in
+    let slots : m - 2 + k + 1 ≡ m + k - 1 = omega arith in
+    subst (λ (x : ℕ). ShowsAMix (m + k - 1) x (ListensTo k x)) e
+    (subst (λ (x : ℕ). ShowsAMix x (m - 2 + 2) (ListensTo k (m - 2 + 2))) slots (at_two_or_more (m - 2) k))
+
+pub one_slot_less_by_slow_clock : (m k : ℕ) → 1 < m → ShowsAMix (m + k - 1) m (ListensBySlowClock k m)
+one_slot_less_by_slow_clock m k h =
+    let late = one_slot_less m k h in
+    record {
+      plans = late.plans;
+      log = late.log;
+      lawful = late.lawful;
+      t = late.t;
+      receiver = late.receiver;
+      listens = late_listens k m late.t late.log late.receiver late.listens;
+      mix = late.mix;
+      shown = late.shown;
+      of_none = late.of_none;
+      fails = late.fails;
+    }
+
+pub one_slot_less_on_time : (m : ℕ) → 1 < m → ShowsAMix (m - 1) m (ListensTo 0 m)
+one_slot_less_on_time m h = subst (λ (d : ℕ). ShowsAMix (d - 1) m (ListensTo 0 m)) (let e : m + 0 ≡ m = omega arith in e) (one_slot_less m 0 h)
+
+by_own_clock : (n j : ℕ) → ShowsAMix (j + 1) (n + 2) (ListensByOwnClock (j + 2) (n + 2))
+by_own_clock n j = mixes (n + 2) j (j + 1) (ListensByOwnClock (j + 2) (n + 2)) (receiver 0 n j) refl (listens_by_own_clock n j)
+
+pub one_slot_less_by_own_clock : (d m : ℕ) → 1 < d → 1 < m → ShowsAMix (d - 1) m (ListensByOwnClock d m)
+one_slot_less_by_own_clock d m g h =
+    let d_is : d - 2 + 2 ≡ d = omega arith in
+    let m_is : m - 2 + 2 ≡ m = omega arith in
+    let slots : d - 2 + 1 ≡ d - 1 = omega arith in
+    subst (λ (x : ℕ). ShowsAMix (d - 1) x (ListensByOwnClock d x)) m_is
+    (subst (λ (x : ℕ). ShowsAMix (d - 1) (m - 2 + 2) (ListensByOwnClock x (m - 2 + 2))) d_is (subst (λ (x : ℕ). ShowsAMix x (m - 2 + 2) (ListensByOwnClock (d - 2 + 2) (m - 2 + 2))) slots (by_own_clock (m - 2) (d - 2))))

@@ -1,0 +1,14 @@
+pub mod Entries
+pub mod Hearing
+pub mod OneBroadcast
+pub mod Bytes
+pub mod Sources
+pub mod Pairs
+pub mod Safety
+pub mod OnTime
+pub mod OwnClocks
+pub mod Groups
+pub mod Least
+pub mod LooserClocks
+pub mod HeldWhole
+pub mod WorkedRows

@@ -1,0 +1,135 @@
+-- A run, which knows one bit of its broadcast, lies in one broadcast: two neighbours of it have one flag, and
+-- were sent less than d slots apart, by whatever clock they came.
+use Rattle.std.proofs.Common.{◌≡◌, ◌+◌, ◌<◌, ◌≤◌, ℕ, Bool, List, [], ◌∷◌, length, Option, Some, ◌&&◌, refl, sym, ap, ◌∙◌, subst, inl, inr, arith}
+use Rattle.std.specs.Prelude.{nat_lt}
+use Rattle.std.specs.List.{AllByRecursion}
+use Rattle.std.proofs.lemmas.Bool.{and_parts, cases_order, cond_both, ltb-true}
+use Rattle.rds_fields.specs.declared.message.Message.{Message}
+use Rattle.rds_encoder.specs.Plan.{Broadcast, Covers, HasNumber}
+use Rattle.rds_encoder.specs.Spaced.{IsSpaced}
+use Rattle.rds_receiver.specs.Receipts.{Fragment, Segment, segments}
+use Rattle.rds_receiver.specs.Run.{is_same, run, run_at, run_before}
+use Rattle.rds_safety.specs.Late.{CameFrom, Input, IsHeardInOrder}
+use Rattle.rds_safety.specs.Lawful.{HasOne, HasFragment, IsLawful, Kind}
+use Rattle.rds_safety.specs.Laws.{PlanLaws}
+use Rattle.rds_safety.specs.Marks.{Mark, Sends, marks}
+use Rattle.rds_safety.specs.OwnClock.{IsHeardByOwnClock}
+use Rattle.rds_safety.proofs.Entries.{arrival, mark_sent}
+use Rattle.rds_safety.specs.Flags.{same_flag}
+use Rattle.rds_safety.proofs.Hearing.{AreFalling, IsPicked, all_picked, segments_fall}
+
+-- broadcasts of one flag that cover slots less than d apart are one
+one_number : PlanLaws → (d : ℕ) (plan : List Broadcast) (k l : ℕ) (a b : Broadcast) (s r : ℕ) → IsSpaced d plan → HasNumber plan k a → HasNumber plan l b
+    → Covers a s → Covers b r → r < s + d → s < r + d → a.flag ≡ b.flag → k ≡ l
+one_number laws d plan k l a b s r spaced p q u v after before e =
+    elim (cases_order k l) [
+      | inl same ↦ same
+      | inr o ↦ elim o [
+        | inl less ↦ absurd (omega (arith, laws.one_flag d plan k l a b spaced p q less e, u.to, v.from))
+        | inr more ↦ absurd (omega (arith, laws.one_flag d plan l k b a spaced q p more (sym e), u.from, v.to))
+      ]
+    ]
+
+-- the segment was sent in a slot in which the broadcast has its fragment
+pub record IsSegmentOf (kind : Kind) (input : Input) (g : Segment) (b : Broadcast) : Type 0 where
+  pub slot : ℕ
+  pub from : CameFrom input g.slot slot
+  pub has : HasFragment kind slot g.fragment b
+
+-- the segment is one of some broadcast of the plan
+abbrev pub IsOfAny : Kind → List Broadcast → Input → Segment → Type 0
+IsOfAny kind plan input g = HasOne plan (IsSegmentOf kind input g)
+
+-- the segments are all of this broadcast
+abbrev pub AreOf : Kind → Input → Broadcast → List Segment → Type 0
+AreOf kind input b gs = AllByRecursion (λ (g : Segment). IsSegmentOf kind input g b) gs
+
+-- what is picked of a message is the fragment of its mark
+abbrev pub PicksWhatIsMarked : (Message → Option Fragment) → (Option Message → Mark) → Type 0
+PicksWhatIsMarked pick of = (message : Message) (p : Fragment) → pick message ≡ Some p → of (Some message) ≡ Sends p
+
+-- each segment picked is one of some broadcast
+all_of_any : (d : ℕ) (kind : Kind) (pick : Message → Option Fragment) (of : Option Message → Mark) (plan : List Broadcast) (log : List (Option Message)) (input : Input) (gs : List Segment)
+    → PicksWhatIsMarked pick of → IsLawful d kind plan (marks of log) → IsHeardInOrder log input → AllByRecursion (IsPicked pick input.first input.heard) gs → AllByRecursion (IsOfAny kind plan input) gs
+all_of_any d kind pick of plan log input [] alike law order all = tt
+all_of_any d kind pick of plan log input (g ∷ gs) alike law order all =
+    let came = arrival log input g.slot all.0.message order all.0.came in
+    let sent = rw (alike all.0.message g.fragment all.0.fragment) at (mark_sent of log came.slot (Some all.0.message) came.sent) in
+    let lies = law.fragments came.slot g.fragment sent in (
+      record {
+        number = lies.number;
+        broadcast = lies.broadcast;
+        planned = lies.planned;
+        is = record { slot = came.slot; from = came.from; has = lies.is };
+      },
+      all_of_any d kind pick of plan log input gs alike law order all.1,
+    )
+
+-- the run lies in one broadcast, and its last segment was sent in the d slots up to slot t
+pub record LiesInOne (d t : ℕ) (kind : Kind) (plan : List Broadcast) (input : Input) (g : Segment) (older : List Segment) : Type 0 where
+  pub number : ℕ
+  pub broadcast : Broadcast
+  pub planned : HasNumber plan number broadcast
+  pub all : AreOf kind input broadcast (g ∷ older)
+  pub past : all.0.slot ≤ t
+  pub recent : t < all.0.slot + d
+
+-- so does a run, where it has a segment
+abbrev pub RunLiesInOne : ℕ → ℕ → Kind → List Broadcast → Input → List Segment → Type 0
+RunLiesInOne d t kind plan input [] = Unit {0}
+RunLiesInOne d t kind plan input (g ∷ older) = LiesInOne d t kind plan input g older
+
+module _ (laws : PlanLaws) (d m t : ℕ) (kind : Kind) (plan : List Broadcast) (log : List (Option Message)) (input : Input) (spaced : IsSpaced d plan) (hears : IsHeardByOwnClock d m t log input) where
+  -- what stands before a segment of a run lies in its broadcast
+  goes_on : (number : ℕ) (b : Broadcast) (g : Segment) (older : List Segment) → HasNumber plan number b → IsSegmentOf kind input g b
+      → AreFalling g.slot older → AllByRecursion (IsOfAny kind plan input) older → AreOf kind input b (run_before m g.fragment.flag g.slot older)
+  goes_on number b g [] p own falls all = tt
+  goes_on number b g (h ∷ older) p own falls all =
+      cond_both (is_same g.fragment.flag h.fragment.flag && nat_lt g.slot (h.slot + m)) (h ∷ run_before m g.fragment.flag h.slot older) [] (AreOf kind input b)
+      (λ joins.
+      let parts = and_parts (is_same g.fragment.flag h.fragment.flag) (nat_lt g.slot (h.slot + m)) joins in
+      let flag : g.fragment.flag ≡ h.fragment.flag = same_flag _ _ parts.0 in
+      let near : g.slot < h.slot + m = ltb-true _ _ parts.1 in
+      let its = all.0.is in
+      let later = hears.order.rising h.slot g.slot its.slot own.slot its.from own.from falls.0 in
+      let soon = hears.between h.slot g.slot its.slot own.slot its.from own.from near in
+      let same = one_number laws d plan number all.0.number b all.0.broadcast own.slot its.slot spaced p all.0.planned own.has.covers its.has.covers (omega (arith, later)) soon (sym own.has.flag ∙ flag ∙ its.has.flag) in
+      let b_is : all.0.broadcast ≡ b = laws.one plan number all.0.broadcast b (subst (λ (n : ℕ). HasNumber plan n all.0.broadcast) (sym same) all.0.planned) p in
+      let here : IsSegmentOf kind input h b = subst (IsSegmentOf kind input h) b_is its in (
+        here,
+        subst (λ (f : Bool). AreOf kind input b (run_before m f h.slot older)) (sym flag) (goes_on number b h older p here falls.1 all.1),
+      ))
+      (λ _. tt)
+
+  run_lies : (n : ℕ) (gs : List Segment) → input.first + length input.heard ≡ n + 1 → AreFalling (n + 1) gs → AllByRecursion (IsOfAny kind plan input) gs → RunLiesInOne d t kind plan input (run m n gs)
+  run_lies n [] next falls all = tt
+  run_lies n (g ∷ older) next falls all =
+      cond_both (nat_lt n (g.slot + m)) (g ∷ run_before m g.fragment.flag g.slot older) [] (RunLiesInOne d t kind plan input)
+      (λ near.
+      let its = all.0.is in
+      record {
+        number = all.0.number;
+        broadcast = all.0.broadcast;
+        planned = all.0.planned;
+        all = (its, goes_on all.0.number all.0.broadcast g older all.0.planned its falls.1 all.1);
+        past = hears.past g.slot its.slot its.from;
+        recent = hears.since g.slot its.slot its.from (omega (arith, next, ltb-true _ _ near));
+      })
+      (λ _. tt)
+
+-- the run of what was heard lies in one broadcast
+pub heard_run_lies : PlanLaws → (d m t : ℕ) (kind : Kind) (pick : Message → Option Fragment) (of : Option Message → Mark) (plan : List Broadcast) (log : List (Option Message)) (input : Input)
+    → PicksWhatIsMarked pick of → IsLawful d kind plan (marks of log) → IsHeardByOwnClock d m t log input
+    → RunLiesInOne d t kind plan input (run_at pick m input.first input.heard)
+heard_run_lies laws d m t kind pick of plan log input alike law hears = by input.heard refl
+  where
+    by : (heard : List (Option Message)) → input.heard ≡ heard → RunLiesInOne d t kind plan input (run_at pick m input.first heard)
+    by [] e = tt
+    by (newest ∷ before) e =
+        let n : ℕ = input.first + length before in
+        let next : input.first + length input.heard ≡ n + 1 = ap (λ (h : List (Option Message)). input.first + length h) e ∙ omega arith in
+        let of_any = all_of_any d kind pick of plan log input (segments pick input.first input.heard) alike law hears.order (all_picked pick input.first input.heard) in
+        let falls = segments_fall pick input.first input.heard in
+        run_lies laws d m t kind plan log input law.spaced hears n (segments pick input.first (newest ∷ before)) next
+        (subst (λ (h : List (Option Message)). AreFalling (n + 1) (segments pick input.first h)) e (subst (λ (i : ℕ). AreFalling i (segments pick input.first input.heard)) next falls))
+        (subst (λ (h : List (Option Message)). AllByRecursion (IsOfAny kind plan input) (segments pick input.first h)) e of_any)

@@ -1,0 +1,14 @@
+use Rattle.rds_safety.proofs.Safety.{are_safe, are_safe_late, are_safe_by_slow_clocks, are_safe_on_time}
+use Rattle.rds_safety.proofs.laws.safe_by_plans.Goals as goal
+
+pub returns-clause-own_clocks : goal.returns-clause-own_clocks
+returns-clause-own_clocks c d m now plans log receivers lawful all = are_safe c.plan_laws.ensures d m now plans log lawful receivers all
+
+pub returns-clause-slow_clocks : goal.returns-clause-slow_clocks
+returns-clause-slow_clocks c = are_safe_by_slow_clocks c.plan_laws.ensures
+
+pub returns-clause-late : goal.returns-clause-late
+returns-clause-late c = are_safe_late c.plan_laws.ensures
+
+pub returns-clause-on_time : goal.returns-clause-on_time
+returns-clause-on_time c = are_safe_on_time c.plan_laws.ensures

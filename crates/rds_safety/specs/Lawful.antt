@@ -1,0 +1,54 @@
+-- When a plan of broadcasts is lawful for what one service was sent (this project's own rule): the broadcasts
+-- are spaced, each has a value that may be sent, and whatever was sent is of one of them. A plan is told by
+-- numbers of broadcasts and of slots alone, so that it may come from an encoder or from a log. Lists have the
+-- newest first, and the number of a broadcast counts from the oldest.
+use Rattle.std.specs.Prelude.{◌≡◌, ◌≤◌, ◌<◌, ◌+◌, ℕ, List, length}
+use Rattle.rds_fields.specs.Tag.{BothEndIn, PairFields}
+use Rattle.rds_assembly.specs.Body.{name_body, segment_count, segment_of, text_body}
+use Rattle.rds_assembly.specs.Value.{IsName, IsText}
+use Rattle.rds_encoder.specs.Plan.{Broadcast, Covers, HasNumber}
+use Rattle.rds_encoder.specs.Spaced.{IsSpaced}
+use Rattle.rds_receiver.specs.Receipts.{Fragment}
+use Rattle.rds_safety.specs.Marks.{IsMarkIn, Mark, Sends, Tagged}
+
+-- a service: which values may be sent, and what is sent of one
+pub record Kind : Type 1 where
+  pub IsValue : List ℕ → Type 0
+  pub body : List ℕ → List ℕ
+
+abbrev pub texts : Kind
+texts = record { IsValue = IsText; body = text_body }
+
+abbrev pub names : Kind
+names = record { IsValue = IsName; body = name_body }
+
+-- the fragment is a segment of what is sent of a value
+pub record IsFragmentOf (body : List ℕ) (p : Fragment) : Type 0 where
+  pub within : p.address < segment_count body
+  pub bytes : p.bytes ≡ segment_of body p.address
+
+-- the broadcast has the fragment that was sent in the slot: it covers the slot, and has the flag and the segment
+pub record HasFragment (kind : Kind) (slot : ℕ) (p : Fragment) (b : Broadcast) : Type 0 where
+  pub covers : Covers b slot
+  pub flag : p.flag ≡ b.flag
+  pub fragment : IsFragmentOf (kind.body b.bytes) p
+
+-- the broadcast has the tags that were sent in the slot: it had lasted for d slots, and they end in its text
+pub record HasTags (d slot : ℕ) (pair : PairFields) (b : Broadcast) : Type 0 where
+  pub lasted : b.start + d ≤ slot
+  pub to : slot ≤ b.end
+  pub ends : BothEndIn (length b.bytes) pair
+
+-- some broadcast of the plan is so
+pub record HasOne (plan : List Broadcast) (Is : Broadcast → Type 0) : Type 0 where
+  pub number : ℕ
+  pub broadcast : Broadcast
+  pub planned : HasNumber plan number broadcast
+  pub is : Is broadcast
+
+-- the plan is lawful, with d slots apart, for what the service was sent
+pub record IsLawful (d : ℕ) (kind : Kind) (plan : List Broadcast) (sent : List Mark) : Type 0 where
+  pub spaced : IsSpaced d plan
+  pub values : (k : ℕ) (b : Broadcast) → HasNumber plan k b → kind.IsValue b.bytes
+  pub fragments : (slot : ℕ) (p : Fragment) → IsMarkIn sent slot (Sends p) → HasOne plan (HasFragment kind slot p)
+  pub tags : (slot : ℕ) (pair : PairFields) → IsMarkIn sent slot (Tagged pair) → HasOne plan (HasTags d slot pair)

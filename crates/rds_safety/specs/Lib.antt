@@ -1,0 +1,13 @@
+-- Plans of broadcasts, what is handed to receivers late, and when what they show is safe. Nothing here knows of a world
+-- or of an audit. Read in this order; ClockBounds, which says that no bound is looser, can wait.
+pub mod Marks
+pub mod Lawful
+pub mod Late
+pub mod Plans
+pub mod Source
+pub mod Safe
+pub mod OwnClock
+pub mod Laws
+pub mod ClockBounds
+-- Lemmas that crates above use.
+pub mod Flags

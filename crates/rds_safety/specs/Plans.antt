@@ -1,0 +1,16 @@
+-- The plans of a station, of its texts and of its names, and when they are lawful for a log of what it sent
+-- (this project's own rule). Lists have the newest first.
+use Rattle.std.specs.Prelude.{ℕ, List, Option}
+use Rattle.rds_fields.specs.declared.message.Message.{Message}
+use Rattle.rds_encoder.specs.Plan.{Broadcast}
+use Rattle.rds_safety.specs.Lawful.{IsLawful, names, texts}
+use Rattle.rds_safety.specs.Marks.{marks, name_mark, text_mark}
+
+pub record Plans : Type 0 where
+  pub text : List Broadcast
+  pub name : List Broadcast
+
+-- both plans are lawful, with d slots apart, for what was sent
+pub record AreLawful (d : ℕ) (plans : Plans) (log : List (Option Message)) : Type 0 where
+  pub text : IsLawful d texts plans.text (marks text_mark log)
+  pub name : IsLawful d names plans.name (marks name_mark log)

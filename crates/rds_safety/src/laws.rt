@@ -1,0 +1,81 @@
+//! What holds of all plans, logs and inputs.
+ghost use Rattle.rds_safety.specs.ClockBounds.{OneSlotAheadIsUnsafe, OneSlotMoreBetweenMixes, OneSlotMoreSinceIsUnsafe, OwnClocksHaveTheseBounds};
+ghost use Rattle.rds_safety.specs.Laws.{ARunHasOneSource, ASlowClockIsAnOwnClock, LateGroupsAreLateMessages, LateIsBySlowClock, LawfulPlansAreSafe, LawfulPlansAreSafeByOwnClocks, LawfulPlansAreSafeForSlowClocks, LawfulPlansAreSafeOnTime, NoSlotLateIsOnTime, OnTimeIsNoSlotLate, OneSlotLessMixes, OneSlotLessMixesByOwnClock, OneSlotLessMixesForSlowClocks, OneSlotLessMixesOnTime, PlanLaws, TheTrueClockIsNoSlotLate, WhoIsHandedGroupsListens, WhoIsHandedGroupsListensByOwnClock};
+
+use rds_encoder::{broadcasts_are_spaced, numbers_name_broadcasts};
+use rds_fields::one_message;
+
+/// Plans that are lawful for the dwell and the lateness make every slot safe for any number of receivers, and so do those
+/// that are lawful for what a dwell of the receivers' own clocks lasts.
+pub fn safe_by_plans()
+    ensures own_clocks { LawfulPlansAreSafeByOwnClocks }
+    ensures slow_clocks { LawfulPlansAreSafeForSlowClocks }
+    ensures late { LawfulPlansAreSafe }
+    ensures on_time { LawfulPlansAreSafeOnTime }
+{
+    plan_laws();
+}
+
+/// A run has at most one source.
+pub fn one_source()
+    ensures { ARunHasOneSource }
+{
+    plan_laws();
+}
+
+/// What rds_encoder's laws say of all plans, as one record.
+pub fn plan_laws()
+    ensures { PlanLaws }
+{
+    broadcasts_are_spaced();
+    numbers_name_broadcasts();
+}
+
+/// To hear no slot late is to hear each entry of the log or nothing in its place.
+pub fn on_time()
+    ensures each { NoSlotLateIsOnTime }
+    ensures own { OnTimeIsNoSlotLate }
+{}
+
+/// A slow clock is a clock of the receiver's own, to hear late is as to have a slow clock, and to have the station's
+/// clock is to hear no slot late.
+pub fn own_clocks()
+    ensures slow { ASlowClockIsAnOwnClock }
+    ensures late { LateIsBySlowClock }
+    ensures no_slot_late { TheTrueClockIsNoSlotLate }
+{}
+
+/// What is late as groups is late as messages.
+pub fn late_as_messages()
+    ensures { LateGroupsAreLateMessages }
+{
+    one_message();
+}
+
+/// A receiver that was handed the groups of a station, late or by a clock of its own, and shows their view, listens to
+/// what was sent.
+pub fn groups_listen()
+    ensures late { WhoIsHandedGroupsListens }
+    ensures own_clock { WhoIsHandedGroupsListensByOwnClock }
+{
+    one_message();
+}
+
+/// One slot less than the dwell and the lateness is not enough, nor one less than a dwell of the receiver's own clock
+/// lasts: there are plans, a log and a receiver that shows a text which no broadcast has.
+pub fn the_dwell_is_the_least()
+    ensures late { OneSlotLessMixes }
+    ensures on_time { OneSlotLessMixesOnTime }
+    ensures own_clock { OneSlotLessMixesByOwnClock }
+    ensures slow_clock { OneSlotLessMixesForSlowClocks }
+{}
+
+/// None of the three bounds of a receiver's own clock can be one slot looser: with one slot more between two entries a
+/// receiver shows a text which no broadcast has; with one slot more since an entry, or an entry one slot ahead of the
+/// station, it shows what is not safe.
+pub fn each_bound_is_needed()
+    ensures bounds { OwnClocksHaveTheseBounds }
+    ensures between { OneSlotMoreBetweenMixes }
+    ensures since { OneSlotMoreSinceIsUnsafe }
+    ensures past { OneSlotAheadIsUnsafe }
+{}

@@ -1,0 +1,12 @@
+//! What is safe: plans of broadcasts that are lawful make every slot safe, for any number of receivers that hear late
+//! or keep a clock of their own, and the bounds for it are the least.
+//!
+//! Lists of slots have the newest first.
+#![tactic(auto)]
+
+mod laws;
+
+pub use laws::{
+    each_bound_is_needed, groups_listen, late_as_messages, on_time, one_source, own_clocks,
+    plan_laws, safe_by_plans, the_dwell_is_the_least,
+};

@@ -1,0 +1,10 @@
+pub mod Numbers
+pub mod Commands
+pub mod Records
+pub mod Changes
+pub mod Receptions
+pub mod OneEvent
+pub mod Playing
+pub mod Plays
+pub mod OneOutcome
+pub mod OneScript

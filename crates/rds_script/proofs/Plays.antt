@@ -1,0 +1,89 @@
+-- How a script is played on by a record, and what is left at each end.
+use Rattle.std.proofs.Common.{◌≡◌, ◌<◌, ◌≤◌, ◌+◌, ◌∙◌, ◌∷◌, ◌++◌, ℕ, List, Option, ap, arith, inl, inr, length, sym}
+use Rattle.std.specs.Prelude.{Err}
+use Rattle.std.specs.Io.KnownBytes.{Appends}
+use Rattle.std.proofs.KnownBytes.{Appends-trans}
+use Rattle.csv.specs.Reading.{reader_state}
+use Rattle.rds_charset.specs.Puts.{AppendsPrefix-append}
+use Rattle.rds_charset.specs.Told.{AppendsPrefix, HasFailed, Traffic}
+use Rattle.rds_world.specs.declared.world.Config.{Config}
+use Rattle.rds_script.specs.Inside.Player.{IsReadFault, Played, PlayedSoFar, PlayerStandsAt, PlaysRow, ScriptStandsAt}
+use Rattle.rds_script.specs.Rows.{AreNoRows, Record}
+use Rattle.rds_script.specs.Play.{HasRecords, Plays, Reading, RowsWrite, WroteRows}
+use Rattle.rds_output.specs.declared.fault.LogFault.{LogFault}
+use Rattle.rds_output.specs.declared.fault.LogFault.TheVariants.{BadRow, Write}
+use Rattle.rds_script.specs.declared.form.Form.{Form}
+use Rattle.rds_script.specs.declared.player.Player.{Player}
+use Rattle.rds_script.specs.declared.script.Script.{Script}
+
+-- a reader that gave records: the script has them
+pub has_records : {R : Type 0} {g h : _} (remaining : R → Option (List ℕ)) (known : Option (List ℕ)) (s : Script R g h) (records : List Record) → ScriptStandsAt remaining known s records → HasRecords known records
+has_records remaining known s records stands = λ script k. let (rest, source, upto) = stands.gave script k in (reader_state s.reader, rest, upto)
+
+-- what a player played, its rows write
+pub rows_write : (p : Player) (played : Played) → PlayerStandsAt p played → RowsWrite played.form played.config played.records played.written
+rows_write p played s = record {
+  events = s.events;
+  say = record { receivers = played.receivers; allowed = s.allowed; rows = s.rows };
+  write = record { outcomes = s.outcomes; are = s.are; lines = s.lines };
+}
+
+pub wrote_rows : {R : Type 0} {g h : _} (remaining : R → Option (List ℕ)) (form : Form) (config : Config) (known : Option (List ℕ)) (w : Traffic) (s : Script R g h) (p : Player) (records : List Record)
+    → ScriptStandsAt remaining known s records → PlayedSoFar form config p records w → WroteRows form config known w records
+wrote_rows remaining form config known w s p records stands played = record {
+  begins = has_records remaining known s records stands;
+  written = played.written;
+  write = rows_write p _ played.player;
+  wrote = played.wrote;
+  calm = played.calm;
+}
+
+-- no record was given
+pub ends_by_read : {R : Type 0} {g h : _} (remaining : R → Option (List ℕ)) (form : Form) (config : Config) (most : ℕ) (r : Reading) (w : Traffic) (s : Script R g h) (p : Player) (records : List Record) (fault : LogFault)
+    → ScriptStandsAt remaining r.known s records → PlayedSoFar form config p records w → length records < most → IsReadFault r.Failed fault → Plays form config most r w (Err fault)
+ends_by_read remaining form config most r w s p records fault stands played fewer (inl e) = rw e (records, wrote_rows remaining form config r.known w s p records stands played, fewer)
+ends_by_read remaining form config most r w s p records fault stands played fewer (inr (e, failed)) = rw e (records, wrote_rows remaining form config r.known w s p records stands played, fewer, failed)
+
+-- the record that was given is no row
+pub ends_by_row : {R : Type 0} {g h : _} (remaining : R → Option (List ℕ)) (form : Form) (config : Config) (most : ℕ) (r : Reading) (w : Traffic) (before s : Script R g h) (p : Player) (bad : List (List ℕ)) (records : List Record) (n : ℕ)
+    → ScriptStandsAt remaining r.known before records → ScriptStandsAt remaining r.known s (bad ∷ records) → PlayedSoFar form config p records w → AreNoRows config.late form (bad ∷ records) → length records ≡ n → n < most
+    → Plays form config most r w (Err (BadRow (n + 1)))
+ends_by_row remaining form config most r w before s p bad records n had stands played none number fewer = (
+  record {
+    records = records;
+    bad = bad;
+    wrote = wrote_rows remaining form config r.known w before p records had played;
+    begins = has_records remaining r.known s (bad ∷ records) stands;
+    none = none;
+    number = ap (λ (x : ℕ). x + 1) (sym number);
+  },
+  omega (arith, fewer),
+)
+
+-- the lines of the row came after the others
+pub played_on : (form : Form) (config : Config) (p : Player) (row : Record) (records : List Record) (receivers : ℕ) (start now after : Option (List ℕ)) (v w w' : ℕ) (written lines : List ℕ)
+    → PlaysRow p row lines record { form = form; config = config; receivers = receivers; records = records; written = written }
+    → Appends start now written → w ≡ v → Appends now after lines → w' ≡ w
+    → PlayedSoFar form config p (row ∷ records) record { before = start; after = after; failures_before = v; failures_after = w' }
+played_on form config p row records receivers start now after v w w' written lines (count, stands) had calm gave same = record {
+  receivers = count;
+  written = written ++ lines;
+  player = stands;
+  wrote = Appends-trans start now after written lines had gave;
+  calm = same ∙ calm;
+}
+
+-- and where the writer failed, a first part of them
+pub ends_by_write : {R : Type 0} {g h : _} (remaining : R → Option (List ℕ)) (form : Form) (config : Config) (most : ℕ) (r : Reading) (s : Script R g h) (p : Player) (row : Record) (records : List Record) (receivers : ℕ) (start now after : Option (List ℕ)) (v w w' : ℕ) (written lines : List ℕ)
+    → ScriptStandsAt remaining r.known s (row ∷ records) → length (row ∷ records) ≤ most → PlaysRow p row lines record { form = form; config = config; receivers = receivers; records = records; written = written }
+    → Appends start now written → w ≡ v → AppendsPrefix now after lines → HasFailed record { before = now; after = after; failures_before = w; failures_after = w' }
+    → Plays form config most r record { before = start; after = after; failures_before = v; failures_after = w' } (Err Write)
+ends_by_write remaining form config most r s p row records receivers start now after v w w' written lines stands within (count, plays) had calm gave failed = record {
+  records = row ∷ records;
+  begins = has_records remaining r.known s (row ∷ records) stands;
+  within = within;
+  written = written ++ lines;
+  write = rows_write p _ plays;
+  wrote = AppendsPrefix-append start now after written lines had gave;
+  failed = rw calm at failed;
+}

@@ -1,0 +1,54 @@
+use Rattle.std.proofs.Common.{◌≡◌, ◌<◌, ◌∙◌, ℕ, arith, inl, inr, length, map, refl, set, subst, sym}
+use Rattle.std.proofs.lemmas.Grind.{common_steps}
+use Rattle.rds_world.specs.Slots.{input_of}
+use Rattle.rds_world.specs.StandsAt.{IsViewOfInput}
+use Rattle.rds_world.specs.State.{distance}
+use Rattle.rds_output.specs.KeptView.{view_kept}
+use Rattle.rds_script.specs.Outcomes.{view_at}
+use Rattle.rds_script.proofs.Changes.{at_last, at_set, next_changes, no_changes, other_set, stay_changes}
+use Rattle.rds_script.proofs.Playing.{still_shown}
+use Rattle.rds_script.proofs.watched.push_views.Goals as goal
+
+pub loop-i-init : goal.loop-i-init
+loop-i-init c = record {
+  count = refl;
+  room = omega arith;
+  lines = no_changes c.args.slot c.args.lines.now _ _;
+  views = λ config events s were i below. absurd (omega (arith, below));
+  later = λ i l. refl;
+}
+
+pub loop-i-preserved : goal.loop-i-preserved
+loop-i-preserved c =
+    let within : c.loop-i.i < length c.loop-i.shown = omega (arith, c.loop-i-test.true, c.loop-i.invariant.count) in
+    record {
+      count = grind (arith, common_steps);
+      room = omega (arith, c.show.ensures.room, c.loop-i.invariant.room);
+      lines = next_changes c.args.slot c.loop-i.i c.args.shown.now c.loop-i.shown c.index-shown-i.result c.show.new.shown c.args.lines.now c.loop-i.lines c.show.new.lines within
+          c.loop-i.invariant.later c.loop-i.invariant.lines c.show.ensures.changes;
+      views = λ config events s were i below. elim (at_last i c.loop-i.i below) [
+        | inl less ↦ subst (IsViewOfInput config (input_of (distance config) i events)) (sym (other_set c.loop-i.shown c.loop-i.i i c.show.new.shown (λ e. omega (arith, e, less)))) (c.loop-i.invariant.views config events s were i less)
+        | inr same ↦ subst (λ (n : ℕ). IsViewOfInput config (input_of (distance config) n events) (view_at (map view_kept (set c.loop-i.shown c.loop-i.i c.show.new.shown)) n)) (sym same)
+            (subst (IsViewOfInput config (input_of (distance config) c.loop-i.i events)) (sym (at_set c.loop-i.shown c.loop-i.i c.show.new.shown within)) (c.in-Some.ensures.shows config events s (view_kept c.show.new.shown) c.show.ensures.shows))
+      ];
+      later = λ i l. other_set c.loop-i.shown c.loop-i.i i c.show.new.shown (λ e. omega (arith, e, l)) ∙ c.loop-i.invariant.later i (omega (arith, l));
+    }
+
+pub loop-i-preserved-then-stays : goal.loop-i-preserved-then-stays
+loop-i-preserved-then-stays c =
+    let initial = map view_kept c.args.shown.now in
+    let now = map view_kept c.loop-i.shown in
+    let i = c.loop-i.i in
+    let within : i < length c.args.shown.now = omega (arith, c.loop-i-test.true, c.loop-i.invariant.count) in
+    let same : view_at now i ≡ view_at initial i = c.loop-i.invariant.later i (omega arith) in
+    record {
+      count = c.loop-i.invariant.count;
+      room = omega (arith, c.loop-i.invariant.room);
+      lines = stay_changes c.args.slot i initial now c.args.lines.now c.loop-i.lines same c.loop-i.invariant.lines;
+      views = λ config events s were j below. elim (at_last j i below) [
+        | inl less ↦ c.loop-i.invariant.views config events s were j less
+        | inr at ↦ subst (λ (n : ℕ). IsViewOfInput config (input_of (distance config) n events) (view_at now n)) (sym at)
+            (still_shown config (length c.args.shown.now) i events initial now (c.stays.ensures c.if-stays.true config events s) were within same)
+      ];
+      later = λ j l. c.loop-i.invariant.later j (omega (arith, l));
+    }

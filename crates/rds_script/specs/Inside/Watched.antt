@@ -1,0 +1,38 @@
+-- What a world and the views kept of its receivers hold after these slots. Lists have the newest first.
+use Rattle.std.specs.Prelude.{◌≡◌, ◌<◌, ◌∷◌, ℕ, [], List, length, map}
+use Rattle.rds_world.specs.declared.world.Config.{Config}
+use Rattle.rds_world.specs.Event.{Event}
+use Rattle.rds_world.specs.Slots.{input_of}
+use Rattle.rds_world.specs.StandsAt as station
+use Rattle.rds_world.specs.State.{distance}
+use Rattle.rds_receiver.specs.Shown.{ShownView}
+use Rattle.rds_output.specs.KeptView.{view_kept}
+use Rattle.rds_script.specs.Outcomes.{view_at}
+use Rattle.rds_script.specs.declared.watched.Watched.{Watched}
+
+-- the views that are kept are those of the receivers
+abbrev pub AreKept : List ShownView → List ShownView → Type 0
+AreKept kept views = (i : ℕ) → view_at kept i ≡ view_at views i
+
+-- the views are those of the first n receivers before the newest of these slots
+abbrev pub WereShown : Config → ℕ → List Event → List ShownView → Type 0
+WereShown config n [] views = ⊥
+WereShown config n (e ∷ before) views =
+    (i : ℕ) → i < n → station.IsViewOfInput config (input_of (distance config) i before) (view_at views i)
+
+-- what is kept of each receiver
+abbrev pub views_kept : Watched → List ShownView
+views_kept w = map view_kept w.shown.items
+
+-- the world of these slots, with so many receivers, and what each of them shows after the last
+pub record WatchedStandsAt (config : Config) (receivers : ℕ) (w : Watched) (events : List Event) : Type 0 where
+  pub world : station.StandsAt config w.world events
+  pub count : length w.world.receivers ≡ receivers
+  pub kept : length w.shown.items ≡ receivers
+  pub shown : (i : ℕ) → i < receivers
+      → station.IsViewOfInput config (input_of (distance config) i events) (view_at (views_kept w) i)
+
+-- wherever it stands, this holds of its station, of the number of its receivers and of its slots
+abbrev pub WhereWatchedStands : Watched → (Config → ℕ → List Event → Type 0) → Type 0
+WhereWatchedStands w Holds = (config : Config) (receivers : ℕ) (events : List Event)
+    → WatchedStandsAt config receivers w events → Holds config receivers events

@@ -1,0 +1,31 @@
+-- The reader behind a view of it, as behind a loan: what was told of the one is told of the other.
+use Rattle.std.proofs.Math.Logic.{∥∥₁_map}
+use Rattle.std.specs.Prelude.{ℕ, Err, List, Ok, Option, Result}
+use Rattle.rds_charset.specs.Told.{Failed, Traffic}
+use Rattle.rds_world.specs.declared.world.Config.{Config}
+use Rattle.rds_output.specs.ReadFailed.{SomeReadFailed}
+use Rattle.rds_script.specs.Play.{Plays}
+use Rattle.rds_output.specs.declared.fault.LogFault.{LogFault}
+use Rattle.rds_output.specs.declared.fault.LogFault.TheVariants.{BadLine, BadRow, Read, Write, TooLong, Memory}
+use Rattle.rds_script.specs.declared.form.Form.{Form}
+
+-- a read that failed behind the view
+pub failed_behind : {A B : Type 0} (view : A → B) (failures : B → ℕ) → SomeReadFailed (λ (a : A). failures (view a))
+    → SomeReadFailed failures
+failed_behind {A} {B} view failures some =
+    ∥∥₁_map some (λ (f : (before : A) × (after : A) × Failed (failures (view before)) (failures (view after))).
+    (view f.0, view f.1, f.2))
+
+-- a script that was played, where what was told of its reads says something else
+pub plays_by : {P Q : Type 0} → (P → Q)
+    → (form : Form) (config : Config) (most : ℕ) (known : Option (List ℕ)) (w : Traffic)
+    (result : Result (Unit {0}) LogFault) → Plays form config most record { known = known; Failed = P } w result
+    → Plays form config most record { known = known; Failed = Q } w result
+plays_by says form config most known w (Ok done) p = p
+plays_by says form config most known w (Err (BadLine n)) p = p
+plays_by says form config most known w (Err (BadRow n)) p = p
+plays_by says form config most known w (Err Read) (records, wrote, fewer, failed) =
+    (records, wrote, fewer, says failed)
+plays_by says form config most known w (Err Write) p = p
+plays_by says form config most known w (Err TooLong) p = p
+plays_by says form config most known w (Err Memory) p = p

@@ -1,0 +1,146 @@
+-- What the slots of a station come to, and what is written for them: for a simulation the reply, the group that was
+-- sent, and the changes of each receiver's view; for a log the reply as a comment, and the group as a line of a log.
+-- This is the project's own format. Lists have the newest first, so the slot of an outcome is the number of outcomes
+-- behind it.
+use Rattle.std.specs.Prelude.{◌≡◌, ◌<◌, ◌++◌, ℕ, zero, suc, List, [], ◌∷◌, Option, Some, None, codes, decimal, length, slice_index_or}
+use Rattle.rds_block.specs.declared.group.Group.{Group}
+use Rattle.rds_block.specs.Words.{second_word_of}
+use Rattle.rds_world.specs.State.{distance}
+use Rattle.rds_world.specs.declared.world.Config.{Config}
+use Rattle.rds_fields.specs.declared.pair.Which.{Which}
+use Rattle.rds_fields.specs.declared.pair.Which.TheVariants.{One, Two}
+use Rattle.rds_encoder.specs.Sent.{IsSent}
+use Rattle.rds_encoder.specs.declared.refusal.Refusal.{Refusal}
+use Rattle.rds_encoder.specs.declared.refusal.Refusal.TheVariants.{Silent, Held, NoText, OutOfText}
+use Rattle.rds_receiver.specs.Shown.{ShownView}
+use Rattle.rds_world.specs.declared.event.Command.{Command}
+use Rattle.rds_world.specs.declared.event.Command.TheVariants.{Quiet, Restart, SetText, SetName, SetTags}
+use Rattle.rds_world.specs.declared.reply.Reply.{Reply}
+use Rattle.rds_world.specs.declared.reply.Reply.TheVariants.{Restarted, Done, Refused}
+use Rattle.rds_world.specs.declared.reply.Reply.TheVariants as reply
+use Rattle.rds_world.specs.Event.{Event}
+use Rattle.rds_world.specs.Replies.{reply_at}
+use Rattle.rds_world.specs.Slots.{entries, input_of, sent_at}
+use Rattle.rds_world.specs.StandsAt.{IsViewOfInput}
+use Rattle.rds_charset.specs.Digits.{word_digits}
+use Rattle.rds_output.specs.Output.{change, line_of, nothing_shown, receiver_stamp, slot_stamp}
+use Rattle.rds_script.specs.declared.form.Form.{Form}
+use Rattle.rds_script.specs.declared.form.Form.TheVariants.{Simulation, Log}
+
+-- what receiver i shows, and nothing where there is none
+abbrev pub view_at : List ShownView → ℕ → ShownView
+view_at views i = slice_index_or views i nothing_shown
+
+-- what a slot comes to: the command, its reply, the group that was sent, and what the receivers show at its end
+pub record Outcome : Type 0 where
+  pub command : Command
+  pub reply : Reply
+  pub sent : Option Group
+  pub views : List ShownView
+
+-- the outcome of a slot after these
+pub record IsOutcome (config : Config) (e : Event) (before : List Event) (o : Outcome) : Type 0 where
+  pub command : o.command ≡ e.command
+  pub reply : o.reply ≡ reply_at (distance config) e.command (entries before)
+  pub sent : IsSent config.head (sent_at (distance config) e before) o.sent
+  pub receivers : length o.views ≡ length e.receptions
+  pub views : (i : ℕ) → i < length o.views
+      → IsViewOfInput config (input_of (distance config) i (e ∷ before)) (view_at o.views i)
+
+-- these are the outcomes of the slots
+abbrev pub AreOutcomes : Config → List Event → List Outcome → Type 0
+AreOutcomes config [] [] = Unit {0}
+AreOutcomes config [] (o ∷ older) = ⊥
+AreOutcomes config (e ∷ before) [] = ⊥
+AreOutcomes config (e ∷ before) (o ∷ older) =
+    IsOutcome config e before o × AreOutcomes config before older
+
+-- what a reply line says of a text, a name or tags
+abbrev pub thing_set : Command → List ℕ
+thing_set Quiet = []
+thing_set Restart = []
+thing_set (SetText x) = codes "text"
+thing_set (SetName x) = codes "name"
+thing_set (SetTags pair) = codes "tags"
+
+abbrev pub number_of_tag : Which → List ℕ
+number_of_tag One = codes "1"
+number_of_tag Two = codes "2"
+
+abbrev pub refusal_content : Refusal → List ℕ
+refusal_content (Silent k) = codes " silent " ++ decimal k
+refusal_content (Held k) = codes " held " ++ decimal k
+refusal_content NoText = codes " notext"
+refusal_content (OutOfText which) = codes " outoftext " ++ number_of_tag which
+
+-- what a reply line is about, and what it says of it
+abbrev pub reply_thing : Command → Reply → List ℕ
+reply_thing command reply.Quiet = []
+reply_thing command Restarted = codes "restart"
+reply_thing command Done = thing_set command
+reply_thing command (Refused refusal) = thing_set command
+
+abbrev pub reply_content : Reply → List ℕ
+reply_content reply.Quiet = []
+reply_content Restarted = []
+reply_content Done = codes " ok"
+reply_content (Refused refusal) = refusal_content refusal
+
+-- the line of a reply, behind this mark; where there was no command there is none
+abbrev pub reply_line : List ℕ → ℕ → Command → Reply → List ℕ
+reply_line mark slot command reply.Quiet = []
+reply_line mark slot command Restarted =
+    mark ++ line_of (slot_stamp slot) (reply_thing command Restarted) (reply_content Restarted)
+reply_line mark slot command Done = mark ++ line_of (slot_stamp slot) (reply_thing command Done) (reply_content Done)
+reply_line mark slot command (Refused refusal) =
+    mark ++ line_of (slot_stamp slot) (reply_thing command (Refused refusal)) (reply_content (Refused refusal))
+
+-- a block with a space before it
+abbrev pub spaced_digits : ℕ → List ℕ
+spaced_digits w = codes " " ++ word_digits w
+
+-- the four blocks of a group
+abbrev pub block_digits : Group → List ℕ
+block_digits g = word_digits g.pi ++ spaced_digits (second_word_of g) ++ spaced_digits g.c ++ spaced_digits g.d
+
+-- the line of what was sent
+abbrev pub sent_line : ℕ → Option Group → List ℕ
+sent_line slot None = []
+sent_line slot (Some g) = line_of (slot_stamp slot) (codes "sent ") (block_digits g)
+
+-- a slot of a log
+abbrev pub log_line : Option Group → List ℕ
+log_line None = codes "---- ---- ---- ----\n"
+log_line (Some g) = block_digits g ++ codes "\n"
+
+-- the changes of the first n receivers, by their numbers
+unfoldable pub receiver_changes : ℕ → ℕ → List ShownView → List ShownView → List ℕ
+receiver_changes slot zero before now = []
+receiver_changes slot (suc i) before now =
+    receiver_changes slot i before now ++ change (receiver_stamp slot i) (view_at before i) (view_at now i)
+
+-- the lines of the reply and of the group
+abbrev pub answer_lines : Form → ℕ → Command → Reply → Option Group → List ℕ
+answer_lines Simulation slot command reply sent = reply_line [] slot command reply ++ sent_line slot sent
+answer_lines Log slot command reply sent = reply_line (codes "# ") slot command reply ++ log_line sent
+
+-- the lines of a slot, where the receivers showed this before; a log has no receivers
+abbrev pub slot_lines : Form → ℕ → List ShownView → Outcome → List ℕ
+slot_lines form slot before o =
+    answer_lines form slot o.command o.reply o.sent ++ receiver_changes slot (length o.views) before o.views
+
+-- what the receivers show at the end
+abbrev pub newest_views : List Outcome → List ShownView
+newest_views [] = []
+newest_views (o ∷ older) = o.views
+
+-- the lines of all slots, the oldest first
+abbrev pub lines_of : Form → List Outcome → List ℕ
+lines_of form [] = []
+lines_of form (o ∷ older) = lines_of form older ++ slot_lines form (length older) (newest_views older) o
+
+-- the slots of a station write the lines of their outcomes
+pub record EventsWrite (form : Form) (config : Config) (events : List Event) (written : List ℕ) : Type 0 where
+  pub outcomes : List Outcome
+  pub are : AreOutcomes config events outcomes
+  pub lines : written ≡ lines_of form outcomes

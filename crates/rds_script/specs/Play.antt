@@ -1,0 +1,104 @@
+-- What `simulate` and `encode` leave at each end. What the records of a script are, is the definition of `csv`: fields
+-- between commas, in quotes or not, one record a line. Lists of records and of events have the newest first; w is
+-- what a call did to the writer.
+use Rattle.std.specs.Prelude.{◌≡◌, ◌<◌, ◌≤◌, ◌+◌, ◌∷◌, ℕ, List, [], Option, None, Some, Ok, Err, Result, length, reverse}
+use Rattle.std.specs.Io.KnownBytes.{Appends}
+use Rattle.csv.specs.Machine.{next_record}
+use Rattle.csv.specs.Reading.{AreRecords, Reached, default_config, strip_bom}
+use Rattle.csv.specs.declared.parser.State.{State}
+use Rattle.csv.specs.declared.parser.State.TheVariants.{StartRecord}
+use Rattle.rds_charset.specs.Told.{AppendsPrefix, HasFailed, IsCalm, Traffic}
+use Rattle.rds_world.specs.declared.world.Config.{Config}
+use Rattle.rds_world.specs.Event.{Event}
+use Rattle.rds_output.specs.ReadFailed.{SomeReadFailed}
+use Rattle.rds_script.specs.Rows.{AreNoRows, Record, RowsSay}
+use Rattle.rds_script.specs.Outcomes.{EventsWrite}
+use Rattle.rds_output.specs.declared.fault.LogFault.{LogFault}
+use Rattle.rds_output.specs.declared.fault.LogFault.TheVariants.{BadLine, BadRow, Read, Write, TooLong, Memory}
+use Rattle.rds_script.specs.declared.form.Form.{Form}
+
+-- the script begins with these records, and goes on like this
+pub record RecordsUpTo (script : List ℕ) (records : List Record) (state : State) (rest : List ℕ) : Type 0 where
+  pub reached : Reached default_config StartRecord (strip_bom script) (reverse records) state rest
+
+-- the script begins with these records
+abbrev pub HasRecords : Option (List ℕ) → List Record → Type 0
+HasRecords known records =
+    (script : List ℕ) → known ≡ Some script → (state : State) × (rest : List ℕ) × RecordsUpTo script records state rest
+
+-- and it has no others
+abbrev pub HasAllRecords : Option (List ℕ) → List Record → Type 0
+HasAllRecords known records = (script : List ℕ) → known ≡ Some script
+    → (state : State) × (rest : List ℕ) × RecordsUpTo script records state rest
+    × (next_record default_config state [] [] rest ≡ None)
+
+-- the records are rows, and write this
+pub record RowsWrite (form : Form) (config : Config) (records : List Record) (written : List ℕ) : Type 0 where
+  pub events : List Event
+  pub say : RowsSay config.late form records events
+  pub write : EventsWrite form config events written
+
+-- the bytes of a script whose records are all rows write this
+pub record ScriptWrites (form : Form) (config : Config) (script written : List ℕ) : Type 0 where
+  pub records : List Record
+  pub are : AreRecords default_config StartRecord (strip_bom script) (reverse records)
+  pub write : RowsWrite form config records written
+
+-- the output of the first records of the script was written
+pub record WroteRows (form : Form) (config : Config) (known : Option (List ℕ)) (w : Traffic)
+    (records : List Record) : Type 0 where
+  pub begins : HasRecords known records
+  pub written : List ℕ
+  pub write : RowsWrite form config records written
+  pub wrote : Appends w.before w.after written
+  pub calm : IsCalm w
+
+-- the record after these is no row, and their output was written
+pub record PlayStopsAtBadRow (form : Form) (config : Config) (known : Option (List ℕ)) (w : Traffic)
+    (n : ℕ) : Type 0 where
+  pub records : List Record
+  pub bad : List (List ℕ)
+  pub wrote : WroteRows form config known w records
+  pub begins : HasRecords known (bad ∷ records)
+  pub none : AreNoRows config.late form (bad ∷ records)
+  pub number : n ≡ length records + 1
+
+-- the writer failed: a first part of the output of these records, no more than the bound, was written
+pub record PlayStopsAtWrite (form : Form) (config : Config) (most : ℕ) (known : Option (List ℕ))
+    (w : Traffic) : Type 0 where
+  pub records : List Record
+  pub begins : HasRecords known records
+  pub within : length records ≤ most
+  pub written : List ℕ
+  pub write : RowsWrite form config records written
+  pub wrote : AppendsPrefix w.before w.after written
+  pub failed : HasFailed w
+
+-- the script was read to its end, it has fewer records than the bound, and their output was written
+pub record PlaysAll (form : Form) (config : Config) (most : ℕ) (known : Option (List ℕ)) (w : Traffic) : Type 0 where
+  pub records : List Record
+  pub all : HasAllRecords known records
+  pub fewer : length records < most
+  pub wrote : WroteRows form config known w records
+
+-- what is told of the reader of a script: the bytes that it has left, and that one of its reads failed
+pub record Reading : Type 1 where
+  pub known : Option (List ℕ)
+  pub Failed : Type 0
+
+abbrev pub reading : {R : Type 0} → (R → Option (List ℕ)) → (R → ℕ) → R → Reading
+reading remaining failures reader = record { known = remaining reader; Failed = SomeReadFailed failures }
+
+-- what playing a script did, with this bound of its records: each fault comes only for its cause. Where it ends well,
+-- and at a failed read and for want of memory, the records are fewer than the bound; it is too long at as many
+abbrev pub Plays : Form → Config → ℕ → Reading → Traffic → Result (Unit {0}) LogFault → Type 0
+Plays form config most r w (Ok done) = PlaysAll form config most r.known w
+Plays form config most r w (Err (BadLine n)) = ⊥
+Plays form config most r w (Err (BadRow n)) = PlayStopsAtBadRow form config r.known w n × (n ≤ most)
+Plays form config most r w (Err Read) =
+    (records : List Record) × WroteRows form config r.known w records × (length records < most) × r.Failed
+Plays form config most r w (Err Memory) =
+    (records : List Record) × WroteRows form config r.known w records × (length records < most)
+Plays form config most r w (Err TooLong) =
+    (records : List Record) × WroteRows form config r.known w records × (length records ≡ most)
+Plays form config most r w (Err Write) = PlayStopsAtWrite form config most r.known w

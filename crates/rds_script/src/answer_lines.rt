@@ -1,0 +1,202 @@
+//! The lines of a command's reply and of the group that was sent.
+ghost use Rattle.std.specs.Prelude.{◌≡◌, ◌≢◌, ◌≤◌, ◌+◌, ◌++◌, Option, length};
+ghost use Rattle.rds_block.specs.declared.group.Group.{Group};
+ghost use Rattle.rds_world.specs.declared.reply.Reply.TheVariants as replies;
+ghost use Rattle.rds_script.specs.Outcomes.{answer_lines, block_digits, log_line, number_of_tag, refusal_content, reply_content, reply_line, reply_thing, sent_line, spaced_digits, thing_set};
+ghost use Rattle.rds_script.specs.declared.answer_lines.TheConstants.{ANSWER_ROOM, GROUP_ROOM, REPLY_ROOM};
+
+use crate::form::Form;
+use rds_block::Group;
+use rds_charset::{Lines, digits_of};
+use rds_encoder::Refusal;
+use rds_fields::Which;
+use rds_output::Stamp;
+use rds_world::{Answer, Command, Reply};
+
+/// Room for the line of a reply.
+const REPLY_ROOM: usize = 96;
+
+/// Room for the line of the group that was sent.
+const GROUP_ROOM: usize = 96;
+
+/// Room for both lines.
+pub(crate) const ANSWER_ROOM: usize = REPLY_ROOM + GROUP_ROOM;
+
+/// Appends the line of the reply, where there was a command, and then that of the group.
+pub(crate) fn push_answer<const N: usize>(
+    form: Form,
+    slot: u64,
+    command: &Command,
+    answer: Answer,
+    lines: &mut Lines<N>,
+)
+    requires { length lines.old + ANSWER_ROOM ≤ N }
+    ensures lines { lines.new
+        ≡ lines.old ++ answer_lines form slot command.now answer.reply answer.sent }
+    ensures room { length lines.new ≤ length lines.old + ANSWER_ROOM }
+{
+    match form {
+        Form::Simulation => {
+            push_reply(b"", slot, command, answer.reply, lines);
+            push_sent(slot, answer.sent, lines);
+        }
+        Form::Log => {
+            push_reply(b"# ", slot, command, answer.reply, lines);
+            push_log_line(answer.sent, lines);
+        }
+    }
+}
+
+/// Appends the line of a reply behind the mark, where there was a command.
+#[inline(always)]
+fn push_reply<const N: usize>(
+    mark: &[u8],
+    slot: u64,
+    command: &Command,
+    reply: Reply,
+    lines: &mut Lines<N>,
+)
+    requires mark { length mark.now ≤ 2 }
+    requires room { length lines.old + REPLY_ROOM ≤ N }
+    ensures line { lines.new ≡ lines.old ++ reply_line mark.now slot command.now reply }
+    ensures room { length lines.new ≤ length lines.old + REPLY_ROOM }
+{
+    if reply != Reply::Quiet {
+        push_reply_line(mark, slot, command, reply, lines);
+    }
+}
+
+/// Appends the line of a reply that isn't quiet behind the mark.
+fn push_reply_line<const N: usize>(
+    mark: &[u8],
+    slot: u64,
+    command: &Command,
+    reply: Reply,
+    lines: &mut Lines<N>,
+)
+    requires told { reply ≢ replies.Quiet }
+    requires mark { length mark.now ≤ 2 }
+    requires room { length lines.old + REPLY_ROOM ≤ N }
+    ensures line { lines.new ≡ lines.old ++ reply_line mark.now slot command.now reply }
+    ensures room { length lines.new ≤ length lines.old + REPLY_ROOM }
+{
+    lines.push(mark);
+    Stamp::Slot(slot).push(lines);
+    lines.push(reply_thing(command, reply));
+    push_content(reply, lines);
+    lines.push(b"\n");
+}
+
+/// What the reply is about.
+fn reply_thing(command: &Command, reply: Reply) -> &'static [u8]
+    ensures thing { result.now ≡ reply_thing command.now reply }
+    ensures short { length result.now ≤ 7 }
+{
+    match reply {
+        Reply::Quiet => b"",
+        Reply::Restarted => b"restart",
+        Reply::Done | Reply::Refused(_) => thing_set(command),
+    }
+}
+
+/// What the command sets.
+fn thing_set(command: &Command) -> &'static [u8]
+    ensures thing { result.now ≡ thing_set command.now }
+    ensures short { length result.now ≤ 4 }
+{
+    match command {
+        Command::Quiet | Command::Restart => b"",
+        Command::SetText(_) => b"text",
+        Command::SetName(_) => b"name",
+        Command::SetTags(_) => b"tags",
+    }
+}
+
+/// Appends what the reply says.
+fn push_content<const N: usize>(reply: Reply, lines: &mut Lines<N>)
+    requires { length lines.old + 28 ≤ N }
+    ensures content { lines.new ≡ lines.old ++ reply_content reply }
+    ensures room { length lines.new ≤ length lines.old + 28 }
+{
+    match reply {
+        Reply::Quiet | Reply::Restarted => {}
+        Reply::Done => lines.push(b" ok"),
+        Reply::Refused(refusal) => push_refusal(refusal, lines),
+    }
+}
+
+fn push_refusal<const N: usize>(refusal: Refusal, lines: &mut Lines<N>)
+    requires { length lines.old + 28 ≤ N }
+    ensures content { lines.new ≡ lines.old ++ refusal_content refusal }
+    ensures room { length lines.new ≤ length lines.old + 28 }
+{
+    match refusal {
+        Refusal::Silent(slots) => {
+            lines.push(b" silent ");
+            lines.push_number(u64::from(slots));
+        }
+        Refusal::Held(slots) => {
+            lines.push(b" held ");
+            lines.push_number(u64::from(slots));
+        }
+        Refusal::NoText => lines.push(b" notext"),
+        Refusal::OutOfText(which) => {
+            lines.push(b" outoftext ");
+            lines.push(number_of_tag(which));
+        }
+    }
+}
+
+fn number_of_tag(which: Which) -> &'static [u8]
+    ensures number { result.now ≡ number_of_tag which }
+    ensures one { length result.now ≡ 1 }
+{
+    match which {
+        Which::One => b"1",
+        Which::Two => b"2",
+    }
+}
+
+/// Appends the line of the group, where one was sent.
+fn push_sent<const N: usize>(slot: u64, sent: Option<Group>, lines: &mut Lines<N>)
+    requires { length lines.old + GROUP_ROOM ≤ N }
+    ensures line { lines.new ≡ lines.old ++ sent_line slot sent }
+    ensures room { length lines.new ≤ length lines.old + GROUP_ROOM }
+{
+    if let Some(group) = sent {
+        Stamp::Slot(slot).push(lines);
+        lines.push(b"sent ");
+        push_blocks(&group, lines);
+        lines.push(b"\n");
+    }
+}
+
+/// Appends the slot as a line of a log.
+fn push_log_line<const N: usize>(sent: Option<Group>, lines: &mut Lines<N>)
+    requires { length lines.old + GROUP_ROOM ≤ N }
+    ensures line { lines.new ≡ lines.old ++ log_line sent }
+    ensures room { length lines.new ≤ length lines.old + GROUP_ROOM }
+{
+    match sent {
+        Some(group) => push_blocks(&group, lines),
+        None => lines.push(b"---- ---- ---- ----"),
+    }
+    lines.push(b"\n");
+}
+
+/// Appends the four blocks of a group.
+fn push_blocks<const N: usize>(group: &Group, lines: &mut Lines<N>)
+    requires { length lines.old + 19 ≤ N }
+    ensures blocks { lines.new ≡ lines.old ++ block_digits group.now }
+    ensures room { length lines.new ≡ length lines.old + 19 }
+{
+    let [first, second, third, fourth] = group.to_blocks();
+    let pi = digits_of(first);
+    let kind = digits_of(second);
+    let c = digits_of(third);
+    let d = digits_of(fourth);
+    lines.push(&[
+        pi[0], pi[1], pi[2], pi[3], b' ', kind[0], kind[1], kind[2], kind[3], b' ', c[0], c[1],
+        c[2], c[3], b' ', d[0], d[1], d[2], d[3],
+    ]);
+}

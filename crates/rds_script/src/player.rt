@@ -1,0 +1,99 @@
+//! A station that plays the rows of a script.
+ghost use Rattle.std.specs.Prelude.{◌≡◌, ◌<◌, ◌≤◌, ◌+◌, ◌-◌, ◌^◌, [], IfErr, None, OnOk, Some};
+ghost use Rattle.csv.specs.Records.{fields_of};
+ghost use Rattle.rds_world.specs.declared.event.TheConstants.{MOST_RECEIVERS};
+ghost use Rattle.rds_script.specs.declared.row.RowRefused.TheVariants as refused;
+ghost use Rattle.rds_script.specs.declared.watched.Watched.{Watched};
+
+use crate::form::Form;
+use crate::row::{RowRefused, event_of};
+use crate::watched::{RowLines, Watched};
+use csv::ByteRecord;
+use rds_charset::text_is_read_one_way;
+use rds_world::Config;
+use std::alloc::Global;
+
+/// Plays the rows of a script, and gives the lines of each slot. The first row fixes the number of receivers.
+#[derive(Drop)]
+pub(crate) struct Player {
+    alloc: Global,
+    form: Form,
+    config: Config,
+    watched: Option<Watched>,
+    pub(crate) slot: u64,
+}
+
+impl Player {
+    ghost use Rattle.rds_script.specs.Inside.Player.{IsBegun, IsRowRefused, PlayerStandsAt, PlaysRow, WherePlayerStands, nothing_played};
+
+    /// Before the first row, with no world yet.
+    pub(crate) fn new(alloc: Global, form: Form, config: Config) -> Player
+        ensures slot { result.slot ≡ 0 }
+        ensures stands { PlayerStandsAt result (nothing_played form config) }
+    {
+        Player {
+            alloc,
+            form,
+            config,
+            watched: None,
+            slot: 0,
+        }
+    }
+
+    /// Plays one record more, and gives the lines of its slot.
+    pub(crate) fn row(&mut self, row: &ByteRecord, lines: &mut RowLines) -> Result<(), RowRefused>
+        requires slots { self.old.slot < 2 ^ 64 - 1 }
+        requires empty { lines.old ≡ [] }
+        ensures slot { OnOk result (self.new.slot ≡ self.old.slot + 1) }
+        ensures stands { WherePlayerStands self.old (λ played.
+            OnOk result (PlaysRow self.new (fields_of row.now) lines.new played)) }
+        ensures refused { WherePlayerStands self.old (λ played.
+            IfErr result (IsRowRefused played (fields_of row.now))) }
+    {
+        // the law by which a record says one event
+        text_is_read_one_way();
+        let Some(event) = event_of(row) else {
+            return Err(RowRefused::NoRow);
+        };
+        let receivers = event.receptions.len();
+        if !self.form.allows(receivers) {
+            return Err(RowRefused::NoRow);
+        }
+        self.begin(receivers)?;
+        match &mut self.watched {
+            Some(watched) => {
+                let slot = self.slot;
+                self.slot += 1;
+                watched.play(self.form, slot, &event, lines)
+            }
+            None => unreachable!(),
+        }
+    }
+
+    /// Makes the world, with so many receivers, where there is none yet.
+    fn begin(&mut self, receivers: usize) -> Result<(), RowRefused>
+        requires few { receivers ≤ MOST_RECEIVERS }
+        ensures begins { OnOk result ((w : Watched) × (self.new ≡ record self.old { watched = Some w })
+            × IsBegun self.old.config receivers self.old.watched w) }
+        ensures memory { IfErr result (λ why. (why ≡ refused.Memory) × (self.old.watched ≡ None)) }
+    {
+        if self.watched.is_some() {
+            return Ok(());
+        }
+        self.make_world(receivers)
+    }
+
+    /// Makes the world of the first row.
+    ///
+    /// It stands apart so that the other rows pay nothing for its copies.
+    #[inline(never)]
+    fn make_world(&mut self, receivers: usize) -> Result<(), RowRefused>
+        requires few { receivers ≤ MOST_RECEIVERS }
+        ensures made { OnOk result ((w : Watched) × (self.new ≡ record self.old { watched = Some w })
+            × IsBegun self.old.config receivers None w) }
+        ensures memory { IfErr result (λ why. why ≡ refused.Memory) }
+    {
+        self.watched = Some(Watched::new(self.alloc, self.config, receivers)?);
+        Ok(())
+    }
+}

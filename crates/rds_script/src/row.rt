@@ -1,0 +1,303 @@
+//! The event that a row of a script says.
+ghost use Rattle.std.specs.Prelude.{◌≡◌, ◌≢◌, ◌<◌, ◌≤◌, ℕ, Bool, List, [], ◌∷◌, IfNone, IfSome, IsUtf8, length, slice_index};
+ghost use Rattle.std.specs.Char.{IsAsciiDigit, IsNotAsciiDigit};
+ghost use Rattle.std.specs.Int.{from_bool};
+ghost use Rattle.std.specs.Str.Parse.{AllDigits};
+ghost use Rattle.csv.specs.Records.{fields_of};
+ghost use Rattle.rds_charset.specs.ReadAs.{IsReadAs};
+ghost use Rattle.rds_fields.specs.Tag.{IsPair, PairFields};
+ghost use Rattle.rds_assembly.specs.Value.{IsText};
+ghost use Rattle.rds_world.specs.Event.{Event};
+ghost use Rattle.rds_world.specs.declared.event.Command.{Command};
+ghost use Rattle.rds_world.specs.declared.event.Reception.{Reception};
+ghost use Rattle.rds_world.specs.declared.event.TheConstants.{MOST_RECEIVERS};
+ghost use Rattle.rds_script.specs.declared.row.Verb.{Verb};
+ghost use Rattle.rds_script.specs.Verbs.{verb_word};
+ghost use Rattle.rds_script.specs.Receptions.{AreReceptions, HasDigits, IsLateness, letter};
+ghost use Rattle.rds_script.specs.Rows.{AreNumbers, HasNoSpace, IsCut, IsNameArgument, IsNumber, SaysCommand, SaysEvent, free_field, numbers_of_pair, numbers_of_tag};
+
+use arrayvec::ArrayVec;
+use csv::ByteRecord;
+use rds_assembly::{Name, Text};
+use rds_charset::{read_text, text_is_read_one_way};
+use rds_fields::{Tag, TagPair};
+use rds_world::{Command, MOST_RECEIVERS, Reception, SlotEvent};
+
+/// The most bytes of a text, and more than those of a name.
+const LONGEST: usize = 64;
+
+/// What a row tells the encoder to do; its argument says with what.
+#[derive(Clone, Copy)]
+enum Verb {
+    Nothing,
+    Restart,
+    Text,
+    Name,
+    Tags,
+}
+
+/// Why a record is not played.
+#[derive(Clone, Copy)]
+pub(crate) enum RowRefused {
+    /// It is no row.
+    NoRow,
+    /// There was no memory for the world.
+    Memory,
+}
+
+/// What happens in the slot of a row; `None` for a record that is no row.
+pub(crate) fn event_of(row: &ByteRecord) -> Option<SlotEvent>
+    ensures some { IfSome result (λ e. SaysEvent (fields_of row.now) e) }
+    ensures none { IfNone result ((e : Event) → length e.receptions ≤ MOST_RECEIVERS
+        → SaysEvent (fields_of row.now) e → ⊥) }
+{
+    let fields = four_fields(row)?;
+    Some(SlotEvent {
+        command: command_of(fields.word, fields.argument)?,
+        free: free_of(fields.free)?,
+        receptions: receptions_of(fields.receptions)?,
+    })
+}
+
+/// The fields of a row.
+#[derive(Clone, Copy)]
+struct Fields<'a> {
+    word: &'a [u8],
+    argument: &'a [u8],
+    free: &'a [u8],
+    receptions: &'a [u8],
+}
+
+/// The fields of a record, where it has four.
+fn four_fields(row: &ByteRecord) -> Option<Fields<'_>>
+    ensures some { IfSome result (λ fields. fields_of row.now ≡ fields.word.now
+        ∷ fields.argument.now ∷ fields.free.now ∷ fields.receptions.now ∷ []) }
+    ensures none { IfNone result (length (fields_of row.now) ≢ 4) }
+{
+    if row.len() != 4 {
+        return None;
+    }
+    Some(Fields {
+        word: row.get(0)?,
+        argument: row.get(1)?,
+        free: row.get(2)?,
+        receptions: row.get(3)?,
+    })
+}
+
+/// The command of a word and its argument.
+fn command_of(word: &[u8], argument: &[u8]) -> Option<Command>
+    ensures text { IfSome result (λ _. IsUtf8 argument.now) }
+    ensures some { IfSome result (SaysCommand word.now argument.now) }
+    ensures none { IfNone result ((command : Command) → IsUtf8 argument.now
+        → SaysCommand word.now argument.now command → ⊥) }
+{
+    match verb_of(word)? {
+        Verb::Nothing if argument.is_empty() => Some(Command::Quiet),
+        Verb::Restart if argument.is_empty() => Some(Command::Restart),
+        Verb::Nothing | Verb::Restart => None,
+        Verb::Text => Some(Command::SetText(text_of(characters(argument)?)?)),
+        Verb::Name => Some(Command::SetName(name_of(characters(argument)?)?)),
+        Verb::Tags => Some(Command::SetTags(pair_of(characters(argument)?)?)),
+    }
+}
+
+/// The characters of an argument, where it is UTF-8.
+fn characters(argument: &[u8]) -> Option<&str>
+    ensures some { IfSome result (λ text. (text.now ≡ argument.now) × IsUtf8 argument.now) }
+    ensures none { IfNone result (IsUtf8 argument.now → ⊥) }
+{
+    str::from_utf8(argument).ok()
+}
+
+/// The verb that the word is.
+fn verb_of(word: &[u8]) -> Option<Verb>
+    ensures some { IfSome result (λ verb. word.now ≡ verb_word verb) }
+    ensures none { IfNone result ((verb : Verb) → word.now ≡ verb_word verb → ⊥) }
+{
+    match word {
+        b"-" => Some(Verb::Nothing),
+        b"restart" => Some(Verb::Restart),
+        b"text" => Some(Verb::Text),
+        b"name" => Some(Verb::Name),
+        b"tags" => Some(Verb::Tags),
+        _ => None,
+    }
+}
+
+/// The text that is given in its printed form.
+fn text_of(argument: &str) -> Option<Text>
+    ensures some { IfSome result (λ x. IsReadAs argument.now x × IsText x) }
+    ensures none { IfNone result ((x : List ℕ) → IsReadAs argument.now x → IsText x → ⊥) }
+{
+    // the law by which no other text is read
+    text_is_read_one_way();
+    let mut bytes = [0; LONGEST];
+    let count = read_text(argument, &mut bytes).ok()?;
+    Text::new(&bytes[..count]).ok()
+}
+
+/// The name that is given in its printed form.
+fn name_of(argument: &str) -> Option<Name>
+    ensures some { IfSome result (IsNameArgument argument.now) }
+    ensures none { IfNone result ((x : List ℕ) → IsNameArgument argument.now x → ⊥) }
+{
+    // the law by which no other name is read
+    text_is_read_one_way();
+    let mut bytes = [0; LONGEST];
+    let count = read_text(argument, &mut bytes).ok()?;
+    Name::new(&bytes[..count]).ok()
+}
+
+/// The pair of tags that eight numbers say.
+fn pair_of(argument: &str) -> Option<TagPair>
+    ensures some { IfSome result
+        (λ pair. AreNumbers argument.now (numbers_of_pair pair) × IsPair pair) }
+    ensures none { IfNone result ((pair : PairFields)
+        → AreNumbers argument.now (numbers_of_pair pair) → IsPair pair → ⊥) }
+{
+    pair_of_numbers(numbers_of(argument)?.into_inner().ok()?)
+}
+
+/// The pair of tags of these numbers: toggle and running bit, then class, start and extra of each tag.
+fn pair_of_numbers(numbers: [u8; 8]) -> Option<TagPair>
+    ensures some { IfSome result (λ pair. (numbers ≡ numbers_of_pair pair) × IsPair pair) }
+    ensures none { IfNone result ((pair : PairFields) → numbers ≡ numbers_of_pair pair
+        → IsPair pair → ⊥) }
+{
+    let [
+        toggle,
+        running,
+        class,
+        start,
+        extra,
+        other_class,
+        other_start,
+        other_extra,
+    ] = numbers;
+    let one = Tag::new(class, start, extra).ok()?;
+    let two = Tag::new(other_class, other_start, other_extra).ok()?;
+    TagPair::new(bit_of(toggle)?, bit_of(running)?, one, two).ok()
+}
+
+/// The bit that is written as 0 or 1.
+fn bit_of(number: u8) -> Option<bool>
+    ensures some { IfSome result (λ bit. number ≡ from_bool bit) }
+    ensures none { IfNone result ((bit : Bool) → number ≡ from_bool bit → ⊥) }
+{
+    match number {
+        0 => Some(false),
+        1 => Some(true),
+        _ => None,
+    }
+}
+
+/// The numbers of a text, up to eight of them.
+fn numbers_of(text: &str) -> Option<ArrayVec<u8, 8>>
+    ensures some { IfSome result (λ numbers. AreNumbers text.now numbers.items) }
+    ensures none { IfNone result ((numbers : List ℕ) → length numbers ≤ 8
+        → AreNumbers text.now numbers → ⊥) }
+{
+    let mut numbers = ArrayVec::new();
+    let mut rest = text;
+    while let Some((first, after)) = cut_at_space(rest) {
+        numbers.try_push(number_of(first)?).ok()?;
+        rest = after;
+    }
+    numbers.try_push(number_of(rest)?).ok()?;
+    Some(numbers)
+}
+
+/// What stands before the first space, and what after it.
+fn cut_at_space(text: &str) -> Option<(&str, &str)>
+    ensures some { IfSome result (λ cut. IsCut text.now cut.0.now cut.1.now) }
+    ensures none { IfNone result (HasNoSpace text.now) }
+{
+    text.split_once(' ')
+}
+
+/// The number up to 255 that one to three decimal digits write.
+fn number_of(text: &str) -> Option<u8>
+    ensures some { IfSome result (IsNumber text.now) }
+    ensures none { IfNone result ((n : ℕ) → IsNumber text.now n → ⊥) }
+{
+    if text.len() > 3 || text.starts_with('+') {
+        return None;
+    }
+    text.parse().ok()
+}
+
+/// Whether the slot is free.
+fn free_of(field: &[u8]) -> Option<bool>
+    ensures some { IfSome result (λ free. field.now ≡ free_field free) }
+    ensures none { IfNone result ((free : Bool) → field.now ≡ free_field free → ⊥) }
+{
+    match field {
+        b"0" => Some(false),
+        b"1" => Some(true),
+        _ => None,
+    }
+}
+
+/// What each receiver gets; `None` also for more than eight receivers.
+fn receptions_of(field: &[u8]) -> Option<ArrayVec<Reception, MOST_RECEIVERS>>
+    ensures some { IfSome result (λ receptions. AreReceptions field.now receptions.items) }
+    ensures none { IfNone result ((receptions : List Reception) → length receptions ≤ MOST_RECEIVERS
+        → AreReceptions field.now receptions → ⊥) }
+{
+    let mut receptions = ArrayVec::new();
+    let mut rest = field;
+    while let Some((letter, after)) = rest.split_first() {
+        let (digits, others) = after.split_at(digits_in_front(after));
+        receptions.try_push(reception_of(*letter, digits)?).ok()?;
+        rest = others;
+    }
+    Some(receptions)
+}
+
+/// How many decimal digits the text begins with.
+fn digits_in_front(text: &[u8]) -> usize
+    ensures within { result ≤ length text.now }
+    ensures digits { (k : ℕ) → k < result → IsAsciiDigit (slice_index text.now k) }
+    ensures ends { result < length text.now → IsNotAsciiDigit (slice_index text.now result) }
+{
+    match text.first() {
+        Some(byte) if byte.is_ascii_digit() => text
+            .iter()
+            .position(|byte| !byte.is_ascii_digit())
+            .unwrap_or(text.len()),
+        _ => 0,
+    }
+}
+
+/// What a letter says with the digits after it.
+fn reception_of(byte: u8, digits: &[u8]) -> Option<Reception>
+    requires { AllDigits 10 digits.now }
+    ensures some { IfSome result (λ reception. (byte ≡ letter reception)
+        × HasDigits reception digits.now) }
+    ensures none { IfNone result ((reception : Reception) → byte ≡ letter reception
+        → HasDigits reception digits.now → ⊥) }
+{
+    match byte {
+        b'G' => Some(Reception::Got(lateness_of(digits)?)),
+        b'L' if digits.is_empty() => Some(Reception::Lost),
+        b'R' if digits.is_empty() => Some(Reception::Restart),
+        _ => None,
+    }
+}
+
+/// The number of slots that up to four digits write; 0 where there are none.
+fn lateness_of(digits: &[u8]) -> Option<u16>
+    requires { AllDigits 10 digits.now }
+    ensures some { IfSome result (IsLateness digits.now) }
+    ensures none { IfNone result ((late : ℕ) → IsLateness digits.now late → ⊥) }
+{
+    if digits.len() > 4 {
+        return None;
+    }
+    let mut late = 0;
+    for digit in digits {
+        late = late * 10 + u16::from(*digit - b'0');
+    }
+    Some(late)
+}

@@ -1,0 +1,124 @@
+//! A world whose receivers are watched.
+ghost use Rattle.std.specs.Prelude.{◌≡◌, ◌≤◌, ◌<◌, ◌++◌, ◌∷◌, [], ℕ, IfErr, IfOk, OnOk, length, map};
+ghost use Rattle.rds_world.specs.declared.event.TheConstants.{MOST_RECEIVERS};
+ghost use Rattle.rds_world.specs.State.{distance};
+ghost use Rattle.rds_world.specs.Slots.{input_of};
+ghost use Rattle.rds_world.specs.Replies.{CanBeTaken};
+ghost use Rattle.rds_world.specs.StandsAt.{IsViewOfInput, WhereItStands};
+ghost use Rattle.rds_output.specs.KeptView.{view_kept};
+ghost use Rattle.rds_script.specs.Inside.Watched.{AreKept, WereShown};
+ghost use Rattle.rds_script.specs.Outcomes.{IsOutcome, Outcome, receiver_changes, slot_lines, view_at};
+ghost use Rattle.rds_script.specs.declared.row.RowRefused.TheVariants as refused;
+ghost use Rattle.rds_script.specs.declared.answer_lines.TheConstants.{ANSWER_ROOM};
+
+use crate::answer_lines::{ANSWER_ROOM, push_answer};
+use crate::form::Form;
+use crate::row::RowRefused;
+use arrayvec::ArrayVec;
+use rds_charset::Lines;
+use rds_output::{KeptView, SLOT_ROOM, Stamp, show};
+use rds_world::{Config, MOST_RECEIVERS, SlotEvent, World};
+use std::alloc::Global;
+
+/// Room for the output of a row: the reply, the group, and what changed at each receiver.
+pub(crate) const ROW_ROOM: usize = MOST_RECEIVERS * SLOT_ROOM + ANSWER_ROOM;
+
+/// The output of a row.
+pub(crate) type RowLines = Lines<ROW_ROOM>;
+
+/// A world, and what each of its receivers showed at the end of the last slot.
+#[derive(Drop)]
+pub(crate) struct Watched {
+    world: World,
+    shown: ArrayVec<KeptView, MOST_RECEIVERS>,
+}
+
+impl Watched {
+    ghost use Rattle.rds_script.specs.Inside.Watched.{WatchedStandsAt, WhereWatchedStands, views_kept};
+
+    /// A world with so many receivers, before its first slot.
+    pub(crate) fn new(
+        alloc: Global,
+        config: Config,
+        receivers: usize,
+    ) -> Result<Watched, RowRefused>
+        requires few { receivers ≤ MOST_RECEIVERS }
+        ensures stands { IfOk result (λ w. WatchedStandsAt config receivers w []) }
+        ensures nothing { IfOk result (λ w. AreKept (views_kept w) []) }
+        ensures memory { IfErr result (λ why. why ≡ refused.Memory) }
+    {
+        match World::new(alloc, config, receivers) {
+            Ok(world) => Ok(Watched {
+                world,
+                shown: nothing_shown(receivers),
+            }),
+            Err(_) => Err(RowRefused::Memory),
+        }
+    }
+
+    /// Plays the slot of an event, and gives its lines.
+    pub(crate) fn play(
+        &mut self,
+        form: Form,
+        slot: u64,
+        event: &SlotEvent,
+        lines: &mut RowLines,
+    ) -> Result<(), RowRefused>
+        requires empty { lines.old ≡ [] }
+        ensures stands { WhereWatchedStands self.old (λ config receivers events.
+            OnOk result (WatchedStandsAt config receivers self.new (event.now ∷ events))) }
+        ensures taken { WhereWatchedStands self.old (λ config receivers events.
+            OnOk result (CanBeTaken config.late receivers event.now events)) }
+        ensures outcome { WhereWatchedStands self.old (λ config receivers events.
+            OnOk result ((o : Outcome) × IsOutcome config event.now events o × (o.views ≡ views_kept self.new)
+            × (lines.new ≡ slot_lines form slot (views_kept self.old) o))) }
+        ensures refused { WhereWatchedStands self.old (λ config receivers events.
+            IfErr result (λ why. (why ≡ refused.NoRow) × (CanBeTaken config.late receivers event.now events → ⊥))) }
+    {
+        let Ok(answer) = self.world.step(event) else {
+            return Err(RowRefused::NoRow);
+        };
+        push_answer(form, slot, &event.command, answer, lines);
+        push_views(slot, &self.world, self.shown.as_mut_slice(), lines);
+        Ok(())
+    }
+}
+
+/// Nothing is shown by so many receivers.
+fn nothing_shown(receivers: usize) -> ArrayVec<KeptView, MOST_RECEIVERS>
+    requires { receivers ≤ MOST_RECEIVERS }
+    ensures nothing { AreKept (map view_kept result.items) [] }
+    ensures count { length result.items ≡ receivers }
+{
+    let mut shown = ArrayVec::new();
+    for _ in 0..receivers {
+        shown.push(KeptView::new());
+    }
+    shown
+}
+
+/// Appends what changed at each receiver, and keeps what it shows now. Where a receiver shows what it showed in the
+/// slot before, nothing of it is looked at.
+fn push_views(slot: u64, world: &World, shown: &mut [KeptView], lines: &mut RowLines)
+    requires few { length shown.old ≤ MOST_RECEIVERS }
+    requires room { length lines.old ≤ ANSWER_ROOM }
+    ensures lines { length shown.old ≡ length world.now.receivers
+        → lines.new ≡ lines.old ++ receiver_changes slot (length shown.old)
+        (map view_kept shown.old) (map view_kept shown.new) }
+    ensures views { length shown.old ≡ length world.now.receivers
+        → WhereItStands world.now (λ config events.
+        WereShown config (length shown.old) events (map view_kept shown.old)
+        → (i : ℕ) → i < length shown.old
+        → IsViewOfInput config (input_of (distance config) i events) (view_at (map view_kept shown.new) i)) }
+    ensures count { length shown.new ≡ length shown.old }
+{
+    for i in 0..shown.len() {
+        if world.stays(i) {
+            continue;
+        }
+        let Some(receiver) = world.receiver(i) else {
+            return;
+        };
+        show(Stamp::Receiver(slot, i), &mut shown[i], receiver, lines);
+    }
+}

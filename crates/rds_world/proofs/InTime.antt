@@ -1,0 +1,103 @@
+-- What a receiver of a world got was sent at most k slots before the slot in which it got it, where its receptions
+-- are due.
+use Rattle.std.proofs.Common.{◌≡◌, ◌+◌, ◌-◌, ◌<◌, ◌≤◌, ℕ, zero, suc, List, [], ◌∷◌, Option, Some, None, refl, subst, ◌∙◌, inl, inr, arith, length}
+use Rattle.std.specs.Prelude.{IfSome, slice_index_or}
+use Rattle.rds_fields.specs.declared.message.Message.{Message}
+use Rattle.rds_world.specs.declared.event.Reception.{Reception}
+use Rattle.rds_world.specs.declared.event.Reception.TheVariants.{Got, Lost, Restart}
+use Rattle.rds_world.specs.Due.{AreDue, IsDue, last_named, named}
+use Rattle.rds_world.specs.Event.{Event}
+use Rattle.rds_safety.specs.Late.{CameFrom, HasEntry, Input, IsHeardLate, IsOfItsOrigin}
+use Rattle.rds_world.specs.Slots.{input_of, log, received, sent_at, sent_back}
+use Rattle.rds_safety.proofs.OnTime.{nothing_heard, one_more}
+
+-- a longer log has what the shorter one has
+says_longer : (log : List (Option Message)) (sent : Option Message) (origin : Option ℕ) (entry : Option Message) → IsOfItsOrigin log origin entry → IsOfItsOrigin (sent ∷ log) origin entry
+says_longer log sent None entry none = none
+says_longer log sent (Some s) entry is = inr is
+
+longer_log : (k : ℕ) (log : List (Option Message)) (sent : Option Message) (input : Input) → IsHeardLate k log input → IsHeardLate k (sent ∷ log) input
+longer_log k log sent input late = record {
+  order = record {
+    beside = late.order.beside;
+    each = λ t origin entry o a. says_longer log sent origin entry (late.order.each t origin entry o a);
+    rising = late.order.rising;
+  };
+  past = late.past;
+  late = late.late;
+}
+
+-- what was sent so many slots before the last one of a log is its entry in that slot
+back_in_log : (back : ℕ) (newest : Option Message) (before : List (Option Message)) → back ≤ length before
+    → HasEntry 0 (newest ∷ before) (length before - back) (sent_back back (newest ∷ before))
+back_in_log zero newest before h = inl (omega arith, refl)
+back_in_log (suc back) newest [] h = absurd (omega arith)
+back_in_log (suc back) newest (x ∷ before) h =
+    let earlier : length before - back ≡ length (x ∷ before) - suc back = omega arith in
+    inr (subst (λ (s : ℕ). HasEntry 0 (x ∷ before) s (sent_back back (x ∷ before))) earlier (back_in_log back x before (omega arith)))
+
+-- the slot is that which was named last, or comes before it
+abbrev IsUpTo : Option ℕ → ℕ → Type 0
+IsUpTo None s = ⊥
+IsUpTo (Some last) s = s ≤ last
+
+-- what a receiver was handed came no later than was named last
+abbrev AreUpTo : Option ℕ → Input → Type 0
+AreUpTo last input = (u s : ℕ) → CameFrom input u s → IsUpTo last s
+
+up_to_next : (last : Option ℕ) (next s : ℕ) → IfSome last (λ l. l < next) → IsUpTo last s → s < next
+up_to_next None next s after h = absurd h
+up_to_next (Some l) next s after h = omega (arith, after, h)
+
+-- the input after one more slot
+up_to_with : (k : ℕ) (r : Reception) (slot : ℕ) (sent : List (Option Message)) (input : Input) (last : Option ℕ) → IsDue k slot last r
+    → AreUpTo last input → AreUpTo (named r slot last) (received r slot sent input)
+up_to_with k (Got back) slot sent input last due upto u s (inl now) = (let same : s ≡ slot - back = (let e = now.1 in cc) in omega (arith, same))
+up_to_with k (Got back) slot sent input last due upto u s (inr earlier) = (let less = up_to_next last (slot - back) s due.after (upto u s earlier) in omega (arith, less))
+up_to_with k Lost slot sent input last due upto u s (inl now) = absurd (let e = now.1 in cc)
+up_to_with k Lost slot sent input last due upto u s (inr earlier) = upto u s earlier
+up_to_with k Restart slot sent input last due upto u s h = absurd h
+
+in_time_with : (k : ℕ) (r : Reception) (slot : ℕ) (sent : Option Message) (log : List (Option Message)) (input : Input) (last : Option ℕ) → slot ≡ length log → input.first + length input.heard ≡ slot
+    → IsDue k slot last r → AreUpTo last input → IsHeardLate k log input → IsHeardLate k (sent ∷ log) (received r slot (sent ∷ log) input)
+in_time_with k (Got back) slot sent log input last reached now due upto late =
+    let there = due.there in
+    let soon = due.soon in
+    let named_slot : length log - back ≡ slot - back = omega (arith, reached) in
+    one_more k (sent ∷ log) input.first input.heard input.origins (Some (slot - back)) (sent_back back (sent ∷ log)) (longer_log k log sent input late)
+    (subst (λ (s : ℕ). HasEntry 0 (sent ∷ log) s (sent_back back (sent ∷ log))) named_slot (back_in_log back sent log (omega (arith, there, reached))))
+    (omega (arith, now, there), omega (arith, now, there, soon))
+    (λ r u s e o. (
+    let here : slot - back ≡ r = cc in
+    let less : s < slot - back = up_to_next last (slot - back) s due.after (upto u s o) in
+    omega (arith, here, less)
+    ))
+in_time_with k Lost slot sent log input last reached now due upto late =
+    one_more k (sent ∷ log) input.first input.heard input.origins None None (longer_log k log sent input late) refl tt (λ r u s e o. absurd (cc))
+in_time_with k Restart slot sent log input last reached now due upto late = nothing_heard k (sent ∷ log) (slot + 1)
+
+reaches : (r : Reception) (slot : ℕ) (sent : List (Option Message)) (input : Input) → input.first + length input.heard ≡ slot → (received r slot sent input).first + length (received r slot sent input).heard ≡ slot + 1
+reaches (Got back) slot sent input now = omega (arith, now)
+reaches Lost slot sent input now = omega (arith, now)
+reaches Restart slot sent input now = omega arith
+
+-- the input of a receiver reaches the last slot
+pub input_reaches : (d i : ℕ) (events : List Event) → (input_of d i events).first + length (input_of d i events).heard ≡ length events
+input_reaches d i [] = refl
+input_reaches d i (e ∷ before) =
+    reaches (slice_index_or e.receptions i Lost) (length before) (log d (e ∷ before)) (input_of d i before) (input_reaches d i before) ∙ omega arith
+
+pub logged : (d : ℕ) (events : List Event) → length events ≡ length (log d events)
+logged d [] = refl
+logged d (e ∷ before) = omega (arith, logged d before)
+
+up_to : (d k i : ℕ) (events : List Event) → AreDue k events → AreUpTo (last_named i events) (input_of d i events)
+up_to d k i [] due u s h = absurd h
+up_to d k i (e ∷ before) due u s h =
+    up_to_with k (slice_index_or e.receptions i Lost) (length before) (log d (e ∷ before)) (input_of d i before) (last_named i before) (due.0 i) (up_to d k i before due.1) u s h
+
+pub in_time : (d k i : ℕ) (events : List Event) → AreDue k events → IsHeardLate k (log d events) (input_of d i events)
+in_time d k i [] due = nothing_heard k [] 0
+in_time d k i (e ∷ before) due =
+    in_time_with k (slice_index_or e.receptions i Lost) (length before) (sent_at d e before) (log d before) (input_of d i before) (last_named i before) (logged d before) (input_reaches d i before)
+    (due.0 i) (up_to d k i before due.1) (in_time d k i before due.1)

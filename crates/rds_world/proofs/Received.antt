@@ -1,0 +1,97 @@
+-- What a receiver has heard after one more slot, and one of a list after it was written.
+use Rattle.std.proofs.Common.{◌≡◌, ◌≢◌, ◌<◌, ℕ, zero, suc, Bool, true, false, List, [], ◌∷◌, Option, Some, None, refl, ap, subst, inl, take, length, arith}
+use Rattle.std.specs.List.{AllByRecursion}
+use Rattle.std.specs.Prelude.{slice_get, slice_index_or, slice_set}
+use Rattle.rds_block.specs.declared.group.Group.{Group}
+use Rattle.rds_fields.specs.declared.message.Message.{Message}
+use Rattle.rds_encoder.specs.Sent.{IsSent}
+use Rattle.rds_receiver.specs.Receipts.{Hears}
+use Rattle.rds_receiver.specs.OneView.{same_heard}
+use Rattle.rds_receiver.specs.Shown.{IsView, ShowsView, ShownView}
+use Rattle.rds_receiver.specs.StandsAt.{StandsAt, WhereItStands}
+use Rattle.rds_receiver.specs.State.{ReceiverState}
+use Rattle.rds_safety.specs.Late.{Input}
+use Rattle.rds_world.specs.StandsAt.{HasHeard, IsNew, StaysShown, tuned_to}
+use Rattle.rds_world.specs.declared.world.Config.{Config}
+
+-- what the station sends, its receivers hear
+pub hears_sent : (config : Config) (sent : Option Message) (group : Option Group) → IsSent config.head sent group → Hears config.head.pi group sent
+hears_sent config None None s = refl
+hears_sent config None (Some group) s = absurd s
+hears_sent config (Some message) None s = absurd s
+hears_sent config (Some message) (Some group) s = inl (s.head.pi, s.spelled)
+
+abbrev input_from : ℕ → List (Option Message) → List (Option ℕ) → Input
+input_from first heard origins = record { first = first; heard = heard; origins = origins }
+
+-- one more group was handled, and it was heard so
+pub hears_more : (config : Config) (input : Input) (old new : ReceiverState) (group : Option Group) (heard : Option Message) (origin : Option ℕ)
+    → Hears config.head.pi group heard → WhereItStands old (λ t groups. (g : Option Group) → Hears t.programme g heard → StandsAt t new (g ∷ groups))
+    → HasHeard config input old → HasHeard config (input_from input.first (heard ∷ input.heard) (origin ∷ input.origins)) new
+hears_more config input old new group heard origin hears goes_on has = record {
+  groups = group ∷ has.groups;
+  spelled = (hears, has.spelled);
+  stands = goes_on record { programme = config.head.pi; dwell = config.dwell; first = input.first } has.groups has.stands group hears;
+}
+
+-- one more group was handled, and what is shown stays
+pub stays_shown : (config : Config) (input : Input) (old : ReceiverState) (group : Option Group) (heard : Option Message) (origin : Option ℕ)
+    → Hears config.head.pi group heard → ((view : ShownView) → WhereItStands old (λ t groups. (g : Option Group) → Hears t.programme g heard → IsView t groups view → IsView t (g ∷ groups) view))
+    → HasHeard config input old → StaysShown config input (input_from input.first (heard ∷ input.heard) (origin ∷ input.origins))
+stays_shown config input old group heard origin hears stays has view shown =
+    let (other, are, shows) = shown.is in
+    let same : other ≡ input.heard = same_heard config.head.pi shown.groups other input.heard are shown.spelled in
+    let by_own : IsView (tuned_to config input) has.groups view = (input.heard, has.spelled, subst (λ (x : List (Option Message)). ShowsView config.dwell input.first x view) same shows) in
+    record {
+      groups = group ∷ has.groups;
+      spelled = (hears, has.spelled);
+      is = stays view (tuned_to config input) has.groups has.stands group hears by_own;
+    }
+
+pub heard_nothing : (config : Config) (first : ℕ) (r : ReceiverState) → IsNew config r
+    → HasHeard config (input_from first [] []) r
+heard_nothing config first r begins = record { groups = []; spelled = tt; stands = begins first }
+
+-- one of a list was written
+pub other_kept : {X : Type 0} (rs : List X) (i k : ℕ) (r : X) → k ≢ i → slice_get (slice_set rs i r) k ≡ slice_get rs k
+other_kept [] i k r ne = refl
+other_kept (x ∷ rs) zero zero r ne = absurd (ne refl)
+other_kept (x ∷ rs) zero (suc k) r ne = refl
+other_kept (x ∷ rs) (suc i) zero r ne = refl
+other_kept (x ∷ rs) (suc i) (suc k) r ne = other_kept rs i k r (λ e. ne (ap suc e))
+
+pub written : {X : Type 0} (rs : List X) (i : ℕ) (r s : X) → slice_get (slice_set rs i r) i ≡ Some s → r ≡ s
+written [] i r s e = absurd (cc)
+written (x ∷ rs) zero r s e = cc
+written (x ∷ rs) (suc i) r s e = written rs i r s e
+
+-- one of the first is one of all
+pub one_of_first : {X : Type 0} (P : X → Type 0) (n : ℕ) (rs : List X) (i : ℕ) (r : X) → AllByRecursion P rs → slice_get (take n rs) i ≡ Some r → P r
+one_of_first P zero rs i r all e = absurd (cc)
+one_of_first P (suc n) [] i r all e = absurd (cc)
+one_of_first P (suc n) (x ∷ rs) zero r all e = subst P (cc) all.0
+one_of_first P (suc n) (x ∷ rs) (suc i) r all e = one_of_first P n rs i r all.1 e
+
+pub of_first : {X : Type 0} (n : ℕ) (xs : List X) (i : ℕ) (x : X) → slice_get (take n xs) i ≡ Some x → (i < n) × (slice_get xs i ≡ Some x)
+of_first zero xs i x e = absurd (cc)
+of_first (suc n) [] i x e = absurd (cc)
+of_first (suc n) (y ∷ xs) zero x e = (omega arith, e)
+of_first (suc n) (y ∷ xs) (suc i) x e = (let later = of_first n xs i x e in (omega (arith, later.0), later.1))
+
+-- a receiver that stands has a dwell of some slots
+pub some_slots : (config : Config) (rs : List ReceiverState) → AllByRecursion (IsNew config) rs → 0 < length rs → 0 < config.dwell
+some_slots config [] all some = absurd (omega (arith, some))
+some_slots config (r ∷ rs) all some = (all.0 0).holds.lasts
+
+-- one of a list of marks was written
+pub other_marked : {X : Type 0} (xs : List X) (i k : ℕ) (x d : X) → k ≢ i → slice_index_or (slice_set xs i x) k d ≡ slice_index_or xs k d
+other_marked [] i k x d ne = refl
+other_marked (y ∷ xs) zero zero x d ne = absurd (ne refl)
+other_marked (y ∷ xs) zero (suc k) x d ne = refl
+other_marked (y ∷ xs) (suc i) zero x d ne = refl
+other_marked (y ∷ xs) (suc i) (suc k) x d ne = other_marked xs i k x d (λ e. ne (ap suc e))
+
+pub marked : (xs : List Bool) (i : ℕ) (b : Bool) → slice_index_or (slice_set xs i b) i false ≡ true → b ≡ true
+marked [] i b e = absurd (cc)
+marked (x ∷ xs) zero b e = e
+marked (x ∷ xs) (suc i) b e = marked xs i b e

@@ -1,9 +1,0 @@
-use Rattle.rds_world.specs.Safety.Lawful.{names, texts}
-use Rattle.rds_world.proofs.AuditLemmas.Among.{the_reigns}
-use Rattle.rds_world.proofs.audit.audit_laws.broadcasts_are_the_reigns.Goals as goal
-
-pub returns-clause-texts : goal.returns-clause-texts
-returns-clause-texts c d plan sent law dense = the_reigns c.plan_laws.ensures d texts plan sent law dense
-
-pub returns-clause-names : goal.returns-clause-names
-returns-clause-names c d plan sent law dense = the_reigns c.plan_laws.ensures d names plan sent law dense

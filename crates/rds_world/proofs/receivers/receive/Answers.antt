@@ -1,0 +1,36 @@
+use Rattle.std.proofs.Common.{◌≡◌, ◌+◌, ◌-◌, ◌∙◌, None, Some, false, refl, rules, subst}
+use Rattle.rds_world.specs.Due.{IsDue}
+use Rattle.rds_world.specs.declared.event.Reception.{Reception}
+use Rattle.rds_world.specs.Slots.{sent_back}
+use Rattle.rds_world.proofs.Received.{hears_more, heard_nothing, stays_shown}
+use Rattle.rds_world.proofs.receivers.receive.Goals as goal
+
+pub returns-in-Got-clause-heard : goal.returns-in-Got-clause-heard
+returns-in-Got-clause-heard c slot sent input last kept due has =
+    let config = c.args.config.now in
+    let back = c.in-Got.back in
+    let is_due = subst (λ (r : Reception). IsDue c.args.config.now.late slot last r) c.in-Got.is due in
+    let (same, (group, hears)) = kept back is_due.soon in
+    let handed : c.back.result ≡ sent_back back sent = c.back.ensures ∙ same in
+    rw c.in-Got.is (hears_more config input _ _ group (sent_back back sent) (Some (slot - back)) hears (rw handed at c.slot_message.ensures.stands) has)
+
+pub returns-in-Lost-clause-heard : goal.returns-in-Lost-clause-heard
+returns-in-Lost-clause-heard c slot sent input last kept due has = rw c.in-Lost.is (hears_more c.args.config.now input _ _ None None None refl c.slot_message-in-Lost.ensures.stands has)
+
+pub returns-in-Restart-clause-heard : goal.returns-in-Restart-clause-heard
+returns-in-Restart-clause-heard c slot sent input last kept due has = rw c.in-Restart.is (heard_nothing c.args.config.now (slot + 1) _ c.new.ensures.stands)
+
+pub returns-in-Got-clause-stays : goal.returns-in-Got-clause-stays
+returns-in-Got-clause-stays c slot sent input last kept due has stays =
+    let config = c.args.config.now in
+    let back = c.in-Got.back in
+    let is_due = subst (λ (r : Reception). IsDue c.args.config.now.late slot last r) c.in-Got.is due in
+    let (same, (group, hears)) = kept back is_due.soon in
+    let handed : c.back.result ≡ sent_back back sent = c.back.ensures ∙ same in
+    let calm : c.slot_message.result ≡ false = search rules in
+    rw c.in-Got.is (stays_shown config input _ group (sent_back back sent) (Some (slot - back)) hears (rw handed at (c.slot_message.ensures.same calm)) has)
+
+pub returns-in-Lost-clause-stays : goal.returns-in-Lost-clause-stays
+returns-in-Lost-clause-stays c slot sent input last kept due has stays =
+    let calm : c.slot_message-in-Lost.result ≡ false = search rules in
+    rw c.in-Lost.is (stays_shown c.args.config.now input _ None None None refl (c.slot_message-in-Lost.ensures.same calm) has)

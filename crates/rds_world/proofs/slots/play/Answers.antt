@@ -1,0 +1,34 @@
+use Rattle.std.proofs.Common.{ap, [], ◌++◌, ◌≡◌, ◌+◌, ◌<◌, ℕ, List, ◌∷◌, length, reverse, take, Some, sym, ◌∙◌, subst, refl, below_more}
+use Rattle.std.proofs.lemmas.List.{reverse-append, take_more}
+use Rattle.std.proofs.lemmas.Option.{slice_get_read}
+use Rattle.std.specs.Prelude.{slice_get, slice_index_or}
+use Rattle.rds_world.specs.Event.{Event}
+use Rattle.rds_world.specs.Replies.{CanBeTaken}
+use Rattle.rds_world.specs.SafeSlots.{OnlyWhatWasOnAirIsShown}
+use Rattle.rds_world.specs.StandsAt.{StandsAt}
+use Rattle.rds_world.proofs.slots.play.Goals as goal
+
+one_later : (xs : List Event) (i : ℕ) (x : Event) → i < length xs → x ≡ slice_index_or xs i x → x ∷ reverse (take i xs) ≡ reverse (take (i + 1) xs)
+one_later xs i x h e =
+    let more : take (i + 1) xs ≡ take i xs ++ x ∷ [] = take_more xs i x h ∙ ap (λ (y : Event). take i xs ++ y ∷ []) (sym e) in
+    sym (ap (λ (ys : List Event). reverse ys) more ∙ reverse-append (take i xs) (x ∷ []))
+
+pub loop-i-preserved : goal.loop-i-preserved
+loop-i-preserved c =
+    let config = c.args.config in
+    let i = c.loop-i.i in
+    let events = c.args.events.now in
+    let before = reverse (take i events) in
+    let e = c.index-events-i.result in
+    let later = one_later events i e c.loop-i-test.true c.index-events-i.is in
+    let step = c.in-Ok-step.ensures in
+    let taken : CanBeTaken config.late c.args.receivers e before =
+    subst (λ (n : ℕ). CanBeTaken config.late n e before) c.loop-i.invariant.count (step.refused config before c.loop-i.invariant.stands) in
+    let at : slice_get events i ≡ Some e = slice_get_read events (length events) i e refl c.loop-i-test.true c.index-events-i.is in
+    record {
+      stands = subst (λ (xs : List Event). StandsAt config c.step.new.self xs) later (step.stands config before c.loop-i.invariant.stands);
+      safe = subst (λ (xs : List Event). OnlyWhatWasOnAirIsShown config xs c.step.new.self.receivers) later (step.safe config before c.loop-i.invariant.stands);
+      count = step.count ∙ c.loop-i.invariant.count;
+      few = c.loop-i.invariant.few;
+      good = below_more _ _ c.loop-i.invariant.good (rw at taken);
+    }

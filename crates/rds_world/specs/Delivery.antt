@@ -1,0 +1,78 @@
+-- What is on air reaches those who listen (this project's own rule): a receiver that got each free one of some
+-- slots of a broadcast, enough of them and no more than its dwell, shows that broadcast. Lists have the newest
+-- first.
+use Rattle.std.specs.Prelude.{◌≡◌, ◌+◌, ◌*◌, ◌≤◌, ℕ, Bool, true, false, List, [], ◌∷◌, ◌++◌, Some, length, slice_get, slice_index_or}
+use Rattle.std.specs.List.{AllByRecursion}
+use Rattle.rds_assembly.specs.Body.{segment_count, text_body}
+use Rattle.rds_encoder.specs.Plan.{Broadcast, HasNumber}
+use Rattle.rds_encoder.specs.Sent.{one_if}
+use Rattle.rds_receiver.specs.Shown.{ShownView}
+use Rattle.rds_receiver.specs.State.{ReceiverState}
+use Rattle.rds_world.specs.declared.event.Reception.{Reception}
+use Rattle.rds_world.specs.declared.event.Reception.TheVariants.{Got, Lost, Restart}
+use Rattle.rds_world.specs.Event.{Event}
+use Rattle.rds_world.specs.Slots.{plans_of}
+use Rattle.rds_world.specs.StandsAt.{Shows, StandsAt}
+use Rattle.rds_world.specs.State.{WorldState, distance}
+use Rattle.rds_world.specs.declared.world.Config.{Config}
+
+-- how many of these slots are free
+abbrev pub free_slots : List Event → ℕ
+free_slots [] = 0
+free_slots (e ∷ before) = one_if e.free + free_slots before
+
+-- the receiver got the slot, if it is free, and no slot late; it was not restarted in it
+abbrev pub GetsIfFree : Bool → Reception → Type 0
+GetsIfFree true (Got back) = back ≡ 0
+GetsIfFree true Lost = ⊥
+GetsIfFree true Restart = ⊥
+GetsIfFree false (Got back) = Unit {0}
+GetsIfFree false Lost = Unit {0}
+GetsIfFree false Restart = ⊥
+
+-- receiver i got each free one of these slots, and was restarted in none
+abbrev pub GetsEachFree : ℕ → List Event → Type 0
+GetsEachFree i slots = AllByRecursion (λ (e : Event). GetsIfFree e.free (slice_index_or e.receptions i Lost)) slots
+
+-- the recent slots, which come after those before, lie in this broadcast of the plan
+pub record LieIn (plan : List Broadcast) (recent before : List Event) (b : Broadcast) : Type 0 where
+  pub number : ℕ
+  pub planned : HasNumber plan number b
+  pub from : b.start ≤ length before
+  pub to : length (recent ++ before) ≤ b.end + 1
+
+-- in a world that stands at the recent slots and those before, a receiver got each free one of the recent slots, which
+-- are no more than its dwell, and shows this
+pub record GotRecently (config : Config) (recent before : List Event) (view : ShownView) : Type 0 where
+  pub world : WorldState
+  pub stands : StandsAt config world (recent ++ before)
+  pub within : length recent ≤ config.dwell
+  pub number : ℕ
+  pub receiver : ReceiverState
+  pub there : slice_get world.receivers number ≡ Some receiver
+  pub got : GetsEachFree number recent
+  pub shows : Shows receiver view
+
+-- a text of n segments is shown after 2 n free slots of its broadcast
+abbrev pub ATextIsDelivered : Type 0
+ATextIsDelivered =
+    (config : Config) (recent before : List Event) (view : ShownView) (b : Broadcast)
+    → GotRecently config recent before view
+    → LieIn (plans_of (distance config) (recent ++ before)).text recent before b
+    → 2 * segment_count (text_body b.bytes) ≤ free_slots recent → view.text ≡ Some b.bytes
+
+-- and any text after 32
+abbrev pub AnyTextIsDelivered : Type 0
+AnyTextIsDelivered =
+    (config : Config) (recent before : List Event) (view : ShownView) (b : Broadcast)
+    → GotRecently config recent before view
+    → LieIn (plans_of (distance config) (recent ++ before)).text recent before b
+    → 32 ≤ free_slots recent → view.text ≡ Some b.bytes
+
+-- a name is shown after eight
+abbrev pub ANameIsDelivered : Type 0
+ANameIsDelivered =
+    (config : Config) (recent before : List Event) (view : ShownView) (b : Broadcast)
+    → GotRecently config recent before view
+    → LieIn (plans_of (distance config) (recent ++ before)).name recent before b
+    → 8 ≤ free_slots recent → view.name ≡ Some b.bytes

@@ -1,0 +1,71 @@
+-- The replies of a world: to a command, to a slot, and to a list of slots that it is to play (this project's own
+-- rule).
+use Rattle.std.specs.Prelude.{◌≡◌, ◌≢◌, ◌<◌, ◌≤◌, IfSome, ℕ, List, Ok, Err, length, reverse, slice_get, take}
+use Rattle.rds_encoder.specs.Entries.{Entry, name_moves, text_moves}
+use Rattle.rds_encoder.specs.Reply.{reply_to}
+use Rattle.rds_encoder.specs.Reply as encoder
+use Rattle.rds_encoder.specs.Tags.{tags_reply}
+use Rattle.rds_world.specs.declared.event.Command.{Command}
+use Rattle.rds_world.specs.declared.event.Command.TheVariants.{Quiet, Restart, SetText, SetName, SetTags}
+use Rattle.rds_world.specs.declared.event.TheConstants.{MOST_RECEIVERS}
+use Rattle.rds_world.specs.declared.reply.StepRefused.{StepRefused}
+use Rattle.rds_world.specs.declared.reply.StepRefused.TheVariants as step
+use Rattle.rds_world.specs.declared.reply.Reply.{Reply}
+use Rattle.rds_world.specs.declared.reply.Reply.TheVariants.{Restarted, Done, Refused}
+use Rattle.rds_world.specs.declared.reply.Reply.TheVariants as reply
+use Rattle.rds_world.specs.declared.slots.PlayRefused.{PlayRefused}
+use Rattle.rds_world.specs.declared.slots.PlayRefused.TheVariants.{TooManyReceivers, Memory, ReceiverCount, Late}
+use Rattle.rds_world.specs.Due.{IsDueToAll, IsFirstLate}
+use Rattle.rds_world.specs.Event.{Event}
+
+-- the encoder's reply, as the world gives it
+abbrev pub answered : encoder.Reply → Reply
+answered (Ok done) = Done
+answered (Err refusal) = Refused refusal
+
+-- the reply to a command, where the encoder of dwell d was told this before
+abbrev pub reply_at : ℕ → Command → List Entry → Reply
+reply_at d Quiet before = reply.Quiet
+reply_at d Restart before = Restarted
+reply_at d (SetText x) before = answered (reply_to d (text_moves before))
+reply_at d (SetName x) before = answered (reply_to d (name_moves before))
+reply_at d (SetTags pair) before = answered (tags_reply d pair before)
+
+-- a slot that can be taken after those before: it names so many receivers, and each reception is due
+pub record CanBeTaken (k receivers : ℕ) (e : Event) (before : List Event) : Type 0 where
+  pub count : length e.receptions ≡ receivers
+  pub due : IsDueToAll k e before
+
+-- a slot that names so many receivers, of which this is the first whose reception is not due
+pub record IsLateTo (k receivers : ℕ) (e : Event) (before : List Event) (r : ℕ) : Type 0 where
+  pub count : length e.receptions ≡ receivers
+  pub late : IsFirstLate k e before r
+
+-- why a slot is not taken after those before
+abbrev pub IsStepRefused : ℕ → ℕ → Event → List Event → StepRefused → Type 0
+IsStepRefused k receivers e before step.ReceiverCount = length e.receptions ≢ receivers
+IsStepRefused k receivers e before (step.Late r) = IsLateTo k receivers e before r
+
+-- the event at this place can be taken after those before it; here the oldest event is the first of the list
+abbrev pub IsTaken : ℕ → ℕ → List Event → ℕ → Type 0
+IsTaken k receivers events place =
+    IfSome (slice_get events place) (λ e. CanBeTaken k receivers e (reverse (take place events)))
+
+-- slots that can be played: with at most eight receivers, and each of them can be taken
+pub record CanBePlayed (k receivers : ℕ) (events : List Event) : Type 0 where
+  pub few : receivers ≤ MOST_RECEIVERS
+  pub each : (place : ℕ) → place < length events → IsTaken k receivers events place
+
+-- there are at most eight receivers, the event at this place is the first that is refused, and this is why
+pub record IsFirstRefused (k receivers : ℕ) (events : List Event) (place : ℕ) (why : StepRefused) : Type 0 where
+  pub few : receivers ≤ MOST_RECEIVERS
+  pub refused : IfSome (slice_get events place) (λ e. IsStepRefused k receivers e (reverse (take place events)) why)
+  pub there : place < length events
+  pub first : (before : ℕ) → before < place → IsTaken k receivers events before
+
+-- why slots are not played: for too many receivers exactly where there are more than eight
+abbrev pub IsPlayRefused : ℕ → ℕ → List Event → PlayRefused → Type 0
+IsPlayRefused k receivers events TooManyReceivers = MOST_RECEIVERS < receivers
+IsPlayRefused k receivers events Memory = receivers ≤ MOST_RECEIVERS
+IsPlayRefused k receivers events (ReceiverCount place) = IsFirstRefused k receivers events place step.ReceiverCount
+IsPlayRefused k receivers events (Late place r) = IsFirstRefused k receivers events place (step.Late r)

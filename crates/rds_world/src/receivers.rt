@@ -1,0 +1,81 @@
+//! The receivers' part of a slot.
+ghost use Rattle.std.specs.Prelude.{◌≡◌, ◌≤◌, ℕ, List, Option, IsTrue, false, length, slice_index_or, true};
+ghost use Rattle.std.specs.List.{AllByRecursion};
+ghost use Rattle.rds_fields.specs.declared.message.Message.{Message};
+ghost use Rattle.rds_world.specs.declared.event.Reception.TheVariants.{Lost};
+ghost use Rattle.rds_world.specs.declared.event.TheConstants.{MOST_RECEIVERS};
+ghost use Rattle.rds_world.specs.Due.{IsDue};
+ghost use Rattle.rds_safety.specs.Late.{Input};
+ghost use Rattle.rds_world.specs.Slots.{received};
+ghost use Rattle.rds_world.specs.StandsAt.{AllHaveHeard, AreLastSent, HasHeard, IsNew, StaysShown, WhereTheyListen, all_received};
+
+use crate::recent::Recent;
+use crate::{Config, MOST_RECEIVERS, Reception};
+use rds_receiver::Receiver;
+
+/// Eight receivers that heard nothing yet.
+pub(crate) fn eight_receivers(config: &Config) -> [Receiver; MOST_RECEIVERS]
+    ensures { AllByRecursion (IsNew config.now) result }
+{
+    let pi = config.head.pi;
+    let dwell = config.dwell;
+    [
+        Receiver::new(pi, dwell),
+        Receiver::new(pi, dwell),
+        Receiver::new(pi, dwell),
+        Receiver::new(pi, dwell),
+        Receiver::new(pi, dwell),
+        Receiver::new(pi, dwell),
+        Receiver::new(pi, dwell),
+        Receiver::new(pi, dwell),
+    ]
+}
+
+/// Gives each receiver what it gets of a slot up to which this was sent, and marks those that show
+/// what they showed before.
+pub(crate) fn hand_out(
+    receivers: &mut [Receiver],
+    config: &Config,
+    receptions: &[Reception],
+    recent: &Recent,
+) -> [bool; MOST_RECEIVERS]
+    requires same { length receptions.now ≡ length receivers.old }
+    requires few { length receivers.old ≤ MOST_RECEIVERS }
+    ensures count { length receivers.new ≡ length receivers.old }
+    ensures heard { WhereTheyListen config.now receptions.now recent.now.items receivers.old
+        (λ slot sent inputs. AllHaveHeard config.now
+        (all_received receptions.now slot sent inputs) receivers.new) }
+    ensures stays { WhereTheyListen config.now receptions.now recent.now.items receivers.old
+        (λ slot sent inputs. (i : ℕ) → slice_index_or result i false ≡ true
+        → StaysShown config.now (inputs i) (all_received receptions.now slot sent inputs i)) }
+{
+    let mut stays = [false; MOST_RECEIVERS];
+    for i in 0..receivers.len() {
+        stays[i] = receive(&mut receivers[i], config, receptions[i], recent);
+    }
+    stays
+}
+
+/// Gives a receiver what it gets of a slot up to which this was sent. True where it shows what it showed
+/// before.
+fn receive(receiver: &mut Receiver, config: &Config, reception: Reception, recent: &Recent) -> bool
+    ensures heard { (slot : ℕ) (sent : List (Option Message)) (input : Input) (last : Option ℕ)
+        → AreLastSent config.now sent recent.now.items
+        → IsDue config.now.late slot last reception
+        → HasHeard config.now input receiver.old
+        → HasHeard config.now (received reception slot sent input) receiver.new }
+    ensures stays { (slot : ℕ) (sent : List (Option Message)) (input : Input) (last : Option ℕ)
+        → AreLastSent config.now sent recent.now.items
+        → IsDue config.now.late slot last reception
+        → HasHeard config.now input receiver.old → IsTrue result
+        → StaysShown config.now input (received reception slot sent input) }
+{
+    match reception {
+        Reception::Got(back) => !receiver.slot_message(recent.back(back)),
+        Reception::Lost => !receiver.slot_message(None),
+        Reception::Restart => {
+            *receiver = Receiver::new(config.head.pi, config.dwell);
+            false
+        }
+    }
+}

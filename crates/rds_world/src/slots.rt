@@ -1,0 +1,57 @@
+//! A world by all of its slots.
+ghost use Rattle.std.specs.Prelude.{◌≡◌, IfErr, IfOk, IsOk, length, reverse};
+ghost use Rattle.rds_world.specs.Replies.{CanBePlayed, IsPlayRefused};
+ghost use Rattle.rds_world.specs.SafeSlots.{OnlyWhatWasOnAirIsShown};
+ghost use Rattle.rds_world.specs.StandsAt.{StandsAt};
+
+use crate::{Config, SlotEvent, StepRefused, World, WorldRefused};
+use std::alloc::Global;
+use thiserror::Error;
+
+/// Why slots are not played.
+#[derive(Clone, Copy, Debug, PartialEq, Eq, Error)]
+pub enum PlayRefused {
+    /// More than 8 receivers.
+    #[error("there are more than 8 receivers")]
+    TooManyReceivers,
+    /// Not enough memory for the groups of the last slots.
+    #[error("out of memory")]
+    Memory,
+    /// The index of the first event that can't be taken, where it has another number of receptions than there are
+    /// receivers.
+    #[error("slot {0} has another number of receptions than there are receivers")]
+    ReceiverCount(usize),
+    /// That index where the number is right, and the first receiver that was to get what is not due to it.
+    #[error("in slot {0} receiver {1} was to get what is not due to it")]
+    Late(usize, usize),
+}
+
+/// The world after these slots, the first of which is the oldest.
+pub fn play(
+    alloc: Global,
+    config: Config,
+    receivers: usize,
+    events: &[SlotEvent],
+) -> Result<World, PlayRefused>
+    ensures stands { IfOk result (λ w.
+        StandsAt config w (reverse events.now)) }
+    ensures count { IfOk result (λ w. length w.receivers ≡ receivers) }
+    ensures safe { IfOk result (λ w.
+        OnlyWhatWasOnAirIsShown config (reverse events.now) w.receivers) }
+    ensures taken { IsOk result → CanBePlayed config.late receivers events.now }
+    ensures refused { IfErr result (IsPlayRefused config.late receivers events.now) }
+{
+    let mut world = match World::new(alloc, config, receivers) {
+        Ok(world) => world,
+        Err(WorldRefused::TooManyReceivers) => return Err(PlayRefused::TooManyReceivers),
+        Err(WorldRefused::Memory) => return Err(PlayRefused::Memory),
+    };
+    for (i, event) in events.iter().enumerate() {
+        match world.step(event) {
+            Ok(_) => {}
+            Err(StepRefused::ReceiverCount) => return Err(PlayRefused::ReceiverCount(i)),
+            Err(StepRefused::Late(receiver)) => return Err(PlayRefused::Late(i, receiver)),
+        }
+    }
+    Ok(world)
+}

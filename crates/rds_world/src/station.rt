@@ -1,0 +1,41 @@
+//! The encoder's part of a slot.
+ghost use Rattle.std.specs.Prelude.{◌≡◌, List};
+ghost use Rattle.rds_encoder.specs.Entries.{Entry};
+ghost use Rattle.rds_encoder.specs.StandsAt.{StandsAt};
+ghost use Rattle.rds_world.specs.Replies.{answered, reply_at};
+ghost use Rattle.rds_world.specs.Slots.{SetsAValue, commanded};
+ghost use Rattle.rds_world.specs.State.{distance};
+
+use crate::{Command, Config, Reply};
+use rds_encoder::{Encoder, Refusal};
+
+/// Does what the command says.
+pub(crate) fn obey(encoder: &mut Encoder, config: &Config, command: &Command) -> Reply
+    ensures value { SetsAValue command.now }
+    ensures reply { (entries : List Entry)
+        → StandsAt config.now.head (distance config.now) encoder.old entries
+        → result ≡ reply_at (distance config.now) command.now entries }
+    ensures stands { (entries : List Entry)
+        → StandsAt config.now.head (distance config.now) encoder.old entries
+        → StandsAt config.now.head (distance config.now) encoder.new (commanded command.now entries) }
+{
+    match *command {
+        Command::Quiet => Reply::Quiet,
+        Command::Restart => {
+            *encoder = Encoder::new(config.head, config.dwell, config.late);
+            Reply::Restarted
+        }
+        Command::SetText(text) => answer(encoder.set_text(text)),
+        Command::SetName(name) => answer(encoder.set_name(name)),
+        Command::SetTags(pair) => answer(encoder.set_tags(pair)),
+    }
+}
+
+fn answer(reply: Result<(), Refusal>) -> Reply
+    ensures { result ≡ answered reply }
+{
+    match reply {
+        Ok(()) => Reply::Done,
+        Err(refusal) => Reply::Refused(refusal),
+    }
+}
