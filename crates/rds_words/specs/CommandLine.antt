@@ -74,15 +74,21 @@ station_app name = with_rule (with_rule (late_app name) pty_rule) tp_rule
 abbrev pub top_app : App
 top_app = on_top (λ s. record s { has_version = true; subcommand_required = true }) (new_app (codes "rdsrt"))
 
--- with the subcommands that read a log
-unfoldable pub log_readers_app : App
-log_readers_app = with_subcommand (with_subcommand top_app (log_app (codes "decode")).top)
-    (late_app (codes "audit")).top
+-- with the subcommand `decode` alone
+abbrev pub decoder_app : App
+decoder_app = with_subcommand top_app (log_app (codes "decode")).top
 
--- and with those that have a station of their own
+-- with those that read a log
+unfoldable pub log_readers_app : App
+log_readers_app = with_subcommand decoder_app (late_app (codes "audit")).top
+
+-- with all but `sim`
+abbrev pub without_sim_app : App
+without_sim_app = with_subcommand log_readers_app (station_app (codes "encode")).top
+
+-- with all four
 abbrev pub whole_app : App
-whole_app = with_subcommand (with_subcommand log_readers_app (station_app (codes "encode")).top)
-    (station_app (codes "sim")).top
+whole_app = with_subcommand without_sim_app (station_app (codes "sim")).top
 
 -- `clap`'s definition takes the words, the program's own name first
 abbrev pub TakesWords : List Text → Type 0

@@ -2,8 +2,8 @@
 ghost use Rattle.std.specs.Prelude.{◌≡◌, IfOk, codes, false};
 ghost use Rattle.clap.specs.Words.{app_of, rule_of};
 ghost use Rattle.clap.specs.declared.builder.command.Command.TheViews.{out-Command};
-ghost use Rattle.rds_words.specs.CommandLine.{dwell_rule, late_app, late_rule, log_app, log_readers_app, pi_rule, pty_rule};
-ghost use Rattle.rds_words.specs.CommandLine.{station_app, top_app, tp_rule, whole_app};
+ghost use Rattle.rds_words.specs.CommandLine.{decoder_app, dwell_rule, late_app, late_rule, log_app, log_readers_app, pi_rule, pty_rule};
+ghost use Rattle.rds_words.specs.CommandLine.{station_app, top_app, tp_rule, whole_app, without_sim_app};
 
 use clap::{Arg, ArgAction, Command, value_parser};
 use std::alloc::{AllocError, Global};
@@ -105,15 +105,22 @@ fn decode<'a>(alloc: Global) -> Result<Command<'a>, AllocError>
     )
 }
 
-/// The subcommand `audit`.
+/// A subcommand that speaks of late groups.
 #[tactic(auto, unfolding(crate::specs::CommandLine::late_app))]
+fn late_reader<'a>(alloc: Global, name: &'a str) -> Result<Command<'a>, AllocError>
+    ensures app { IfOk result (λ c. app_of c ≡ late_app name.entry.now) }
+    ensures local { IfOk result (λ c. (out-Command c).has_globals ≡ false) }
+{
+    log_reader(alloc, name)?.arg(late(alloc))
+}
+
+/// The subcommand `audit`.
 fn audit<'a>(alloc: Global) -> Result<Command<'a>, AllocError>
     ensures app { IfOk result (λ c. app_of c ≡ late_app (codes "audit")) }
     ensures local { IfOk result (λ c. (out-Command c).has_globals ≡ false) }
 {
     Ok(
-        log_reader(alloc, "audit")?
-            .arg(late(alloc))?
+        late_reader(alloc, "audit")?
             .about(
                 "Reads a log of all groups that were sent, a slot a line, and says whether it keeps \
                  the rules",
@@ -137,15 +144,12 @@ fn audit<'a>(alloc: Global) -> Result<Command<'a>, AllocError>
 }
 
 /// A subcommand with a station of its own.
-#[tactic(auto, unfolding(crate::specs::CommandLine::station_app, crate::specs::CommandLine::late_app))]
+#[tactic(auto, unfolding(crate::specs::CommandLine::station_app))]
 fn station<'a>(alloc: Global, name: &'a str) -> Result<Command<'a>, AllocError>
     ensures app { IfOk result (λ c. app_of c ≡ station_app name.entry.now) }
     ensures local { IfOk result (λ c. (out-Command c).has_globals ≡ false) }
 {
-    log_reader(alloc, name)?
-        .arg(late(alloc))?
-        .arg(pty(alloc))?
-        .arg(tp(alloc))
+    late_reader(alloc, name)?.arg(pty(alloc))?.arg(tp(alloc))
 }
 
 /// The subcommand `encode`.
@@ -191,21 +195,35 @@ fn top<'a>(alloc: Global) -> Command<'a>
         .subcommand_required(true)
 }
 
+/// The program with the subcommand `decode` alone.
+fn decoder<'a>(alloc: Global) -> Result<Command<'a>, AllocError>
+    ensures { IfOk result (λ c. app_of c ≡ decoder_app) }
+{
+    let decode = decode(alloc)?;
+    top(alloc).subcommand(decode)
+}
+
 /// The program with the subcommands that read a log.
 #[tactic(auto, unfolding(crate::specs::CommandLine::log_readers_app))]
 fn log_readers<'a>(alloc: Global) -> Result<Command<'a>, AllocError>
     ensures { IfOk result (λ c. app_of c ≡ log_readers_app) }
 {
-    top(alloc)
-        .subcommand(decode(alloc)?)?
-        .subcommand(audit(alloc)?)
+    let audit = audit(alloc)?;
+    decoder(alloc)?.subcommand(audit)
+}
+
+/// The program with all subcommands but `sim`.
+fn without_sim<'a>(alloc: Global) -> Result<Command<'a>, AllocError>
+    ensures { IfOk result (λ c. app_of c ≡ without_sim_app) }
+{
+    let encode = encode(alloc)?;
+    log_readers(alloc)?.subcommand(encode)
 }
 
 /// The whole command line.
 pub fn whole<'a>(alloc: Global) -> Result<Command<'a>, AllocError>
     ensures app { IfOk result (λ c. app_of c ≡ whole_app) }
 {
-    log_readers(alloc)?
-        .subcommand(encode(alloc)?)?
-        .subcommand(simulate(alloc)?)
+    let simulate = simulate(alloc)?;
+    without_sim(alloc)?.subcommand(simulate)
 }

@@ -63,7 +63,6 @@ pub fn identification_of(given: &str) -> Option<u16>
 /// # Errors
 ///
 /// What `clap` answers: the words are refused or ask for help, or there is no memory.
-#[tactic(auto, unfolding(crate::specs::CommandLine::log_app, crate::specs::CommandLine::late_app, crate::specs::CommandLine::station_app, crate::specs::CommandLine::log_readers_app))]
 pub fn read_words<'a>(alloc: Global, words: &'a [&'a str]) -> Result<Option<Request<'a>>, Error>
     ensures ok { IfOk result (λ o. option_map asked_by o ≡ asked_in (map (λ w. w.now) words.entry.now)) }
     ensures err { IfErr result (λ e. TakesWords (map (λ w. w.now) words.entry.now)

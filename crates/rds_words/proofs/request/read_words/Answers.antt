@@ -1,4 +1,4 @@
-use Rattle.std.proofs.Common.{◌≡◌, ◌∙◌, Option, None, Some, ap, inl, inr, map, not, subst, sym}
+use Rattle.std.proofs.Common.{◌≡◌, ◌∙◌, Option, None, Some, ap, inl, inr, map, not, refl, subst, sym}
 use Rattle.std.specs.Prelude.{option_and_then, option_map}
 use Rattle.std.specs.Box.{box_value}
 use Rattle.std.proofs.lemmas.Bool.{not-true}
@@ -33,6 +33,30 @@ both_parts f g (Some a) x y p q =
     let first : x ≡ f a = cc in
     let second : y ≡ g a = cc in
     λ i. Some (sym first i, sym second i)
+
+-- no part of what is not there
+no_part : {A B C : Type 0} (f : A → B) (g : A → C) (o : Option A) → None ≡ option_map f o → option_map g o ≡ None
+no_part f g None p = refl
+no_part f g (Some a) p = absurd (no p)
+  where
+    no : {X : Type 0} {z : X} → None ≡ Some z → ⊥
+    no e = cc
+
+pub returns-in_default-clause-ok : goal.returns-in_default-clause-ok
+unfolding log_app late_app station_app log_readers_app
+returns-in_default-clause-ok c =
+    let found = (out-ArgMatches c.in-Ok.matches).subcommand in
+    let nothing = no_part (λ b. (out-SubCommand (box_value b)).name.now) (λ b. ((out-SubCommand (box_value b)).name.now, rows_of (found_of (out-SubCommand (box_value b)).matches))) found c.in_default.ensures.name in
+    let (_, rows) = c.in-Ok.ensures.matches (ap is_simple c.in_ok-whole.ensures.app) in
+    ap (option_and_then asked_of) (sym nothing ∙ rows ∙ ap (λ (a : App). subcommand_of a (map (λ w. w.now) c.args.words.now)) c.in_ok-whole.ensures.app)
+
+pub returns-in_default-clause-kinds : goal.returns-in_default-clause-kinds
+unfolding log_app late_app station_app log_readers_app
+returns-in_default-clause-kinds c =
+    sym (ap (λ (a : App). fault_of a (map (λ w. w.now) c.args.words.now)) c.in_ok-whole.ensures.app) ∙ c.in-Ok.ensures.kinds (ap is_simple_and_free c.in_ok-whole.ensures.app)
+
+pub returns-in_default-clause-taken : goal.returns-in_default-clause-taken
+returns-in_default-clause-taken c = taken (map (λ w. w.now) c.args.words.now) (returns-in_default-clause-kinds c)
 
 pub returns-clause-ok : goal.returns-clause-ok
 unfolding log_app late_app station_app log_readers_app
