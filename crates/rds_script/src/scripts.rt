@@ -1,6 +1,8 @@
 //! Scripts that are played: each row is a slot of a station, and its output goes out before the next row is taken.
-ghost use Rattle.std.specs.Prelude.{◌≤◌, ◌^◌};
+ghost use Rattle.std.specs.Prelude.{◌≡◌, ◌≤◌, ◌^◌, [], ℕ, List, Option};
 ghost use Rattle.rds_charset.specs.Told.{traffic};
+ghost use Rattle.rds_output.specs.ReadFailed.{SomeReadFailed};
+ghost use Rattle.rds_script.specs.Inside.Player.{PlayerStandsAt, ScriptStandsAt, nothing_played};
 ghost use Rattle.rds_script.specs.Play.{Plays, reading};
 ghost use Rattle.rds_script.specs.declared.form.Form.TheVariants as forms;
 
@@ -87,7 +89,7 @@ pub fn encode_within<R: TellingRead + Drop, W: TellingWrite>(
     play(Form::Log, alloc, reader, writer, config, records)
 }
 
-/// Plays a script row by row.
+/// Plays a script.
 fn play<R: TellingRead + Drop, W: TellingWrite>(
     form: Form,
     alloc: Global,
@@ -101,14 +103,32 @@ fn play<R: TellingRead + Drop, W: TellingWrite>(
         (traffic W.contents W.failures writer.old writer.new) result }
 {
     let mut script = Script::new(alloc, reader);
-    let mut row = ByteRecord::new(alloc);
     let mut player = Player::new(alloc, form, config);
+    let mut row = ByteRecord::new(alloc);
+    play_rows(&mut script, &mut player, &mut row, writer, records)
+}
+
+/// Plays row by row. What has to be dropped is the caller's, which has one end, and not dropped at each end here.
+fn play_rows<R: TellingRead, W: TellingWrite>(
+    script: &mut Script<R>,
+    player: &mut Player,
+    row: &mut ByteRecord,
+    writer: &mut W,
+    records: u64,
+) -> Result<(), LogFault>
+    requires bound { records ≤ 2 ^ 32 }
+    requires first { player.old.slot ≡ 0 }
+    ensures { (form : Form) (config : Config) (known : Option (List ℕ))
+        → PlayerStandsAt player.old (nothing_played form config) → ScriptStandsAt R.remaining known script.old []
+        → Plays form config records (record { known = known; Failed = SomeReadFailed R.failures })
+        (traffic W.contents W.failures writer.old writer.new) result }
+{
     let mut lines = RowLines::new();
     for turn in 0..records {
-        if !script.next(&mut row)? {
+        if !script.next(row)? {
             return Ok(());
         }
-        match player.row(&row, &mut lines) {
+        match player.row(row, &mut lines) {
             Ok(()) => {}
             Err(RowRefused::NoRow) => return Err(LogFault::BadRow(turn + 1)),
             Err(RowRefused::Memory) => return Err(LogFault::Memory),

@@ -1,0 +1,84 @@
+use Rattle.std.proofs.Common.{◌≡◌, ◌∙◌, ◌∷◌, ◌+◌, ap, arith, false, rules, true}
+use Rattle.std.proofs.lemmas.Result.{err_from_is_err_and}
+use Rattle.csv.proofs.ReadFacts.{on-ok}
+use Rattle.csv.specs.Records.{fields_of}
+use Rattle.rds_charset.specs.Told.{traffic}
+use Rattle.rds_output.specs.ReadFailed.{SomeReadFailed}
+use Rattle.rds_script.proofs.Plays.{ends_by_read, ends_by_row, ends_by_write, played_on, wrote_rows}
+use Rattle.rds_script.proofs.scripts.play_rows.Goals as goal
+
+pub returns-in_err-next : goal.returns-in_err-next
+returns-in_err-next g c form config known begun fresh =
+    let (records, stands, count, played) = c.loop-turn.invariant.played form config known begun fresh in
+    let p = err_from_is_err_and c.from_residual.result c.from_residual.ensures.1 in
+    rw (p.1, p.2) (ends_by_read g.R.Read.remaining form config c.args.records (record { known = known; Failed = SomeReadFailed g.R.TellingRead.failures }) (traffic g.W.Write.contents g.W.TellingWrite.failures c.args.writer.now c.loop-turn.writer)
+    c.loop-turn.script c.loop-turn.player records c.in_err-next.field-0.0 stands played (omega (arith, count, c.loop-turn-test.true)) c.in_err-next.ensures.fault)
+
+pub returns-then-not-branch : goal.returns-then-not-branch
+returns-then-not-branch g c form config known begun fresh =
+    let (records, stands, count, played) = c.loop-turn.invariant.played form config known begun fresh in
+    let none : c.in_ok-next.field-0 ≡ false = search rules in
+    record {
+      records = records;
+      all = rw none at (c.in_ok-next.ensures.found known records stands);
+      fewer = omega (arith, count, c.loop-turn-test.true);
+      wrote = wrote_rows g.R.Read.remaining form config known (traffic g.W.Write.contents g.W.TellingWrite.failures c.args.writer.now c.loop-turn.writer)
+          c.loop-turn.script c.loop-turn.player records stands played;
+    }
+
+pub returns-in-Err-NoRow : goal.returns-in-Err-NoRow
+returns-in-Err-NoRow g c form config known begun fresh =
+    let (records, stands, count, played) = c.loop-turn.invariant.played form config known begun fresh in
+    let some : c.in_ok-next.field-0 ≡ true = search rules in
+    let after = rw some at (c.in_ok-next.ensures.found known records stands) in
+    ends_by_row g.R.Read.remaining form config c.args.records (record { known = known; Failed = SomeReadFailed g.R.TellingRead.failures }) (traffic g.W.Write.contents g.W.TellingWrite.failures c.args.writer.now c.loop-turn.writer)
+    c.loop-turn.script c.next.new.self c.loop-turn.player (fields_of c.next.new.row) records c.loop-turn.turn stands after played
+    (rw c.in-Err-NoRow.field-0-is at (c.in-Err-NoRow.ensures.refused _ played.player)) count c.loop-turn-test.true
+
+pub returns-in-Err-Memory : goal.returns-in-Err-Memory
+returns-in-Err-Memory g c form config known begun fresh =
+    let (records, stands, count, played) = c.loop-turn.invariant.played form config known begun fresh in (
+      records,
+      wrote_rows g.R.Read.remaining form config known (traffic g.W.Write.contents g.W.TellingWrite.failures c.args.writer.now c.loop-turn.writer)
+          c.loop-turn.script c.loop-turn.player records stands played,
+      omega (arith, count, c.loop-turn-test.true),
+    )
+
+pub returns-in_err-put : goal.returns-in_err-put
+returns-in_err-put g c form config known begun fresh =
+    let (records, stands, count, played) = c.loop-turn.invariant.played form config known begun fresh in
+    let some : c.in_ok-next.field-0 ≡ true = search rules in
+    let after = rw some at (c.in_ok-next.ensures.found known records stands) in
+    let plays = on-ok c.row.result (search rules) (c.row.ensures.stands _ played.player) in
+    let p = err_from_is_err_and c.from_residual-in_err-put.result c.from_residual-in_err-put.ensures.1 in
+    rw (p.1, p.2) (ends_by_write g.R.Read.remaining form config c.args.records (record { known = known; Failed = SomeReadFailed g.R.TellingRead.failures }) c.next.new.self c.row.new.self
+    (fields_of c.next.new.row) records played.receivers (g.W.Write.contents c.args.writer.now) (g.W.Write.contents c.loop-turn.writer) (g.W.Write.contents c.put.new.writer)
+    (g.W.TellingWrite.failures c.args.writer.now) (g.W.TellingWrite.failures c.loop-turn.writer) (g.W.TellingWrite.failures c.put.new.writer) played.written c.row.new.lines
+    after (omega (arith, count, c.loop-turn-test.true)) plays played.wrote played.calm (rw c.bytes.ensures at c.in_err-put.ensures.0) c.in_err-put.ensures.1)
+
+pub loop-turn-preserved : goal.loop-turn-preserved
+loop-turn-preserved g c = record {
+  empty = c.clear.ensures;
+  slot = on-ok c.row.result (search rules) c.row.ensures.slot ∙ ap (λ n. n + 1) c.loop-turn.invariant.slot;
+  played = λ form config known begun fresh.
+      let (records, stands, count, played) = c.loop-turn.invariant.played form config known begun fresh in
+      let some : c.in_ok-next.field-0 ≡ true = search rules in
+      let after = rw some at (c.in_ok-next.ensures.found known records stands) in
+      let plays = on-ok c.row.result (search rules) (c.row.ensures.stands _ played.player) in (
+        fields_of c.next.new.row ∷ records,
+        after,
+        omega (arith, count),
+        played_on form config c.row.new.self (fields_of c.next.new.row) records played.receivers (g.W.Write.contents c.args.writer.now) (g.W.Write.contents c.loop-turn.writer) (g.W.Write.contents c.put.new.writer)
+            (g.W.TellingWrite.failures c.args.writer.now) (g.W.TellingWrite.failures c.loop-turn.writer) (g.W.TellingWrite.failures c.put.new.writer) played.written c.row.new.lines
+            plays played.wrote played.calm (rw c.bytes.ensures at c.in_ok-put.ensures.0) c.in_ok-put.ensures.1,
+      );
+}
+
+pub returns : goal.returns
+returns g c form config known begun fresh =
+    let (records, stands, count, played) = c.loop-turn.invariant.played form config known begun fresh in (
+      records,
+      wrote_rows g.R.Read.remaining form config known (traffic g.W.Write.contents g.W.TellingWrite.failures c.args.writer.now c.loop-turn.writer)
+          c.loop-turn.script c.loop-turn.player records stands played,
+      omega (arith, count, c.loop-turn-test.false, c.loop-turn.auto),
+    )
