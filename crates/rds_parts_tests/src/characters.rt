@@ -5,7 +5,9 @@ use rds_charset::{
     Lines, TellingRead, TellingWrite, TextFault, Told, WriteFault, digits_of, four_words,
     read_text, word_at, write_text,
 };
+use std::alloc::Global;
 use std::io::{self, ErrorKind, Read, Write};
+use std::process::Abort;
 use std::str;
 use std::test::Fail;
 
@@ -60,16 +62,26 @@ impl Read for Failing<'_> {
     }
 }
 
-fn printed(rt: &HostRuntime, bytes: &[u8]) -> Result<Vec<u8>, Fail> {
-    let mut out = Vec::new(rt.alloc());
+fn printed(alloc: Global, bytes: &[u8]) -> Result<Vec<u8>, Fail> {
+    let mut out = Vec::new(alloc);
     write_text(bytes, &mut Told::new(&mut out))?;
     Ok(out)
 }
 
+fn assert_printed(rt: &impl Abort, alloc: Global, bytes: &[u8], wanted: &[u8]) -> Result<(), Fail> {
+    let out = printed(alloc, bytes)?;
+    same(rt, out.as_slice(), wanted);
+    Ok(())
+}
+
 #[test]
 fn accents_and_euro(rt: HostRuntime) -> Result<(), Fail> {
-    let out = printed(&rt, &[0x43, 0x61, 0x66, 0x82, 0x20, 0xA9])?;
-    same(&rt, out.as_slice(), "Café €".as_bytes());
+    assert_printed(
+        &rt,
+        rt.alloc(),
+        &[0x43, 0x61, 0x66, 0x82, 0x20, 0xA9],
+        "Café €".as_bytes(),
+    )?;
 
     let rows = [
         (0x20, " !"),
@@ -88,24 +100,33 @@ fn accents_and_euro(rt: HostRuntime) -> Result<(), Fail> {
         (0xD0, "ÂÄÊËÎÏÔÖÛÜ"),
     ];
     for (first, characters) in rows {
-        let mut bytes = Vec::new(rt.alloc());
-        for (place, _) in characters.chars().enumerate() {
-            bytes.push((first + place) as u8)?;
-        }
-        let out = printed(&rt, bytes.as_slice())?;
-        same(&rt, out.as_slice(), characters.as_bytes());
+        let bytes = bytes_from(rt.alloc(), first, characters)?;
+        assert_printed(&rt, rt.alloc(), bytes.as_slice(), characters.as_bytes())?;
     }
     Ok(())
 }
 
+/// The bytes from the first on, one for each of the characters.
+fn bytes_from(alloc: Global, first: u8, characters: &str) -> Result<Vec<u8>, Fail> {
+    let mut bytes = Vec::new(alloc);
+    let mut byte = first;
+    for _ in characters.chars() {
+        bytes.push(byte)?;
+        byte = byte.wrapping_add(1);
+    }
+    Ok(bytes)
+}
+
 #[test]
 fn escaped_bytes(rt: HostRuntime) -> Result<(), Fail> {
-    let out = printed(&rt, &[0x22, 0x5C, 0x24])?;
-    same(&rt, out.as_slice(), b"\\x22\\x5C\\x24".as_slice());
-    let out = printed(&rt, &[0x00, 0x1F, 0x5E, 0x60, 0x7E, 0x7F, 0x8C, 0xAC, 0xFF])?;
-    let wanted = b"\\x00\\x1F\\x5E\\x60\\x7E\\x7F\\x8C\\xAC\\xFF";
-    same(&rt, out.as_slice(), wanted.as_slice());
-    Ok(())
+    assert_printed(&rt, rt.alloc(), &[0x22, 0x5C, 0x24], b"\\x22\\x5C\\x24")?;
+    let bytes = [0x00, 0x1F, 0x5E, 0x60, 0x7E, 0x7F, 0x8C, 0xAC, 0xFF];
+    assert_printed(
+        &rt,
+        rt.alloc(),
+        &bytes,
+        b"\\x00\\x1F\\x5E\\x60\\x7E\\x7F\\x8C\\xAC\\xFF",
+    )
 }
 
 #[test]
@@ -154,7 +175,7 @@ fn read_back(rt: HostRuntime) {
 #[test]
 fn each_byte_read_back(rt: HostRuntime) -> Result<(), Fail> {
     for byte in 0..=255u8 {
-        let out = printed(&rt, &[byte])?;
+        let out = printed(rt.alloc(), &[byte])?;
         let mut into = [0u8; 2];
         same(
             &rt,
@@ -168,7 +189,7 @@ fn each_byte_read_back(rt: HostRuntime) -> Result<(), Fail> {
 
 #[test]
 fn long_text_is_whole(rt: HostRuntime) -> Result<(), Fail> {
-    let out = printed(&rt, &[0xFF; 130])?;
+    let out = printed(rt.alloc(), &[0xFF; 130])?;
     same(&rt, out.len(), 520);
     assert!(rt;
         out.as_slice()

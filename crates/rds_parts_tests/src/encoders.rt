@@ -207,12 +207,23 @@ fn refused_tags(rt: HostRuntime) -> Result<(), Fail> {
         ),
     ];
     for (bytes, pair, reply) in rows {
-        let mut encoder = restarted(1)?;
-        play(&rt, &mut encoder, &[Row::Free(1, None)])?;
-        same(&rt, encoder.set_text(Text::new(bytes)?), Ok(()));
-        same(&rt, encoder.set_tags(pair), reply);
-        same(&rt, encoder.tags().is_some(), reply.is_ok());
+        assert_tags_of(&rt, bytes, pair, reply)?;
     }
+    Ok(())
+}
+
+/// These tags of this text are answered so, and are there where they are taken.
+fn assert_tags_of(
+    rt: &impl Abort,
+    bytes: &[u8],
+    pair: TagPair,
+    reply: Result<(), Refusal>,
+) -> Result<(), Fail> {
+    let mut encoder = restarted(1)?;
+    play(rt, &mut encoder, &[Row::Free(1, None)])?;
+    same(rt, encoder.set_text(Text::new(bytes)?), Ok(()));
+    same(rt, encoder.set_tags(pair), reply);
+    same(rt, encoder.tags().is_some(), reply.is_ok());
     Ok(())
 }
 

@@ -116,7 +116,7 @@ fn pieces(rt: HostRuntime) -> Result<(), Fail> {
     Ok(())
 }
 
-/// What is refused, and the longest tags that are not.
+/// What is refused of a tag, and its text.
 #[test]
 fn refused_tags(rt: HostRuntime) -> Result<(), Fail> {
     let rows = [
@@ -137,6 +137,12 @@ fn refused_tags(rt: HostRuntime) -> Result<(), Fail> {
         same(&rt, Tag::new(class, start, extra), Err(refused));
         same(&rt, format!(in rt.alloc(); "{refused}")?.as_str(), printed);
     }
+    Ok(())
+}
+
+/// The second tag is shorter than the first may be, a dwell has a least and a most, and a tag ends behind its piece.
+#[test]
+fn bounds(rt: HostRuntime) -> Result<(), Fail> {
     let dummy = Tag::new(0, 0, 0)?;
     let long = Tag::new(1, 0, 32)?;
     same(

@@ -1,10 +1,11 @@
-//! Worked rows of a station and its receivers: what each slot answers and sends, and what is shown at its end.
+//! A station and its receivers: what each slot answers and sends, and what is shown at its end. The worked rows that are
+//! scripts are cases of the whole program.
 
 use crate::same::same;
 use arrayvec::ArrayVec;
 use rds_assembly::{Name, Text};
 use rds_block::Place;
-use rds_encoder::{Late, Refusal};
+use rds_encoder::Late;
 use rds_fields::{Dwell, Head, Tag, TagPair, Which};
 use rds_world::{
     Answer, Command, Config, PlayRefused, Reception, Reply, SlotEvent, StepRefused, World,
@@ -18,25 +19,23 @@ const GOT: Reception = Reception::Got(0);
 
 const LOST: Reception = Reception::Lost;
 
-/// So many slots of a world of up to three receivers: what happens in each, its reply and what it sends, and
+/// So many free slots of a world of up to three receivers: what happens in each, its reply and what it sends, and
 /// the text that each receiver shows at its end.
 #[derive(Clone, Copy)]
 struct Row {
     slots: u32,
     command: Command,
-    free: bool,
     receptions: [Reception; 3],
     reply: Reply,
     sent: Option<[u16; 4]>,
     texts: [Option<Text>; 3],
 }
 
-/// So many free slots with no command that every receiver gets; nothing is sent, and nothing is shown.
+/// So many slots with no command that every receiver gets; nothing is sent, and nothing is shown.
 fn quiet(slots: u32) -> Row {
     Row {
         slots,
         command: Command::Quiet,
-        free: true,
         receptions: [GOT, GOT, GOT],
         reply: Reply::Quiet,
         sent: None,
@@ -54,13 +53,6 @@ fn told(command: Command, reply: Reply) -> Row {
 }
 
 impl Row {
-    fn of_others(self) -> Row {
-        Row {
-            free: false,
-            ..self
-        }
-    }
-
     fn got_by(self, receptions: [Reception; 3]) -> Row {
         Row { receptions, ..self }
     }
@@ -85,6 +77,21 @@ fn play_slots(
     slots: &[SlotEvent],
 ) -> Result<World, PlayRefused> {
     play(alloc, config, receivers, slots)
+}
+
+/// Why the slots are not played, where they aren't.
+fn not_played(
+    alloc: Global,
+    config: Config,
+    receivers: usize,
+    slots: &[SlotEvent],
+) -> Option<PlayRefused> {
+    play(alloc, config, receivers, slots).err()
+}
+
+/// Why there is no world of so many receivers, where there is none.
+fn not_made(alloc: Global, config: Config, receivers: usize) -> Option<WorldRefused> {
+    World::new(alloc, config, receivers).err()
 }
 
 /// Plays a slot in the world, and promises nothing either.
@@ -118,7 +125,7 @@ fn step_rows(
     for (place, row) in rows.iter().enumerate() {
         for slot in 0..row.slots {
             let receptions = row.receptions.get(..receivers).ok_or("receivers")?;
-            let event = slot_event(row.command, row.free, receptions)?;
+            let event = slot_event(row.command, true, receptions)?;
             let answer = play_slot(world, &event).ok().ok_or("receptions")?;
             same(rt, (place, slot, answer.reply), (place, slot, row.reply));
             let sent = answer.sent.map(|group| group.to_blocks());
@@ -232,77 +239,10 @@ fn set_tags(one: (u8, u8, u8), two: (u8, u8, u8)) -> Result<Command, Fail> {
     Ok(Command::SetTags(TagPair::new(true, true, one, two)?))
 }
 
-/// The texts `HI` and `YO` with flag 0.
+/// The text `HI` with flag 0.
 const HI: [u16; 4] = [0xC201, 0x2140, 0x4849, 0x0D20];
 
-const YO: [u16; 4] = [0xC201, 0x2140, 0x594F, 0x0D20];
-
-/// The text `YO` with flag 1.
-const YO_AGAIN: [u16; 4] = [0xC201, 0x2150, 0x594F, 0x0D20];
-
 const ANNOUNCEMENT: [u16; 4] = [0xC201, 0x3156, 0x0000, 0x4BD7];
-
-/// The first receiver shows this.
-fn first(bytes: &[u8]) -> Result<[Option<Text>; 3], Fail> {
-    Ok([Some(text(bytes)?), None, None])
-}
-
-/// Silent for four slots; the text set in slot 4 is sent in it, and shown up to slot 7.
-#[test]
-fn silence_dwell_and_age(rt: HostRuntime) -> Result<(), Fail> {
-    let hi = set_text(b"HI")?;
-    let rows = [
-        told(hi, Reply::Refused(Refusal::Silent(4))),
-        quiet(2),
-        told(hi, Reply::Refused(Refusal::Silent(1))),
-        told(hi, Reply::Done).sends(HI).shows(first(b"HI")?),
-        quiet(3).of_others().shows(first(b"HI")?),
-        quiet(1).of_others(),
-    ];
-    played(&rt, rt.alloc(), 1, &rows)?;
-    Ok(())
-}
-
-/// A text accepted in slot 4 holds the next one back up to slot 11; no slot before 12 is free.
-#[test]
-fn held_for_twice_the_dwell(rt: HostRuntime) -> Result<(), Fail> {
-    let yo = set_text(b"YO")?;
-    let rows = [
-        quiet(4).of_others(),
-        told(set_text(b"HI")?, Reply::Done).of_others(),
-        quiet(6).of_others(),
-        told(yo, Reply::Refused(Refusal::Held(1))).of_others(),
-        told(yo, Reply::Done).sends(YO_AGAIN).shows(first(b"YO")?),
-    ];
-    let world = played(&rt, rt.alloc(), 1, &rows)?;
-    assert_on_air(&rt, &world, (Some(b"YO".as_slice()), None));
-
-    let tags = set_tags((4, 0, 3), (1, 7, 7))?;
-    let rows = [quiet(4), told(tags, Reply::Refused(Refusal::NoText))];
-    played(&rt, rt.alloc(), 0, &rows)?;
-    Ok(())
-}
-
-/// A restart in slot 5: nothing is on air, the encoder is silent up to slot 8, and the next text has flag 0
-/// again. The receiver shows the text of before for the dwell.
-#[test]
-fn restart_keeps_silence(rt: HostRuntime) -> Result<(), Fail> {
-    let yo = set_text(b"YO")?;
-    let rows = [
-        quiet(4),
-        told(set_text(b"HI")?, Reply::Done)
-            .sends(HI)
-            .shows(first(b"HI")?),
-        told(Command::Restart, Reply::Restarted).shows(first(b"HI")?),
-        quiet(2).shows(first(b"HI")?),
-        told(yo, Reply::Refused(Refusal::Silent(1))),
-        told(yo, Reply::Done).sends(YO).shows(first(b"YO")?),
-    ];
-    let silent = played(&rt, rt.alloc(), 1, &rows[..5])?;
-    assert_on_air(&rt, &silent, (None, None));
-    played(&rt, rt.alloc(), 1, &rows)?;
-    Ok(())
-}
 
 /// The second receiver loses the announcement, and the third every segment: only the first shows the tags.
 #[test]
@@ -348,58 +288,35 @@ fn two_skipped_flags(rt: HostRuntime) -> Result<(), Fail> {
     for third in [b"THIRD SONG", b"THIRT SONG"] {
         let mut world = new_world(rt.alloc(), 1)?;
         for slot in 0..25 {
-            let command = match slot {
-                4 => set_text(b"FIRST SONG")?,
-                12 => set_text(b"OTHER SONG")?,
-                20 => set_text(third)?,
-                _ => Command::Quiet,
-            };
-            let reception = match slot {
-                6 | 8 | 20..25 => GOT,
-                _ => LOST,
-            };
-            let answer = play_slot(&mut world, &slot_event(command, true, &[reception])?);
+            let answer = play_slot(&mut world, &slot_of_songs(slot, third)?);
             let reply = answer.ok().ok_or("receptions")?.reply;
-            let wanted = match slot {
-                4 | 12 | 20 => Reply::Done,
-                _ => Reply::Quiet,
-            };
-            same(&rt, (slot, reply), (slot, wanted));
+            same(&rt, (slot, reply), (slot, reply_to_songs(slot)));
             assert_text(&rt, &world, 0, (slot == 24).then_some(third.as_slice()))?;
         }
     }
     Ok(())
 }
 
-/// The second receiver loses the first segment of the next text: in slots 12 and 13 it shows the one before.
-#[test]
-fn neighbours_in_one_slot(rt: HostRuntime) -> Result<(), Fail> {
-    let one = Some(text(b"ONE")?);
-    let two = Some(text(b"TWO")?);
-    let first = [0xC201, 0x2140, 0x4F4E, 0x450D];
-    let second = [0xC201, 0x2150, 0x5457, 0x4F0D];
-    let ones = quiet(1).shows([one, one, None]);
-    let rows = [
-        quiet(4),
-        told(set_text(b"ONE")?, Reply::Done)
-            .sends(first)
-            .shows([one, one, None]),
-        ones,
-        ones.sends(first),
-        ones,
-        ones.sends(first),
-        ones.sends(ANNOUNCEMENT),
-        ones.sends(first),
-        ones,
-        told(set_text(b"TWO")?, Reply::Done)
-            .sends(second)
-            .got_by([GOT, LOST, LOST])
-            .shows([two, one, None]),
-        quiet(1).shows([two, one, None]),
-        quiet(1).sends(second).shows([two, two, None]),
-    ];
-    played(&rt, rt.alloc(), 2, &rows)?;
-    Ok(())
+/// Slot after slot of the three songs.
+fn slot_of_songs(slot: u32, third: &[u8]) -> Result<SlotEvent, Fail> {
+    let command = match slot {
+        4 => set_text(b"FIRST SONG")?,
+        12 => set_text(b"OTHER SONG")?,
+        20 => set_text(third)?,
+        _ => Command::Quiet,
+    };
+    let reception = match slot {
+        6 | 8 | 20..25 => GOT,
+        _ => LOST,
+    };
+    slot_event(command, true, &[reception])
+}
+
+fn reply_to_songs(slot: u32) -> Reply {
+    match slot {
+        4 | 12 | 20 => Reply::Done,
+        _ => Reply::Quiet,
+    }
 }
 
 /// A world takes memory, and where it is refused says so; here it isn't. `rt try --test --fail-alloc N` refuses the
@@ -407,9 +324,9 @@ fn neighbours_in_one_slot(rt: HostRuntime) -> Result<(), Fail> {
 #[test]
 fn refused_memory(rt: HostRuntime) -> Result<(), Fail> {
     let events = [slot_event(Command::Quiet, true, &[LOST])?];
-    let made = World::new(rt.alloc(), late_config(2)?, 1).err();
+    let made = not_made(rt.alloc(), late_config(2)?, 1);
     assert!(rt; made.is_none_or(|why| why == WorldRefused::Memory));
-    let played = play_slots(rt.alloc(), late_config(2)?, 1, &events).err();
+    let played = not_played(rt.alloc(), late_config(2)?, 1, &events);
     assert!(rt; played.is_none_or(|why| why == PlayRefused::Memory));
     Ok(())
 }
@@ -433,54 +350,40 @@ fn neighbours(alloc: Global) -> Result<Vec<SlotEvent>, Fail> {
 #[test]
 fn neighbours_played(rt: HostRuntime) -> Result<(), Fail> {
     let events = neighbours(rt.alloc())?;
-    let one = Some(b"ONE".as_slice());
-    let two = Some(b"TWO".as_slice());
-    for (slots, second) in [(13, one), (15, two)] {
-        let slots = events.get(..slots).ok_or("slots")?;
-        let world = play_slots(rt.alloc(), config()?, 2, slots)
-            .ok()
-            .ok_or("played")?;
-        assert_text(&rt, &world, 0, two)?;
-        assert_text(&rt, &world, 1, second)?;
-    }
-    Ok(())
+    assert_neighbours(&rt, rt.alloc(), events.get(..13).ok_or("slots")?, b"ONE")?;
+    assert_neighbours(&rt, rt.alloc(), events.as_slice(), b"TWO")
 }
 
-/// A dwell of four slots and groups up to two slots late: the text set in slot 6 is sent in it and in slot 8. The
-/// receiver gets the first of these groups in slot 8, and shows it for four slots.
-#[test]
-fn late_group(rt: HostRuntime) -> Result<(), Fail> {
-    let hi = set_text(b"HI")?;
-    let none = [LOST, LOST, LOST];
-    let rows = [
-        quiet(5),
-        told(hi, Reply::Refused(Refusal::Silent(1))),
-        told(hi, Reply::Done).sends(HI).got_by(none),
-        quiet(1).got_by(none),
-        quiet(1)
-            .sends(HI)
-            .got_by([Reception::Got(2), LOST, LOST])
-            .shows(first(b"HI")?),
-        quiet(3).of_others().got_by(none).shows(first(b"HI")?),
-        quiet(1).of_others().got_by(none),
-    ];
-    let mut world = world_of(rt.alloc(), late_config(2)?, 1)?;
-    step_rows(&rt, &mut world, 1, &rows)
+/// After these slots the first receiver shows the second text, and the second one this.
+fn assert_neighbours(
+    rt: &impl Abort,
+    alloc: Global,
+    slots: &[SlotEvent],
+    second: &[u8],
+) -> Result<(), Fail> {
+    let world = play_slots(alloc, config()?, 2, slots).ok().ok_or("played")?;
+    assert_text(rt, &world, 0, Some(b"TWO"))?;
+    assert_text(rt, &world, 1, Some(second))
 }
 
 /// What is not due is refused, and the first receiver of it named; the world stays as it was.
 #[test]
 fn late_group_refused(rt: HostRuntime) -> Result<(), Fail> {
-    let early = [GOT, Reception::Got(3)];
-    let event = slot_event(Command::Restart, true, &early)?;
+    let event = slot_event(Command::Restart, true, &[GOT, Reception::Got(3)])?;
     let mut world = world_of(rt.alloc(), late_config(2)?, 2)?;
     let refused = play_slot(&mut world, &event).err();
     same(&rt, refused, Some(StepRefused::Late(1)));
     let quiet = slot_event(Command::Quiet, true, &[GOT, GOT])?;
     let answer = play_slot(&mut world, &quiet).ok().ok_or("first slot")?;
     same(&rt, answer.reply, Reply::Quiet);
-    let events = [slot_event(Command::Restart, true, &early)?];
-    let refused = play_slots(rt.alloc(), late_config(2)?, 2, &events).err();
+    Ok(())
+}
+
+/// Slots that are played in one call are refused so too.
+#[test]
+fn late_group_not_played(rt: HostRuntime) -> Result<(), Fail> {
+    let events = [slot_event(Command::Restart, true, &[GOT, Reception::Got(3)])?];
+    let refused = not_played(rt.alloc(), late_config(2)?, 2, &events);
     same(&rt, refused, Some(PlayRefused::Late(0, 1)));
     Ok(())
 }
@@ -577,7 +480,7 @@ fn stays(rt: HostRuntime) -> Result<(), Fail> {
 /// are compared here: by `same` the kit's borrow checker has no proof of this test.)
 #[test]
 fn refused_words(rt: HostRuntime) -> Result<(), Fail> {
-    let nine = World::new(rt.alloc(), config()?, 9).err();
+    let nine = not_made(rt.alloc(), config()?, 9);
     assert_eq!(rt; nine, Some(WorldRefused::TooManyReceivers));
     let hi = text(b"HI")?;
     let both = [Some(hi), Some(hi), None];
@@ -608,30 +511,9 @@ fn slots_not_played(rt: HostRuntime) -> Result<(), Fail> {
         (2, PlayRefused::ReceiverCount(1)),
     ];
     for (receivers, why) in refusals.iter() {
-        let refused = play_slots(rt.alloc(), config()?, *receivers, &events).err();
+        let refused = not_played(rt.alloc(), config()?, *receivers, &events);
         same(&rt, refused, Some(*why));
     }
-    Ok(())
-}
-
-/// Slots in one call: what is on air after them, and what is shown by a receiver that got them and by one that got none.
-#[test]
-fn played_slots(rt: HostRuntime) -> Result<(), Fail> {
-    let both = [GOT, Reception::default()];
-    let slots = [
-        slot_event(Command::Quiet, true, &both)?,
-        slot_event(Command::Quiet, true, &both)?,
-        slot_event(Command::Quiet, true, &both)?,
-        slot_event(Command::Quiet, true, &both)?,
-        slot_event(set_text(b"HI")?, true, &both)?,
-    ];
-    let hi = Some(b"HI".as_slice());
-    let world = play_slots(rt.alloc(), config()?, 2, &slots)
-        .ok()
-        .ok_or("played")?;
-    assert_on_air(&rt, &world, (hi, None));
-    assert_text(&rt, &world, 0, hi)?;
-    assert_text(&rt, &world, 1, None)?;
     Ok(())
 }
 
@@ -652,25 +534,42 @@ fn plays_hundreds(
         dwell: Dwell::new(dwell).ok_or("dwell")?,
         ..late_config(late)?
     };
-    assert!(rt; World::new(alloc, config, receivers).is_ok());
-    let receptions = [LOST; 9];
-    let mut events = Vec::new(alloc);
-    for _slot in 0..300 {
-        let each = receptions.get(..receivers).ok_or("receivers")?;
-        events.push(slot_event(Command::Restart, true, each)?)?;
-    }
-    assert!(rt; play_slots(alloc, config, receivers, &events).is_ok());
+    same(rt, not_made(alloc, config, receivers), None);
+    let mut events = hundreds(alloc, receivers)?;
+    let refused = not_played(alloc, config, receivers, events.as_slice());
+    same(rt, refused, None);
     if let Some(last) = receivers.checked_sub(1) {
-        let event = events.get_mut(299).ok_or("event")?;
-        *event.receptions.get_mut(last).ok_or("reception")? = Reception::Got(late.wrapping_add(1));
-        let refused = play_slots(alloc, config, receivers, &events).err();
+        hand_out(events.as_mut_slice(), last, late.wrapping_add(1))?;
+        let refused = not_played(alloc, config, receivers, events.as_slice());
         same(rt, refused, Some(PlayRefused::Late(299, last)));
     }
     let other = if receivers == 0 { 1 } else { 0 };
-    let each = receptions.get(..other).ok_or("other")?;
-    *events.get_mut(257).ok_or("event")? = slot_event(Command::Quiet, false, each)?;
-    let refused = play_slots(alloc, config, receivers, &events).err();
+    *events.get_mut(257).ok_or("event")? = lost_by_all(other)?;
+    let refused = not_played(alloc, config, receivers, events.as_slice());
     same(rt, refused, Some(PlayRefused::ReceiverCount(257)));
+    Ok(())
+}
+
+/// Three hundred slots that so many receivers lose.
+fn hundreds(alloc: Global, receivers: usize) -> Result<Vec<SlotEvent>, Fail> {
+    let mut events = Vec::new(alloc);
+    for _slot in 0..300 {
+        events.push(lost_by_all(receivers)?)?;
+    }
+    Ok(events)
+}
+
+/// A slot in which the encoder restarts and so many receivers lose the group.
+fn lost_by_all(receivers: usize) -> Result<SlotEvent, Fail> {
+    let each = [LOST; 9];
+    let each = each.get(..receivers).ok_or("receivers")?;
+    slot_event(Command::Restart, true, each)
+}
+
+/// Hands this receiver a group that is so late in the last of three hundred slots.
+fn hand_out(events: &mut [SlotEvent], receiver: usize, late: u16) -> Result<(), Fail> {
+    let event = events.get_mut(299).ok_or("event")?;
+    *event.receptions.get_mut(receiver).ok_or("reception")? = Reception::Got(late);
     Ok(())
 }
 

@@ -7,7 +7,9 @@ use rds_encoder::Late;
 use rds_fields::Dwell;
 use rds_log::{audit, audit_within};
 use rds_output::LogFault;
+use std::alloc::Global;
 use std::cell::Cell;
+use std::io::Read;
 use std::test::Fail;
 
 /// A text with its tags four slots after it.
@@ -50,35 +52,35 @@ fn yes_and_no(rt: HostRuntime) -> Result<(), Fail> {
     Ok(())
 }
 
+/// The answer to a log that may be read so many times, and how many bytes are written.
+fn audited_within(
+    reader: impl Read + Drop,
+    alloc: Global,
+    most: u32,
+) -> Result<(Result<bool, LogFault>, usize), Fail> {
+    let mut output = Vec::new(alloc);
+    let given = audit_within(
+        &mut Told::new(reader),
+        &mut Told::new(&mut output),
+        0xC201,
+        four_slots()?,
+        on_time()?,
+        u64::from(most),
+    );
+    Ok((given, output.len()))
+}
+
 /// A log that has no end within the bound is too long, and nothing is written; a log that ends in the last read
 /// is not.
 #[test]
 fn as_many_reads_as_may_be(rt: HostRuntime) -> Result<(), Fail> {
+    let too_long = (Err(LogFault::TooLong), 0);
     for most in [0, 1, 3] {
         let reads = Cell::new(0);
-        let mut output = Vec::new(rt.alloc());
-        let given = audit_within(
-            &mut Told::new(Endless { reads: &reads }),
-            &mut Told::new(&mut output),
-            0xC201,
-            four_slots()?,
-            on_time()?,
-            most,
-        );
-        same(&rt, given, Err(LogFault::TooLong));
-        same(&rt, (reads.get(), output.len()), (most, 0));
+        let given = audited_within(Endless { reads: &reads }, rt.alloc(), most)?;
+        same(&rt, (given, reads.get()), (too_long, u64::from(most)));
     }
-    for (most, answer) in [(1, Err(LogFault::TooLong)), (2, Ok(true))] {
-        let mut output = Vec::new(rt.alloc());
-        let given = audit_within(
-            &mut Told::new(TAGGED),
-            &mut Told::new(&mut output),
-            0xC201,
-            four_slots()?,
-            on_time()?,
-            most,
-        );
-        same(&rt, given, answer);
-    }
+    same(&rt, audited_within(TAGGED, rt.alloc(), 1)?, too_long);
+    same(&rt, audited_within(TAGGED, rt.alloc(), 2)?, (Ok(true), 6));
     Ok(())
 }

@@ -810,9 +810,26 @@ fn ran(alloc: Global, words: &[&str], input: &[u8]) -> Result<(u8, Vec<u8>), Fai
 pub fn check(rt: &impl Abort, alloc: Global, cases: &[Case]) -> Result<(), Fail> {
     for case in cases {
         let (status, output) = ran(alloc, case.words, case.input)?;
-        same(rt, (case.name, output.as_slice()), (case.name, case.output));
-        same(rt, (case.name, status), (case.name, case.status));
+        let found = (case.name, status, output.as_slice());
+        same(rt, found, (case.name, case.status, case.output));
     }
+    Ok(())
+}
+
+/// Ends the test where the words and the input have another status or another output.
+fn gives(
+    rt: &impl Abort,
+    alloc: Global,
+    words: &[&str],
+    input: &[u8],
+    wanted: (u8, &[u8]),
+) -> Result<(), Fail> {
+    let (status, output) = ran(alloc, words, input)?;
+    same(
+        rt,
+        (words, status, output.as_slice()),
+        (words, wanted.0, wanted.1),
+    );
     Ok(())
 }
 
@@ -833,14 +850,9 @@ fn encoded(rt: HostRuntime) -> Result<(), Fail> {
 
 #[test]
 fn refused_rows(rt: HostRuntime) -> Result<(), Fail> {
+    let words = ["rdsrt", "sim", "--pi", "C201", "--pty", "10"];
     for script in REFUSED_ROWS {
-        let (status, output) = ran(
-            rt.alloc(),
-            &["rdsrt", "sim", "--pi", "C201", "--pty", "10"],
-            script,
-        )?;
-        same(&rt, output.as_slice(), b"fault row 1\n".as_slice());
-        same(&rt, status, 1);
+        gives(&rt, rt.alloc(), &words, script, (1, b"fault row 1\n"))?;
     }
     Ok(())
 }
@@ -848,9 +860,7 @@ fn refused_rows(rt: HostRuntime) -> Result<(), Fail> {
 #[test]
 fn bad_lines(rt: HostRuntime) -> Result<(), Fail> {
     for (log, wanted) in BAD_LINES {
-        let (status, output) = ran(rt.alloc(), &DECODE, log)?;
-        same(&rt, output.as_slice(), wanted);
-        same(&rt, status, 1);
+        gives(&rt, rt.alloc(), &DECODE, log, (1, wanted))?;
     }
     Ok(())
 }
@@ -865,9 +875,13 @@ fn classes(rt: HostRuntime) -> Result<(), Fail> {
             "C201 3156 0000 4BD7\nC201 2140 4849 0D20\nC201 {second:04X} {third:04X} 0000\n"
         )?;
         let wanted = format!(in rt.alloc(); "1 text \"HI\"\n2 item 0 1\n2 tag1 {name} \"HI\"\n")?;
-        let (status, output) = ran(rt.alloc(), &DECODE, log.as_bytes())?;
-        same(&rt, (class, output.as_slice()), (class, wanted.as_bytes()));
-        same(&rt, status, 0);
+        gives(
+            &rt,
+            rt.alloc(),
+            &DECODE,
+            log.as_bytes(),
+            (0, wanted.as_bytes()),
+        )?;
     }
     Ok(())
 }
@@ -883,9 +897,13 @@ fn one_of_three_programmes(rt: HostRuntime) -> Result<(), Fail> {
         ("FFFF", b""),
     ];
     for (pi, wanted) in rows {
-        let (status, output) = ran(rt.alloc(), &["rdsrt", "decode", "--pi", pi], log)?;
-        same(&rt, output.as_slice(), wanted);
-        same(&rt, status, 0);
+        gives(
+            &rt,
+            rt.alloc(),
+            &["rdsrt", "decode", "--pi", pi],
+            log,
+            (0, wanted),
+        )?;
     }
     Ok(())
 }
@@ -897,14 +915,8 @@ fn shown_for_the_dwell(rt: HostRuntime) -> Result<(), Fail> {
     for _ in 0..130 {
         input.extend_from_slice(b"---- ---- ---- ----\n")?;
     }
-    let (status, output) = ran(rt.alloc(), &DECODE, input.as_slice())?;
-    same(
-        &rt,
-        output.as_slice(),
-        b"0 text \"HI\"\n128 text none\n".as_slice(),
-    );
-    same(&rt, status, 0);
-    Ok(())
+    let wanted = b"0 text \"HI\"\n128 text none\n";
+    gives(&rt, rt.alloc(), &DECODE, input.as_slice(), (0, wanted))
 }
 
 #[test]
@@ -918,9 +930,13 @@ fn fault_pi(rt: HostRuntime) -> Result<(), Fail> {
     ];
     for (task, wanted) in told {
         for given in ["C20", "C2011", "C20G", "", "+201"] {
-            let (status, output) = ran(rt.alloc(), &["rdsrt", task, "--pi", given], input)?;
-            same(&rt, (task, given, output.as_slice()), (task, given, wanted));
-            same(&rt, status, 2);
+            gives(
+                &rt,
+                rt.alloc(),
+                &["rdsrt", task, "--pi", given],
+                input,
+                (2, wanted),
+            )?;
         }
     }
     Ok(())
@@ -992,9 +1008,13 @@ For more information, try '--help'.
 #[test]
 fn refused_words(rt: HostRuntime) -> Result<(), Fail> {
     for (words, wanted) in REFUSED {
-        let (status, output) = ran(rt.alloc(), words, b"C201 2140 4849 0D20\n")?;
-        same(&rt, output.as_slice(), wanted);
-        same(&rt, status, 2);
+        gives(
+            &rt,
+            rt.alloc(),
+            words,
+            b"C201 2140 4849 0D20\n",
+            (2, wanted),
+        )?;
     }
     Ok(())
 }
@@ -1324,9 +1344,7 @@ const EXAMPLES: [(&str, &[u8]); 3] = [
 fn help(rt: HostRuntime) -> Result<(), Fail> {
     let whole: [&[&str]; 3] = [&["rdsrt", "--help"], &["rdsrt", "-h"], &["rdsrt", "help"]];
     for words in whole {
-        let (status, output) = ran(rt.alloc(), words, b"x\n")?;
-        same(&rt, output.as_slice(), HELP);
-        same(&rt, status, 0);
+        gives(&rt, rt.alloc(), words, b"x\n", (0, HELP))?;
     }
     Ok(())
 }
@@ -1335,9 +1353,7 @@ fn help(rt: HostRuntime) -> Result<(), Fail> {
 fn help_of_sim(rt: HostRuntime) -> Result<(), Fail> {
     let sim: [&[&str]; 2] = [&["rdsrt", "sim", "--help"], &["rdsrt", "help", "sim"]];
     for words in sim {
-        let (status, output) = ran(rt.alloc(), words, b"x\n")?;
-        same(&rt, output.as_slice(), HELP_OF_SIM);
-        same(&rt, status, 0);
+        gives(&rt, rt.alloc(), words, b"x\n", (0, HELP_OF_SIM))?;
     }
     Ok(())
 }
@@ -1357,10 +1373,15 @@ Options:
 #[test]
 fn help_word(rt: HostRuntime) -> Result<(), Fail> {
     for task in ["decode", "audit", "encode", "sim"] {
-        let (status, output) = ran(rt.alloc(), &["rdsrt", "help", task], b"x\n")?;
-        let (_, wanted) = ran(rt.alloc(), &["rdsrt", task, "--help"], b"x\n")?;
-        same(&rt, (task, output.as_slice()), (task, wanted.as_slice()));
-        same(&rt, status, 0);
+        let (status, wanted) = ran(rt.alloc(), &["rdsrt", task, "--help"], b"x\n")?;
+        same(&rt, (task, status), (task, 0));
+        gives(
+            &rt,
+            rt.alloc(),
+            &["rdsrt", "help", task],
+            b"x\n",
+            (0, wanted.as_slice()),
+        )?;
     }
     Ok(())
 }
@@ -1380,9 +1401,13 @@ fn help_of_no_command(rt: HostRuntime) -> Result<(), Fail> {
 /// The short help has a line for each option, in place of its whole text and the example.
 #[test]
 fn short_help(rt: HostRuntime) -> Result<(), Fail> {
-    let (status, output) = ran(rt.alloc(), &["rdsrt", "decode", "-h"], b"x\n")?;
-    same(&rt, output.as_slice(), SHORT_HELP_OF_DECODE);
-    same(&rt, status, 0);
+    gives(
+        &rt,
+        rt.alloc(),
+        &["rdsrt", "decode", "-h"],
+        b"x\n",
+        (0, SHORT_HELP_OF_DECODE),
+    )?;
     for task in ["audit", "encode", "sim"] {
         let (status, output) = ran(rt.alloc(), &["rdsrt", task, "-h"], b"x\n")?;
         let (_, long) = ran(rt.alloc(), &["rdsrt", task, "--help"], b"x\n")?;

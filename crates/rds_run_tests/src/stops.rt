@@ -48,6 +48,52 @@ fn config(pi: u16, dwell: u16, late: u16) -> Result<Config, Fail> {
     })
 }
 
+/// How a script ends whose lines each come in a read of their own, and how many bytes of it are left.
+fn simulated(alloc: Global, script: &[u8]) -> Result<(Result<(), LogFault>, usize), Fail> {
+    let left = Cell::new(0);
+    let reader = LineByLine {
+        bytes: script,
+        left: &left,
+    };
+    let mut output = Vec::new(alloc);
+    let mut writer = Told::new(&mut output);
+    let done = simulate(alloc, Told::new(reader), &mut writer, config(0xC201, 4, 0)?);
+    Ok((done, left.get()))
+}
+
+/// The same where a log is encoded.
+fn encoded(alloc: Global, script: &[u8]) -> Result<(Result<(), LogFault>, usize), Fail> {
+    let left = Cell::new(0);
+    let reader = LineByLine {
+        bytes: script,
+        left: &left,
+    };
+    let mut output = Vec::new(alloc);
+    let mut writer = Told::new(&mut output);
+    let done = encode(alloc, Told::new(reader), &mut writer, config(0xC201, 4, 0)?);
+    Ok((done, left.get()))
+}
+
+/// The answer to a log whose lines come so, and how many bytes of it are left.
+fn audited(alloc: Global, log: &[u8]) -> Result<(Result<bool, LogFault>, usize), Fail> {
+    let station = config(0xC201, 4, 0)?;
+    let left = Cell::new(0);
+    let mut reader = Told::new(LineByLine {
+        bytes: log,
+        left: &left,
+    });
+    let mut output = Vec::new(alloc);
+    let mut writer = Told::new(&mut output);
+    let answer = audit(
+        &mut reader,
+        &mut writer,
+        0xC201,
+        station.dwell,
+        station.late,
+    );
+    Ok((answer, left.get()))
+}
+
 /// A row, and how many bytes it has.
 const ROW: usize = 6;
 
@@ -61,32 +107,10 @@ const AFTER_BAD_ROW: usize = 3 * ROW;
 #[test]
 fn no_read_after_a_bad_row(rt: HostRuntime) -> Result<(), Fail> {
     for before in [0, 1, 5] {
-        let bad = Err(LogFault::BadRow(before as u64 + 1));
+        let wanted = (Err(LogFault::BadRow(before as u64 + 1)), AFTER_BAD_ROW);
         let script = &BAD_ROW[(5 - before) * ROW..];
-        let left = Cell::new(0);
-        let mut output = Vec::new(rt.alloc());
-        let reader = LineByLine {
-            bytes: script,
-            left: &left,
-        };
-        let done = simulate(
-            rt.alloc(),
-            Told::new(reader),
-            &mut Told::new(&mut output),
-            config(0xC201, 4, 0)?,
-        );
-        same(&rt, (done, left.get()), (bad, AFTER_BAD_ROW));
-        let reader = LineByLine {
-            bytes: script,
-            left: &left,
-        };
-        let done = encode(
-            rt.alloc(),
-            Told::new(reader),
-            &mut Told::new(&mut output),
-            config(0xC201, 4, 0)?,
-        );
-        same(&rt, (done, left.get()), (bad, AFTER_BAD_ROW));
+        same(&rt, simulated(rt.alloc(), script)?, wanted);
+        same(&rt, encoded(rt.alloc(), script)?, wanted);
     }
     Ok(())
 }
@@ -94,26 +118,14 @@ fn no_read_after_a_bad_row(rt: HostRuntime) -> Result<(), Fail> {
 /// The same of a log's slot that does not pass, as tags that come early, and of a bad line.
 #[test]
 fn no_read_after_the_end_of_an_audit(rt: HostRuntime) -> Result<(), Fail> {
-    let logs: [(&[u8], Result<bool, LogFault>); 2] = [
-        (b"C201 2140 4849 0D20\nC201 B148 2002 0000\n\n\n", Ok(false)),
-        (b"C201 2140 4849 0D20\nx\n\n\n", Err(LogFault::BadLine(2))),
-    ];
-    for (log, wanted) in logs {
-        let left = Cell::new(0);
-        let mut output = Vec::new(rt.alloc());
-        let reader = LineByLine {
-            bytes: log,
-            left: &left,
-        };
-        let answer = audit(
-            &mut Told::new(reader),
-            &mut Told::new(&mut output),
-            0xC201,
-            Dwell::new(4).ok_or("dwell")?,
-            Late::new(0).ok_or("late")?,
-        );
-        same(&rt, (answer, left.get()), (wanted, 2));
-    }
+    let early = b"C201 2140 4849 0D20\nC201 B148 2002 0000\n\n\n";
+    same(&rt, audited(rt.alloc(), early)?, (Ok(false), 2));
+    let bad = b"C201 2140 4849 0D20\nx\n\n\n";
+    same(
+        &rt,
+        audited(rt.alloc(), bad)?,
+        (Err(LogFault::BadLine(2)), 2),
+    );
     Ok(())
 }
 
@@ -150,30 +162,35 @@ fn script_for(alloc: Global, receptions: &[u8]) -> Result<Vec<u8>, Fail> {
     Ok(script)
 }
 
+/// How a simulation of rows of every command ends, with these receptions.
+fn simulated_for(
+    alloc: Global,
+    receptions: &[u8],
+    station: Config,
+) -> Result<Result<(), LogFault>, Fail> {
+    let script = script_for(alloc, receptions)?;
+    let mut output = Vec::new(alloc);
+    let mut writer = Told::new(&mut output);
+    Ok(simulate(alloc, Told::new(script.as_slice()), &mut writer, station))
+}
+
+/// How a log of such rows ends.
+fn encoded_for(alloc: Global, station: Config) -> Result<Result<(), LogFault>, Fail> {
+    let script = script_for(alloc, b"")?;
+    let mut output = Vec::new(alloc);
+    let mut writer = Told::new(&mut output);
+    Ok(encode(alloc, Told::new(script.as_slice()), &mut writer, station))
+}
+
 /// A reader that doesn't fail: rows of every command end well, for any station.
 #[test]
 fn no_read_fails(rt: HostRuntime) -> Result<(), Fail> {
     for (pi, dwell, late) in [(0, 1, 0), (0xFFFF, 65535, 1024), (0x1234, 1, 1024)] {
+        let station = config(pi, dwell, late)?;
         for receptions in RECEPTIONS {
-            let script = script_for(rt.alloc(), receptions)?;
-            let mut output = Vec::new(rt.alloc());
-            let done = simulate(
-                rt.alloc(),
-                Told::new(script.as_slice()),
-                &mut Told::new(&mut output),
-                config(pi, dwell, late)?,
-            );
-            same(&rt, done, Ok(()));
+            same(&rt, simulated_for(rt.alloc(), receptions, station)?, Ok(()));
         }
-        let script = script_for(rt.alloc(), b"")?;
-        let mut output = Vec::new(rt.alloc());
-        let done = encode(
-            rt.alloc(),
-            Told::new(script.as_slice()),
-            &mut Told::new(&mut output),
-            config(pi, dwell, late)?,
-        );
-        same(&rt, done, Ok(()));
+        same(&rt, encoded_for(rt.alloc(), station)?, Ok(()));
     }
     Ok(())
 }
