@@ -14,8 +14,8 @@ use crate::reigns::Reigns;
 use crate::stored::StoredAudit;
 use crate::{AuditFault, one_fault, passes_by_plans, what_passes_is_safe};
 use rds_block::Group;
-use rds_encoder::{Distance, Late};
-use rds_fields::{Dwell, Message};
+use rds_encoder::Distance;
+use rds_fields::{Dwell, Late, Message};
 use rds_receiver::heard;
 use std::marker::Model;
 

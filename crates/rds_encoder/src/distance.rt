@@ -1,8 +1,7 @@
 //! How far broadcasts stand apart.
 ghost use Rattle.std.specs.Prelude.{◌≡◌, ◌+◌, ◌<◌, ◌≤◌};
 
-use crate::Late;
-use rds_fields::Dwell;
+use rds_fields::{Dwell, Late};
 use std::marker::Model;
 
 /// The dwell and the lateness together, in slots: after so many no receiver joins a group to one that was sent

@@ -21,10 +21,10 @@ use crate::stored::{StoredEncoder, StoredName};
 use crate::text_on_air::TextOnAir;
 use crate::track::Track;
 use crate::turn::Turn;
-use crate::{Late, Refusal, Wait};
+use crate::{Refusal, Wait};
 use rds_assembly::{Name, Text};
 use rds_block::{Group, Place};
-use rds_fields::{Dwell, Head, Message, StoredPair, TagPair, Which, rtplus_announcement};
+use rds_fields::{Dwell, Head, Late, Message, StoredPair, TagPair, Which, rtplus_announcement};
 use std::marker::Model;
 
 /// Sends the text, the name and the tags of one station. It keeps counters that stop at their limits, and no

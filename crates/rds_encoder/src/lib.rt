@@ -15,7 +15,6 @@
 mod distance;
 mod encoder;
 mod hold;
-mod late;
 mod laws;
 mod refusal;
 mod round;
@@ -28,7 +27,6 @@ mod wait;
 
 pub use distance::Distance;
 pub use encoder::Encoder;
-pub use late::Late;
 pub use laws::{
     broadcasts_are_spaced, even_turns_are_the_texts, numbers_name_broadcasts,
     on_air_from_its_start_on, on_air_is_sent_whole, on_air_is_what_covers_the_slot,

@@ -11,8 +11,7 @@ ghost use Rattle.rds_ffi.specs.Slots.{Bring, IsCount};
 use crate::codes;
 use crate::slots::brought;
 use rds_audit::{Audit, AuditFault, StoredAudit};
-use rds_encoder::Late;
-use rds_fields::Dwell;
+use rds_fields::{Dwell, Late};
 
 /// Makes an audit of this programme before the first slot. The dwell and the lateness are in slots.
 ///

@@ -24,8 +24,8 @@ use crate::tags::{RdsrtTags, pair_given};
 use crate::view::{RdsrtName, RdsrtText, plain_name, plain_text};
 use rds_assembly::{Name, Text};
 use rds_block::Place;
-use rds_encoder::{Encoder, Late, Refusal, StoredEncoder};
-use rds_fields::{Dwell, Head};
+use rds_encoder::{Encoder, Refusal, StoredEncoder};
+use rds_fields::{Dwell, Head, Late};
 
 /// The text and the name on air.
 #[repr(C)]

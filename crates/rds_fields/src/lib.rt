@@ -13,6 +13,7 @@
 
 mod dwell;
 mod head;
+mod late;
 mod laws;
 mod message;
 mod pair;
@@ -22,6 +23,7 @@ mod tag;
 
 pub use dwell::Dwell;
 pub use head::Head;
+pub use late::Late;
 pub use laws::{one_group, one_message};
 pub use message::Message;
 pub use pair::{TagPair, Which};

@@ -10,8 +10,7 @@ use crate::source::Source;
 use crate::verdict::Verdict;
 use rds_audit::Audit;
 use rds_charset::{Lines, TellingRead, TellingWrite, put};
-use rds_encoder::Late;
-use rds_fields::Dwell;
+use rds_fields::{Dwell, Late};
 use rds_output::LogFault;
 
 /// Audits a log of what a station sent, a slot a line, and writes the answer line: `yes` with the number of

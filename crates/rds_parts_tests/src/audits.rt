@@ -3,8 +3,7 @@
 use crate::same::same;
 use rds_audit::{Audit, AuditFault};
 use rds_block::Group;
-use rds_encoder::Late;
-use rds_fields::Dwell;
+use rds_fields::{Dwell, Late};
 use std::process::Abort;
 use std::test::Fail;
 

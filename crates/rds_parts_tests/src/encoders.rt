@@ -4,11 +4,11 @@ use crate::same::same;
 use rds_assembly::{Name, Text};
 use rds_block::Place;
 use rds_encoder::{
-    Distance, Encoder, Late, Refusal, Wait, broadcasts_are_spaced, even_turns_are_the_texts,
+    Distance, Encoder, Refusal, Wait, broadcasts_are_spaced, even_turns_are_the_texts,
     numbers_name_broadcasts, on_air_from_its_start_on, on_air_is_sent_whole,
     on_air_is_what_covers_the_slot, planned_is_what_was_on_air, sent_is_of_what_is_on_air,
 };
-use rds_fields::{Dwell, Head, Tag, TagPair, Which};
+use rds_fields::{Dwell, Head, Late, Tag, TagPair, Which};
 use std::process::Abort;
 use std::test::Fail;
 

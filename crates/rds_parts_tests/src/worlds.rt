@@ -5,8 +5,7 @@ use crate::same::same;
 use arrayvec::ArrayVec;
 use rds_assembly::{Name, Text};
 use rds_block::Place;
-use rds_encoder::Late;
-use rds_fields::{Dwell, Head, Tag, TagPair, Which};
+use rds_fields::{Dwell, Head, Late, Tag, TagPair, Which};
 use rds_world::{
     Answer, Command, Config, PlayRefused, Reception, Reply, SlotEvent, StepRefused, World,
     WorldRefused, play,

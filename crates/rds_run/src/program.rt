@@ -14,8 +14,7 @@ ghost use Rattle.rds_run.specs.Run.{RefusesPi, RunsFrom, RunsWords, TaskRuns, Te
 use clap::Error;
 use clap::error::ErrorKind;
 use rds_charset::{Lines, TellingRead, TellingWrite, put};
-use rds_encoder::Late;
-use rds_fields::{Dwell, Head};
+use rds_fields::{Dwell, Head, Late};
 use rds_log::{audit, decode};
 use rds_output::LogFault;
 use rds_script::{encode, simulate};

@@ -3,8 +3,7 @@
 use crate::logs::Endless;
 use crate::same::same;
 use rds_charset::Told;
-use rds_encoder::Late;
-use rds_fields::Dwell;
+use rds_fields::{Dwell, Late};
 use rds_log::{audit, audit_within};
 use rds_output::LogFault;
 use std::alloc::Global;

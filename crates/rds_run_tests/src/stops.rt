@@ -4,8 +4,7 @@
 use crate::same::same;
 use rds_block::Place;
 use rds_charset::Told;
-use rds_encoder::Late;
-use rds_fields::{Dwell, Head};
+use rds_fields::{Dwell, Head, Late};
 use rds_log::audit;
 use rds_output::LogFault;
 use rds_script::{encode, simulate};

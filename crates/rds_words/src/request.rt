@@ -10,8 +10,7 @@ use clap::error::ErrorKind;
 use clap::{ArgMatches, Error};
 use rds_block::Place;
 use rds_charset::word_at;
-use rds_encoder::Late;
-use rds_fields::Dwell;
+use rds_fields::{Dwell, Late};
 use std::alloc::Global;
 
 /// What each group of a station says of its programme, beside the identification.

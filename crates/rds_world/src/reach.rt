@@ -6,7 +6,7 @@ ghost use Rattle.rds_world.specs.StandsAt.{HaveReaches};
 ghost use Rattle.rds_world.specs.declared.event.TheConstants.{MOST_RECEIVERS};
 
 use crate::{MOST_RECEIVERS, Reception, SlotEvent};
-use rds_encoder::Late;
+use rds_fields::Late;
 use std::marker::Model;
 
 /// Below how many slots back what was sent is due to a receiver (this project's own rule): at most so late, and

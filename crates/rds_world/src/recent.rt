@@ -3,8 +3,7 @@ ghost use Rattle.std.specs.Prelude.{◌≡◌, ◌+◌, [], ◌∷◌, None, IfO
 ghost use Rattle.circular_buffer.specs.Buffer.{buffer};
 
 use circular_buffer::HeapCircularBuffer;
-use rds_encoder::Late;
-use rds_fields::Message;
+use rds_fields::{Late, Message};
 use std::alloc::{AllocError, Global};
 use std::marker::Model;
 

@@ -19,8 +19,8 @@ use crate::station::obey;
 use crate::{
     Answer, MOST_RECEIVERS, SlotEvent, StepRefused, WorldRefused, only_what_was_on_air_is_shown,
 };
-use rds_encoder::{Encoder, Late};
-use rds_fields::{Dwell, Head};
+use rds_encoder::Encoder;
+use rds_fields::{Dwell, Head, Late};
 use rds_receiver::{Receiver, heard};
 use std::alloc::Global;
 use std::marker::Model;
