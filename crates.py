@@ -1,0 +1,51 @@
+"""The crates that crates.txt lists, where each of them is kept, and the words by which the kit's compiler takes one."""
+import os
+import shutil
+
+ROOT = os.path.dirname(os.path.abspath(__file__))
+LIST = os.path.join(ROOT, "crates.txt")
+KIT = os.path.dirname(os.path.dirname(os.path.realpath(shutil.which("rt"))))
+
+
+def listed():
+    """Of each crate of crates.txt the crates that it names."""
+    with open(LIST, encoding="utf-8") as file:
+        rows = [line.partition("#")[0].partition(":") for line in file]
+    return {head.split()[0]: libraries.split() for head, _, libraries in rows if head.strip()}
+
+
+def below(name, uses):
+    """The repository's crates that this one stands on, lowest first."""
+    found = []
+    for it in uses[name]:
+        found += [dep for dep in [*below(it, uses), it] if dep not in found] if it in uses else []
+    return found
+
+
+def folder(name):
+    return os.path.join(ROOT, "crates", name)
+
+
+def rlib(name):
+    """What is left of a library that is proved, for those above it."""
+    return os.path.join(folder(name), "out/rlib", f"{name}.rlib")
+
+
+def last_change(name):
+    """When a source of the crate, or the list of crates, was last written."""
+    files = [LIST]
+    for part in ("src", "specs", "proofs"):
+        for at, _, found in os.walk(os.path.join(folder(name), part)):
+            files += [os.path.join(at, it) for it in found]
+    return max(map(os.path.getmtime, files))
+
+
+def compile_words(name, uses, jobs, *more):
+    """A call of the kit's compiler, in the crate's folder, that proves and builds the crate."""
+    source = next(it for it in ("src/main.rt", "src/lib.rt") if os.path.exists(os.path.join(folder(name), it)))
+    made = [(it, rlib(it) if it in uses else f"{KIT}/rlibs/{it}.rlib") for it in ("std", *uses[name])]
+    folders = [f"{KIT}/rlibs", *(os.path.dirname(rlib(it)) for it in below(name, uses))]
+    return [f"{KIT}/bin/rattle", "build", "--crate-name", name, source, "--links", f"{name}=", "--jobs", str(jobs),
+            "--antt-project", f"{KIT}/rattle/logic/antt-project.json", "--logic-built", f"{KIT}/logic_built",
+            *(it for crate, at in made for it in ("--extern", f"{crate}={at}")),
+            *(it for at in folders for it in ("-L", f"dependency={at}")), *more]
