@@ -52,7 +52,7 @@ fn send(rt: &impl Abort, encoder: &mut Encoder, free: bool, slots: u32, wanted: 
 }
 
 /// An encoder of PI C201, TP 0, PTY 10 at a restart, of receivers that are on time.
-pub(crate) fn restarted(dwell: u16) -> Result<Encoder, Fail> {
+fn restarted(dwell: u16) -> Result<Encoder, Fail> {
     restarted_late(dwell, 0)
 }
 

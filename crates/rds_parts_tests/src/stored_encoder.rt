@@ -1,15 +1,26 @@
 //! An encoder that is stored and restored.
 
-use crate::encoders::restarted;
 use crate::same::same;
 use rds_assembly::{Name, Text};
+use rds_block::Place;
 use rds_encoder::{Encoder, Refusal, StoredEncoder};
+use rds_fields::{Dwell, Head, Late};
 use std::test::Fail;
+
+fn station() -> Result<Encoder, Fail> {
+    let head = Head {
+        pi: 0xC201,
+        tp: true,
+        pty: Place::new(10).ok_or("pty")?,
+    };
+    let dwell = Dwell::new(1).ok_or("dwell")?;
+    Ok(Encoder::new(head, dwell, Late::new(0).ok_or("late")?))
+}
 
 /// What is restored goes on where what was stored stood.
 #[test]
 fn goes_on_from_what_is_stored(rt: HostRuntime) -> Result<(), Fail> {
-    let mut encoder = restarted(1)?;
+    let mut encoder = station()?;
     same(&rt, encoder.tick(true).is_some(), false);
     let mut encoder = Encoder::restore(&encoder.store());
     encoder.set_text(Text::new(b"HI").map_err(|_| "text")?)?;
@@ -20,14 +31,14 @@ fn goes_on_from_what_is_stored(rt: HostRuntime) -> Result<(), Fail> {
     let refused = encoder.set_text(Text::new(b"YO").map_err(|_| "text")?);
     same(&rt, refused, Err(Refusal::Held(2)));
     let sent = encoder.tick(true).ok_or("a group")?;
-    same(&rt, sent.to_blocks(), [0xC201, 0x2140, 0x4849, 0x0D20]);
+    same(&rt, sent.to_blocks(), [0xC201, 0x2540, 0x4849, 0x0D20]);
     Ok(())
 }
 
 /// Numbers that no encoder is stored as are restored too: what is no text is none on air.
 #[test]
 fn restores_any_numbers(rt: HostRuntime) -> Result<(), Fail> {
-    let mut stored: StoredEncoder = restarted(1)?.store();
+    let mut stored: StoredEncoder = station()?.store();
     stored.pty = 255;
     stored.round = 255;
     stored.distance = 0xFFFF_FFFF;

@@ -318,6 +318,22 @@ fn reply_to_songs(slot: u32) -> Reply {
     }
 }
 
+/// A restart takes off air what was on it; the receiver still shows it.
+#[test]
+fn nothing_on_air_after_a_restart(rt: HostRuntime) -> Result<(), Fail> {
+    let hi = text(b"HI")?;
+    let rows = [
+        quiet(4),
+        told(Command::SetText(hi), Reply::Done)
+            .sends(HI)
+            .shows([Some(hi), None, None]),
+        told(Command::Restart, Reply::Restarted).shows([Some(hi), None, None]),
+    ];
+    let world = played(&rt, rt.alloc(), 1, &rows)?;
+    assert_on_air(&rt, &world, (None, None));
+    Ok(())
+}
+
 /// A world takes memory, and where it is refused says so; here it isn't. `rt try --test --fail-alloc N` refuses the
 /// request N of each test.
 #[test]
@@ -330,7 +346,8 @@ fn refused_memory(rt: HostRuntime) -> Result<(), Fail> {
     Ok(())
 }
 
-/// Two texts in fifteen slots; the second receiver loses the slot in which the second text begins.
+/// Two texts in fifteen slots; the second receiver loses the slot in which the second text begins, as one does of which
+/// nothing is said.
 fn neighbours(alloc: Global) -> Result<Vec<SlotEvent>, Fail> {
     let mut events = Vec::new(alloc);
     for slot in 0..15 {
@@ -339,7 +356,11 @@ fn neighbours(alloc: Global) -> Result<Vec<SlotEvent>, Fail> {
             12 => set_text(b"TWO")?,
             _ => Command::Quiet,
         };
-        let second = if slot == 12 { LOST } else { GOT };
+        let second = if slot == 12 {
+            Reception::default()
+        } else {
+            GOT
+        };
         events.push(slot_event(command, true, &[GOT, second])?)?;
     }
     Ok(events)

@@ -3,7 +3,7 @@
 
 use crate::same::same;
 use rds_block::Place;
-use rds_charset::Told;
+use rds_charset::{TellingRead, Told};
 use rds_fields::{Dwell, Head, Late};
 use rds_log::audit;
 use rds_output::LogFault;
@@ -47,29 +47,40 @@ fn config(pi: u16, dwell: u16, late: u16) -> Result<Config, Fail> {
     })
 }
 
-/// How a script ends whose lines each come in a read of their own, and how many bytes of it are left.
-fn simulated(alloc: Global, script: &[u8]) -> Result<(Result<(), LogFault>, usize), Fail> {
-    let left = Cell::new(0);
-    let reader = LineByLine {
-        bytes: script,
-        left: &left,
-    };
-    let mut output = Vec::new(alloc);
-    let mut writer = Told::new(&mut output);
-    let done = simulate(alloc, Told::new(reader), &mut writer, config(0xC201, 4, 0)?);
-    Ok((done, left.get()))
+/// What plays a script.
+#[derive(Clone, Copy)]
+enum Engine {
+    Simulate,
+    Encode,
 }
 
-/// The same where a log is encoded.
-fn encoded(alloc: Global, script: &[u8]) -> Result<(Result<(), LogFault>, usize), Fail> {
+/// How a script ends.
+fn ended<R: TellingRead + Drop>(
+    engine: Engine,
+    alloc: Global,
+    reader: R,
+    station: Config,
+) -> Result<(), LogFault> {
+    let mut output = Vec::new(alloc);
+    let mut writer = Told::new(&mut output);
+    match engine {
+        Engine::Simulate => simulate(alloc, reader, &mut writer, station),
+        Engine::Encode => encode(alloc, reader, &mut writer, station),
+    }
+}
+
+/// How a script ends whose lines each come in a read of their own, and how many bytes of it are left.
+fn ended_line_by_line(
+    engine: Engine,
+    alloc: Global,
+    script: &[u8],
+) -> Result<(Result<(), LogFault>, usize), Fail> {
     let left = Cell::new(0);
     let reader = LineByLine {
         bytes: script,
         left: &left,
     };
-    let mut output = Vec::new(alloc);
-    let mut writer = Told::new(&mut output);
-    let done = encode(alloc, Told::new(reader), &mut writer, config(0xC201, 4, 0)?);
+    let done = ended(engine, alloc, Told::new(reader), config(0xC201, 4, 0)?);
     Ok((done, left.get()))
 }
 
@@ -108,8 +119,9 @@ fn no_read_after_a_bad_row(rt: HostRuntime) -> Result<(), Fail> {
     for before in [0, 1, 5] {
         let wanted = (Err(LogFault::BadRow(before as u64 + 1)), AFTER_BAD_ROW);
         let script = &BAD_ROW[(5 - before) * ROW..];
-        same(&rt, simulated(rt.alloc(), script)?, wanted);
-        same(&rt, encoded(rt.alloc(), script)?, wanted);
+        for engine in [Engine::Simulate, Engine::Encode] {
+            same(&rt, ended_line_by_line(engine, rt.alloc(), script)?, wanted);
+        }
     }
     Ok(())
 }
@@ -161,24 +173,15 @@ fn script_for(alloc: Global, receptions: &[u8]) -> Result<Vec<u8>, Fail> {
     Ok(script)
 }
 
-/// How a simulation of rows of every command ends, with these receptions.
-fn simulated_for(
+/// How rows of every command end, with these receptions.
+fn ended_for(
+    engine: Engine,
     alloc: Global,
     receptions: &[u8],
     station: Config,
 ) -> Result<Result<(), LogFault>, Fail> {
     let script = script_for(alloc, receptions)?;
-    let mut output = Vec::new(alloc);
-    let mut writer = Told::new(&mut output);
-    Ok(simulate(alloc, Told::new(script.as_slice()), &mut writer, station))
-}
-
-/// How a log of such rows ends.
-fn encoded_for(alloc: Global, station: Config) -> Result<Result<(), LogFault>, Fail> {
-    let script = script_for(alloc, b"")?;
-    let mut output = Vec::new(alloc);
-    let mut writer = Told::new(&mut output);
-    Ok(encode(alloc, Told::new(script.as_slice()), &mut writer, station))
+    Ok(ended(engine, alloc, Told::new(script.as_slice()), station))
 }
 
 /// A reader that doesn't fail: rows of every command end well, for any station.
@@ -187,9 +190,17 @@ fn no_read_fails(rt: HostRuntime) -> Result<(), Fail> {
     for (pi, dwell, late) in [(0, 1, 0), (0xFFFF, 65535, 1024), (0x1234, 1, 1024)] {
         let station = config(pi, dwell, late)?;
         for receptions in RECEPTIONS {
-            same(&rt, simulated_for(rt.alloc(), receptions, station)?, Ok(()));
+            same(
+                &rt,
+                ended_for(Engine::Simulate, rt.alloc(), receptions, station)?,
+                Ok(()),
+            );
         }
-        same(&rt, encoded_for(rt.alloc(), station)?, Ok(()));
+        same(
+            &rt,
+            ended_for(Engine::Encode, rt.alloc(), b"", station)?,
+            Ok(()),
+        );
     }
     Ok(())
 }
