@@ -14,7 +14,7 @@ use rds_fields::{Dwell, Late};
 use std::alloc::Global;
 
 /// What each group of a station says of its programme, beside the identification.
-#[derive(Clone, Copy, Debug, PartialEq, Eq)]
+#[derive(Clone, Copy)]
 pub struct Programme {
     /// The programme type.
     pub pty: Place<32>,
@@ -23,7 +23,7 @@ pub struct Programme {
 }
 
 /// What is to be done, by a station of a programme and with groups that come no later than this.
-#[derive(Clone, Copy, Debug, PartialEq, Eq)]
+#[derive(Clone, Copy)]
 pub enum Task {
     /// Print what a receiver shows of a log.
     Decode,
@@ -36,7 +36,7 @@ pub enum Task {
 }
 
 /// What the words ask for.
-#[derive(Clone, Copy, Debug, PartialEq, Eq)]
+#[derive(Clone, Copy)]
 pub struct Request<'a> {
     pub task: Task,
     /// What is given as programme identification, whatever its text.
