@@ -1,5 +1,4 @@
-//! Long lines and much output, and readers and writers that are slow, or fail. Worked logs are rows of
-//! rds_run_tests.
+//! Logs without an end, and readers and writers that are slow, or fail.
 
 use crate::same::same;
 use rds_charset::{TellingRead, Told};
@@ -23,50 +22,6 @@ const TWO_LINES: &[u8] = b"0 text \"HI\"\n1 text \"YO\"\n";
 
 fn dwell() -> Result<Dwell, Fail> {
     Ok(Dwell::new(128).ok_or("dwell")?)
-}
-
-/// How a log of programme C201 ended, with a dwell of 128, and its output.
-fn decoded(alloc: Global, log: &[u8]) -> Result<(Result<(), LogFault>, Vec<u8>), Fail> {
-    let mut output = Vec::new(alloc);
-    let mut writer = Told::new(&mut output);
-    let done = decode(&mut Told::new(log), &mut writer, 0xC201, dwell()?);
-    Ok((done, output))
-}
-
-/// Lines that are longer than what one read asks for: one that is skipped, one with words behind its blocks, and a
-/// bad one.
-#[test]
-fn line_longer_than_a_chunk(rt: HostRuntime) -> Result<(), Fail> {
-    let mut log = Vec::from_slice(rt.alloc(), b"#")?;
-    log.extend_from_slice(&[b'x'; 70_000])?;
-    log.extend_from_slice(b"\nC201 2140 4849 0D20 ")?;
-    log.extend_from_slice(&[b'x'; 140_000])?;
-    log.extend_from_slice(b"\nC201 2150 594F 0D20")?;
-    log.extend_from_slice(&[b'x'; 70_000])?;
-    let (done, output) = decoded(rt.alloc(), log.as_slice())?;
-    same(&rt, output.as_slice(), b"0 text \"HI\"\n".as_slice());
-    same(&rt, done, Err(LogFault::BadLine(3)));
-    Ok(())
-}
-
-/// More output for one read than waits to be written at once.
-#[test]
-fn output_longer_than_its_room(rt: HostRuntime) -> Result<(), Fail> {
-    let mut log = Vec::new(rt.alloc());
-    let mut wanted = String::new(rt.alloc());
-    for slot in 0..2000u32 {
-        log.extend_from_slice(if slot % 2 == 0 {
-            b"C201 2140 4849 0D20\n"
-        } else {
-            b"C201 2150 594F 0D20\n"
-        })?;
-        let text = if slot % 2 == 0 { "HI" } else { "YO" };
-        wanted.push_str(format!(in rt.alloc(); "{slot} text \"{text}\"\n")?.as_str())?;
-    }
-    let (done, output) = decoded(rt.alloc(), log.as_slice())?;
-    same(&rt, output.as_slice(), wanted.as_str().as_bytes());
-    same(&rt, done, Ok(()));
-    Ok(())
 }
 
 /// Gives the same line for ever, and counts the reads.

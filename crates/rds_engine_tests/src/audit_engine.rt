@@ -1,10 +1,10 @@
-//! `audit` and `audit_within` over readers and writers.
+//! `audit_within` over readers with an end and without.
 
 use crate::logs::Endless;
 use crate::same::same;
 use rds_charset::Told;
 use rds_fields::{Dwell, Late};
-use rds_log::{audit, audit_within};
+use rds_log::audit_within;
 use rds_output::LogFault;
 use std::alloc::Global;
 use std::cell::Cell;
@@ -25,30 +25,6 @@ fn four_slots() -> Result<Dwell, Fail> {
 
 fn on_time() -> Result<Late, Fail> {
     Ok(Late::new(0).ok_or("late")?)
-}
-
-/// A yes with the number of slots, and a no with the slot and the fault: here the tags count as early where the
-/// dwell is longer.
-#[test]
-fn yes_and_no(rt: HostRuntime) -> Result<(), Fail> {
-    let rows: [(u16, Result<bool, LogFault>, &[u8]); 2] = [
-        (4, Ok(true), b"yes 5\n"),
-        (5, Ok(false), b"no 4 EarlyTag\n"),
-    ];
-    for (slots, answer, line) in rows {
-        let dwell = Dwell::new(slots).ok_or("dwell")?;
-        let mut output = Vec::new(rt.alloc());
-        let given = audit(
-            &mut Told::new(TAGGED),
-            &mut Told::new(&mut output),
-            0xC201,
-            dwell,
-            on_time()?,
-        );
-        same(&rt, given, answer);
-        same(&rt, output.as_slice(), line);
-    }
-    Ok(())
 }
 
 /// The answer to a log that may be read so many times, and how many bytes are written.

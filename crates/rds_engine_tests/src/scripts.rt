@@ -1,8 +1,6 @@
-//! Scripts without an end, readers and writers that fail, and memory that is refused. Worked scripts are rows
-//! of `program`.
+//! Scripts without an end, readers and writers that fail, and memory that is refused.
 
 use crate::same::same;
-use crate::stubborn::Stubborn;
 use arrayvec::ArrayVec;
 use rds_block::Place;
 use rds_charset::Told;
@@ -161,6 +159,36 @@ fn reader_fails(rt: HostRuntime) -> Result<(), Fail> {
         assert!(rt; runs > 2);
     }
     Ok(())
+}
+
+/// Takes at most so many bytes a write, and from one write on none, with an error or without.
+#[derive(Drop)]
+struct Stubborn<'a> {
+    taken: &'a mut Vec<u8>,
+    most: usize,
+    fails_at: u64,
+    with_error: bool,
+    writes: &'a Cell<u64>,
+}
+
+impl Write for Stubborn<'_> {
+    fn write(&mut self, buf: &[u8]) -> io::Result<usize> {
+        self.writes.set(self.writes.get().wrapping_add(1));
+        if self.writes.get() == self.fails_at {
+            return if self.with_error {
+                Err(io::Error::from(ErrorKind::Other))
+            } else {
+                Ok(0)
+            };
+        }
+        let count = buf.len().min(self.most);
+        self.taken.extend_from_slice(&buf[..count])?;
+        Ok(count)
+    }
+
+    fn flush(&mut self) -> io::Result<()> {
+        Ok(())
+    }
 }
 
 fn simulated_to(

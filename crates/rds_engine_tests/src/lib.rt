@@ -1,0 +1,16 @@
+//! The tests of rds_log and rds_script, which make their public calls as rds_run does. Worked rows, from words and input
+//! to output and status, are cases of the built program.
+//!
+//! They stand in one crate of their own, since a crate with tests is proved once more for them.
+#![tactic(auto)]
+
+#[cfg(test)]
+mod audit_engine;
+#[cfg(test)]
+mod logs;
+#[cfg(test)]
+mod same;
+#[cfg(test)]
+mod scripts;
+#[cfg(test)]
+mod stops;

@@ -1,0 +1,472 @@
+"""The worked rows: words, the status, what is given and what is printed, over the built program."""
+import shlex
+
+DECODE = "decode --pi C201"
+SIM = "sim --m 4 --pi C201 --pty 10"
+SIM_TWO_LATE = "sim --pi C201 --pty 10 --m 4 --k 2"
+ENCODE = "encode --m 1 --pi C201 --pty 10"
+AUDIT = "audit --pi C201 --m 4"
+AUDIT_ONE_LATE = "audit --pi C201 --m 4 --k 1"
+AUDIT_TWO_LATE = "audit --pi C201 --m 4 --k 2"
+
+HI = b"C201 2140 4849 0D20\n"
+NO_GROUP = b"---- ---- ---- ----\n"
+# skipped lines, dashes, another programme, both cases of digits, a time stamp, a line that ends with a carriage return,
+# and a bad line
+MIXED_LOG = b"""<recorder="x">
+C201 2140 4849 ----
+
+F000 2140 4849 0D20
+# note
+c201 2140 4849 0d20 @2024/01/01
+%
+---- ---- ---- ----\r
+C201 0148 0000 0000
+C201 21405 4849 0D20
+"""
+ONE_TEXT = HI + NO_GROUP * 5
+# two texts at one address with one flag
+CHANGED = HI + b"C201 2140 594F 0D20\n"
+# a text, its tags in good time, with four slots before and where another group would be
+TAGGED_LOG = b"""---- ---- ---- ----
+---- ---- ---- ----
+---- ---- ---- ----
+---- ---- ---- ----
+C201 2140 4142 4241
+---- ---- ---- ----
+C201 2141 202D 2057
+---- ---- ---- ----
+C201 2142 4154 4552
+C201 3156 0000 4BD7
+C201 2143 4C4F 4F0D
+C201 B158 8006 08E7
+"""
+# a text with its tags four slots after it
+TAGS_IN_TIME = HI + NO_GROUP * 3 + b"C201 B148 2002 0000\n"
+# a text, and tags in the fourth slot after it that end past it
+TAGS_AFTER_FOUR = HI + NO_GROUP * 3 + b"C201 B158 8006 08E7\n"
+# a text, another with the other flag, and the first again after four slots
+FLAG_AFTER_FIVE = HI + b"C201 2150 594F 0D20\n" + NO_GROUP * 3 + HI
+# a text twice, four slots apart, and then its tags
+TAGS_AFTER_A_GAP = HI + NO_GROUP * 3 + HI + b"C201 B148 2002 0000\n"
+TAGS_ON_AIR = b"""-,,1,GGG
+-,,1,GGG
+-,,1,GGG
+-,,1,GGG
+text,ABBA - WATERLOO,1,GGL
+tags,1 1 4 0 3 1 7 7,1,GGL
+-,,1,GGL
+-,,1,GGL
+-,,1,GGL
+-,,1,GLG
+-,,1,GGL
+-,,1,GGG
+"""
+TAGS_OUTPUT = b"""4 text ok
+4 sent C201 2140 4142 4241
+5 tags ok
+6 sent C201 2141 202D 2057
+8 sent C201 2142 4154 4552
+9 sent C201 3156 0000 4BD7
+10 sent C201 2143 4C4F 4F0D
+10 r0 text "ABBA - WATERLOO"
+10 r1 text "ABBA - WATERLOO"
+11 sent C201 B158 8006 08E7
+11 r0 item 1 1
+11 r0 tag1 ITEM.ARTIST "ABBA"
+11 r0 tag2 ITEM.TITLE "WATERLOO"
+"""
+ENCODED_SCRIPT = b"text,HI,1,\ntext,HI,1,\n"
+ENCODED_LOG = b"""# 0 text silent 1
+---- ---- ---- ----
+# 1 text ok
+C201 2140 4849 0D20
+"""
+
+DECODED = [
+    ("first text", DECODE, 0, b"C201 2140 4849 0D20\n", b'0 text "HI"\n'),
+    ("empty text", DECODE, 0, b"C201 2140 0D20 2020\n", b'0 text ""\n'),
+    ("two segments", DECODE, 0, b"C201 2140 4142 4241\nC201 2141 0D20 2020\n", b'1 text "ABBA"\n'),
+    ("second segment alone", DECODE, 0, b"C201 2141 0D20 2020\n", b""),
+    ("other flag", DECODE, 0, b"C201 2140 4849 0D20\nC201 2151 0D20 2020\nC201 2150 4142 4241\n", b"""0 text "HI"
+1 text none
+2 text "ABBA"
+"""),
+    ("class by number", DECODE, 0, b"C201 3156 0000 4BD7\nC201 2140 4849 0D20\nC201 B149 8002 0000\n", b"""1 text "HI"
+2 item 0 1
+2 tag1 12 "HI"
+"""),
+    ("waterloo tags", DECODE, 0, b"""C201 3156 0000 4BD7
+C201 2140 4142 4241
+C201 2141 202D 2057
+C201 2142 4154 4552
+C201 2143 4C4F 4F0D
+C201 B158 8006 08E7
+""", b'4 text "ABBA - WATERLOO"\n5 item 1 1\n5 tag1 ITEM.ARTIST "ABBA"\n5 tag2 ITEM.TITLE "WATERLOO"\n'),
+    ("jazz name", DECODE, 0, b"C201 A140 4A41 5A5A\nC201 A141 2046 4D20\n", b'1 name "JAZZ FM "\n'),
+    ("jazz name with loose bits", DECODE, 0, b"C201 A14E 4A41 5A5A\nC201 A141 2046 4D20\n", b'1 name "JAZZ FM "\n'),
+    ("first half of a name", DECODE, 0, b"C201 A140 4A41 5A5A\n", b""),
+    ("second half of a name", DECODE, 0, b"C201 A141 2046 4D20\n", b""),
+    ("accents and euro", DECODE, 0, b"""C201 2140 4361 6682
+C201 2141 20A9 0D20
+""", b'1 text "Caf\xC3\xA9 \xE2\x82\xAC"\n'),
+    ("escaped bytes", DECODE, 0, b"C201 2140 225C 240D\n", b'0 text "\\x22\\x5C\\x24"\n'),
+    ("contrary announcement", DECODE, 0, b"""C201 3156 0000 4BD7
+C201 2140 4849 0D20
+C201 B148 2002 0000
+C201 3156 0000 CD46
+""", b'1 text "HI"\n2 item 0 1\n2 tag1 ITEM.TITLE "HI"\n3 item none\n3 tag1 none\n'),
+    ("foreign encoder", "decode --pi C201 --m 4", 0, b"""C201 2140 4142 4241
+C201 2141 0D20 2020
+C201 2140 4849 0D20
+C201 B148 2002 0000
+C201 3156 0000 4BD7
+C201 B148 2002 0000
+C201 2150 594F 0D20
+C201 2140 0D41 2020
+C201 B148 2002 0000
+C201 3154 0000 4BD7
+C201 A140 4A0D 5A5A
+C201 A151 2046 4D20
+C201 A150 4A0D 5A5A
+""", b"""1 text "ABBA"
+2 text "HI"
+5 item 0 1
+5 tag1 ITEM.TITLE "HI"
+6 text "YO"
+6 item none
+6 tag1 none
+7 text ""
+8 item 0 1
+9 item none
+11 text none
+12 name "J\\x0DZZ FM "
+"""),
+    ("mixed log", DECODE, 1, MIXED_LOG, b'2 text "HI"\nfault line 10\n'),
+    ("mixed log with a dwell", "decode --pi c201 --m 4", 1, MIXED_LOG, b'2 text "HI"\nfault line 10\n'),
+    ("dwell of four", "decode --pi C201 --m 4", 0, ONE_TEXT, b'0 text "HI"\n4 text none\n'),
+    ("dwell spelled otherwise", "decode --m=+004 --pi=C201", 0, ONE_TEXT, b'0 text "HI"\n4 text none\n'),
+    ("dwell of one", "decode --pi C201 --m 1", 0, ONE_TEXT, b'0 text "HI"\n1 text none\n'),
+    ("greatest dwell", "decode --pi C201 --m 65535", 0, ONE_TEXT, b'0 text "HI"\n'),
+    ("version", "--version", 0, ONE_TEXT, b"rdsrt 0.1.0\n"),
+    ("end of input", DECODE, 1, b"C201 2140 4849 0D2", b"fault line 1\n"),
+    ("no line end", DECODE, 0, b"C201 2140 4849 0D20", b'0 text "HI"\n'),
+    ("carriage return at the end", DECODE, 0, b"C201 2140 4849 0D20\r", b'0 text "HI"\n'),
+    ("empty log", DECODE, 0, b"", b""),
+    ("binary garbage", DECODE, 1, b"\x00\xFF\r\n\x80", b"fault line 1\n"),
+    ("another programme", "decode --pi F000", 0, b"F000 2140 4849 0D20\nC201 2150 594F 0D20\n", b'0 text "HI"\n'),
+    ("fault of another programme", "decode --pi 0000", 1, b"0000 2140 4849 0D20\nx\n", b'0 text "HI"\nfault line 2\n'),
+    ("digits of either case", "decode --pi c201", 0, b"C201 2140 4849 0D20\n", b'0 text "HI"\n'),
+]
+
+SIMULATED = [
+    ("silence dwell and age", SIM, 0, b"""text,HI,1,G
+-,,1,G
+-,,1,G
+text,HI,1,G
+text,HI,1,G
+-,,0,G
+-,,0,G
+-,,0,G
+-,,0,G
+""", b'0 text silent 4\n3 text silent 1\n4 text ok\n4 sent C201 2140 4849 0D20\n4 r0 text "HI"\n8 r0 text none\n'),
+    ("held for twice the dwell", SIM, 0, b"""-,,0,
+-,,0,
+-,,0,
+-,,0,
+text,HI,0,
+-,,0,
+-,,0,
+-,,0,
+-,,0,
+-,,0,
+-,,0,
+text,YO,0,
+text,YO,1,
+""", b"4 text ok\n11 text held 1\n12 text ok\n12 sent C201 2150 594F 0D20\n"),
+    ("tags of no text", SIM, 0, b"-,,0,\n-,,0,\n-,,0,\n-,,0,\ntags,1 1 4 0 3 1 7 7,0,\n", b"4 tags notext\n"),
+    ("restart keeps silence", SIM, 0, b"""-,,1,G
+-,,1,G
+-,,1,G
+-,,1,G
+text,HI,1,G
+restart,,1,G
+-,,1,G
+-,,1,G
+text,YO,1,G
+text,YO,1,G
+""", b"""4 text ok
+4 sent C201 2140 4849 0D20
+4 r0 text "HI"
+5 restart
+8 text silent 1
+8 r0 text none
+9 text ok
+9 sent C201 2140 594F 0D20
+9 r0 text "YO"
+"""),
+    ("tags on air", SIM, 0, TAGS_ON_AIR, TAGS_OUTPUT),
+    ("neighbours in one slot", SIM, 0, b"""-,,1,GG
+-,,1,GG
+-,,1,GG
+-,,1,GG
+text,ONE,1,GG
+-,,1,GG
+-,,1,GG
+-,,1,GG
+-,,1,GG
+-,,1,GG
+-,,1,GG
+-,,1,GG
+text,TWO,1,GL
+-,,1,GG
+-,,1,GG
+""", b"""4 text ok
+4 sent C201 2140 4F4E 450D
+4 r0 text "ONE"
+4 r1 text "ONE"
+6 sent C201 2140 4F4E 450D
+8 sent C201 2140 4F4E 450D
+9 sent C201 3156 0000 4BD7
+10 sent C201 2140 4F4E 450D
+12 text ok
+12 sent C201 2150 5457 4F0D
+12 r0 text "TWO"
+14 sent C201 2150 5457 4F0D
+14 r1 text "TWO"
+"""),
+    ("quoted comma", "sim --m 1 --pi C201 --pty 10", 0, b'-,,1,G\ntext,"A, B",1,G\n', b"""1 text ok
+1 sent C201 2140 412C 2042
+"""),
+    ("name in both segments", SIM, 0, b"""-,,1,G
+-,,1,G
+-,,1,G
+-,,1,G
+name,JAZZ FM,1,G
+-,,1,G
+-,,1,G
+-,,1,G
+""", b'4 name ok\n5 sent C201 A140 4A41 5A5A\n7 sent C201 A141 2046 4D20\n7 r0 name "JAZZ FM "\n'),
+    ("traffic programme", "sim --m 1 --pi C201 --pty 10 --tp", 0, b"""-,,1,G
+text,HI,1,G
+""", b'1 text ok\n1 sent C201 2540 4849 0D20\n1 r0 text "HI"\n'),
+    ("no programme type", "sim --m 1 --pi c201", 0, b"""-,,1,G
+text,HI,1,G
+""", b'1 text ok\n1 sent C201 2000 4849 0D20\n1 r0 text "HI"\n'),
+    ("empty script", "sim --pi C201 --pty 10", 0, b"", b""),
+    ("another number of receivers", "sim --pi C201 --pty 10", 1, b"-,,1,G\n-,,1,GG\n", b"fault row 2\n"),
+    ("row after output", SIM, 1, b"text,HI,1,G\n-,,1,G\n-,,1", b"0 text silent 4\nfault row 3\n"),
+    ("row after an empty one", SIM, 1, b"-,,1,G\n-,,1", b"fault row 2\n"),
+    ("no row after two", SIM, 1, b"text,HI,1,\n-,,1,\nx\n", b"0 text silent 4\nfault row 3\n"),
+    ("tags refused", "sim --m 1 --pi C201 --pty 10", 0, b"""tags,0 1 1 0 1 0 0 0,1,
+tags,0 1 1 0 1 0 0 0,1,
+text,HI,1,
+tags,0 1 1 0 2 0 0 0,1,
+tags,0 1 1 0 1 1 2 0,1,
+tags,0 1 1 0 1 0 0 0,1,
+""", b"""0 tags silent 1
+1 tags notext
+2 text ok
+3 tags outoftext 1
+3 sent C201 2140 4849 0D20
+4 tags outoftext 2
+5 tags ok
+5 sent C201 2140 4849 0D20
+"""),
+    ("byte order mark", SIM, 0, b"\xEF\xBB\xBFtext,HI,1,\n", b"0 text silent 4\n"),
+    ("lines end with a carriage return too", SIM, 0, b"text,HI,1,\r\ntext,HI,1,\r\n", b"""0 text silent 4
+1 text silent 3
+"""),
+    ("empty lines", SIM, 0, b"\n\ntext,HI,1,\n\n\ntext,HI,1,", b"0 text silent 4\n1 text silent 3\n"),
+    ("line end between quotes", SIM, 1, b'text,"H\nI",1,\n', b"fault row 1\n"),
+    ("quote left open", SIM, 1, b'text,HI,1,\n-,,1,"\n-,,1,\n', b"0 text silent 4\nfault row 2\n"),
+]
+
+ENCODED = [
+    ("encoded log", ENCODE, 0, ENCODED_SCRIPT, ENCODED_LOG),
+    ("all of a traffic programme", "encode --m 1 --tp --pi C201 --pty 10", 0, b"""-,,1,
+text,HI,1,
+name,JAZZ FM,1,
+tags,0 1 1 0 1 0 0 0,1,
+-,,1,
+-,,1,
+-,,1,
+-,,1,
+-,,1,
+""", b"""---- ---- ---- ----
+# 1 text ok
+C201 2540 4849 0D20
+# 2 name ok
+C201 A540 4A41 5A5A
+# 3 tags ok
+C201 2540 4849 0D20
+C201 A541 2046 4D20
+C201 2540 4849 0D20
+C201 3556 0000 4BD7
+C201 2540 4849 0D20
+C201 B548 2002 0000
+"""),
+    ("greatest programme type", "encode --m 1 --pi FFFF --pty 31", 0, b"""-,,1,
+text,HI,1,
+""", b"---- ---- ---- ----\n# 1 text ok\nFFFF 23E0 4849 0D20\n"),
+    ("empty script", "encode --pi C201 --pty 10", 0, b"", b""),
+    ("row with a receiver", "encode --pi C201 --pty 10", 1, b"-,,1,G\n", b"# fault row 1\n"),
+    ("row after the log", ENCODE, 1, b"""text,HI,1,
+text,HI,1,
+x
+""", b"# 0 text silent 1\n---- ---- ---- ----\n# 1 text ok\nC201 2140 4849 0D20\n# fault row 3\n"),
+]
+
+# groups that come up to two slots late
+LATE = [
+    ("late group", SIM_TWO_LATE, 0, b"""-,,1,G
+-,,1,G
+-,,1,G
+-,,1,G
+-,,1,G
+-,,1,G
+text,HI,1,L
+-,,1,L
+-,,1,G2
+-,,0,L
+-,,0,L
+-,,0,L
+-,,0,L
+""", b'6 text ok\n6 sent C201 2140 4849 0D20\n8 sent C201 2140 4849 0D20\n8 r0 text "HI"\n12 r0 text none\n'),
+    ("late group refused", SIM_TWO_LATE, 1, b"""-,,1,G
+-,,1,G
+-,,1,G
+-,,1,G
+-,,1,G
+-,,1,G
+-,,1,G
+-,,1,G2
+""", b"fault row 8\n"),
+    ("handed over already", SIM_TWO_LATE, 1, b"-,,1,G\n-,,1,G1\n", b"fault row 2\n"),
+    ("five digits", SIM_TWO_LATE, 1, b"-,,1,G12345\n", b"fault row 1\n"),
+    ("late where none may be", "sim --pi C201 --m 4 --k 0", 1, b"-,,1,G1\n", b"fault row 1\n"),
+    ("late without --k", "sim --pi C201 --m 4", 1, b"-,,1,G1\n", b"fault row 1\n"),
+]
+
+AUDITED = [
+    ("tags on air", AUDIT, 0, TAGGED_LOG, b"yes 12\n"),
+    ("empty log", AUDIT, 0, b"", b"yes 0\n"),
+    ("no slots", AUDIT, 0, b"# note\n\n%", b"yes 0\n"),
+    ("no line feed at the end", AUDIT, 0, b"C201 2140 4849 0D20", b"yes 1\n"),
+    ("another programme", AUDIT, 0, b"C201 2140 4849 0D20\nF000 2140 594F 0D20\nC201 2140 4849 0D20\n", b"yes 3\n"),
+    ("changed", AUDIT, 1, CHANGED, b"no 1 Changed\n"),
+    ("not one text", AUDIT, 1, b"C201 2140 0D41 2020\n", b"no 0 NotOneText\n"),
+    ("early flag", AUDIT, 1, b"C201 2140 4849 0D20\nC201 2150 594F 0D20\nC201 2140 4849 0D20\n", b"no 2 EarlyFlag\n"),
+    ("tags after the dwell", AUDIT, 0, TAGS_IN_TIME, b"yes 5\n"),
+    ("tags before a longer dwell", "audit --pi C201 --m 5", 1, TAGS_IN_TIME, b"no 4 EarlyTag\n"),
+    ("early tag", AUDIT, 1, b"C201 2140 4849 0D20\nC201 B158 8006 08E7\n", b"no 1 EarlyTag\n"),
+    ("tag outside", AUDIT, 1, b"""C201 2140 4849 0D20
+---- ---- ---- ----
+---- ---- ---- ----
+---- ---- ---- ----
+C201 B158 8006 08E7
+""", b"no 4 TagOutside\n"),
+    ("encoded log", "audit --pi C201 --m 1", 0, b"""# 0 text silent 1
+---- ---- ---- ----
+# 1 text ok
+C201 2140 4849 0D20
+""", b"yes 2\n"),
+    ("lawful and not dense", AUDIT, 1, b"""C201 2140 4849 0D20
+---- ---- ---- ----
+---- ---- ---- ----
+---- ---- ---- ----
+C201 2140 4849 0D20
+C201 B148 2002 0000
+""", b"no 5 EarlyTag\n"),
+    ("bad line", AUDIT, 1, b"C201 2140 4849\n", b"fault line 1\n"),
+    ("bad line at the end", AUDIT, 1, b"C201 2140 4849 0D20\nx", b"fault line 2\n"),
+    ("bad line after the no", AUDIT, 1, b"C201 2140 4849 0D20\nC201 2140 594F 0D20\nx\n", b"no 1 Changed\n"),
+    ("bad line before the no", AUDIT, 1, b"C201 2140 4849 0D20\nx\nC201 2140 594F 0D20\n", b"fault line 2\n"),
+]
+
+# the rules with M + K in place of M
+AUDITED_LATE = [
+    ("tags on air", AUDIT_TWO_LATE, 0, TAGGED_LOG, b"yes 12\n"),
+    ("tags after four slots, two late", AUDIT_TWO_LATE, 1, TAGS_AFTER_FOUR, b"no 4 EarlyTag\n"),
+    ("tags after four slots, none late", AUDIT, 1, TAGS_AFTER_FOUR, b"no 4 TagOutside\n"),
+    ("flag after five slots, none late", AUDIT, 0, FLAG_AFTER_FIVE, b"yes 6\n"),
+    ("flag after five slots, two late", AUDIT_TWO_LATE, 1, FLAG_AFTER_FIVE, b"no 5 EarlyFlag\n"),
+    ("lawful and not dense, one late", AUDIT_ONE_LATE, 0, TAGS_AFTER_A_GAP, b"yes 6\n"),
+    ("lawful and not dense, two late", AUDIT_TWO_LATE, 1, TAGS_AFTER_A_GAP, b"no 5 EarlyTag\n"),
+]
+
+# each alone as a script is no row of `sim`
+REFUSED_ROWS = [
+    b"text,HI,1\n", b"-,,1,,\n", b"-,x,1,\n", b"restart,x,1,\n", b"Text,HI,1,\n", b"text,HI,2,\n", b"text,HI,,\n",
+    b"tags,1 1 0 0 1 0 0 0,1,\n", b"tags,1 1 256 0 0 0 0 0,1,\n", b"tags,2 1 1 0 0 0 0 0,1,\n",
+    b"tags,1 1 1 0 0 0 0,1,\n", b"tags,1 1 1 0 0 0 0 0 0,1,\n", b"tags,1 1 +1 0 0 0 0 0,1,\n", b"text,a\\x4,1,\n",
+    b"name,123456789,1,\n", b"-,,1,GGGGGGGGG\n", b"-,,1,g\n", b'text,"HI',
+]
+
+# logs with a bad line, and what is printed
+BAD_LINES = [
+    (b"x\n", b"fault line 1\n"),
+    (b"C201 2140 4849 0D2", b"fault line 1\n"),
+    (b"C201 21405 4849 0D20\n", b"fault line 1\n"),
+    (b"C201 2140 4849 0D20x\n", b"fault line 1\n"),
+    (b"C201 2140 4849 0D2G\n", b"fault line 1\n"),
+    (b"C201 2140 4849 --- \n", b"fault line 1\n"),
+    (b"\n#\nC201 2140 4849 0D20\nx", b'0 text "HI"\nfault line 4\n'),
+    (b"\x00\xFF\r\n\x80", b"fault line 1\n"),
+]
+
+# the class of each number, as a tag shows it
+CLASSES = {
+    1: b"ITEM.TITLE", 2: b"ITEM.ALBUM", 3: b"ITEM.TRACKNUMBER", 4: b"ITEM.ARTIST", 5: b"ITEM.COMPOSITION",
+    6: b"ITEM.MOVEMENT", 7: b"ITEM.CONDUCTOR", 8: b"ITEM.COMPOSER", 9: b"ITEM.BAND", 10: b"ITEM.COMMENT",
+    11: b"ITEM.GENRE", 12: b"12", 63: b"63",
+}
+
+
+def much_output():
+    """More output for one read than waits to be written at once."""
+    shown = b"".join(b'%d text "%s"\n' % (slot, (b"HI", b"YO")[slot % 2]) for slot in range(2000))
+    return "much output", DECODE, 0, (HI + b"C201 2150 594F 0D20\n") * 1000, shown
+
+
+def decoded_classes():
+    """The first tag has its class in bits 8 to 3 of the 37 bits' upper half: here on the text `HI`."""
+    for number, name in CLASSES.items():
+        second, third = 0xB148 | number >> 3, number << 13 & 0xE000 | 2
+        log = b"C201 3156 0000 4BD7\n" + HI + b"C201 %04X %04X 0000\n" % (second, third)
+        yield f"class {number}", DECODE, 0, log, b'1 text "HI"\n2 item 0 1\n2 tag1 %s "HI"\n' % name
+
+
+def one_of_three_programmes():
+    """Each programme is decoded, and no other is heard with it."""
+    log = b"F000 2140 4849 0D20\nC201 2150 594F 0D20\n0000 2140 4142 0D20\n"
+    rows = {"F000": b'0 text "HI"\n', "C201": b'1 text "YO"\n', "0000": b'2 text "AB"\n', "FFFF": b""}
+    for pi, shown in rows.items():
+        yield f"programme {pi} of three", f"decode --pi {pi}", 0, log, shown
+
+
+def faults_of_programmes():
+    """What is given as programme is not four hexadecimal digits."""
+    for command, told in (("decode", b""), ("encode", b"# "), ("sim", b""), ("audit", b"")):
+        for given in ("C20", "C2011", "C20G", "", "+201"):
+            yield f"{command} of programme {given!r}", f"{command} --pi {shlex.quote(given)}", 2, HI, told + b"fault pi\n"
+
+
+def rows():
+    """All of them."""
+    yield from (*DECODED, *SIMULATED, *ENCODED, *LATE, *AUDITED, *AUDITED_LATE)
+    for row in REFUSED_ROWS:
+        yield "refused row", "sim --pi C201 --pty 10", 1, row, b"fault row 1\n"
+    for log, told in BAD_LINES:
+        yield "bad line", DECODE, 1, log, told
+    # a text is shown while the last segment of its run came less than 128 slots before
+    yield "shown for the dwell", DECODE, 0, HI + NO_GROUP * 130, b'0 text "HI"\n128 text none\n'
+    yield much_output()
+    yield from decoded_classes()
+    yield from one_of_three_programmes()
+    yield from faults_of_programmes()
+
+
+def cases(check, ran):
+    for name, words, status, given, shown in rows():
+        check(f"row: {name}, {words}, {given!r}", ran(shlex.split(words), given), (status, shown))
