@@ -356,7 +356,12 @@ AUDITED = [
     ("another programme", AUDIT, 0, b"C201 2140 4849 0D20\nF000 2140 594F 0D20\nC201 2140 4849 0D20\n", b"yes 3\n"),
     ("changed", AUDIT, 1, CHANGED, b"no 1 Changed\n"),
     ("not one text", AUDIT, 1, b"C201 2140 0D41 2020\n", b"no 0 NotOneText\n"),
+    ("name with a line feed", AUDIT, 1, b"C201 A140 0A41 4141\n", b"no 0 NotOneText\n"),
+    ("name with a carriage return", AUDIT, 1, b"C201 A140 0D41 4141\n", b"no 0 NotOneText\n"),
+    ("early flag after a slot", AUDIT, 1, HI + b"C201 2150 594F 0D20\n" + NO_GROUP + HI, b"no 3 EarlyFlag\n"),
     ("early flag", AUDIT, 1, b"C201 2140 4849 0D20\nC201 2150 594F 0D20\nC201 2140 4849 0D20\n", b"no 2 EarlyFlag\n"),
+    ("tags of no text", AUDIT, 1, b"C201 B158 8006 08E7\n", b"no 0 EarlyTag\n"),
+    ("tags of another programme", AUDIT, 0, HI + b"F000 2140 594F 0D20\nF000 B158 8006 08E7\n" + HI, b"yes 4\n"),
     ("tags after the dwell", AUDIT, 0, TAGS_IN_TIME, b"yes 5\n"),
     ("tags before a longer dwell", "audit --pi C201 --m 5", 1, TAGS_IN_TIME, b"no 4 EarlyTag\n"),
     ("early tag", AUDIT, 1, b"C201 2140 4849 0D20\nC201 B158 8006 08E7\n", b"no 1 EarlyTag\n"),
@@ -429,6 +434,15 @@ def much_output():
     return "much output", DECODE, 0, (HI + b"C201 2150 594F 0D20\n") * 1000, shown
 
 
+def carriage_return_at_each_place():
+    """All sixteen segments, with a lone carriage return at one of the 64 places: it ends the text there."""
+    for place in range(64):
+        sent = b"A" * place + b"\r" + b"A" * (63 - place)
+        log = b"".join(b"C201 %04X %s %s\n" % (0x2140 + at, sent[4 * at:4 * at + 2].hex().upper().encode(),
+                                               sent[4 * at + 2:4 * at + 4].hex().upper().encode()) for at in range(16))
+        yield f"carriage return at {place}", DECODE, 0, log, b'%d text "%s"\n' % (place // 4, b"A" * place)
+
+
 def decoded_classes():
     """The first tag has its class in bits 8 to 3 of the 37 bits' upper half: here on the text `HI`."""
     for number, name in CLASSES.items():
@@ -462,6 +476,7 @@ def rows():
     # a text is shown while the last segment of its run came less than 128 slots before
     yield "shown for the dwell", DECODE, 0, HI + NO_GROUP * 130, b'0 text "HI"\n128 text none\n'
     yield much_output()
+    yield from carriage_return_at_each_place()
     yield from decoded_classes()
     yield from one_of_three_programmes()
     yield from faults_of_programmes()

@@ -1,7 +1,7 @@
 //! Groups and their four blocks.
 
 use crate::same::same;
-use rds_block::{Group, Place, words_are_one_to_one};
+use rds_block::{Group, Place};
 use std::test::Fail;
 
 /// The fields of a text segment of PI C201, TP 0, PTY 10, with flag 1 and address 0.
@@ -21,16 +21,4 @@ fn fields_of_a_text_segment(rt: HostRuntime) -> Result<(), Fail> {
     same(&rt, Group::from_blocks(words), group);
     same(&rt, group.to_blocks(), words);
     Ok(())
-}
-
-/// Every field at its greatest, and version B.
-#[test]
-fn greatest_fields(rt: HostRuntime) {
-    let group = Group::from_blocks([0xFFFF, 0xFFFF, 0xFFFF, 0xFFFF]);
-    same(&rt, group.number.get(), 15);
-    assert!(rt; group.version && group.tp);
-    same(&rt, (group.pty.get(), group.low.get()), (31, 31));
-    same(&rt, group.to_blocks(), [0xFFFF, 0xFFFF, 0xFFFF, 0xFFFF]);
-    same(&rt, Place::<16>::new(16), None);
-    words_are_one_to_one();
 }

@@ -5,8 +5,6 @@
 #![tactic(auto)]
 
 #[cfg(test)]
-mod audits;
-#[cfg(test)]
 mod blocks;
 #[cfg(test)]
 mod characters;

@@ -38,27 +38,6 @@ fn one_run(rt: HostRuntime) {
     }
 }
 
-/// A lone carriage return at each of the 64 places, with all segments held, ends the text there.
-#[test]
-fn each_place(rt: HostRuntime) {
-    for place in 0..64usize {
-        let mut sent = [b'A'; 64];
-        sent[place] = 0x0D;
-        let mut text: Assembly<RadioText> = Assembly::new();
-        for address in 0..16u8 {
-            let first = 4 * address as usize;
-            let bytes = [
-                sent[first],
-                sent[first + 1],
-                sent[first + 2],
-                sent[first + 3],
-            ];
-            assert!(rt; text.put(address, bytes));
-        }
-        same(&rt, (place, text.whole()), (place, Some(&sent[..place])));
-    }
-}
-
 /// What is held already is no change.
 #[test]
 fn held_again(rt: HostRuntime) {
