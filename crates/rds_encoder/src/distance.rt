@@ -6,7 +6,7 @@ use std::marker::Model;
 
 /// The dwell and the lateness together, in slots: after so many no receiver joins a group to one that was sent
 /// before (this project's own rule).
-#[derive(Clone, Copy, Debug, PartialEq, Eq)]
+#[derive(Clone, Copy)]
 pub struct Distance {
     slots: u32,
 }

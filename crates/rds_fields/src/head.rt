@@ -5,7 +5,7 @@ use rds_block::{Group, Place};
 
 /// The fields of a group that belong to the station and not to a message (IEC 62106, group
 /// structure).
-#[derive(Clone, Copy, Debug, PartialEq, Eq)]
+#[derive(Clone, Copy)]
 pub struct Head {
     /// The programme identification.
     pub pi: u16,

@@ -11,7 +11,7 @@ use std::marker::Model;
 pub const MOST_RECEIVERS: usize = 8;
 
 /// What the encoder is told at the start of a slot: at most one thing.
-#[derive(Clone, Copy, Debug, PartialEq, Eq)]
+#[derive(Clone, Copy)]
 pub enum Command {
     /// Nothing.
     Quiet,
@@ -26,7 +26,7 @@ pub enum Command {
 }
 
 /// What a receiver gets of a slot.
-#[derive(Clone, Copy, Debug, PartialEq, Eq)]
+#[derive(Clone, Copy)]
 pub enum Reception {
     /// The group that was sent so many slots before this one, or nothing where none was.
     Got(u16),
@@ -46,7 +46,7 @@ impl Default for Reception {
 }
 
 /// One slot: a command, whether the station lends the slot to the text services, and what each receiver gets.
-#[derive(Debug, Drop, PartialEq)]
+#[derive(Drop)]
 pub struct SlotEvent {
     pub command: Command,
     pub free: bool,

@@ -27,7 +27,7 @@ use std::marker::Model;
 
 /// The head of every group that the station sends, the dwell of the receivers, and how late a group may reach
 /// them, both in slots.
-#[derive(Clone, Copy, Debug, PartialEq, Eq)]
+#[derive(Clone, Copy)]
 pub struct Config {
     pub head: Head,
     pub dwell: Dwell,
