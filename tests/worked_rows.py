@@ -25,6 +25,10 @@ C201 0148 0000 0000
 C201 21405 4849 0D20
 """
 ONE_TEXT = HI + NO_GROUP * 5
+# two segments of the first song, none of the second, and all of the third, which has the flag of the first
+TWO_SKIPPED_FLAGS = (NO_GROUP * 6 + b"C201 2141 5420 534F\n" + NO_GROUP + b"C201 2142 4E47 0D20\n" + NO_GROUP * 11
+                     + b"C201 2140 5448 4952\n" + NO_GROUP + b"C201 2141 4420 534F\n" + NO_GROUP
+                     + b"C201 2142 4E47 0D20\n")
 # two texts at one address with one flag
 CHANGED = HI + b"C201 2140 594F 0D20\n"
 # a text, its tags in good time, with four slots before and where another group would be
@@ -103,6 +107,14 @@ C201 2142 4154 4552
 C201 2143 4C4F 4F0D
 C201 B158 8006 08E7
 """, b'4 text "ABBA - WATERLOO"\n5 item 1 1\n5 tag1 ITEM.ARTIST "ABBA"\n5 tag2 ITEM.TITLE "WATERLOO"\n'),
+    ("tags that stay", DECODE, 0, b"""C201 3156 0000 4BD7
+C201 2140 4849 0D20
+C201 B148 2002 0000
+C201 2140 4849 0D20
+""", b"""1 text "HI"
+2 item 0 1
+2 tag1 ITEM.TITLE "HI"
+"""),
     ("jazz name", DECODE, 0, b"C201 A140 4A41 5A5A\nC201 A141 2046 4D20\n", b'1 name "JAZZ FM "\n'),
     ("jazz name with loose bits", DECODE, 0, b"C201 A14E 4A41 5A5A\nC201 A141 2046 4D20\n", b'1 name "JAZZ FM "\n'),
     ("first half of a name", DECODE, 0, b"C201 A140 4A41 5A5A\n", b""),
@@ -147,6 +159,12 @@ C201 A150 4A0D 5A5A
     ("dwell of four", "decode --pi C201 --m 4", 0, ONE_TEXT, b'0 text "HI"\n4 text none\n'),
     ("dwell spelled otherwise", "decode --m=+004 --pi=C201", 0, ONE_TEXT, b'0 text "HI"\n4 text none\n'),
     ("dwell of one", "decode --pi C201 --m 1", 0, ONE_TEXT, b'0 text "HI"\n1 text none\n'),
+    ("one segment, later", "decode --pi C201 --m 4", 0, NO_GROUP * 4 + ONE_TEXT, b'4 text "HI"\n8 text none\n'),
+    ("second segment too late", "decode --pi C201 --m 4", 0, HI + NO_GROUP * 3 + b"C201 2141 4849 0D20\n",
+     b'0 text "HI"\n4 text none\n'),
+    ("two skipped flags", "decode --pi C201 --m 4", 0, TWO_SKIPPED_FLAGS, b'24 text "THIRD SONG"\n'),
+    ("slots of another programme", "decode --pi C201 --m 2", 0,
+     HI + b"F000 2150 594F 0D20\nF000 2140 594F 0D20\n", b'0 text "HI"\n2 text none\n'),
     ("greatest dwell", "decode --pi C201 --m 65535", 0, ONE_TEXT, b'0 text "HI"\n'),
     ("version", "--version", 0, ONE_TEXT, b"rdsrt 0.1.0\n"),
     ("end of input", DECODE, 1, b"C201 2140 4849 0D2", b"fault line 1\n"),
@@ -273,6 +291,7 @@ tags,0 1 1 0 1 0 0 0,1,
 5 tags ok
 5 sent C201 2140 4849 0D20
 """),
+    # what a record is, is the definition of csv, from here on
     ("byte order mark", SIM, 0, b"\xEF\xBB\xBFtext,HI,1,\n", b"0 text silent 4\n"),
     ("lines end with a carriage return too", SIM, 0, b"text,HI,1,\r\ntext,HI,1,\r\n", b"""0 text silent 4
 1 text silent 3
@@ -428,6 +447,67 @@ CLASSES = {
 }
 
 
+def fitting_tags():
+    """Tags that end in the text, and those that end one character behind it."""
+    waterloo = b"ABBA - WATERLOO"
+    rows = [
+        (b"A" * 64, b"1 0 63 0 0 0", b"ok"), (b"A" * 63, b"1 0 63 0 0 0", b"outoftext 1"),
+        (waterloo, b"4 0 3 1 7 7", b"ok"), (waterloo, b"0 0 0 1 14 0", b"ok"),
+        (waterloo, b"4 0 3 1 7 8", b"outoftext 2"), (waterloo, b"4 15 0 1 7 8", b"outoftext 1"),
+    ]
+    for text, tags, reply in rows:
+        script = b"-,,0,\ntext,%s,0,\ntags,0 1 %s,0,\n" % (text, tags)
+        yield f"tags {tags} of {text}", "sim --pi C201 --m 1", 0, script, b"1 text ok\n2 tags %s\n" % reply
+
+
+def second_name():
+    """The second name has flag 1, also where it is the same."""
+    script = b"-,,1,\nname,JAZZ FM,1,\n-,,1,\nname,JAZZ FM,1,\n" + b"-,,1,\n" * 7
+    shown = b"""1 name ok
+2 sent C201 A140 4A41 5A5A
+3 name ok
+4 sent C201 A151 2046 4D20
+6 sent C201 3156 0000 4BD7
+10 sent C201 A150 4A41 5A5A
+"""
+    return "second name", "sim --m 1 --pi C201 --pty 10", 0, script, shown
+
+
+def tags_after_the_dwell():
+    """At a dwell of 16 the tags of a text of slot 16 wait for slot 32; their turn is in slot 39."""
+    script = b"-,,1,\n" * 16 + b"text,HI,1,\ntags,0 1 1 0 1 0 0 0,1,\n" + b"-,,1,\n" * 22
+    sent = {slot: b"2140 4849 0D20" for slot in range(16, 40, 2)}
+    sent.update({slot: b"3156 0000 4BD7" for slot in range(21, 40, 8)})
+    sent[39] = b"B148 2002 0000"
+    lines = [b"16 text ok\n", b"%d sent C201 %s\n" % (16, sent.pop(16)), b"17 tags ok\n"]
+    lines += [b"%d sent C201 %s\n" % slot for slot in sorted(sent.items())]
+    return "tags after the dwell", "sim --m 16 --pi C201 --pty 10", 0, script, b"".join(lines)
+
+
+def longest_dwell():
+    """Silent for the longest dwell, and held back for twice as long."""
+    none = b"-,,0,\n"
+    script = (b"text,HI,0,\n" + none * 65533 + b"text,HI,0,\ntext,HI,1,\ntext,YO,0,\n" + none * 131067 + b"text,YO,0,\n"
+              + none * 70000 + b"text,YO,0,\n" + b"-,,1,\n" * 2)
+    shown = b"""0 text silent 65535
+65534 text silent 1
+65535 text ok
+65535 sent C201 2140 4849 0D20
+65536 text held 131069
+196604 text held 1
+266605 text ok
+266607 sent C201 2150 594F 0D20
+"""
+    return "longest dwell", "sim --m 65535 --pi C201 --pty 10", 0, script, shown
+
+
+def silent_and_held_for_late_groups():
+    """With a dwell of four slots and groups up to two slots late: silent for six slots, held for twelve."""
+    script = b"-,,0,\n" * 5 + b"text,HI,0,\n" * 2 + b"-,,0,\n" * 10 + b"text,YO,0,\ntext,YO,1,\n"
+    shown = b"5 text silent 1\n6 text ok\n17 text held 1\n18 text ok\n18 sent C201 2150 594F 0D20\n"
+    return "silent and held for late groups", SIM_TWO_LATE, 0, script, shown
+
+
 def much_output():
     """More output for one read than waits to be written at once."""
     shown = b"".join(b'%d text "%s"\n' % (slot, (b"HI", b"YO")[slot % 2]) for slot in range(2000))
@@ -463,7 +543,8 @@ def faults_of_programmes():
     """What is given as programme is not four hexadecimal digits."""
     for command, told in (("decode", b""), ("encode", b"# "), ("sim", b""), ("audit", b"")):
         for given in ("C20", "C2011", "C20G", "", "+201"):
-            yield f"{command} of programme {given!r}", f"{command} --pi {shlex.quote(given)}", 2, HI, told + b"fault pi\n"
+            words = f"{command} --pi {shlex.quote(given)}"
+            yield f"{command} of programme {given!r}", words, 2, HI, told + b"fault pi\n"
 
 
 def rows():
@@ -475,6 +556,8 @@ def rows():
         yield "bad line", DECODE, 1, log, told
     # a text is shown while the last segment of its run came less than 128 slots before
     yield "shown for the dwell", DECODE, 0, HI + NO_GROUP * 130, b'0 text "HI"\n128 text none\n'
+    yield from fitting_tags()
+    yield from (second_name(), tags_after_the_dwell(), longest_dwell(), silent_and_held_for_late_groups())
     yield much_output()
     yield from carriage_return_at_each_place()
     yield from decoded_classes()
@@ -484,4 +567,4 @@ def rows():
 
 def cases(check, ran):
     for name, words, status, given, shown in rows():
-        check(f"row: {name}, {words}, {given!r}", ran(shlex.split(words), given), (status, shown))
+        check(f"row: {name}, {words}, {given[:80]!r}", ran(shlex.split(words), given), (status, shown))

@@ -1,4 +1,4 @@
-//! Tables of slots and of what is shown at the end of each.
+//! What a receiver lends of all that it shows, and tells of it. Worked logs are cases of the built program.
 
 use crate::same::same;
 use rds_block::Group;
@@ -79,76 +79,6 @@ fn assert_slots(
     Ok(())
 }
 
-/// A segment is held as long as the dwell says, and no longer.
-#[test]
-fn one_segment(rt: HostRuntime) -> Result<(), Fail> {
-    let hi = shows(b"HI");
-    let first = Some([PI, 0x2140, 0x4849, 0x0D20]);
-    let rows = [
-        (first, hi),
-        (None, hi),
-        (None, hi),
-        (None, hi),
-        (None, NOTHING),
-    ];
-    assert_slots(&rt, 4, &rows)
-}
-
-/// The only segment comes in slot 4, and is shown as long as the dwell of 4 slots says: to slot 7.
-#[test]
-fn silence_dwell_and_age(rt: HostRuntime) -> Result<(), Fail> {
-    let hi = shows(b"HI");
-    let mut rows = [(None, NOTHING); 9];
-    rows[4] = (Some([PI, 0x2140, 0x4849, 0x0D20]), hi);
-    for row in &mut rows[5..8] {
-        row.1 = hi;
-    }
-    assert_slots(&rt, 4, &rows)
-}
-
-/// A second segment that comes the dwell after the first does not go on its run.
-#[test]
-fn second_segment_too_late(rt: HostRuntime) -> Result<(), Fail> {
-    let hi = shows(b"HI");
-    let rows = [
-        (Some([PI, 0x2140, 0x4849, 0x0D20]), hi),
-        (None, hi),
-        (None, hi),
-        (None, hi),
-        (Some([PI, 0x2141, 0x4849, 0x0D20]), NOTHING),
-    ];
-    assert_slots(&rt, 4, &rows)
-}
-
-/// Two segments of the first song are received, none of the second, and all of the third, which has the flag of
-/// the first: nothing of the first song is shown in it.
-#[test]
-fn two_skipped_flags(rt: HostRuntime) -> Result<(), Fail> {
-    let mut rows = [(None, NOTHING); 25];
-    rows[6].0 = Some([PI, 0x2141, 0x5420, 0x534F]);
-    rows[8].0 = Some([PI, 0x2142, 0x4E47, 0x0D20]);
-    rows[20].0 = Some([PI, 0x2140, 0x5448, 0x4952]);
-    rows[22].0 = Some([PI, 0x2141, 0x4420, 0x534F]);
-    rows[24] = (Some([PI, 0x2142, 0x4E47, 0x0D20]), shows(b"THIRD SONG"));
-    assert_slots(&rt, 4, &rows)
-}
-
-/// An announcement of another application on 11A takes the tags away.
-#[test]
-fn contrary_announcement(rt: HostRuntime) -> Result<(), Fail> {
-    let hi = shows(b"HI");
-    let rows = [
-        (Some([PI, 0x3156, 0x0000, 0x4BD7]), NOTHING),
-        (Some([PI, 0x2140, 0x4849, 0x0D20]), hi),
-        (
-            Some([PI, 0xB148, 0x2002, 0x0000]),
-            shows_title(b"HI", Some(b"HI")),
-        ),
-        (Some([PI, 0x3156, 0x0000, 0xCD46]), hi),
-    ];
-    assert_slots(&rt, 128, &rows)
-}
-
 /// An encoder that keeps none of the rules: texts that change under one flag, tags before their announcement and
 /// longer than the text, and a name in the order of addresses 1 and 0.
 #[test]
@@ -177,39 +107,9 @@ fn foreign_encoder(rt: HostRuntime) -> Result<(), Fail> {
     assert_slots(&rt, 4, &rows)
 }
 
-/// The artist and the title of a text, which stay while its segments come again.
+/// Laws do nothing when they run.
 #[test]
-fn two_tags(rt: HostRuntime) -> Result<(), Fail> {
-    let song = Shown {
-        text: Some(b"ABBA - WATERLOO"),
-        item: Some((true, true)),
-        one: Some((4, b"ABBA")),
-        two: Some((1, b"WATERLOO")),
-        ..NOTHING
-    };
-    let text = shows(b"ABBA - WATERLOO");
-    let rows = [
-        (Some([PI, 0x3156, 0x0000, 0x4BD7]), NOTHING),
-        (Some([PI, 0x2140, 0x4142, 0x4241]), NOTHING),
-        (Some([PI, 0x2141, 0x202D, 0x2057]), NOTHING),
-        (Some([PI, 0x2142, 0x4154, 0x4552]), NOTHING),
-        (Some([PI, 0x2143, 0x4C4F, 0x4F0D]), text),
-        (Some([PI, 0xB158, 0x8006, 0x08E7]), song),
-        (Some([PI, 0x2140, 0x4142, 0x4241]), song),
-    ];
-    assert_slots(&rt, 128, &rows)
-}
-
-/// A group of another programme is not handled, though its slot counts.
-#[test]
-fn another_programme(rt: HostRuntime) -> Result<(), Fail> {
-    let hi = shows(b"HI");
-    let rows = [
-        (Some([PI, 0x2140, 0x4849, 0x0D20]), hi),
-        (Some([0xF000, 0x2150, 0x594F, 0x0D20]), hi),
-        (Some([0xF000, 0x2140, 0x594F, 0x0D20]), NOTHING),
-    ];
-    assert_slots(&rt, 2, &rows)?;
+fn laws(_rt: HostRuntime) -> Result<(), Fail> {
     run_is_the_longest();
     one_view();
     Ok(())
