@@ -32,12 +32,12 @@ def rlib(name):
 
 
 def last_change(name):
-    """When a source of the crate, or the list of crates, was last written."""
-    files = [LIST]
+    """When a source of the crate, or the list of crates, was last written, or one of its files came or went."""
+    changed = [LIST]
     for part in ("src", "specs", "proofs"):
         for at, _, found in os.walk(os.path.join(folder(name), part)):
-            files += [os.path.join(at, it) for it in found]
-    return max(map(os.path.getmtime, files))
+            changed += [at, *(os.path.join(at, it) for it in found)]
+    return max(map(os.path.getmtime, changed))
 
 
 def compile_words(name, uses, jobs, *more):
