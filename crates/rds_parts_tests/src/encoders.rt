@@ -171,7 +171,9 @@ fn latenesses(rt: HostRuntime) -> Result<(), Fail> {
     }
     same(&rt, Late::new(1025), None);
     same(&rt, Late::new(65535), None);
-    same(&rt, restarted(65535, 1024)?.wait(), wait(66559, 0, 0));
+    let longest = restarted(65535, 1024)?;
+    same(&rt, longest.wait(), wait(66559, 0, 0));
+    same(&rt, longest.text(), None);
     let dwell = Dwell::new(65535).ok_or("dwell")?;
     let late = Late::new(1024).ok_or("late")?;
     same(&rt, Distance::new(dwell, late).get(), 66559);

@@ -10,7 +10,7 @@ fn text(flags: u16, bytes: u16) -> Option<Group> {
     Some(Group::from_blocks([0xC201, flags, bytes, 0x0D20]))
 }
 
-/// What is restored finds the fault of the whole log, and keeps it. Worked logs are cases of the built program.
+/// What is restored finds the fault of the whole log, and keeps it, whatever is sent. Worked logs are cases of the built program.
 #[test]
 fn goes_on_from_what_is_stored(rt: HostRuntime) -> Result<(), Fail> {
     let dwell = Dwell::new(8).ok_or("dwell")?;
@@ -22,8 +22,15 @@ fn goes_on_from_what_is_stored(rt: HostRuntime) -> Result<(), Fail> {
     let mut audit = Audit::restore(&audit.store());
     let early = audit.slot(text(0x2140, 0x4849));
     same(&rt, early, Err(AuditFault::EarlyFlag));
-    assert!(rt; !audit.passed());
-    let again = Audit::restore(&audit.store()).slot(None);
-    same(&rt, again, Err(AuditFault::EarlyFlag));
+    let mut audit = Audit::restore(&audit.store());
+    for sent in [
+        None,
+        text(0x2140, 0x4849),
+        text(0x2140, 0x594F),
+        text(0x2150, 0x594F),
+    ] {
+        same(&rt, audit.slot(sent), Err(AuditFault::EarlyFlag));
+        assert!(rt; !audit.passed());
+    }
     Ok(())
 }
