@@ -1,9 +1,9 @@
 //! The words that the program takes, as a command of `clap`: what each means, and what it may be.
 ghost use Rattle.std.specs.Prelude.{◌≡◌, IfOk, codes, false};
-ghost use Rattle.clap.specs.Words.{app_of, rule_of};
+ghost use Rattle.clap.specs.Words.{App, app_of, rule_of, with_subcommand};
 ghost use Rattle.clap.specs.declared.builder.command.Command.TheViews.{out-Command};
-ghost use Rattle.rds_words.specs.CommandLine.{decoder_app, dwell_rule, late_app, late_rule, log_app, log_readers_app, pi_rule, pty_rule};
-ghost use Rattle.rds_words.specs.CommandLine.{station_app, top_app, tp_rule, whole_app, without_sim_app};
+ghost use Rattle.rds_words.specs.CommandLine.{dwell_rule, late_app, late_rule, log_app, pi_rule, pty_rule};
+ghost use Rattle.rds_words.specs.CommandLine.{station_app, top_app, tp_rule, whole_app};
 
 use clap::{Arg, ArgAction, Command, value_parser};
 use std::alloc::{AllocError, Global};
@@ -195,35 +195,25 @@ fn top<'a>(alloc: Global) -> Command<'a>
         .subcommand_required(true)
 }
 
-/// The program with the subcommand `decode` alone.
-fn decoder<'a>(alloc: Global) -> Result<Command<'a>, AllocError>
-    ensures { IfOk result (λ c. app_of c ≡ decoder_app) }
+/// A command with one subcommand more.
+fn with<'a>(
+    command: Command<'a>,
+    subcommand: Result<Command<'a>, AllocError>,
+) -> Result<Command<'a>, AllocError>
+    ensures { (app : App) → IfOk subcommand.entry (λ s. app_of s ≡ app)
+        → IfOk subcommand.entry (λ s. (out-Command s).has_globals ≡ false)
+        → IfOk result (λ c. app_of c ≡ with_subcommand (app_of command.entry) app.top) }
 {
-    let decode = decode(alloc)?;
-    top(alloc).subcommand(decode)
-}
-
-/// The program with the subcommands that read a log.
-#[tactic(auto, unfolding(crate::specs::CommandLine::log_readers_app))]
-fn log_readers<'a>(alloc: Global) -> Result<Command<'a>, AllocError>
-    ensures { IfOk result (λ c. app_of c ≡ log_readers_app) }
-{
-    let audit = audit(alloc)?;
-    decoder(alloc)?.subcommand(audit)
-}
-
-/// The program with all subcommands but `sim`.
-fn without_sim<'a>(alloc: Global) -> Result<Command<'a>, AllocError>
-    ensures { IfOk result (λ c. app_of c ≡ without_sim_app) }
-{
-    let encode = encode(alloc)?;
-    log_readers(alloc)?.subcommand(encode)
+    command.subcommand(subcommand?)
 }
 
 /// The whole command line.
+#[tactic(auto, unfolding(crate::specs::CommandLine::log_readers_app))]
 pub fn whole<'a>(alloc: Global) -> Result<Command<'a>, AllocError>
     ensures app { IfOk result (λ c. app_of c ≡ whole_app) }
 {
-    let simulate = simulate(alloc)?;
-    without_sim(alloc)?.subcommand(simulate)
+    let with_decode = with(top(alloc), decode(alloc))?;
+    let with_audit = with(with_decode, audit(alloc))?;
+    let with_encode = with(with_audit, encode(alloc))?;
+    with(with_encode, simulate(alloc))
 }
