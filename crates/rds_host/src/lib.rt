@@ -7,5 +7,5 @@ mod status;
 mod words;
 
 pub use gather::{Flushing, Gathered, Gathering, Kept, send};
-pub use status::status_at_end;
-pub use words::texts;
+pub use status::{no_words, status_at_end};
+pub use words::{texts, words_of};

@@ -1,8 +1,14 @@
 //! The status that the program ends with.
 ghost use Rattle.std.specs.Prelude.{◌≡◌, false, true};
 
-/// The status where not all of the output could be written.
+use rds_charset::{Told, put};
+use std::io::Write;
+
+/// The status where not all of the output could be written, or there is no memory for the words.
 const FAULT: u8 = 1;
+
+/// The status where the words are refused.
+const REFUSED: u8 = 2;
 
 /// The status where all is out is the one that was found. Where it isn't, that is a fault if anything was read: help
 /// and why the words are refused need not be out.
@@ -12,4 +18,17 @@ pub fn status_at_end(status: u8, was_read: bool, all_out: bool) -> u8
     ensures fault { was_read ≡ true → all_out ≡ false → result ≡ 1 }
 {
     if was_read && !all_out { FAULT } else { status }
+}
+
+/// The status where the words can't be taken: for want of memory, which is told as far as the writer takes it, or for
+/// another cause.
+pub fn no_words<W: Write + Drop>(memory: bool, writer: W) -> u8
+    ensures memory { memory ≡ true → result ≡ 1 }
+    ensures other { memory ≡ false → result ≡ 2 }
+{
+    if !memory {
+        return REFUSED;
+    }
+    let _ = put(b"fault memory\n", &mut Told::new(writer));
+    FAULT
 }

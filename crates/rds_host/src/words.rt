@@ -2,6 +2,17 @@
 ghost use Rattle.std.specs.Prelude.{◌≡◌, IfOk, map, string_bytes};
 
 use std::alloc::{AllocError, Global};
+use std::env::{self, Env};
+use std::io;
+
+/// The words of the command line, the program's own name first.
+///
+/// # Errors
+///
+/// There is no memory for them, or the system does not give them.
+pub fn words_of(rt: &(impl Env + AllocGlobal)) -> io::Result<Vec<String>> {
+    Ok(env::args(rt)?.collect(rt.alloc())?)
+}
 
 /// The texts of the words, each as it is and in their order.
 ///

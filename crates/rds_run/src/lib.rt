@@ -2,6 +2,8 @@
 //! with. The contract of `run` says which output each input has.
 #![tactic(auto)]
 
+mod gathered;
 mod program;
 
+pub use gathered::run_gathered;
 pub use program::{run, run_lent};
