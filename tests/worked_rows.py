@@ -80,12 +80,59 @@ TAGS_OUTPUT = b"""4 text ok
 11 r0 tag1 ITEM.ARTIST "ABBA"
 11 r0 tag2 ITEM.TITLE "WATERLOO"
 """
+# two segments of the first song are received, none of the second, and all of the third, which has the first one's flag;
+# with THIRT the segments of the first song would make the third whole four slots too early
+SONGS = {4: b"FIRST SONG", 12: b"OTHER SONG"}
+SONGS_RECEIVED = {6, 8, *range(20, 25)}
+# a name in two segments, between which the receiver loses a slot or restarts
+NAME_ROWS = b"-,,1,G\n" * 4 + b"name,JAZZ FM,1,G\n-,,1,G\n-,,1,%s\n-,,1,G\n"
+NAME_SENT = b"4 name ok\n5 sent C201 A140 4A41 5A5A\n7 sent C201 A141 2046 4D20\n"
+# what a receiver gets slot by slot where groups come up to two slots late, and the first row that is refused: before slot
+# 0, more than two slots late, the same slot again, also after the receiver restarted, and an earlier one
+IN_ORDER = [("G G G", None), ("L L G2 G2", None), ("G1", 1), ("L L L G3", 4), ("G G1", 2), ("L G R G2", 4),
+            ("L G R G1", None), ("L L G G2", 4), ("G L L L L G2", None)]
 ENCODED_SCRIPT = b"text,HI,1,\ntext,HI,1,\n"
 ENCODED_LOG = b"""# 0 text silent 1
 ---- ---- ---- ----
 # 1 text ok
 C201 2140 4849 0D20
 """
+
+
+
+def sent_segments(text, flag, slots):
+    """The groups of a text of three segments in these slots, from its first segment on."""
+    padded = (text + b"\r").ljust(12)
+    for count, slot in enumerate(slots):
+        place = count % 3
+        first, second = padded[4 * place:4 * place + 2], padded[4 * place + 2:4 * place + 4]
+        words = first.hex().upper().encode(), second.hex().upper().encode()
+        yield slot, b"%d sent C201 21%d%d %s %s\n" % (slot, 4 + flag, place, *words)
+
+
+def three_songs(third):
+    """Three songs and what is shown of them: a segment in each second slot, and the announcement in slots 9 and 17."""
+    songs = {**SONGS, 20: third}
+    commands = [b"text," + songs[slot] if slot in songs else b"-," for slot in range(25)]
+    receptions = [b"G" if slot in SONGS_RECEIVED else b"L" for slot in range(25)]
+    script = b"".join(b"%s,1,%s\n" % row for row in zip(commands, receptions))
+    sent = {slot: b"%d sent C201 3156 0000 4BD7\n" % slot for slot in (9, 17)}
+    for flag, (start, end) in zip((0, 1, 0), ((4, 12), (12, 20), (20, 25))):
+        sent.update(sent_segments(songs[start], flag, range(start, end, 2)))
+    lines = [(b"%d text ok\n" % slot if slot in songs else b"") + sent[slot] for slot in sorted(sent)]
+    return script, b"".join(lines) + b'24 r0 text "%s"\n' % third
+
+
+def in_order():
+    """Such a receiver of a station that is told nothing, and of one that restarts in each slot."""
+    for receptions, refused in IN_ORDER:
+        each = receptions.encode().split()
+        fault = b"" if refused is None else b"fault row %d\n" % refused
+        told = b"".join(b"%d restart\n" % slot for slot in range((refused or len(each) + 1) - 1))
+        for command, shown in ((b"-", fault), (b"restart", told + fault)):
+            script = b"".join(b"%s,,1,%s\n" % (command, reception) for reception in each)
+            yield f"{receptions} in order", SIM_TWO_LATE, int(refused is not None), script, shown
+
 
 DECODED = [
     ("first text", DECODE, 0, b"C201 2140 4849 0D20\n", b'0 text "HI"\n'),
@@ -253,6 +300,9 @@ text,TWO,1,GL
 14 sent C201 2150 5457 4F0D
 14 r1 text "TWO"
 """),
+    *(("two skipped flags of the last song", SIM, 0, *three_songs(song)) for song in (b"THIRD SONG", b"THIRT SONG")),
+    *(("a name, one segment of which another slot parts from the next", SIM, 0, NAME_ROWS % between, NAME_SENT + shown)
+      for between, shown in ((b"L", b'7 r0 name "JAZZ FM "\n'), (b"R", b""))),
     ("quoted comma", "sim --m 1 --pi C201 --pty 10", 0, b'-,,1,G\ntext,"A, B",1,G\n', b"""1 text ok
 1 sent C201 2140 412C 2042
 """),
@@ -557,6 +607,7 @@ def rows():
     # a text is shown while the last segment of its run came less than 128 slots before
     yield "shown for the dwell", DECODE, 0, HI + NO_GROUP * 130, b'0 text "HI"\n128 text none\n'
     yield from fitting_tags()
+    yield from in_order()
     yield from (second_name(), tags_after_the_dwell(), longest_dwell(), silent_and_held_for_late_groups())
     yield much_output()
     yield from carriage_return_at_each_place()

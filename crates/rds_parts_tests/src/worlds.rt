@@ -1,11 +1,11 @@
-//! A station and its receivers: what each slot answers and sends, and what is shown at its end. The worked rows that are
-//! scripts are cases of the whole program.
+//! A station and its receivers: what each slot answers and sends, and what is shown at its end. The worked rows that
+//! are scripts are cases of the whole program.
 
 use crate::same::same;
 use arrayvec::ArrayVec;
 use rds_assembly::{Name, Text};
 use rds_block::Place;
-use rds_fields::{Dwell, Head, Late, Tag, TagPair, Which};
+use rds_fields::{Dwell, Head, Late};
 use rds_world::{
     Answer, Command, Config, PlayRefused, Reception, Reply, SlotEvent, StepRefused, World,
     WorldRefused, play,
@@ -18,31 +18,29 @@ const GOT: Reception = Reception::Got(0);
 
 const LOST: Reception = Reception::Lost;
 
-/// So many free slots of a world of up to three receivers: what happens in each, its reply and what it sends, and
-/// the text that each receiver shows at its end.
+/// So many free slots of a world whose receivers get each group: what happens in each, its reply and what it sends, and
+/// the text that all show at its end.
 #[derive(Clone, Copy)]
 struct Row {
     slots: u32,
     command: Command,
-    receptions: [Reception; 3],
     reply: Reply,
     sent: Option<[u16; 4]>,
-    texts: [Option<Text>; 3],
+    text: Option<Text>,
 }
 
-/// So many slots with no command that every receiver gets; nothing is sent, and nothing is shown.
+/// So many slots with no command; nothing is sent, and nothing is shown.
 fn quiet(slots: u32) -> Row {
     Row {
         slots,
         command: Command::Quiet,
-        receptions: [GOT, GOT, GOT],
         reply: Reply::Quiet,
         sent: None,
-        texts: [None, None, None],
+        text: None,
     }
 }
 
-/// Such a slot with a command and its reply.
+/// A slot with a command and its reply.
 fn told(command: Command, reply: Reply) -> Row {
     Row {
         command,
@@ -52,10 +50,6 @@ fn told(command: Command, reply: Reply) -> Row {
 }
 
 impl Row {
-    fn got_by(self, receptions: [Reception; 3]) -> Row {
-        Row { receptions, ..self }
-    }
-
     fn sends(self, words: [u16; 4]) -> Row {
         Row {
             sent: Some(words),
@@ -63,8 +57,11 @@ impl Row {
         }
     }
 
-    fn shows(self, texts: [Option<Text>; 3]) -> Row {
-        Row { texts, ..self }
+    fn shows(self, text: Text) -> Row {
+        Row {
+            text: Some(text),
+            ..self
+        }
     }
 }
 
@@ -114,30 +111,27 @@ fn played(rt: &impl Abort, alloc: Global, receivers: usize, rows: &[Row]) -> Res
     Ok(world)
 }
 
-/// Plays the rows on this world of so many receivers.
+/// Plays the rows on this world of up to two receivers.
 fn step_rows(
     rt: &impl Abort,
     world: &mut World,
     receivers: usize,
     rows: &[Row],
 ) -> Result<(), Fail> {
+    let all_get = [GOT; 2];
+    let receptions = all_get.get(..receivers).ok_or("receivers")?;
     for (place, row) in rows.iter().enumerate() {
         for slot in 0..row.slots {
-            let receptions = row.receptions.get(..receivers).ok_or("receivers")?;
             let event = slot_event(row.command, true, receptions)?;
             let answer = play_slot(world, &event).ok().ok_or("receptions")?;
             same(rt, (place, slot, answer.reply), (place, slot, row.reply));
             let sent = answer.sent.map(|group| group.to_blocks());
             same(rt, (place, slot, sent), (place, slot, row.sent));
-            assert_texts(rt, world, receivers, row)?;
+            let text = row.text.as_ref().map(|text| text.bytes());
+            for receiver in 0..receivers {
+                assert_text(rt, world, receiver, text)?;
+            }
         }
-    }
-    Ok(())
-}
-
-fn assert_texts(rt: &impl Abort, world: &World, receivers: usize, row: &Row) -> Result<(), Fail> {
-    for (i, text) in row.texts.iter().take(receivers).enumerate() {
-        assert_text(rt, world, i, text.as_ref().map(|text| text.bytes()))?;
     }
     Ok(())
 }
@@ -154,39 +148,9 @@ fn assert_text(
     Ok(())
 }
 
-/// Holds what a receiver shows to a name.
-fn assert_name(
-    rt: &impl Abort,
-    world: &World,
-    receiver: usize,
-    wanted: Option<&[u8]>,
-) -> Result<(), Fail> {
-    let shown = world.receiver(receiver).ok_or("receiver")?.name();
-    same(rt, (receiver, shown), (receiver, wanted));
-    Ok(())
-}
-
 /// Holds what is on air to a text and a name.
 fn assert_on_air(rt: &impl Abort, world: &World, wanted: (Option<&[u8]>, Option<&[u8]>)) {
     same(rt, world.on_air(), wanted);
-}
-
-/// A tag that is shown: its class and its piece.
-type Shown<'a> = Option<(u8, &'a [u8])>;
-
-/// Holds what a receiver shows to the item's bits and to tags.
-fn assert_tags(
-    rt: &impl Abort,
-    world: &World,
-    receiver: usize,
-    item: Option<(bool, bool)>,
-    tags: (Shown, Shown),
-) -> Result<(), Fail> {
-    let shown = world.receiver(receiver).ok_or("receiver")?;
-    same(rt, (receiver, shown.item()), (receiver, item));
-    same(rt, (receiver, shown.tag(Which::One)), (receiver, tags.0));
-    same(rt, (receiver, shown.tag(Which::Two)), (receiver, tags.1));
-    Ok(())
 }
 
 fn slot_event(command: Command, free: bool, each: &[Reception]) -> Result<SlotEvent, Fail> {
@@ -231,105 +195,26 @@ fn text(bytes: &[u8]) -> Result<Text, Fail> {
     Ok(Text::new(bytes)?)
 }
 
-/// A pair of a running item with toggle 1; its tags by class, start and length marker.
-fn set_tags(one: (u8, u8, u8), two: (u8, u8, u8)) -> Result<Command, Fail> {
-    let one = Tag::new(one.0, one.1, one.2)?;
-    let two = Tag::new(two.0, two.1, two.2)?;
-    Ok(Command::SetTags(TagPair::new(true, true, one, two)?))
-}
-
 /// The text `HI` with flag 0.
 const HI: [u16; 4] = [0xC201, 0x2140, 0x4849, 0x0D20];
-
-const ANNOUNCEMENT: [u16; 4] = [0xC201, 0x3156, 0x0000, 0x4BD7];
-
-/// The second receiver loses the announcement, and the third every segment: only the first shows the tags.
-#[test]
-fn tags_on_air(rt: HostRuntime) -> Result<(), Fail> {
-    let song = text(b"ABBA - WATERLOO")?;
-    let third_loses = [GOT, GOT, LOST];
-    let whole = quiet(1).shows([Some(song), Some(song), None]);
-    let rows = [
-        quiet(4),
-        told(Command::SetText(song), Reply::Done)
-            .sends([0xC201, 0x2140, 0x4142, 0x4241])
-            .got_by(third_loses),
-        told(set_tags((4, 0, 3), (1, 7, 7))?, Reply::Done).got_by(third_loses),
-        quiet(1)
-            .sends([0xC201, 0x2141, 0x202D, 0x2057])
-            .got_by(third_loses),
-        quiet(1).got_by(third_loses),
-        quiet(1)
-            .sends([0xC201, 0x2142, 0x4154, 0x4552])
-            .got_by(third_loses),
-        quiet(1).sends(ANNOUNCEMENT).got_by([GOT, LOST, GOT]),
-        whole
-            .sends([0xC201, 0x2143, 0x4C4F, 0x4F0D])
-            .got_by(third_loses),
-        whole.sends([0xC201, 0xB158, 0x8006, 0x08E7]),
-    ];
-    let world = played(&rt, rt.alloc(), 3, &rows)?;
-    let shown = (
-        Some((4, b"ABBA".as_slice())),
-        Some((1, b"WATERLOO".as_slice())),
-    );
-    assert_tags(&rt, &world, 0, Some((true, true)), shown)?;
-    for i in 1..3 {
-        assert_tags(&rt, &world, i, None, (None, None))?;
-    }
-    Ok(())
-}
-
-/// Two segments of the first song are received, none of the second, and all of the third, which has the flag of
-/// the first. With the other third text the segments of the first song would make it whole four slots too early.
-#[test]
-fn two_skipped_flags(rt: HostRuntime) -> Result<(), Fail> {
-    for third in [b"THIRD SONG", b"THIRT SONG"] {
-        let mut world = new_world(rt.alloc(), 1)?;
-        for slot in 0..25 {
-            let answer = play_slot(&mut world, &slot_of_songs(slot, third)?);
-            let reply = answer.ok().ok_or("receptions")?.reply;
-            same(&rt, (slot, reply), (slot, reply_to_songs(slot)));
-            assert_text(&rt, &world, 0, (slot == 24).then_some(third.as_slice()))?;
-        }
-    }
-    Ok(())
-}
-
-/// Slot after slot of the three songs.
-fn slot_of_songs(slot: u32, third: &[u8]) -> Result<SlotEvent, Fail> {
-    let command = match slot {
-        4 => set_text(b"FIRST SONG")?,
-        12 => set_text(b"OTHER SONG")?,
-        20 => set_text(third)?,
-        _ => Command::Quiet,
-    };
-    let reception = match slot {
-        6 | 8 | 20..25 => GOT,
-        _ => LOST,
-    };
-    slot_event(command, true, &[reception])
-}
-
-fn reply_to_songs(slot: u32) -> Reply {
-    match slot {
-        4 | 12 | 20 => Reply::Done,
-        _ => Reply::Quiet,
-    }
-}
 
 /// A restart takes off air what was on it; the receiver still shows it.
 #[test]
 fn nothing_on_air_after_a_restart(rt: HostRuntime) -> Result<(), Fail> {
     let hi = text(b"HI")?;
+    let jazz = Name::new(b"JAZZ FM")?;
     let rows = [
         quiet(4),
-        told(Command::SetText(hi), Reply::Done)
-            .sends(HI)
-            .shows([Some(hi), None, None]),
-        told(Command::Restart, Reply::Restarted).shows([Some(hi), None, None]),
+        told(Command::SetText(hi), Reply::Done).sends(HI).shows(hi),
+        told(Command::SetName(jazz), Reply::Done)
+            .sends([0xC201, 0xA140, 0x4A41, 0x5A5A])
+            .shows(hi),
     ];
-    let world = played(&rt, rt.alloc(), 1, &rows)?;
+    let mut world = played(&rt, rt.alloc(), 1, &rows)?;
+    let on_air = (Some(b"HI".as_slice()), Some(b"JAZZ FM ".as_slice()));
+    assert_on_air(&rt, &world, on_air);
+    let restart = told(Command::Restart, Reply::Restarted).shows(hi);
+    step_rows(&rt, &mut world, 1, &[restart])?;
     assert_on_air(&rt, &world, (None, None));
     Ok(())
 }
@@ -408,75 +293,6 @@ fn late_group_not_played(rt: HostRuntime) -> Result<(), Fail> {
     Ok(())
 }
 
-/// What one receiver of a world with groups up to two slots late is handed, slot by slot (a digit tells how late the
-/// group comes, `-` that none does, `r` a restart), and the first slot that is refused: before the first slot, more than
-/// two slots late, the same slot again, also after the receiver or the encoder restarted, and an earlier one.
-#[test]
-fn receptions_in_order(rt: HostRuntime) -> Result<(), Fail> {
-    let cases: [(&[u8], Option<usize>); 9] = [
-        (b"000", None),
-        (b"--22", None),
-        (b"1", Some(0)),
-        (b"---3", Some(3)),
-        (b"01", Some(1)),
-        (b"-0r2", Some(3)),
-        (b"-0r1", None),
-        (b"--02", Some(3)),
-        (b"0----2", None),
-    ];
-    for (receptions, wanted) in cases.iter() {
-        let quiet = first_refused(rt.alloc(), Command::Quiet, receptions)?;
-        let restarting = first_refused(rt.alloc(), Command::Restart, receptions)?;
-        same(&rt, (quiet, restarting), (*wanted, *wanted));
-    }
-    Ok(())
-}
-
-/// The first slot that is refused, with a lateness of two, where the station is told this in each.
-fn first_refused(
-    alloc: Global,
-    command: Command,
-    receptions: &[u8],
-) -> Result<Option<usize>, Fail> {
-    let mut world = world_of(alloc, late_config(2)?, 1)?;
-    for (slot, letter) in receptions.iter().enumerate() {
-        let event = slot_event(command, true, &[reception(*letter)])?;
-        if play_slot(&mut world, &event).is_err() {
-            return Ok(Some(slot));
-        }
-    }
-    Ok(None)
-}
-
-/// What a receiver is handed, by its letter in such a case.
-fn reception(letter: u8) -> Reception {
-    match letter {
-        b'-' => LOST,
-        b'r' => Reception::Restart,
-        digit => Reception::Got(u16::from(digit.wrapping_sub(b'0'))),
-    }
-}
-
-/// A name is sent in two turns; a receiver that restarts between them does not show it.
-#[test]
-fn jazz_name(rt: HostRuntime) -> Result<(), Fail> {
-    let name = Some(b"JAZZ FM ".as_slice());
-    let set_name = Command::SetName(Name::new(b"JAZZ FM")?);
-    for (reception, shown) in [(GOT, name), (LOST, name), (Reception::Restart, None)] {
-        let rows = [
-            quiet(4),
-            told(set_name, Reply::Done),
-            quiet(1).sends([0xC201, 0xA140, 0x4A41, 0x5A5A]),
-            quiet(1).got_by([reception, LOST, LOST]),
-            quiet(1).sends([0xC201, 0xA141, 0x2046, 0x4D20]),
-        ];
-        let world = played(&rt, rt.alloc(), 1, &rows)?;
-        assert_name(&rt, &world, 0, shown)?;
-        assert_on_air(&rt, &world, (None, name));
-    }
-    Ok(())
-}
-
 /// A receiver shows what it showed but where a text becomes whole or is given up; of one that is not there nothing is
 /// known.
 #[test]
@@ -503,12 +319,9 @@ fn refused_words(rt: HostRuntime) -> Result<(), Fail> {
     let nine = not_made(rt.alloc(), config()?, 9);
     assert_eq!(rt; nine, Some(WorldRefused::TooManyReceivers));
     let hi = text(b"HI")?;
-    let both = [Some(hi), Some(hi), None];
     let rows = [
         quiet(4),
-        told(Command::SetText(hi), Reply::Done)
-            .sends(HI)
-            .shows(both),
+        told(Command::SetText(hi), Reply::Done).sends(HI).shows(hi),
     ];
     let mut world = played(&rt, rt.alloc(), 2, &rows)?;
     let short = slot_event(Command::Restart, true, &[LOST])?;
