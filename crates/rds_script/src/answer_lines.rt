@@ -1,8 +1,8 @@
 //! The lines of a command's reply and of the group that was sent.
-ghost use Rattle.std.specs.Prelude.{◌≡◌, ◌≢◌, ◌≤◌, ◌+◌, ◌++◌, Option, length};
+ghost use Rattle.std.specs.Prelude.{◌≡◌, ◌≢◌, ◌≤◌, ◌+◌, ◌++◌, Option, decimal, length};
 ghost use Rattle.rds_block.specs.declared.group.Group.{Group};
 ghost use Rattle.rds_world.specs.declared.reply.Reply.TheVariants as replies;
-ghost use Rattle.rds_script.specs.Outcomes.{answer_lines, block_digits, log_line, number_of_tag, refusal_content, reply_content, reply_line, reply_thing, sent_line, spaced_digits, thing_set};
+ghost use Rattle.rds_script.specs.Outcomes.{answer_lines, block_digits, log_line, refusal_content, reply_content, reply_line, reply_thing, sent_line, spaced_digits, thing_set};
 ghost use Rattle.rds_script.specs.declared.answer_lines.TheConstants.{ANSWER_ROOM, GROUP_ROOM, REPLY_ROOM};
 
 use crate::form::Form;
@@ -131,30 +131,23 @@ fn push_refusal<const N: usize>(refusal: Refusal, lines: &mut Lines<N>)
     ensures room { length lines.new ≤ length lines.old + 28 }
 {
     match refusal {
-        Refusal::Silent(slots) => {
-            lines.push(b" silent ");
-            lines.push_number(u64::from(slots));
-        }
-        Refusal::Held(slots) => {
-            lines.push(b" held ");
-            lines.push_number(u64::from(slots));
-        }
+        Refusal::Silent(slots) => push_slots(b" silent ", slots, lines),
+        Refusal::Held(slots) => push_slots(b" held ", slots, lines),
         Refusal::NoText => lines.push(b" notext"),
-        Refusal::OutOfText(which) => {
-            lines.push(b" outoftext ");
-            lines.push(number_of_tag(which));
-        }
+        Refusal::OutOfText(Which::One) => lines.push(b" outoftext 1"),
+        Refusal::OutOfText(Which::Two) => lines.push(b" outoftext 2"),
     }
 }
 
-fn number_of_tag(which: Which) -> &'static [u8]
-    ensures number { result.now ≡ number_of_tag which }
-    ensures one { length result.now ≡ 1 }
+/// Appends how many slots a refusal lasts, behind its word.
+fn push_slots<const N: usize>(word: &[u8], slots: u32, lines: &mut Lines<N>)
+    requires word { length word.now ≤ 8 }
+    requires room { length lines.old + 28 ≤ N }
+    ensures slots { lines.new ≡ lines.old ++ word.now ++ decimal slots }
+    ensures room { length lines.new ≤ length lines.old + 28 }
 {
-    match which {
-        Which::One => b"1",
-        Which::Two => b"2",
-    }
+    lines.push(word);
+    lines.push_number(u64::from(slots));
 }
 
 /// Appends the line of the group, where one was sent.
