@@ -1,5 +1,6 @@
 """The worked rows: words, the status, what is given and what is printed, over the built program."""
 import shlex
+import struct
 
 DECODE = "decode --pi C201"
 SIM = "sim --m 4 --pi C201 --pty 10"
@@ -87,8 +88,8 @@ SONGS_RECEIVED = {6, 8, *range(20, 25)}
 # a name in two segments, between which the receiver loses a slot or restarts
 NAME_ROWS = b"-,,1,G\n" * 4 + b"name,JAZZ FM,1,G\n-,,1,G\n-,,1,%s\n-,,1,G\n"
 NAME_SENT = b"4 name ok\n5 sent C201 A140 4A41 5A5A\n7 sent C201 A141 2046 4D20\n"
-# what a receiver gets slot by slot where groups come up to two slots late, and the first row that is refused: before slot
-# 0, more than two slots late, the same slot again, also after the receiver restarted, and an earlier one
+# what a receiver gets slot by slot where groups come up to two slots late, and the first row that is refused: a group of
+# before slot 0, one more than two slots late, the same again, also after the receiver restarted, and an earlier one
 IN_ORDER = [("G G G", None), ("L L G2 G2", None), ("G1", 1), ("L L L G3", 4), ("G G1", 2), ("L G R G2", 4),
             ("L G R G1", None), ("L L G G2", 4), ("G L L L L G2", None)]
 ENCODED_SCRIPT = b"text,HI,1,\ntext,HI,1,\n"
@@ -99,15 +100,16 @@ C201 2140 4849 0D20
 """
 
 
+def segment(sent, flag, address):
+    """The group of a text's four bytes at this address, programme type 10."""
+    return b"C201 %04X %04X %04X" % (0x2140 + 16 * flag + address, *struct.unpack_from(">HH", sent, 4 * address))
+
 
 def sent_segments(text, flag, slots):
     """The groups of a text of three segments in these slots, from its first segment on."""
-    padded = (text + b"\r").ljust(12)
+    sent = (text + b"\r").ljust(12)
     for count, slot in enumerate(slots):
-        place = count % 3
-        first, second = padded[4 * place:4 * place + 2], padded[4 * place + 2:4 * place + 4]
-        words = first.hex().upper().encode(), second.hex().upper().encode()
-        yield slot, b"%d sent C201 21%d%d %s %s\n" % (slot, 4 + flag, place, *words)
+        yield slot, b"%d sent %s\n" % (slot, segment(sent, flag, count % 3))
 
 
 def three_songs(third):
@@ -127,8 +129,8 @@ def in_order():
     """Such a receiver of a station that is told nothing, and of one that restarts in each slot."""
     for receptions, refused in IN_ORDER:
         each = receptions.encode().split()
-        fault = b"" if refused is None else b"fault row %d\n" % refused
-        told = b"".join(b"%d restart\n" % slot for slot in range((refused or len(each) + 1) - 1))
+        fault, played = (b"", len(each)) if refused is None else (b"fault row %d\n" % refused, refused - 1)
+        told = b"".join(b"%d restart\n" % slot for slot in range(played))
         for command, shown in ((b"-", fault), (b"restart", told + fault)):
             script = b"".join(b"%s,,1,%s\n" % (command, reception) for reception in each)
             yield f"{receptions} in order", SIM_TWO_LATE, int(refused is not None), script, shown
@@ -568,8 +570,7 @@ def carriage_return_at_each_place():
     """All sixteen segments, with a lone carriage return at one of the 64 places: it ends the text there."""
     for place in range(64):
         sent = b"A" * place + b"\r" + b"A" * (63 - place)
-        log = b"".join(b"C201 %04X %s %s\n" % (0x2140 + at, sent[4 * at:4 * at + 2].hex().upper().encode(),
-                                               sent[4 * at + 2:4 * at + 4].hex().upper().encode()) for at in range(16))
+        log = b"".join(segment(sent, 0, address) + b"\n" for address in range(16))
         yield f"carriage return at {place}", DECODE, 0, log, b'%d text "%s"\n' % (place // 4, b"A" * place)
 
 
