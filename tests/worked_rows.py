@@ -88,7 +88,7 @@ SONGS_RECEIVED = {6, 8, *range(20, 25)}
 # a name in two segments, between which the receiver loses a slot or restarts
 NAME_ROWS = b"-,,1,G\n" * 4 + b"name,JAZZ FM,1,G\n-,,1,G\n-,,1,%s\n-,,1,G\n"
 NAME_SENT = b"4 name ok\n5 sent C201 A140 4A41 5A5A\n7 sent C201 A141 2046 4D20\n"
-# what a receiver gets slot by slot where groups come up to two slots late, and the first row that is refused: a group of
+# what a receiver gets slot by slot where groups come up to two slots late, and the first row that is refused: one from
 # before slot 0, one more than two slots late, the same again, also after the receiver restarted, and an earlier one
 IN_ORDER = [("G G G", None), ("L L G2 G2", None), ("G1", 1), ("L L L G3", 4), ("G G1", 2), ("L G R G2", 4),
             ("L G R G1", None), ("L L G G2", 4), ("G L L L L G2", None)]
