@@ -1,7 +1,8 @@
 -- The segments that a value is sent in: its body, four bytes at a time. Segment a is the bytes at the places
 -- 4 * a to 4 * a + 3 of the body (IEC 62106, RadioText and programme type name; the spaces are this project's
 -- own rule).
-use Rattle.std.specs.Prelude.{◌≡◌, ℕ, ◌-◌, ◌*◌, ◌<◌, ◌/◌, ◌%◌, ◌==◌, List, ◌∷◌, ◌++◌, Some, length, take, drop, replicate, if◌then◌else◌}
+use Rattle.std.specs.Prelude.{◌≡◌, ◌-◌, ◌*◌, ◌<◌, ◌/◌, ◌%◌, ◌==◌, ◌∷◌, ◌++◌}
+use Rattle.std.specs.Prelude.{ℕ, List, Some, length, take, drop, replicate, if◌then◌else◌}
 use Rattle.std.specs.FinMap.{get}
 use Rattle.rds_assembly.specs.Cells.{Cells}
 use Rattle.rds_assembly.specs.Whole.{carriage_return}

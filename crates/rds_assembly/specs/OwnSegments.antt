@@ -1,6 +1,8 @@
 -- What a value's own segments make whole: cells taken from its segments make it whole or nothing, and all of
 -- its segments make it whole.
-use Rattle.std.proofs.Common.{◌≡◌, ◌≢◌, ℕ, ◌+◌, ◌-◌, ◌*◌, ◌/◌, ◌%◌, ◌<◌, ◌≤◌, List, ◌∷◌, ◌++◌, Bool, true, false, nat_eq, length, get_or, slice_index, refl, sym, ap, ◌∙◌, ◌⊎◌, inl, inr, arith, length-append}
+use Rattle.std.proofs.Common.{◌≡◌, ◌≢◌, ◌+◌, ◌-◌, ◌*◌, ◌/◌, ◌%◌, ◌<◌, ◌≤◌, ◌∷◌, ◌++◌, ◌∙◌, ◌⊎◌}
+use Rattle.std.proofs.Common.{ℕ, List, Bool, true, false, nat_eq, length, get_or}
+use Rattle.std.proofs.Common.{slice_index, refl, sym, ap, inl, inr, arith, length-append}
 use Rattle.std.specs.Prelude.{replicate}
 use Rattle.std.proofs.lemmas.Bool.{cases_order}
 use Rattle.std.proofs.lemmas.Bool.Decides.{nat_tests}

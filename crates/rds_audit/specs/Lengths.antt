@@ -1,7 +1,9 @@
 -- The lengths that the value of a reign can have (this project's own rule): each fragment allows those from
 -- `least` to `most`, and a reign has a value exactly where no address changed and some length is allowed by all
 -- of its fragments and reaches the ends of its tags. Lists have the newest first.
-use Rattle.std.specs.Prelude.{◌≡◌, ◌<◌, ◌≤◌, ◌+◌, ◌*◌, ◌==◌, ◌&&◌, ℕ, Bool, true, List, [], ◌∷◌, Option, Some, None, is_some, length, max, min, slice_index, if◌then◌else◌}
+use Rattle.std.specs.Prelude.{◌≡◌, ◌<◌, ◌≤◌, ◌+◌, ◌*◌, ◌==◌, ◌&&◌, [], ◌∷◌}
+use Rattle.std.specs.Prelude.{ℕ, Bool, true, List, Option, Some, None, is_some}
+use Rattle.std.specs.Prelude.{length, max, min, slice_index, if◌then◌else◌}
 use Rattle.std.specs.List.{AllByRecursion}
 use Rattle.rds_fields.specs.Tag.{PairFields, TagFields, end_of}
 use Rattle.rds_assembly.specs.Body.{space}

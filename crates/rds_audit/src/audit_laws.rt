@@ -1,5 +1,6 @@
 //! What holds of all logs that are audited.
-ghost use Rattle.rds_audit.specs.AuditLaws.{ALogHasOneFault, BroadcastsAreTheReigns, PassesExactlyByPlans, WhatHasAFaultDoesNotPass, WhatPassesIsSafe, WhatPassesIsSafeOnTime};
+ghost use Rattle.rds_audit.specs.AuditLaws.{ALogHasOneFault, BroadcastsAreTheReigns, PassesExactlyByPlans};
+ghost use Rattle.rds_audit.specs.AuditLaws.{WhatHasAFaultDoesNotPass, WhatPassesIsSafe, WhatPassesIsSafeOnTime};
 ghost use Rattle.rds_safety.specs.Lawful.{names, texts};
 
 use rds_safety::{plan_laws, safe_by_plans};

@@ -1,5 +1,7 @@
 -- Block 2: taken apart by shifts and masks, joined again, and no other fields with the same sum.
-use Rattle.std.proofs.Common.{List, [], ◌∷◌, length, get_or, ◌≡◌, ℕ, zero, suc, ◌+◌, ◌*◌, ◌<◌, ◌/◌, ◌%◌, ◌^◌, Bool, true, false, nat_eq, bit_and, bit_or, refl, sym, ◌∙◌, arith}
+use Rattle.std.proofs.Common.{[], ◌∷◌, ◌≡◌, ◌+◌, ◌*◌, ◌<◌, ◌/◌, ◌%◌, ◌^◌, ◌∙◌}
+use Rattle.std.proofs.Common.{List, length, get_or, ℕ, zero, suc, Bool, true}
+use Rattle.std.proofs.Common.{false, nat_eq, bit_and, bit_or, refl, sym, arith}
 use Rattle.std.proofs.lemmas.Nat.{pow_pos, or_shifted, and_mask}
 use Rattle.std.specs.Int.{from_bool}
 use Rattle.std.proofs.lemmas.Nat.Bits.{and_pow}

@@ -2,7 +2,8 @@
 -- project's own form.
 -- A backslash isn't in the table, so it stands only at the head of such a number. A quotation mark is printed
 -- by its number, so that a printed text can stand between two of them.
-use Rattle.std.specs.Prelude.{◌+◌, ◌++◌, ◌/◌, ◌%◌, ◌==◌, ℕ, List, [], ◌∷◌, Option, None, codes, encode_utf8, flat_map, nat_lt, if◌then◌else◌}
+use Rattle.std.specs.Prelude.{◌+◌, ◌++◌, ◌/◌, ◌%◌, ◌==◌, [], ◌∷◌}
+use Rattle.std.specs.Prelude.{ℕ, List, Option, None, codes, encode_utf8, flat_map, nat_lt, if◌then◌else◌}
 use Rattle.std.specs.Option.{option_map_or}
 use Rattle.rds_charset.specs.Table.{character_of}
 

@@ -2,7 +2,8 @@
 -- gives one byte. This is the project's own form.
 -- The quotation mark is read as a character too, though it isn't printed as one. The digits of a number can be
 -- of either case.
-use Rattle.std.specs.Prelude.{◌≡◌, ◌≢◌, ◌⊎◌, ◌<◌, ◌+◌, ◌*◌, ◌++◌, ℕ, List, [], ◌∷◌, Some, codes, encode_utf8, length, drop, slice_index}
+use Rattle.std.specs.Prelude.{◌≡◌, ◌≢◌, ◌⊎◌, ◌<◌, ◌+◌, ◌*◌, ◌++◌, [], ◌∷◌}
+use Rattle.std.specs.Prelude.{ℕ, List, Some, codes, encode_utf8, length, drop, slice_index}
 use Rattle.std.specs.Char.{digit_value}
 use Rattle.rds_charset.specs.Table.{character_of}
 

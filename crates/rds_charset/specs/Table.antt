@@ -1,6 +1,7 @@
 -- A byte of a text stands for one character or for none. The table is this project's own, made after the basic
 -- one of IEC 62106; nothing rests on the likeness.
-use Rattle.std.specs.Prelude.{ℕ, ◌+◌, ◌-◌, ◌==◌, ◌≤◌, List, [], ◌∷◌, length, slice_get, position, Option, None, option_map, nat_le, if◌then◌else◌}
+use Rattle.std.specs.Prelude.{◌+◌, ◌-◌, ◌==◌, ◌≤◌, [], ◌∷◌}
+use Rattle.std.specs.Prelude.{ℕ, List, length, slice_get, position, Option, None, option_map, nat_le, if◌then◌else◌}
 use Rattle.std.specs.List.{range_with_len}
 use Rattle.std.specs.Option.{option_or}
 

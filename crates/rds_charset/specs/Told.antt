@@ -3,7 +3,8 @@
 -- This is the project's own rule. At its greatest number the count can't rise: from there on each call fails.
 use Rattle.std.proofs.Common.{◌∙◌, Bool, add-one, ap, arith, refl, suc, sym, true, zero}
 use Rattle.std.proofs.lemmas.Bool.Decides.{nat_tests}
-use Rattle.std.specs.Prelude.{◌≡◌, ◌⊎◌, ◌<◌, ◌≤◌, ◌+◌, ◌^◌, ◌-◌, ℕ, List, take, length, Option, MatchOption, nat_lt, if◌then◌else◌}
+use Rattle.std.specs.Prelude.{◌≡◌, ◌⊎◌, ◌<◌, ◌≤◌, ◌+◌, ◌^◌, ◌-◌}
+use Rattle.std.specs.Prelude.{ℕ, List, take, length, Option, MatchOption, nat_lt, if◌then◌else◌}
 use Rattle.std.specs.Io.KnownBytes.{Appends, Consumes, IsAtEnd, Keeps}
 use Rattle.rds_charset.specs.declared.told.Told.{Told}
 

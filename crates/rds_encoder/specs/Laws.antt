@@ -1,6 +1,7 @@
 -- What holds of all that an encoder may be told, of all broadcasts, and of all that is sent. Lists have the
 -- newest first.
-use Rattle.std.specs.Prelude.{◌≡◌, ◌≤◌, ◌<◌, ◌⊎◌, ◌↔◌, ◌+◌, ◌%◌, ℕ, true, Bool, List, [], ◌∷◌, ◌++◌, Some, IfSome, is_ok, length}
+use Rattle.std.specs.Prelude.{◌≡◌, ◌≤◌, ◌<◌, ◌⊎◌, ◌↔◌, ◌+◌, ◌%◌, [], ◌∷◌, ◌++◌}
+use Rattle.std.specs.Prelude.{ℕ, true, Bool, List, Some, IfSome, is_ok, length}
 use Rattle.rds_fields.specs.declared.message.Message.TheVariants.{Text, Name, Tags}
 use Rattle.rds_fields.specs.Tag.{BothEndIn, PairFields}
 use Rattle.rds_assembly.specs.Body.{name_body, segment_count, segment_of, text_body}

@@ -1,6 +1,7 @@
 -- Broadcasts: the texts, or the names, that were accepted, each with the slots in which it is on air (the flag
 -- is IEC 62106's A/B flag). Lists have the newest first.
-use Rattle.std.specs.Prelude.{◌≡◌, ◌≤◌, ◌⊎◌, ℕ, ◌+◌, ◌-◌, ◌%◌, ◌==◌, Bool, List, [], ◌∷◌, Option, Some, None, is_ok, length, if◌then◌else◌}
+use Rattle.std.specs.Prelude.{◌≡◌, ◌≤◌, ◌⊎◌, ◌+◌, ◌-◌, ◌%◌, ◌==◌, [], ◌∷◌}
+use Rattle.std.specs.Prelude.{ℕ, Bool, List, Option, Some, None, is_ok, length, if◌then◌else◌}
 use Rattle.rds_encoder.specs.Entries.{Move, Begin, Set, End, slot_of}
 use Rattle.rds_encoder.specs.Reply.{reply_to}
 

@@ -2,7 +2,8 @@
 -- and a text or name that was accepted holds the next one back for 2 m slots (both this project's own rule).
 -- Its dwell is that of its receivers, and the greatest lateness of their groups with it. Lists have the newest
 -- first.
-use Rattle.std.specs.Prelude.{ℕ, ◌+◌, ◌-◌, ◌*◌, List, [], ◌∷◌, Option, Some, None, Result, Ok, Err, is_ok, nat_lt, if◌then◌else◌}
+use Rattle.std.specs.Prelude.{◌+◌, ◌-◌, ◌*◌, [], ◌∷◌}
+use Rattle.std.specs.Prelude.{ℕ, List, Option, Some, None, Result, Ok, Err, is_ok, nat_lt, if◌then◌else◌}
 use Rattle.rds_encoder.specs.declared.refusal.Refusal.{Refusal}
 use Rattle.rds_encoder.specs.declared.refusal.Refusal.TheVariants.{Silent, Held, NoText, OutOfText}
 use Rattle.rds_encoder.specs.Entries.{Move, Begin, Set, End, slot_of, restart_before}

@@ -4,7 +4,8 @@ use Rattle.std.specs.Prelude.{ℕ, List, [], ◌∷◌, Option, Some, None, Ok, 
 use Rattle.rds_fields.specs.declared.pair.Which.TheVariants.{One, Two}
 use Rattle.rds_fields.specs.Tag.{PairFields, ends_in}
 use Rattle.rds_encoder.specs.declared.refusal.Refusal.TheVariants.{NoText, OutOfText}
-use Rattle.rds_encoder.specs.Entries.{Entry, Restart, SetText, SetName, SetTags, Tick, restart_before, slot_of, text_moves}
+use Rattle.rds_encoder.specs.Entries.{Entry, Restart, SetText, SetName, SetTags}
+use Rattle.rds_encoder.specs.Entries.{Tick, restart_before, slot_of, text_moves}
 use Rattle.rds_encoder.specs.Plan.{OnAir, on_air}
 use Rattle.rds_encoder.specs.Reply.{Reply, reply_to, unless_silent}
 

@@ -3,7 +3,8 @@ ghost use Rattle.std.specs.Prelude.{◌≡◌, ◌≢◌, ◌+◌, ◌%◌, ◌<
 ghost use Rattle.std.specs.Option.{option_copied};
 ghost use Rattle.rds_fields.specs.declared.message.Message.{Message};
 ghost use Rattle.rds_assembly.specs.Value.{IsName, IsText};
-ghost use Rattle.rds_encoder.specs.Entries.{Entry, Restart, SetText, SetName, SetTags, Tick, name_moves, slot_of, text_moves};
+ghost use Rattle.rds_encoder.specs.Entries.{Entry, Restart, SetText, SetName, SetTags};
+ghost use Rattle.rds_encoder.specs.Entries.{Tick, name_moves, slot_of, text_moves};
 ghost use Rattle.rds_encoder.specs.Plan.{bytes_of, on_air};
 ghost use Rattle.rds_encoder.specs.Reply.{held_for, reply_to, silent_for};
 ghost use Rattle.rds_encoder.specs.Round.{turn_in};

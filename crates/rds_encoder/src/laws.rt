@@ -1,6 +1,12 @@
 //! What holds of all broadcasts, and of all that is sent.
 ghost use Rattle.rds_encoder.specs.Delivery.{ANameIsSentWhole, ATextIsSentWhole};
-ghost use Rattle.rds_encoder.specs.Laws.{ANameSegmentIsOfTheNameOnAir, ANumberIsBelowTheLength, ANumberNamesOne, ATextSegmentIsOfTheTextOnAir, EachNumberNamesOne, EvenTurnsAreTheTexts, OnlyWhatIsOnAirCoversTheSlot, SpacedAreFarApart, SpacedAreInOrder, SpacedOfOneFlagAreFarApart, TagsAreOfTheTextOnAir, ThePairEndsInTheText, ThePlanIsSpaced, WhatIsOnAirBegan, WhatIsOnAirCoversTheSlot, WhatIsOnAirIsPlanned, WhatIsOnAirWasOnAir, WhatIsPlannedWasAccepted, WhatWasOnAirStaysPlanned};
+ghost use Rattle.rds_encoder.specs.Laws.{ANameSegmentIsOfTheNameOnAir, ANumberIsBelowTheLength};
+ghost use Rattle.rds_encoder.specs.Laws.{ANumberNamesOne, ATextSegmentIsOfTheTextOnAir, EachNumberNamesOne};
+ghost use Rattle.rds_encoder.specs.Laws.{EvenTurnsAreTheTexts, OnlyWhatIsOnAirCoversTheSlot, SpacedAreFarApart};
+ghost use Rattle.rds_encoder.specs.Laws.{SpacedAreInOrder, SpacedOfOneFlagAreFarApart, TagsAreOfTheTextOnAir};
+ghost use Rattle.rds_encoder.specs.Laws.{ThePairEndsInTheText, ThePlanIsSpaced, WhatIsOnAirBegan};
+ghost use Rattle.rds_encoder.specs.Laws.{WhatIsOnAirCoversTheSlot, WhatIsOnAirIsPlanned};
+ghost use Rattle.rds_encoder.specs.Laws.{WhatIsOnAirWasOnAir, WhatIsPlannedWasAccepted, WhatWasOnAirStaysPlanned};
 
 /// What is on air in the slot that is reached is the broadcast of the plan that covers the slot; where none
 /// covers it, nothing is on air.

@@ -54,8 +54,8 @@ pub extern "C" fn rdsrt_text_to_utf8(text: &[u8], into: &mut [u8], count: &mut u
 ///
 /// # Errors
 ///
-/// `RDSRT_NOT_UTF8`; then `RDSRT_BAD_ESCAPE` or `RDSRT_NO_CHARACTER`, whichever stands first, and the number is then its
-/// place in bytes; then `RDSRT_NO_ROOM`. Nothing is written into the slice.
+/// `RDSRT_NOT_UTF8`; then `RDSRT_BAD_ESCAPE` or `RDSRT_NO_CHARACTER`, whichever stands first, and the number is then
+/// its place in bytes; then `RDSRT_NO_ROOM`. Nothing is written into the slice.
 #[unsafe(no_mangle)]
 pub extern "C" fn rdsrt_text_from_utf8(utf8: &[u8], into: &mut [u8], count: &mut usize) -> u32
     ensures read { result ≡ RDSRT_OK → IsReadAs utf8.now (take count.new into.new) }

@@ -1,6 +1,8 @@
 -- A tag names a piece of the text: its class, the place of its first character from 0, and a length
 -- marker, the number of its characters less one (IEC 62106-6, RadioText Plus).
-use Rattle.std.specs.Prelude.{◌≡◌, ℕ, ◌+◌, ◌<◌, ◌==◌, ◌||◌, ◌&&◌, List, Bool, true, Option, Some, None, length, take, drop, nat_le, nat_lt, if◌then◌else◌}
+use Rattle.std.specs.Prelude.{◌≡◌, ◌+◌, ◌<◌, ◌==◌, ◌||◌, ◌&&◌}
+use Rattle.std.specs.Prelude.{ℕ, List, Bool, true, Option, Some, None, length}
+use Rattle.std.specs.Prelude.{take, drop, nat_le, nat_lt, if◌then◌else◌}
 
 -- the three numbers of a tag
 pub record TagFields : Type 0 where

@@ -1,7 +1,8 @@
 -- What `audit` answers, and what it leaves at each end: how much of the reader it took, and what it wrote. Lists of
 -- slots and of lines have the newest first; d is the number of slots that keeps broadcasts apart, the dwell and the
 -- lateness; r is what a call did to the reader, w what it did to the writer.
-use Rattle.std.specs.Prelude.{◌≡◌, ◌↔◌, ◌++◌, ◌∷◌, [], ℕ, Bool, List, IsTrue, Ok, Err, Result, None, Some, codes, decimal, length, Option}
+use Rattle.std.specs.Prelude.{◌≡◌, ◌↔◌, ◌++◌, ◌∷◌, []}
+use Rattle.std.specs.Prelude.{ℕ, Bool, List, IsTrue, Ok, Err, Result, None, Some, codes, decimal, length, Option}
 use Rattle.std.specs.Io.KnownBytes.{Appends, Consumes, IsAtEnd}
 use Rattle.rds_block.specs.declared.group.Group.{Group}
 use Rattle.rds_charset.specs.Told.{AppendsPrefix, HasFailed, IsCalm, PutsNothing, Traffic}
@@ -11,7 +12,8 @@ use Rattle.rds_audit.specs.AuditLaws.{IsSafeLog}
 use Rattle.rds_audit.specs.Dense.{HasPlans}
 use Rattle.rds_audit.specs.Rules.{IsFaultOf, LogPasses}
 use Rattle.rds_audit.specs.declared.audit_fault.AuditFault.{AuditFault}
-use Rattle.rds_audit.specs.declared.audit_fault.AuditFault.TheVariants.{Changed, NotOneText, EarlyFlag, EarlyTag, TagOutside}
+use Rattle.rds_audit.specs.declared.audit_fault.AuditFault.TheVariants.{Changed, NotOneText, EarlyFlag}
+use Rattle.rds_audit.specs.declared.audit_fault.AuditFault.TheVariants.{EarlyTag, TagOutside}
 use Rattle.rds_audit.specs.AuditStandsAt.{AuditStandsAt}
 use Rattle.rds_audit.specs.AuditState.{AuditState}
 use Rattle.rds_log.specs.LogLines.{AreLines, Line}

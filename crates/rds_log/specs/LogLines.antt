@@ -1,6 +1,7 @@
 -- The lines of a log: it is cut at each line feed, and bytes after the last one are a line too.
 -- This is the project's own format. A list of lines has the newest line first.
-use Rattle.std.specs.Prelude.{◌≡◌, ◌≢◌, ◌⊎◌, ◌==◌, ◌&&◌, ◌++◌, ◌-◌, ◌<◌, ℕ, Bool, List, [], ◌∷◌, All, length, take, slice_index, nat_lt, if◌then◌else◌}
+use Rattle.std.specs.Prelude.{◌≡◌, ◌≢◌, ◌⊎◌, ◌==◌, ◌&&◌, ◌++◌, ◌-◌, ◌<◌, [], ◌∷◌}
+use Rattle.std.specs.Prelude.{ℕ, Bool, List, All, length, take, slice_index, nat_lt, if◌then◌else◌}
 use Rattle.rds_assembly.specs.Whole.{carriage_return}
 
 abbrev pub Line : Type 0

@@ -18,8 +18,8 @@ use rds_output::LogFault;
 ///
 /// A yes means that texts and names of a station that keeps them apart by the dwell and the lateness could have been
 /// sent so, and then no receiver of that dwell, whose groups come no later, ever shows a mix of them
-/// ([`what_an_answer_means`](crate::what_an_answer_means)). No read is made after the one that brought the slot that does
-/// not pass, or after a fault.
+/// ([`what_an_answer_means`](crate::what_an_answer_means)). No read is made after the one that brought the slot that
+/// does not pass, or after a fault.
 ///
 /// # Errors
 ///

@@ -1,5 +1,6 @@
 //! The bytes of a log, cut into lines at each line feed.
-ghost use Rattle.std.specs.Prelude.{◌≡◌, ◌≤◌, ◌<◌, ◌+◌, ◌-◌, ◌^◌, ◌++◌, ◌↔◌, [], IfNone, IfSome, IsTrue, MatchResult, take};
+ghost use Rattle.std.specs.Prelude.{◌≡◌, ◌≤◌, ◌<◌, ◌+◌, ◌-◌, ◌^◌, ◌++◌, ◌↔◌, []};
+ghost use Rattle.std.specs.Prelude.{IfNone, IfSome, IsTrue, MatchResult, take};
 ghost use Rattle.rds_log.specs.LineSays.{IsBad, LineSays, deciding};
 ghost use Rattle.rds_log.specs.LogLines.{EndsAt, IsLine, Line};
 

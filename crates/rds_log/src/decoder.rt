@@ -1,5 +1,6 @@
 //! What the lines of a log write.
-ghost use Rattle.std.specs.Prelude.{◌≡◌, ◌≤◌, ◌<◌, ◌+◌, ◌-◌, ◌^◌, ◌∷◌, ◌↔◌, [], List, IsOk, IsTrue, MatchResult, OnOk, length};
+ghost use Rattle.std.specs.Prelude.{◌≡◌, ◌≤◌, ◌<◌, ◌+◌, ◌-◌, ◌^◌, ◌∷◌, ◌↔◌, []};
+ghost use Rattle.std.specs.Prelude.{List, IsOk, IsTrue, MatchResult, OnOk, length};
 ghost use Rattle.rds_charset.specs.Told.{IsCalm, Traffic, traffic};
 ghost use Rattle.rds_receiver.specs.Receipts.{Tuning};
 ghost use Rattle.rds_log.specs.LogLines.{Line};

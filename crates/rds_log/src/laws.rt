@@ -4,7 +4,8 @@ ghost use Rattle.rds_block.specs.declared.group.Group.{Group};
 ghost use Rattle.rds_charset.specs.Told.{Traffic};
 ghost use Rattle.rds_receiver.specs.Receipts.{Tuning};
 ghost use Rattle.rds_output.specs.Alike.{WriteAlike};
-ghost use Rattle.rds_log.specs.Audit.{AnswersVerdictOf, Audits, IsVerdictOf, SlotsAreSafe, SlotsFail, SlotsHaveNoPlans, SlotsPass};
+ghost use Rattle.rds_log.specs.Audit.{AnswersVerdictOf, Audits, IsVerdictOf, SlotsAreSafe};
+ghost use Rattle.rds_log.specs.Audit.{SlotsFail, SlotsHaveNoPlans, SlotsPass};
 ghost use Rattle.rds_log.specs.LogLines.{Line};
 ghost use Rattle.rds_log.specs.LineSays.{LineSays};
 ghost use Rattle.rds_log.specs.LogWrites.{LogWrites};
@@ -42,8 +43,8 @@ pub fn bytes_have_one_verdict()
     one_fault();
 }
 
-/// What the answer to a log means: slots that pass with a dwell and a lateness are safe for every receiver of that dwell
-/// whose groups come no later, and slots that do not pass have no plans that are lawful and dense.
+/// What the answer to a log means: slots that pass with a dwell and a lateness are safe for every receiver of that
+/// dwell whose groups come no later, and slots that do not pass have no plans that are lawful and dense.
 pub fn what_an_answer_means()
     ensures safe { (pi m k : ℕ) (slots : List (Option Group)) → 0 < m → SlotsPass pi (m + k) slots
         → SlotsAreSafe pi m k slots }

@@ -1,5 +1,5 @@
-//! Logs of sent or received groups. [`decode`] writes what a receiver of a log shows, one line for each part of the view
-//! that changed; [`audit`] answers whether the slots of a log pass.
+//! Logs of sent or received groups. [`decode`] writes what a receiver of a log shows, one line for each part of the
+//! view that changed; [`audit`] answers whether the slots of a log pass.
 //!
 //! The model of a log is the list of its lines, whatever the reads that they come in. A line says a slot, or that it is
 //! to be skipped (`LineSays`); the slots have views, and `decode` writes the changes of these views (`LogWrites`); the

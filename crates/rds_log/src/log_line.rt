@@ -4,7 +4,8 @@ ghost use Rattle.rds_block.specs.declared.group.Group.{Group};
 ghost use Rattle.rds_log.specs.declared.log_line.Block.{Block};
 ghost use Rattle.rds_log.specs.declared.log_line.LogLine.{LogLine};
 ghost use Rattle.rds_log.specs.LogLines.{content_length};
-ghost use Rattle.rds_log.specs.LineSays.{Carry, HasDashes, IsBad, IsBlock, IsLaidOut, IsSkipped, LineSays, SaysSlot, block_word};
+ghost use Rattle.rds_log.specs.LineSays.{Carry, HasDashes, IsBad, IsBlock, IsLaidOut};
+ghost use Rattle.rds_log.specs.LineSays.{IsSkipped, LineSays, SaysSlot, block_word};
 
 use rds_block::Group;
 use rds_charset::{four_words, word_at};

@@ -1,5 +1,6 @@
 //! The lines of a log.
-ghost use Rattle.std.specs.Prelude.{◌≡◌, ◌≢◌, ◌≤◌, ◌<◌, ◌+◌, ◌-◌, ◌*◌, ◌^◌, ◌↔◌, [], ℕ, List, None, Some, IfErr, IfOk, IsTrue, MatchResult, OnOk, false, true};
+ghost use Rattle.std.specs.Prelude.{◌≡◌, ◌≢◌, ◌≤◌, ◌<◌, ◌+◌, ◌-◌, ◌*◌, ◌^◌, ◌↔◌, []};
+ghost use Rattle.std.specs.Prelude.{ℕ, List, None, Some, IfErr, IfOk, IsTrue, MatchResult, OnOk, false, true};
 ghost use Rattle.rds_log.specs.LogLines.{Line};
 ghost use Rattle.rds_log.specs.Reads.{MadeReads, to_come};
 ghost use Rattle.rds_output.specs.declared.fault.LogFault.TheVariants as faults;
@@ -36,7 +37,8 @@ pub(crate) struct Source {
 }
 
 impl Source {
-    ghost use Rattle.rds_log.specs.Inside.Source.{GivesNext, HasNoNext, IsAtLast, IsBadLineFault, ReadsOn, ReaderState, SourceStandsAt, WhereItReads, budget, given_if, state_of};
+    ghost use Rattle.rds_log.specs.Inside.Source.{GivesNext, HasNoNext, IsAtLast, IsBadLineFault, ReadsOn, ReaderState};
+    ghost use Rattle.rds_log.specs.Inside.Source.{SourceStandsAt, WhereItReads, budget, given_if, state_of};
 
     /// At the start of a log, of which so many reads are made at most.
     pub(crate) fn new(reads: u64) -> Source

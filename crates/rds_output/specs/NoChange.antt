@@ -28,4 +28,5 @@ no_change stamp v = rw (same_text v.text, same_text v.name, same_item v.item, sa
 
 -- before the first slot nothing is shown
 pub view_of_none : (t : Tuning) → IsView t [] nothing_shown
-view_of_none t = ([], tt, record { text = no_text_of_none; name = no_name_of_none; item = refl; one = refl; two = refl })
+view_of_none t =
+    ([], tt, record { text = no_text_of_none; name = no_name_of_none; item = refl; one = refl; two = refl })

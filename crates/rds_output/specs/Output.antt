@@ -2,7 +2,9 @@
 -- slot before, in the order text, name, item bits, first tag, second tag; before the first slot nothing is shown.
 -- This is the project's own format. A list of views has the newest first, so the slot of a view is the number of
 -- views behind it.
-use Rattle.std.specs.Prelude.{◌-◌, ◌==◌, ◌&&◌, ◌++◌, ℕ, Bool, true, false, List, [], ◌∷◌, Option, Some, None, codes, decimal, length, slice_get, if◌then◌else◌}
+use Rattle.std.specs.Prelude.{◌-◌, ◌==◌, ◌&&◌, ◌++◌, [], ◌∷◌}
+use Rattle.std.specs.Prelude.{ℕ, Bool, true, false, List, Option, Some, None}
+use Rattle.std.specs.Prelude.{codes, decimal, length, slice_get, if◌then◌else◌}
 use Rattle.std.specs.Option.{option_eq}
 use Rattle.std.specs.Str.{bytes_eq}
 use Rattle.rds_charset.specs.Printed.{printed}

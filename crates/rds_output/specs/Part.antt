@@ -3,7 +3,8 @@
 use Rattle.std.specs.Prelude.{◌≤◌, ℕ, Bool, false, List, length}
 use Rattle.std.specs.Option.{ForSome, option_copied}
 use Rattle.rds_receiver.specs.Lent.{tag_lent}
-use Rattle.rds_output.specs.Output.{is_same_item, is_same_tag, is_same_text, item_content, line_of, receiver_stamp, slot_stamp, tag_content, text_content, unless_same}
+use Rattle.rds_output.specs.Output.{is_same_item, is_same_tag, is_same_text, item_content, line_of}
+use Rattle.rds_output.specs.Output.{receiver_stamp, slot_stamp, tag_content, text_content, unless_same}
 use Rattle.rds_output.specs.declared.change.Part.{Part}
 use Rattle.rds_output.specs.declared.change.Part.TheVariants.{Text, Item, Tag}
 use Rattle.rds_output.specs.declared.change.Stamp.{Stamp}

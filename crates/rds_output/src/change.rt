@@ -2,7 +2,8 @@
 ghost use Rattle.std.specs.Prelude.{◌≡◌, ◌≤◌, ◌+◌, ◌++◌, IfSome, codes, length};
 ghost use Rattle.std.specs.Option.{ForSome, option_copied};
 ghost use Rattle.rds_receiver.specs.Lent.{tag_lent};
-ghost use Rattle.rds_output.specs.Output.{bit_content, change, class_name, item_content, name_or_number, quoted, tag_content, text_content};
+ghost use Rattle.rds_output.specs.Output.{bit_content, change, class_name, item_content};
+ghost use Rattle.rds_output.specs.Output.{name_or_number, quoted, tag_content, text_content};
 ghost use Rattle.rds_output.specs.declared.change.TheConstants.{LINE_ROOM, SLOT_ROOM};
 
 use rds_charset::Lines;

@@ -10,7 +10,8 @@ fn text(flags: u16, bytes: u16) -> Option<Group> {
     Some(Group::from_blocks([0xC201, flags, bytes, 0x0D20]))
 }
 
-/// What is restored finds the fault of the whole log, and keeps it, whatever is sent. Worked logs are cases of the built program.
+/// What is restored finds the fault of the whole log, and keeps it, whatever is sent. Worked logs are cases of the built
+/// program.
 #[test]
 fn goes_on_from_what_is_stored(rt: HostRuntime) -> Result<(), Fail> {
     let dwell = Dwell::new(8).ok_or("dwell")?;

@@ -1,7 +1,8 @@
 -- The run: the longest last part of the segments received up to a slot in which all have one flag, neighbours
 -- are less than the dwell apart, and the last came less than the dwell before the slot or in it. (The flag is
 -- IEC 62106's A/B flag; the dwell of m slots is this project's own rule.) Lists have the newest first.
-use Rattle.std.specs.Prelude.{◌+◌, ◌&&◌, ℕ, Bool, true, false, List, [], ◌∷◌, Option, Some, None, length, nat_lt, if◌then◌else◌}
+use Rattle.std.specs.Prelude.{◌+◌, ◌&&◌, [], ◌∷◌}
+use Rattle.std.specs.Prelude.{ℕ, Bool, true, false, List, Option, Some, None, length, nat_lt, if◌then◌else◌}
 use Rattle.std.specs.FinMap.{empty, insert}
 use Rattle.rds_fields.specs.declared.message.Message.{Message}
 use Rattle.rds_assembly.specs.Cells.{Cells}

@@ -1,12 +1,14 @@
 //! A receiver, slot by slot.
-ghost use Rattle.std.specs.Prelude.{◌≡◌, ◌≢◌, ◌+◌, ◌<◌, ◌≤◌, ◌↔◌, ℕ, Bool, List, [], ◌∷◌, Option, Some, None, IsFalse, IsTrue, IfSome, length, option_map};
+ghost use Rattle.std.specs.Prelude.{◌≡◌, ◌≢◌, ◌+◌, ◌<◌, ◌≤◌, ◌↔◌, [], ◌∷◌};
+ghost use Rattle.std.specs.Prelude.{ℕ, Bool, List, Option, Some, None, IsFalse, IsTrue, IfSome, length, option_map};
 ghost use Rattle.std.specs.Option.{option_copied};
 ghost use Rattle.rds_block.specs.declared.group.Group.{Group};
 ghost use Rattle.rds_fields.specs.declared.message.Message.{Message};
 ghost use Rattle.rds_receiver.specs.Lent.{tag_lent, view_lent};
 ghost use Rattle.rds_receiver.specs.Receipts.{Hears};
 ghost use Rattle.rds_receiver.specs.Shown.{IsItemShown, IsNameShown, IsTagShown, IsTextShown, IsView, ShownView};
-ghost use Rattle.rds_receiver.specs.StandsAt.{HearsMore, HoldsAt, ShowsAlike, StandsAt, WhatItHeard, WhereItStands, newest_slot};
+ghost use Rattle.rds_receiver.specs.StandsAt.{HearsMore, HoldsAt, ShowsAlike, StandsAt};
+ghost use Rattle.rds_receiver.specs.StandsAt.{WhatItHeard, WhereItStands, newest_slot};
 ghost use Rattle.rds_receiver.specs.State.{ReceiverState};
 ghost use Rattle.rds_receiver.specs.Stored.{IsStored, receiver_stored};
 ghost use Rattle.rds_receiver.specs.Tags.{or_before, pair_held, says_of_rtplus, unless_contrary};

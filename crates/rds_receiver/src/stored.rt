@@ -36,8 +36,9 @@ pub struct StoredReceiver {
 }
 
 impl StoredReceiver {
-    /// Takes a slot that leaves nothing but the ages to change, without a receiver that is made for it: nothing is heard in
-    /// it, or no text, name, tags or announcement, and nothing is given up. False, and no change, in any other slot.
+    /// Takes a slot that leaves nothing but the ages to change, without a receiver that is made for it: nothing is
+    /// heard in it, or no text, name, tags or announcement, and nothing is given up. False, and no change, in any other
+    /// slot.
     pub fn rest(&mut self, message: Option<Message>) -> bool
         ensures stands { IsTrue result → WhereItStands (receiver_stored self.old) (λ t input.
             (group : Option Group) → Hears t.programme group message

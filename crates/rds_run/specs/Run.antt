@@ -1,6 +1,7 @@
 -- What the whole program does with its words. This is the project's own command line.
 -- r is what a call did to the reader, w what it did to the writer.
-use Rattle.std.specs.Prelude.{◌≡◌, ◌⊎◌, ◌+◌, ◌^◌, ◌++◌, ℕ, Bool, List, [], codes, decimal, None, Option, Ok, Err, Result, if◌then◌else◌}
+use Rattle.std.specs.Prelude.{◌≡◌, ◌⊎◌, ◌+◌, ◌^◌, ◌++◌, []}
+use Rattle.std.specs.Prelude.{ℕ, Bool, List, codes, decimal, None, Option, Ok, Err, Result, if◌then◌else◌}
 use Rattle.rds_charset.specs.Puts.{Puts}
 use Rattle.rds_charset.specs.Told.{PutsNothing, Traffic}
 use Rattle.rds_charset.specs.declared.output.WriteFault.{WriteFault}

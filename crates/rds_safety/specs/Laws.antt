@@ -4,14 +4,16 @@ use Rattle.std.specs.List.{All, AllZip}
 use Rattle.rds_block.specs.declared.group.Group.{Group}
 use Rattle.rds_fields.specs.declared.head.Head.{Head}
 use Rattle.rds_fields.specs.declared.message.Message.{Message}
-use Rattle.rds_encoder.specs.Laws.{ANumberIsBelowTheLength, ANumberNamesOne, SpacedAreFarApart, SpacedAreInOrder, SpacedOfOneFlagAreFarApart}
+use Rattle.rds_encoder.specs.Laws.{ANumberIsBelowTheLength, ANumberNamesOne, SpacedAreFarApart}
+use Rattle.rds_encoder.specs.Laws.{SpacedAreInOrder, SpacedOfOneFlagAreFarApart}
 use Rattle.rds_encoder.specs.Plan.{Broadcast, HasNumber}
 use Rattle.rds_encoder.specs.Sent.{IsSent}
 use Rattle.rds_encoder.specs.Spaced.{IsSpaced}
 use Rattle.rds_receiver.specs.Receipts.{AreHeard, Segment}
 use Rattle.rds_receiver.specs.Shown.{IsView, ShownView}
 use Rattle.rds_safety.specs.Late.{Input, InputOf, IsHeardInOrder, IsHeardLate, IsHeardOnTime, own_origins}
-use Rattle.rds_safety.specs.OwnClock.{IsHeardByOwnClock, IsTrueClock, ListensByOwnClock, ListensBySlowClock, LosesAtMost, next_slot}
+use Rattle.rds_safety.specs.OwnClock.{IsHeardByOwnClock, IsTrueClock, ListensByOwnClock}
+use Rattle.rds_safety.specs.OwnClock.{ListensBySlowClock, LosesAtMost, next_slot}
 use Rattle.rds_safety.specs.Plans.{AreLawful, Plans}
 use Rattle.rds_safety.specs.Safe.{AreSafe, Listener, ListensTo}
 use Rattle.rds_safety.specs.Source.{IsSource}

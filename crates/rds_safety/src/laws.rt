@@ -1,12 +1,19 @@
 //! What holds of all plans, logs and inputs.
-ghost use Rattle.rds_safety.specs.ClockBounds.{OneSlotAheadIsUnsafe, OneSlotMoreBetweenMixes, OneSlotMoreSinceIsUnsafe, OwnClocksHaveTheseBounds};
-ghost use Rattle.rds_safety.specs.Laws.{ARunHasOneSource, ASlowClockIsAnOwnClock, LateGroupsAreLateMessages, LateIsBySlowClock, LawfulPlansAreSafe, LawfulPlansAreSafeByOwnClocks, LawfulPlansAreSafeForSlowClocks, LawfulPlansAreSafeOnTime, NoSlotLateIsOnTime, OnTimeIsNoSlotLate, OneSlotLessMixes, OneSlotLessMixesByOwnClock, OneSlotLessMixesForSlowClocks, OneSlotLessMixesOnTime, PlanLaws, TheTrueClockIsNoSlotLate, WhoIsHandedGroupsListens, WhoIsHandedGroupsListensByOwnClock};
+ghost use Rattle.rds_safety.specs.ClockBounds.{OneSlotAheadIsUnsafe, OneSlotMoreBetweenMixes};
+ghost use Rattle.rds_safety.specs.ClockBounds.{OneSlotMoreSinceIsUnsafe, OwnClocksHaveTheseBounds};
+ghost use Rattle.rds_safety.specs.Laws.{ARunHasOneSource, ASlowClockIsAnOwnClock, LateGroupsAreLateMessages};
+ghost use Rattle.rds_safety.specs.Laws.{LateIsBySlowClock, LawfulPlansAreSafe, LawfulPlansAreSafeByOwnClocks};
+ghost use Rattle.rds_safety.specs.Laws.{LawfulPlansAreSafeForSlowClocks, LawfulPlansAreSafeOnTime};
+ghost use Rattle.rds_safety.specs.Laws.{NoSlotLateIsOnTime, OnTimeIsNoSlotLate, OneSlotLessMixes};
+ghost use Rattle.rds_safety.specs.Laws.{OneSlotLessMixesByOwnClock, OneSlotLessMixesForSlowClocks};
+ghost use Rattle.rds_safety.specs.Laws.{OneSlotLessMixesOnTime, PlanLaws, TheTrueClockIsNoSlotLate};
+ghost use Rattle.rds_safety.specs.Laws.{WhoIsHandedGroupsListens, WhoIsHandedGroupsListensByOwnClock};
 
 use rds_encoder::{broadcasts_are_spaced, numbers_name_broadcasts};
 use rds_fields::one_message;
 
-/// Plans that are lawful for the dwell and the lateness make every slot safe for any number of receivers, and so do those
-/// that are lawful for what a dwell of the receivers' own clocks lasts.
+/// Plans that are lawful for the dwell and the lateness make every slot safe for any number of receivers, and so do
+/// those that are lawful for what a dwell of the receivers' own clocks lasts.
 pub fn safe_by_plans()
     ensures own_clocks { LawfulPlansAreSafeByOwnClocks }
     ensures slow_clocks { LawfulPlansAreSafeForSlowClocks }

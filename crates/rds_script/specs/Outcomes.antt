@@ -2,7 +2,8 @@
 -- sent, and the changes of each receiver's view; for a log the reply as a comment, and the group as a line of a log.
 -- This is the project's own format. Lists have the newest first, so the slot of an outcome is the number of outcomes
 -- behind it.
-use Rattle.std.specs.Prelude.{◌≡◌, ◌<◌, ◌++◌, ℕ, zero, suc, List, [], ◌∷◌, Option, Some, None, codes, decimal, length, slice_index_or}
+use Rattle.std.specs.Prelude.{◌≡◌, ◌<◌, ◌++◌, [], ◌∷◌}
+use Rattle.std.specs.Prelude.{ℕ, zero, suc, List, Option, Some, None, codes, decimal, length, slice_index_or}
 use Rattle.rds_block.specs.declared.group.Group.{Group}
 use Rattle.rds_block.specs.Words.{second_word_of}
 use Rattle.rds_world.specs.State.{distance}

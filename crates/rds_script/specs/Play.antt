@@ -1,7 +1,8 @@
 -- What `simulate` and `encode` leave at each end. What the records of a script are, is the definition of `csv`: fields
 -- between commas, in quotes or not, one record a line. Lists of records and of events have the newest first; w is
 -- what a call did to the writer.
-use Rattle.std.specs.Prelude.{◌≡◌, ◌<◌, ◌≤◌, ◌+◌, ◌∷◌, ℕ, List, [], Option, None, Some, Ok, Err, Result, length, reverse}
+use Rattle.std.specs.Prelude.{◌≡◌, ◌<◌, ◌≤◌, ◌+◌, ◌∷◌, []}
+use Rattle.std.specs.Prelude.{ℕ, List, Option, None, Some, Ok, Err, Result, length, reverse}
 use Rattle.std.specs.Io.KnownBytes.{Appends}
 use Rattle.csv.specs.Machine.{next_record}
 use Rattle.csv.specs.Reading.{AreRecords, Reached, default_config, strip_bom}

@@ -2,7 +2,8 @@
 ghost use Rattle.std.specs.Prelude.{◌≡◌, ◌≢◌, ◌≤◌, ◌+◌, ◌++◌, Option, decimal, length};
 ghost use Rattle.rds_block.specs.declared.group.Group.{Group};
 ghost use Rattle.rds_world.specs.declared.reply.Reply.TheVariants as replies;
-ghost use Rattle.rds_script.specs.Outcomes.{answer_lines, block_digits, log_line, refusal_content, reply_content, reply_line, reply_thing, sent_line, spaced_digits, thing_set};
+ghost use Rattle.rds_script.specs.Outcomes.{answer_lines, block_digits, log_line, refusal_content, reply_content};
+ghost use Rattle.rds_script.specs.Outcomes.{reply_line, reply_thing, sent_line, spaced_digits, thing_set};
 ghost use Rattle.rds_script.specs.declared.answer_lines.TheConstants.{ANSWER_ROOM, GROUP_ROOM, REPLY_ROOM};
 
 use crate::form::Form;

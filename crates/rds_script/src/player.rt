@@ -24,7 +24,8 @@ pub(crate) struct Player {
 }
 
 impl Player {
-    ghost use Rattle.rds_script.specs.Inside.Player.{IsBegun, IsRowRefused, PlayerStandsAt, PlaysRow, WherePlayerStands, nothing_played};
+    ghost use Rattle.rds_script.specs.Inside.Player.{IsBegun, IsRowRefused, PlayerStandsAt};
+    ghost use Rattle.rds_script.specs.Inside.Player.{PlaysRow, WherePlayerStands, nothing_played};
 
     /// Before the first row, with no world yet.
     pub(crate) fn new(alloc: Global, form: Form, config: Config) -> Player

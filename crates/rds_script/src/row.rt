@@ -1,5 +1,6 @@
 //! The event that a row of a script says.
-ghost use Rattle.std.specs.Prelude.{◌≡◌, ◌≢◌, ◌<◌, ◌≤◌, ℕ, Bool, List, [], ◌∷◌, IfNone, IfSome, IsUtf8, length, slice_index};
+ghost use Rattle.std.specs.Prelude.{◌≡◌, ◌≢◌, ◌<◌, ◌≤◌, [], ◌∷◌};
+ghost use Rattle.std.specs.Prelude.{ℕ, Bool, List, IfNone, IfSome, IsUtf8, length, slice_index};
 ghost use Rattle.std.specs.Char.{IsAsciiDigit, IsNotAsciiDigit};
 ghost use Rattle.std.specs.Int.{from_bool};
 ghost use Rattle.std.specs.Str.Parse.{AllDigits};
@@ -14,7 +15,8 @@ ghost use Rattle.rds_world.specs.declared.event.TheConstants.{MOST_RECEIVERS};
 ghost use Rattle.rds_script.specs.declared.row.Verb.{Verb};
 ghost use Rattle.rds_script.specs.Verbs.{verb_word};
 ghost use Rattle.rds_script.specs.Receptions.{AreReceptions, HasDigits, IsLateness, letter};
-ghost use Rattle.rds_script.specs.Rows.{AreNumbers, HasNoSpace, IsCut, IsNameArgument, IsNumber, SaysCommand, SaysEvent, free_field, numbers_of_pair, numbers_of_tag};
+ghost use Rattle.rds_script.specs.Rows.{AreNumbers, HasNoSpace, IsCut, IsNameArgument, IsNumber};
+ghost use Rattle.rds_script.specs.Rows.{SaysCommand, SaysEvent, free_field, numbers_of_pair, numbers_of_tag};
 
 use arrayvec::ArrayVec;
 use csv::ByteRecord;

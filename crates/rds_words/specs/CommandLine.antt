@@ -1,13 +1,16 @@
 -- The words of the program, as a simple command of `clap`, and what they ask for.
 -- This is the project's own command line.
-use Rattle.std.specs.Prelude.{◌≡◌, ◌&&◌, ◌∷◌, ℕ, Bool, List, [], Option, Some, None, false, true, codes, if◌then◌else◌, length, nat_le, nat_lt, not, option_and_then, option_map, pos}
+use Rattle.std.specs.Prelude.{◌≡◌, ◌&&◌, ◌∷◌, []}
+use Rattle.std.specs.Prelude.{ℕ, Bool, List, Option, Some, None, false, true, codes, if◌then◌else◌}
+use Rattle.std.specs.Prelude.{length, nat_le, nat_lt, not, option_and_then, option_map, pos}
 use Rattle.std.specs.List.{list_all}
 use Rattle.std.specs.Option.{option_map_or}
 use Rattle.std.specs.Str.{bytes_eq}
 use Rattle.std.specs.Str.Parse.{digits_value, without_leading_plus}
 use Rattle.clap.specs.Simple.{on_top}
 use Rattle.clap.specs.ValueTests.{is_numeral}
-use Rattle.clap.specs.Words.{App, Row, Rule, Text, fault_of, first_of, new_app, new_rule, one_of, subcommand_of, takes, with_rule, with_subcommand}
+use Rattle.clap.specs.Words.{App, Row, Rule, Text, fault_of, first_of, new_app, new_rule}
+use Rattle.clap.specs.Words.{one_of, subcommand_of, takes, with_rule, with_subcommand}
 use Rattle.clap.specs.declared.builder.action.ArgAction.TheVariants.{SetTrue}
 use Rattle.clap.specs.declared.builder.value_parser.ValueParser.TheVariants.{Signed}
 use Rattle.clap.specs.declared.error.kind.ErrorKind.{ErrorKind}

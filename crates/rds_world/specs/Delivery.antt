@@ -1,7 +1,8 @@
 -- What is on air reaches those who listen (this project's own rule): a receiver that got each free one of some
 -- slots of a broadcast, enough of them and no more than its dwell, shows that broadcast. Lists have the newest
 -- first.
-use Rattle.std.specs.Prelude.{◌≡◌, ◌+◌, ◌*◌, ◌≤◌, ℕ, Bool, true, false, List, [], ◌∷◌, ◌++◌, Some, length, slice_get, slice_index_or}
+use Rattle.std.specs.Prelude.{◌≡◌, ◌+◌, ◌*◌, ◌≤◌, [], ◌∷◌, ◌++◌}
+use Rattle.std.specs.Prelude.{ℕ, Bool, true, false, List, Some, length, slice_get, slice_index_or}
 use Rattle.std.specs.List.{AllByRecursion}
 use Rattle.rds_assembly.specs.Body.{segment_count, text_body}
 use Rattle.rds_encoder.specs.Plan.{Broadcast, HasNumber}

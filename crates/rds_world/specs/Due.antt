@@ -1,6 +1,7 @@
 -- When a receiver may be handed what was sent (this project's own rule): at most k slots late, and later than all
 -- that it was handed before, in the order of sending. Lists have the newest first.
-use Rattle.std.specs.Prelude.{ℕ, ◌<◌, ◌≤◌, ◌+◌, ◌-◌, List, [], ◌∷◌, Option, Some, None, IfSome, length, min, slice_index_or}
+use Rattle.std.specs.Prelude.{◌<◌, ◌≤◌, ◌+◌, ◌-◌, [], ◌∷◌}
+use Rattle.std.specs.Prelude.{ℕ, List, Option, Some, None, IfSome, length, min, slice_index_or}
 use Rattle.rds_world.specs.declared.event.Reception.{Reception}
 use Rattle.rds_world.specs.declared.event.Reception.TheVariants.{Got, Lost, Restart}
 use Rattle.rds_world.specs.Event.{Event}

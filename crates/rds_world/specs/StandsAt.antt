@@ -1,5 +1,6 @@
 -- What a world holds after a list of slots. Lists have the newest first.
-use Rattle.std.specs.Prelude.{◌≡◌, ◌+◌, ◌<◌, ◌≤◌, ◌∷◌, ℕ, List, [], Option, Some, None, false, length, slice_get, slice_index_or, true}
+use Rattle.std.specs.Prelude.{◌≡◌, ◌+◌, ◌<◌, ◌≤◌, ◌∷◌, []}
+use Rattle.std.specs.Prelude.{ℕ, List, Option, Some, None, false, length, slice_get, slice_index_or, true}
 use Rattle.rds_block.specs.declared.group.Group.{Group}
 use Rattle.rds_fields.specs.declared.message.Message.{Message}
 use Rattle.rds_encoder.specs.StandsAt as encoder

@@ -1,5 +1,6 @@
 //! How far back a receiver may be handed what was sent.
-ghost use Rattle.std.specs.Prelude.{◌≡◌, ◌<◌, ◌≤◌, ◌+◌, ◌↔◌, ◌∷◌, ℕ, List, Option, IsTrue, IfOk, IfSome, MatchResult, length, take};
+ghost use Rattle.std.specs.Prelude.{◌≡◌, ◌<◌, ◌≤◌, ◌+◌, ◌↔◌, ◌∷◌};
+ghost use Rattle.std.specs.Prelude.{ℕ, List, Option, IsTrue, IfOk, IfSome, MatchResult, length, take};
 ghost use Rattle.rds_world.specs.Due.{IsDue, IsDueToAll, IsFirstLate, named, reach_of};
 ghost use Rattle.rds_world.specs.Event.{Event};
 ghost use Rattle.rds_world.specs.StandsAt.{HaveReaches};

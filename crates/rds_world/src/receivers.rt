@@ -7,7 +7,8 @@ ghost use Rattle.rds_world.specs.declared.event.TheConstants.{MOST_RECEIVERS};
 ghost use Rattle.rds_world.specs.Due.{IsDue};
 ghost use Rattle.rds_safety.specs.Late.{Input};
 ghost use Rattle.rds_world.specs.Slots.{received};
-ghost use Rattle.rds_world.specs.StandsAt.{AllHaveHeard, AreLastSent, HasHeard, IsNew, StaysShown, WhereTheyListen, all_received};
+ghost use Rattle.rds_world.specs.StandsAt.{AllHaveHeard, AreLastSent, HasHeard, IsNew};
+ghost use Rattle.rds_world.specs.StandsAt.{StaysShown, WhereTheyListen, all_received};
 
 use crate::recent::Recent;
 use crate::{Config, MOST_RECEIVERS, Reception};

@@ -1,5 +1,7 @@
 //! A station and its receivers, slot by slot.
-ghost use Rattle.std.specs.Prelude.{◌≡◌, ◌≢◌, ◌+◌, ◌<◌, ◌≤◌, ◌↔◌, [], ◌∷◌, IsErrOf, IsOk, IsSome, IsTrue, IfOk, IfSome, MatchResult, OnErr, OnOk, length, option_map, slice_get};
+ghost use Rattle.std.specs.Prelude.{◌≡◌, ◌≢◌, ◌+◌, ◌<◌, ◌≤◌, ◌↔◌, [], ◌∷◌};
+ghost use Rattle.std.specs.Prelude.{IsErrOf, IsOk, IsSome, IsTrue, IfOk, IfSome};
+ghost use Rattle.std.specs.Prelude.{MatchResult, OnErr, OnOk, length, option_map, slice_get};
 ghost use Rattle.std.specs.Option.{option_copied};
 ghost use Rattle.rds_encoder.specs.Entries.{name_moves, text_moves};
 ghost use Rattle.rds_encoder.specs.Plan.{bytes_of, on_air};

@@ -1,6 +1,8 @@
 -- What a source of lines holds after the lines that it gave, and what it gives next. Lists of lines have the newest
 -- first. A source may make so many reads at most: `most`. Its reader stood at `start` before the first of them.
-use Rattle.std.specs.Prelude.{◌≡◌, ◌≤◌, ◌+◌, ◌-◌, ◌++◌, ◌∷◌, ℕ, Bool, List, MatchBool, MatchOption, None, Ok, Err, Option, Result, Some, drop, false, length, take, true}
+use Rattle.std.specs.Prelude.{◌≡◌, ◌≤◌, ◌+◌, ◌-◌, ◌++◌, ◌∷◌}
+use Rattle.std.specs.Prelude.{ℕ, Bool, List, MatchBool, MatchOption, None, Ok, Err}
+use Rattle.std.specs.Prelude.{Option, Result, Some, drop, false, length, take, true}
 use Rattle.std.specs.Io.KnownBytes.{Consumes, IsAtEnd}
 use Rattle.rds_charset.specs.Told.{HasFailed, IsCalm, Traffic, count_after}
 use Rattle.rds_log.specs.LogLines.{AreLines, EndsAt, IsLine, Line, text_of}
