@@ -1,23 +1,28 @@
-use Rattle.std.proofs.Common.{◌≡◌, ◌∙◌, IfOk, ap, codes, subst}
-use Rattle.clap.specs.Words.{App, app_of, with_subcommand}
+use Rattle.std.proofs.Common.{◌≡◌, ◌∙◌, IfOk, Ok, Result, ap, codes, subst}
+use Rattle.clap.specs.Words.{App, Shape, app_of, with_subcommand}
 use Rattle.rds_words.specs.CommandLine.{decoder_app, late_app, log_app, log_readers_app, station_app, without_sim_app}
 use Rattle.rds_words.proofs.command_line.whole.Goals as goal
+
+-- a command that has one subcommand more than the one that was known
+one_more : {X E : Type 0} (view : X → App) (r : Result X E) (m c : X) (before : App) (sub : Shape)
+    → r ≡ Ok m → IfOk r (λ x. view x ≡ with_subcommand (view c) sub) → view c ≡ before
+    → view m ≡ with_subcommand before sub
+one_more view r m c before sub was holds is =
+    subst (λ r. IfOk r (λ x. view x ≡ with_subcommand (view c) sub)) was holds
+    ∙ ap (λ (a : App). with_subcommand a sub) is
 
 pub returns : goal.returns
 unfolding log_readers_app
 returns c =
     let decoder : app_of c.in_ok-with_decode.with_decode ≡ decoder_app =
-    subst (λ r. IfOk r (λ m. app_of m ≡ with_subcommand (app_of c.top.result) (log_app (codes "decode")).top)) c.in_ok-with_decode.was
-    (c.with.ensures (log_app (codes "decode")) c.decode.ensures.app c.decode.ensures.local)
-    ∙ ap (λ (a : App). with_subcommand a (log_app (codes "decode")).top) c.top.ensures in
+    one_more app_of _ _ _ _ _ c.in_ok-with_decode.was
+    (c.with.ensures (log_app (codes "decode")) c.decode.ensures.app c.decode.ensures.local) c.top.ensures in
     let log_readers : app_of c.in_ok-with_audit.with_audit ≡ log_readers_app =
-    subst (λ r. IfOk r (λ m. app_of m ≡ with_subcommand (app_of c.in_ok-with_decode.with_decode) (late_app (codes "audit")).top)) c.in_ok-with_audit.was
-    (c.with-2.ensures (late_app (codes "audit")) c.audit.ensures.app c.audit.ensures.local)
-    ∙ ap (λ (a : App). with_subcommand a (late_app (codes "audit")).top) decoder in
+    one_more app_of _ _ _ _ _ c.in_ok-with_audit.was
+    (c.with-2.ensures (late_app (codes "audit")) c.audit.ensures.app c.audit.ensures.local) decoder in
     let without_sim : app_of c.in_ok-with_encode.with_encode ≡ without_sim_app =
-    subst (λ r. IfOk r (λ m. app_of m ≡ with_subcommand (app_of c.in_ok-with_audit.with_audit) (station_app (codes "encode")).top)) c.in_ok-with_encode.was
-    (c.with-3.ensures (station_app (codes "encode")) c.encode.ensures.app c.encode.ensures.local)
-    ∙ ap (λ (a : App). with_subcommand a (station_app (codes "encode")).top) log_readers in
+    one_more app_of _ _ _ _ _ c.in_ok-with_encode.was
+    (c.with-3.ensures (station_app (codes "encode")) c.encode.ensures.app c.encode.ensures.local) log_readers in
     record {
       app = subst (λ a. IfOk c.with-4.result (λ m. app_of m ≡ with_subcommand a (station_app (codes "sim")).top)) without_sim
           (c.with-4.ensures (station_app (codes "sim")) c.simulate.ensures.app c.simulate.ensures.local);
