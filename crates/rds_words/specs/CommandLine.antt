@@ -12,6 +12,7 @@ use Rattle.clap.specs.ValueTests.{is_numeral}
 use Rattle.clap.specs.Words.{App, Row, Rule, Text, fault_of, first_of, new_app, new_rule}
 use Rattle.clap.specs.Words.{one_of, subcommand_of, takes, with_rule, with_subcommand}
 use Rattle.clap.specs.declared.builder.action.ArgAction.TheVariants.{SetTrue}
+use Rattle.clap.specs.declared.builder.value_parser.ValueParser.{ValueParser}
 use Rattle.clap.specs.declared.builder.value_parser.ValueParser.TheVariants.{Signed}
 use Rattle.clap.specs.declared.error.kind.ErrorKind.{ErrorKind}
 use Rattle.clap.specs.declared.error.kind.ErrorKind.TheVariants.{DisplayHelp, DisplayVersion}
@@ -30,32 +31,26 @@ pi_rule = record (new_rule (codes "pi")) {
   required = true;
 }
 
+-- an option that takes a number, its parser, and the number where it isn't given
+abbrev pub number_rule : Text → ValueParser → Text → Rule
+number_rule name parser default = record (new_rule name) {
+  long = Some name;
+  value_names = 1;
+  defaults = default ∷ [];
+  parser = Some parser;
+}
+
 -- `--m N`, from 1 to 65535
 abbrev pub dwell_rule : Rule
-dwell_rule = record (new_rule (codes "m")) {
-  long = Some (codes "m");
-  value_names = 1;
-  defaults = codes "128" ∷ [];
-  parser = Some (Signed (pos 1) (pos 65535));
-}
+dwell_rule = number_rule (codes "m") (Signed (pos 1) (pos 65535)) (codes "128")
 
 -- `--k N`, from 0 to 1024
 abbrev pub late_rule : Rule
-late_rule = record (new_rule (codes "k")) {
-  long = Some (codes "k");
-  value_names = 1;
-  defaults = codes "0" ∷ [];
-  parser = Some (Signed (pos 0) (pos 1024));
-}
+late_rule = number_rule (codes "k") (Signed (pos 0) (pos 1024)) (codes "0")
 
 -- `--pty N`, from 0 to 31
 abbrev pub pty_rule : Rule
-pty_rule = record (new_rule (codes "pty")) {
-  long = Some (codes "pty");
-  value_names = 1;
-  defaults = codes "0" ∷ [];
-  parser = Some (Signed (pos 0) (pos 31));
-}
+pty_rule = number_rule (codes "pty") (Signed (pos 0) (pos 31)) (codes "0")
 
 -- `--tp`, a flag
 abbrev pub tp_rule : Rule

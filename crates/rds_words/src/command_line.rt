@@ -2,9 +2,10 @@
 ghost use Rattle.std.specs.Prelude.{◌≡◌, IfOk, codes, false};
 ghost use Rattle.clap.specs.Words.{App, app_of, rule_of, with_subcommand};
 ghost use Rattle.clap.specs.declared.builder.command.Command.TheViews.{out-Command};
-ghost use Rattle.rds_words.specs.CommandLine.{dwell_rule, late_app, late_rule, log_app, pi_rule, pty_rule};
-ghost use Rattle.rds_words.specs.CommandLine.{station_app, top_app, tp_rule, whole_app};
+ghost use Rattle.rds_words.specs.CommandLine.{dwell_rule, late_app, late_rule, log_app, number_rule, pi_rule};
+ghost use Rattle.rds_words.specs.CommandLine.{pty_rule, station_app, top_app, tp_rule, whole_app};
 
+use clap::builder::ValueParser;
 use clap::{Arg, ArgAction, Command, value_parser};
 use std::alloc::{AllocError, Global};
 
@@ -20,24 +21,38 @@ fn pi<'a>(alloc: Global) -> Arg<'a>
         .help("The programme identification of the station, four hexadecimal digits, as C201")
 }
 
+/// An option that takes a number.
+fn number<'a>(
+    alloc: Global,
+    name: &'a str,
+    parser: ValueParser<'a>,
+    default: &'a str,
+    help: &'a str,
+) -> Arg<'a>
+    ensures rule { rule_of result ≡ number_rule name.entry.now parser.entry default.entry.now }
+    ensures local { result.global ≡ false }
+{
+    Arg::new(alloc, name)
+        .long(name)
+        .value_name("N")
+        .value_parser(parser)
+        .default_value(default)
+        .help(help)
+}
+
 /// The option `--m`.
 fn dwell<'a>(alloc: Global) -> Arg<'a>
     ensures rule { rule_of result ≡ dwell_rule }
     ensures local { result.global ≡ false }
 {
-    Arg::new(alloc, "m")
-        .long("m")
-        .value_name("N")
-        .value_parser(value_parser!(u16).range(1..))
-        .default_value("128")
-        .help("The dwell in slots, 1 to 65535")
-        .long_help(
-            "The dwell in slots, 1 to 65535; a slot is the time of one group, some 88 ms.\n\
-             A receiver forgets a text of which it heard no segment for one dwell. A station\n\
-             keeps each text on air for at least twice the dwell, unless it restarts, and sends\n\
-             nothing for one dwell when it starts. So a receiver with the dwell of its station\n\
-             never joins parts of two texts.",
-        )
+    let parser = value_parser!(u16).range(1..);
+    number(alloc, "m", parser, "128", "The dwell in slots, 1 to 65535").long_help(
+        "The dwell in slots, 1 to 65535; a slot is the time of one group, some 88 ms.\n\
+         A receiver forgets a text of which it heard no segment for one dwell. A station\n\
+         keeps each text on air for at least twice the dwell, unless it restarts, and sends\n\
+         nothing for one dwell when it starts. So a receiver with the dwell of its station\n\
+         never joins parts of two texts.",
+    )
 }
 
 /// The option `--k`.
@@ -45,17 +60,13 @@ fn late<'a>(alloc: Global) -> Arg<'a>
     ensures rule { rule_of result ≡ late_rule }
     ensures local { result.global ≡ false }
 {
-    Arg::new(alloc, "k")
-        .long("k")
-        .value_name("N")
-        .value_parser(value_parser!(u16).range(0..1025))
-        .default_value("0")
-        .help("How late a group may reach a receiver, in slots, 0 to 1024")
-        .long_help(
-            "How late a group may reach a receiver, in slots, 0 to 1024: behind a buffer, a network\n\
-             or a repeater groups come late, and in their order. A station keeps its texts apart\n\
-             by the dwell and the lateness together; a receiver keeps its dwell.",
-        )
+    let parser = value_parser!(u16).range(0..1025);
+    let help = "How late a group may reach a receiver, in slots, 0 to 1024";
+    number(alloc, "k", parser, "0", help).long_help(
+        "How late a group may reach a receiver, in slots, 0 to 1024: behind a buffer, a network\n\
+         or a repeater groups come late, and in their order. A station keeps its texts apart\n\
+         by the dwell and the lateness together; a receiver keeps its dwell.",
+    )
 }
 
 /// The option `--pty`.
@@ -63,12 +74,9 @@ fn pty<'a>(alloc: Global) -> Arg<'a>
     ensures rule { rule_of result ≡ pty_rule }
     ensures local { result.global ≡ false }
 {
-    Arg::new(alloc, "pty")
-        .long("pty")
-        .value_name("N")
-        .value_parser(value_parser!(u8).range(0..32))
-        .default_value("0")
-        .help("The programme type in each group, 0 to 31 (0: none, 10: pop music)")
+    let parser = value_parser!(u8).range(0..32);
+    let help = "The programme type in each group, 0 to 31 (0: none, 10: pop music)";
+    number(alloc, "pty", parser, "0", help)
 }
 
 /// The flag `--tp`.
@@ -82,13 +90,26 @@ fn tp<'a>(alloc: Global) -> Arg<'a>
         .help("Sets the flag of each group that says: the programme has traffic announcements")
 }
 
+/// What the help of a subcommand says.
+#[derive(Clone, Copy)]
+struct Page<'a> {
+    /// What the subcommand does.
+    about: &'a str,
+    /// What long help ends with.
+    ending: &'a str,
+}
+
 /// A subcommand that reads a log.
 #[tactic(auto, unfolding(crate::specs::CommandLine::log_app))]
-fn log_reader<'a>(alloc: Global, name: &'a str) -> Result<Command<'a>, AllocError>
+fn log_reader<'a>(alloc: Global, name: &'a str, page: Page<'a>) -> Result<Command<'a>, AllocError>
     ensures app { IfOk result (λ c. app_of c ≡ log_app name.entry.now) }
     ensures local { IfOk result (λ c. (out-Command c).has_globals ≡ false) }
 {
-    Command::new(alloc, name).arg(pi(alloc))?.arg(dwell(alloc))
+    Command::new(alloc, name)
+        .about(page.about)
+        .after_long_help(page.ending)
+        .arg(pi(alloc))?
+        .arg(dwell(alloc))
 }
 
 /// The subcommand `decode`.
@@ -96,22 +117,20 @@ fn decode<'a>(alloc: Global) -> Result<Command<'a>, AllocError>
     ensures app { IfOk result (λ c. app_of c ≡ log_app (codes "decode")) }
     ensures local { IfOk result (λ c. (out-Command c).has_globals ≡ false) }
 {
-    Ok(
-        log_reader(alloc, "decode")?
-            .about(
-                "Reads a log of received groups, a slot a line, and prints what a receiver shows",
-            )
-            .after_long_help("Example:\n  rdsrt decode --pi C201 --m 64 < received.log"),
-    )
+    let page = Page {
+        about: "Reads a log of received groups, a slot a line, and prints what a receiver shows",
+        ending: "Example:\n  rdsrt decode --pi C201 --m 64 < received.log",
+    };
+    log_reader(alloc, "decode", page)
 }
 
 /// A subcommand that speaks of late groups.
 #[tactic(auto, unfolding(crate::specs::CommandLine::late_app))]
-fn late_reader<'a>(alloc: Global, name: &'a str) -> Result<Command<'a>, AllocError>
+fn late_reader<'a>(alloc: Global, name: &'a str, page: Page<'a>) -> Result<Command<'a>, AllocError>
     ensures app { IfOk result (λ c. app_of c ≡ late_app name.entry.now) }
     ensures local { IfOk result (λ c. (out-Command c).has_globals ≡ false) }
 {
-    log_reader(alloc, name)?.arg(late(alloc))
+    log_reader(alloc, name, page)?.arg(late(alloc))
 }
 
 /// The subcommand `audit`.
@@ -119,14 +138,10 @@ fn audit<'a>(alloc: Global) -> Result<Command<'a>, AllocError>
     ensures app { IfOk result (λ c. app_of c ≡ late_app (codes "audit")) }
     ensures local { IfOk result (λ c. (out-Command c).has_globals ≡ false) }
 {
-    Ok(
-        late_reader(alloc, "audit")?
-            .about(
-                "Reads a log of all groups that were sent, a slot a line, and says whether it keeps \
-                 the rules",
-            )
-            .after_long_help(
-                "It prints `yes N` with the number of slots, status 0, or `no T NAME` with the first\n\
+    let page = Page {
+        about: "Reads a log of all groups that were sent, a slot a line, and says whether it keeps \
+                the rules",
+        ending: "It prints `yes N` with the number of slots, status 0, or `no T NAME` with the first\n\
                  slot that breaks a rule and the name of the fault, status 1.\n\n\
                  Yes: no receiver of this dwell, whose groups come no later than said, ever shows a mix\n\
                  of two texts from this log, whatever it loses and whenever it restarts.\n\
@@ -139,17 +154,19 @@ fn audit<'a>(alloc: Global) -> Result<Command<'a>, AllocError>
                  EarlyTag    tags came with no text, or less than that after their text can have started\n\
                  TagOutside  a tag ends past the end of its text\n\n\
                  Example:\n  rdsrt encode --pi C201 --m 64 < script.csv | rdsrt audit --pi C201 --m 64",
-            ),
-    )
+    };
+    late_reader(alloc, "audit", page)
 }
 
 /// A subcommand with a station of its own.
 #[tactic(auto, unfolding(crate::specs::CommandLine::station_app))]
-fn station<'a>(alloc: Global, name: &'a str) -> Result<Command<'a>, AllocError>
+fn station<'a>(alloc: Global, name: &'a str, page: Page<'a>) -> Result<Command<'a>, AllocError>
     ensures app { IfOk result (λ c. app_of c ≡ station_app name.entry.now) }
     ensures local { IfOk result (λ c. (out-Command c).has_globals ≡ false) }
 {
-    late_reader(alloc, name)?.arg(pty(alloc))?.arg(tp(alloc))
+    late_reader(alloc, name, page)?
+        .arg(pty(alloc))?
+        .arg(tp(alloc))
 }
 
 /// The subcommand `encode`.
@@ -157,14 +174,12 @@ fn encode<'a>(alloc: Global) -> Result<Command<'a>, AllocError>
     ensures app { IfOk result (λ c. app_of c ≡ station_app (codes "encode")) }
     ensures local { IfOk result (λ c. (out-Command c).has_globals ≡ false) }
 {
-    Ok(
-        station(alloc, "encode")?
-            .about("Reads a script, a slot a row, and prints the log of what a station sends")
-            .after_long_help(
-                "A row is COMMAND,ARGUMENT,FREE,RECEPTIONS, with no receptions: text,HI,1,\n\n\
+    let page = Page {
+        about: "Reads a script, a slot a row, and prints the log of what a station sends",
+        ending: "A row is COMMAND,ARGUMENT,FREE,RECEPTIONS, with no receptions: text,HI,1,\n\n\
                  Example:\n  rdsrt encode --pi C201 --m 64 < script.csv | rdsrt decode --pi C201 --m 64",
-            ),
-    )
+    };
+    station(alloc, "encode", page)
 }
 
 /// The subcommand `sim`.
@@ -172,17 +187,13 @@ fn simulate<'a>(alloc: Global) -> Result<Command<'a>, AllocError>
     ensures app { IfOk result (λ c. app_of c ≡ station_app (codes "sim")) }
     ensures local { IfOk result (λ c. (out-Command c).has_globals ≡ false) }
 {
-    Ok(
-        station(alloc, "sim")?
-            .about(
-                "Reads a script, a slot a row, and prints what a station sends and its receivers show",
-            )
-            .after_long_help(
-                "A row is COMMAND,ARGUMENT,FREE,RECEPTIONS, a letter a receiver: text,HI,1,GGL\n\
+    let page = Page {
+        about: "Reads a script, a slot a row, and prints what a station sends and its receivers show",
+        ending: "A row is COMMAND,ARGUMENT,FREE,RECEPTIONS, a letter a receiver: text,HI,1,GGL\n\
                  G it gets the group, G3 the one of three slots before, L it loses it, R it restarts.\n\n\
                  Example:\n  rdsrt sim --pi C201 --pty 10 --m 4 < script.csv",
-            ),
-    )
+    };
+    station(alloc, "sim", page)
 }
 
 /// The program's own name, version and text.
