@@ -26,7 +26,7 @@ def words(rng, command, asked):
     """The command and its options in any order and spelling; one at its default may be left out."""
     given = [("--pi", rng.choice((asked.pi, asked.pi.lower())))]
     numbers = [("--m", asked.dwell, 128)]
-    numbers += [("--k", asked.late, 0)] if command != "decode" else []
+    numbers += [("--k", asked.late, 0)] if command not in ("decode", "witness") else []
     numbers += [("--pty", asked.pty, 0)] if command in ("encode", "sim") else []
     for name, number, default in numbers:
         if number != default or rng.random() < 0.5:

@@ -184,6 +184,24 @@ def by_chance(check):
     check("witness: noes with a mix", noes > 2, True)
 
 
+def by_command(check):
+    """The command over such logs: a mix exactly where the plain search finds one, in the same slot."""
+    rng, found = random.Random(20261126), 0
+    for number in range(300):
+        dwell, slots = rng.choice((2, 3, 4, 6)), random_log(rng)
+        status, output, told = ran([PROGRAM, "witness", "--pi", "C201", "--m", str(dwell)], logged(slots))
+        name, lines, best = f"rdsrt witness: log {number}, dwell {dwell}", output.splitlines(), first_mix(slots, dwell, 0)
+        got = {confirm(check, name, slots, dwell, it) for it in lines if it != "no witness found"}
+        check(f"{name}: first mix", (status, got, told), (0, set(), "") if best is None else (1, {best}, ""))
+        found += bool(got)
+    check("rdsrt witness: logs with a mix", found > 20, True)
+    with open(FLAGS, "rb") as file:
+        log = file.read()
+    wanted = (1, 'lose 2-3: 4 text "POP  FM"\n', "")
+    check("rdsrt witness: flags.log", ran([PROGRAM, "witness", "--pi", "C201", "--m", "8"], log), wanted)
+    check("rdsrt witness: a bad line", ran([PROGRAM, "witness", "--pi", "C201"], log + b"x\n"), (1, "fault line 7\n", ""))
+
+
 def worked(check):
     """The log of README, a long lawful log with one fault in its depth, faults of the log and refused words."""
     with open(FLAGS, encoding="ascii") as file:
@@ -218,4 +236,5 @@ def worked(check):
 def run(check):
     search_beside(check)
     by_chance(check)
+    by_command(check)
     worked(check)

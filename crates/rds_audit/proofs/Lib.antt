@@ -5,6 +5,7 @@ pub mod Matching
 pub mod Planning
 pub mod Among
 pub mod PassedLogs
+pub mod FlagLogs
 pub mod Bodies
 pub mod Allowed
 pub mod SentCells

@@ -266,22 +266,30 @@ dense_tags d kind sent (r ∷ older) a pos h c keep k b t pair (inl n) ct st =
       ];
     }
 
-pub has_plan : ANumberIsBelowTheLength → (d : ℕ) (kind : Kind) (sent : List Mark) → 0 < d → Passes d kind sent → HasPlan d kind sent
-has_plan below d kind sent pos h = record {
-  plan = plan_from d kind (reigns d sent) h.reigns;
-  lawful = record {
-    spaced = record {
-      lasts = lasting d kind sent (reigns d sent) h.reigns (keeps d sent).0;
-      order = λ k x y p q. (ordering below d kind (reigns d sent) h.reigns pos (chained d sent) k x y p q).0;
-      apart = λ k x y p q. (ordering below d kind (reigns d sent) h.reigns pos (chained d sent) k x y p q).1;
-      far = distance below d kind sent (reigns d sent) h.reigns pos (chained d sent) (keeps d sent).0;
+-- what passes has the plan of its reigns
+pub has_plan_of_reigns : ANumberIsBelowTheLength → (d : ℕ) (kind : Kind) (sent : List Mark) → 0 < d → (h : Passes d kind sent)
+    → (w : HasPlan d kind sent) × (w.plan ≡ plan_from d kind (reigns d sent) h.reigns)
+has_plan_of_reigns below d kind sent pos h = (
+  record {
+    plan = plan_from d kind (reigns d sent) h.reigns;
+    lawful = record {
+      spaced = record {
+        lasts = lasting d kind sent (reigns d sent) h.reigns (keeps d sent).0;
+        order = λ k x y p q. (ordering below d kind (reigns d sent) h.reigns pos (chained d sent) k x y p q).0;
+        apart = λ k x y p q. (ordering below d kind (reigns d sent) h.reigns pos (chained d sent) k x y p q).1;
+        far = distance below d kind sent (reigns d sent) h.reigns pos (chained d sent) (keeps d sent).0;
+      };
+      values = valued d kind (reigns d sent) h.reigns;
+      fragments = λ t p s. fragment_planned d kind t p (reigns d sent) h.reigns (fragment_held d sent t p s);
+      tags = λ t pair s. tags_planned d kind t pair (reigns d sent) h.reigns (tags_held d sent h.tagged t pair s);
     };
-    values = valued d kind (reigns d sent) h.reigns;
-    fragments = λ t p s. fragment_planned d kind t p (reigns d sent) h.reigns (fragment_held d sent t p s);
-    tags = λ t pair s. tags_planned d kind t pair (reigns d sent) h.reigns (tags_held d sent h.tagged t pair s);
-  };
-  dense = record {
-    fragments = dense_fragments d kind sent (reigns d sent) h.reigns pos (chained d sent) (keeps d sent).0;
-    tags = dense_tags d kind sent (reigns d sent) h.reigns pos h.tagged (chained d sent) (keeps d sent).0;
-  };
-}
+    dense = record {
+      fragments = dense_fragments d kind sent (reigns d sent) h.reigns pos (chained d sent) (keeps d sent).0;
+      tags = dense_tags d kind sent (reigns d sent) h.reigns pos h.tagged (chained d sent) (keeps d sent).0;
+    };
+  },
+  refl,
+)
+
+pub has_plan : ANumberIsBelowTheLength → (d : ℕ) (kind : Kind) (sent : List Mark) → 0 < d → Passes d kind sent → HasPlan d kind sent
+has_plan below d kind sent pos h = (has_plan_of_reigns below d kind sent pos h).0

@@ -9,3 +9,4 @@ pub mod AuditState
 pub mod Stored
 pub mod AuditStandsAt
 pub mod AuditLaws
+pub mod FlagLaws

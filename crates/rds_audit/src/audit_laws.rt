@@ -1,9 +1,10 @@
 //! What holds of all logs that are audited.
 ghost use Rattle.rds_audit.specs.AuditLaws.{ALogHasOneFault, BroadcastsAreTheReigns, PassesExactlyByPlans};
 ghost use Rattle.rds_audit.specs.AuditLaws.{WhatHasAFaultDoesNotPass, WhatPassesIsSafe, WhatPassesIsSafeOnTime};
+ghost use Rattle.rds_audit.specs.FlagLaws.{WhatPassesIsSafeByTheFlag, WithoutPauseFlagsAlternate};
 ghost use Rattle.rds_safety.specs.Lawful.{names, texts};
 
-use rds_safety::{plan_laws, safe_by_plans};
+use rds_safety::{plan_laws, safe_by_plans, safe_by_the_flag};
 
 /// A log passes the audit exactly where it has plans of texts and of names that are lawful and dense.
 pub fn passes_by_plans()
@@ -35,4 +36,14 @@ pub fn one_fault()
     ensures one { ALogHasOneFault }
 {
     passes_by_plans();
+}
+
+/// Where the flag turns from each reign of a log that passes to the next one, as it does where no d slots pass without a
+/// segment, receivers with the flag bit alone that hear a segment of each reign show nothing but what the plans have.
+pub fn what_passes_is_safe_by_the_flag()
+    ensures safe { WhatPassesIsSafeByTheFlag }
+    ensures without_pause { WithoutPauseFlagsAlternate }
+{
+    plan_laws();
+    safe_by_the_flag();
 }

@@ -14,5 +14,8 @@ mod stored;
 
 pub use audit::Audit;
 pub use audit_fault::AuditFault;
-pub use audit_laws::{broadcasts_are_the_reigns, one_fault, passes_by_plans, what_passes_is_safe};
+pub use audit_laws::{
+    broadcasts_are_the_reigns, one_fault, passes_by_plans, what_passes_is_safe,
+    what_passes_is_safe_by_the_flag,
+};
 pub use stored::{StoredAudit, StoredCell, StoredReigns};

@@ -1,25 +1,9 @@
--- Four words at once: all bits of them are below 65536 exactly where each of them is. And what digits spell.
+-- What digits spell.
 use Rattle.std.proofs.Common.{◌≡◌, ◌⊎◌, ◌+◌, ◌*◌, ◌<◌, ◌≤◌, Bool, ℕ, List, arith, false, inl, inr, refl, slice_index, true}
 use Rattle.std.specs.Prelude.{nat_lt}
 use Rattle.std.specs.Char.{digit_value}
-use Rattle.std.specs.Int.Bits.{bit_or}
 use Rattle.std.proofs.lemmas.Bool.Decides.{nat_tests}
-use Rattle.std.proofs.lemmas.Nat.{le_or_l, le_or_r, or_lt}
-use Rattle.rds_charset.specs.Digits.{AreWords, HasWord, marked_value}
-
-pub are_words : (a b c d : ℕ) → bit_or (bit_or (bit_or a b) c) d < 65536 → AreWords a b c d
-are_words a b c d h =
-    let whole = le_or_l (bit_or (bit_or a b) c) d in
-    let three = le_or_l (bit_or a b) c in
-    record {
-      first = omega (arith, whole, three, le_or_l a b);
-      second = omega (arith, whole, three, le_or_r a b);
-      third = omega (arith, whole, le_or_r (bit_or a b) c);
-      fourth = omega (arith, le_or_r (bit_or (bit_or a b) c) d);
-    }
-
-pub below_by_words : (a b c d : ℕ) → AreWords a b c d → bit_or (bit_or (bit_or a b) c) d < 65536
-below_by_words a b c d are = or_lt 16 (bit_or (bit_or a b) c) d (or_lt 16 (bit_or a b) c (or_lt 16 a b are.first are.second) are.third) are.fourth
+use Rattle.rds_charset.specs.Digits.{HasWord, marked_value}
 
 -- a value is that of a digit, or marked
 abbrev Cases : ℕ → Type 0

@@ -12,13 +12,6 @@ marked_value byte = if nat_lt (digit_value byte) 16 then digit_value byte else 6
 abbrev pub marked_values : List ℕ
 marked_values = map marked_value (range_with_len 0 256)
 
--- four numbers are words
-pub record AreWords (a b c d : ℕ) : Type 0 where
-  pub first : a < 65536
-  pub second : b < 65536
-  pub third : c < 65536
-  pub fourth : d < 65536
-
 -- four hexadecimal digits stand from the place on, and spell the word
 pub record HasWord (text : List ℕ) (at w : ℕ) : Type 0 where
   pub first : digit_value (slice_index text at) < 16

@@ -1,8 +1,9 @@
 //! Words of four hexadecimal digits.
-ghost use Rattle.std.specs.Prelude.{◌≡◌, ◌<◌, ◌≤◌, ◌+◌, ◌↔◌, ℕ, length, slice_index, IsTrue, IfSome, IfNone};
-ghost use Rattle.rds_charset.specs.Digits.{AreWords, HasWord, marked_value, marked_values, word_digits};
+ghost use Rattle.std.specs.Prelude.{◌≡◌, ◌<◌, ◌≤◌, ◌+◌, ℕ, length, slice_index, IfSome, IfNone};
+ghost use Rattle.rds_charset.specs.Digits.{HasWord, marked_value, marked_values, word_digits};
 
 use crate::printing::upper_digit;
+use std::simd::prelude::*;
 
 /// More than any word: the value of a byte that is no hexadecimal digit.
 const NONE: u32 = 65536;
@@ -27,6 +28,12 @@ static DIGIT_VALUES: [u32; 256] = [
     NONE, NONE, NONE, NONE, NONE, NONE, NONE,
 ];
 
+/// What the first two digits of a word count in its high byte.
+const HIGH: [u8; 16] = [16, 1, 0, 0, 16, 1, 0, 0, 16, 1, 0, 0, 16, 1, 0, 0];
+
+/// What the last two digits of a word count in its low byte.
+const LOW: [u8; 16] = [0, 0, 16, 1, 0, 0, 16, 1, 0, 0, 16, 1, 0, 0, 16, 1];
+
 /// The word of the four hexadecimal digits, of either case, from the place on; `None` where there are
 /// none.
 #[inline(always)]
@@ -40,7 +47,7 @@ pub fn word_at(text: &[u8], place: usize) -> Option<u16>
 }
 
 /// The words of the four blocks of a line, at the places 0, 5, 10 and 15, where all are digits. All sixteen are tested
-/// by one comparison.
+/// and read at once, each in a lane.
 #[inline(always)]
 pub fn four_words(text: &[u8]) -> Option<[u16; 4]>
     requires { 19 ≤ length text.now }
@@ -50,14 +57,27 @@ pub fn four_words(text: &[u8]) -> Option<[u16; 4]>
     ensures third { IfSome result (λ words. HasWord text.now 10 (slice_index words 2)) }
     ensures fourth { IfSome result (λ words. HasWord text.now 15 (slice_index words 3)) }
 {
-    let first = reading_at(text, 0);
-    let second = reading_at(text, 5);
-    let third = reading_at(text, 10);
-    let fourth = reading_at(text, 15);
-    if !are_words(first, second, third, fourth) {
+    let bytes = u8x16::from_array([
+        text[0], text[1], text[2], text[3], text[5], text[6], text[7], text[8], text[10], text[11],
+        text[12], text[13], text[15], text[16], text[17], text[18],
+    ]);
+    let digit = bytes - u8x16::splat(b'0');
+    let letter = (bytes | u8x16::splat(0x20)) - u8x16::splat(b'a');
+    let is_digit = digit.simd_le(u8x16::splat(9));
+    let is_letter = letter.simd_le(u8x16::splat(5));
+    if !(is_digit | is_letter).all() {
         return None;
     }
-    Some([first as u16, second as u16, third as u16, fourth as u16])
+    let values = is_digit.select(digit, letter + u8x16::splat(10));
+    let high = values.dot4(u8x16::from_array(HIGH));
+    let low = values.dot4(u8x16::from_array(LOW));
+    let words = (high * u32x4::splat(256) + low).to_array();
+    Some([
+        words[0] as u16,
+        words[1] as u16,
+        words[2] as u16,
+        words[3] as u16,
+    ])
 }
 
 /// What the four bytes from the place on spell: their word where all are digits, and else at least `NONE`.
@@ -72,14 +92,6 @@ fn reading_at(text: &[u8], place: usize) -> u32
     let third = value_of(text[place + 2]);
     let fourth = value_of(text[place + 3]);
     first * 4096 + second * 256 + third * 16 + fourth
-}
-
-/// Whether each of the four is a word, tested by all bits of them at once.
-#[inline(always)]
-fn are_words(first: u32, second: u32, third: u32, fourth: u32) -> bool
-    ensures { IsTrue result ↔ AreWords first second third fourth }
-{
-    first | second | third | fourth < NONE
 }
 
 /// The value of the byte as a digit.

@@ -1,5 +1,5 @@
 //! A receiver in the caller's memory.
-ghost use Rattle.std.specs.Prelude.{◌≡◌, ◌≢◌, ◌<◌, ◌≤◌, ◌↔◌, ◌⊎◌, ℕ, IsFalse, List, [], ◌∷◌, Option};
+ghost use Rattle.std.specs.Prelude.{◌≡◌, ◌≢◌, ◌<◌, ◌≤◌, ◌↔◌, ◌⊎◌, ℕ, IsFalse, IsTrue, List, [], ◌∷◌, Option};
 ghost use Rattle.rds_block.specs.declared.group.Group.{Group};
 ghost use Rattle.rds_receiver.specs.Shown.{IsView, ShownView};
 ghost use Rattle.rds_ffi.specs.Codes.{RDSRT_BAD_ARGUMENT, RDSRT_CHANGED, RDSRT_OK};
@@ -49,16 +49,45 @@ pub extern "C" fn rdsrt_receiver_slot(receiver: &mut StoredReceiver, blocks: &[u
         IsView t input view → (slot : Option Group) × Bring blocks.now slot × IsView t (slot ∷ input) view) }
     ensures kept { result ≡ RDSRT_BAD_ARGUMENT → receiver.new ≡ receiver.old }
 {
+    if rests(receiver, blocks) {
+        return codes::DONE;
+    }
+    go_on(receiver, blocks)
+}
+
+/// Takes a slot that leaves nothing but the ages to change; false, and no change, in any other slot.
+#[inline(always)]
+fn rests(receiver: &mut StoredReceiver, blocks: &[u16]) -> bool
+    ensures count { IsTrue result → IsCount blocks.now }
+    ensures stands { IsTrue result → WhereItLies receiver.old (λ t input.
+        (slot : Option Group) × Bring blocks.now slot × ReceiverLies t receiver.new (slot ∷ input)) }
+    ensures same { IsTrue result → (view : ShownView) → WhereItLies receiver.old (λ t input.
+        IsView t input view → (slot : Option Group) × Bring blocks.now slot × IsView t (slot ∷ input) view) }
+    ensures kept { IsFalse result → receiver.new ≡ receiver.old }
+{
+    let Ok(slot) = brought(blocks) else {
+        return false;
+    };
+    // a copy by a name of its own: what is passed on below may not have been lent
+    let programme = receiver.programme;
+    let message = heard(programme, slot);
+    receiver.rest(message)
+}
+
+/// Handles a slot by a receiver that is made for it. It stands apart so that a slot that rests pays nothing for it.
+#[inline(never)]
+fn go_on(receiver: &mut StoredReceiver, blocks: &[u16]) -> u32
+    ensures code { result ≢ RDSRT_BAD_ARGUMENT ↔ IsCount blocks.now }
+    ensures few { result ≢ RDSRT_BAD_ARGUMENT → (result ≡ RDSRT_OK) ⊎ (result ≡ RDSRT_CHANGED) }
+    ensures stands { result ≢ RDSRT_BAD_ARGUMENT → WhereItLies receiver.old (λ t input.
+        (slot : Option Group) × Bring blocks.now slot × ReceiverLies t receiver.new (slot ∷ input)) }
+    ensures same { result ≡ RDSRT_OK → (view : ShownView) → WhereItLies receiver.old (λ t input.
+        IsView t input view → (slot : Option Group) × Bring blocks.now slot × IsView t (slot ∷ input) view) }
+    ensures kept { result ≡ RDSRT_BAD_ARGUMENT → receiver.new ≡ receiver.old }
+{
     let Ok(slot) = brought(blocks) else {
         return codes::BAD_ARGUMENT;
     };
-    // copies by names of their own: what is passed on below may not have been lent
-    let programme = receiver.programme;
-    let group = slot;
-    let message = heard(programme, group);
-    if receiver.rest(message) {
-        return codes::DONE;
-    }
     let mut inner = Receiver::restore(receiver);
     let changed = inner.slot(slot);
     *receiver = inner.store();

@@ -1,10 +1,12 @@
 pub mod FirstBytes
 pub mod SaidLemmas
 pub mod Views
+pub mod NearEnd
 pub mod Cutting
 pub mod Reading
 pub mod Decodes
 pub mod Audits
+pub mod KeptSlots
 pub mod WholeBytes
 pub mod OneOutput
 pub mod OneVerdict

@@ -6,5 +6,6 @@ pub mod LogWrites
 pub mod Reads
 pub mod Decode
 pub mod Audit
+pub mod Gather
 -- What the objects of the crate hold, a file for each. No caller needs them.
 pub mod Inside

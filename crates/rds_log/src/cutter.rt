@@ -8,6 +8,10 @@ use crate::log_line::{DECIDING, LogLine, said_by};
 use arrayvec::ArrayVec;
 use memchr::memchr;
 use rds_output::BadLine;
+use std::simd::prelude::*;
+
+/// How many bytes are asked at once for a line feed.
+const LANES: usize = 64;
 
 /// Takes the bytes of a log, however they are cut, and tells what each line says that is closed.
 ///
@@ -94,5 +98,23 @@ pub(crate) fn line_end(bytes: &[u8]) -> Option<usize>
     ensures some { IfSome result (EndsAt bytes.now) }
     ensures none { IfNone result (IsLine bytes.now) }
 {
+    if let Some(count) = near_end(bytes) {
+        return Some(count);
+    }
     memchr(b'\n', bytes)
+}
+
+/// Where the first line feed stands, where it is one of the first 64 bytes and there are as many: all are asked at once.
+#[inline(always)]
+fn near_end(bytes: &[u8]) -> Option<usize>
+    ensures { IfSome result (EndsAt bytes.now) }
+{
+    if bytes.len() < LANES {
+        return None;
+    }
+    let feeds = u8x64::from_slice(bytes)
+        .simd_eq(u8x64::splat(b'\n'))
+        .to_bitmask();
+    let count = feeds.trailing_zeros() as usize;
+    if count < LANES { Some(count) } else { None }
 }

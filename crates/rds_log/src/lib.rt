@@ -15,6 +15,7 @@ mod auditing;
 mod cutter;
 mod decoder;
 mod decoding;
+mod gathering;
 mod laws;
 mod log_line;
 mod source;
@@ -23,4 +24,5 @@ mod view_lines;
 
 pub use auditing::{audit, audit_within};
 pub use decoding::{decode, decode_within};
+pub use gathering::{gather, gather_within};
 pub use laws::{bytes_have_one_verdict, bytes_write_one_output, what_an_answer_means};

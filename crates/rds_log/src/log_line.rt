@@ -1,5 +1,5 @@
 //! One line of a log, and what it says.
-ghost use Rattle.std.specs.Prelude.{◌≡◌, ◌<◌, ◌≤◌, ◌+◌, ◌↔◌, ℕ, Option, length, slice_index, IsTrue, IfSome, IfNone};
+ghost use Rattle.std.specs.Prelude.{◌≡◌, ◌<◌, ◌≤◌, ◌+◌, ◌↔◌, ℕ, Option, Some, length, slice_index, IsTrue, IfSome, IfNone};
 ghost use Rattle.rds_block.specs.declared.group.Group.{Group};
 ghost use Rattle.rds_log.specs.declared.log_line.Block.{Block};
 ghost use Rattle.rds_log.specs.declared.log_line.LogLine.{LogLine};
@@ -52,6 +52,32 @@ pub(crate) fn said_by(line: &[u8]) -> Option<LogLine>
     ensures some { IfSome result (LineSays line.now) }
     ensures none { IfNone result (IsBad line.now) }
 {
+    if let Some(group) = group_of(line) {
+        return Some(LogLine::Slot(Some(group)));
+    }
+    let said = said_otherwise(line)?;
+    Some(said)
+}
+
+/// The group of a line with four words, as most lines are.
+#[inline(always)]
+fn group_of(line: &[u8]) -> Option<Group>
+    ensures { IfSome result (λ group. LineSays line.now (LogLine.Slot (Some group))) }
+{
+    let length = content_length(line);
+    if !is_laid_out(line, length) {
+        return None;
+    }
+    let words = four_words(line)?;
+    Some(Group::from_blocks(words))
+}
+
+/// What any line says. It stands apart so that most lines pay nothing for it.
+#[inline(never)]
+fn said_otherwise(line: &[u8]) -> Option<LogLine>
+    ensures some { IfSome result (LineSays line.now) }
+    ensures none { IfNone result (IsBad line.now) }
+{
     let length = content_length(line);
     if is_skipped(line, length) {
         return Some(LogLine::Skip);
@@ -59,7 +85,7 @@ pub(crate) fn said_by(line: &[u8]) -> Option<LogLine>
     if !is_laid_out(line, length) {
         return None;
     }
-    let slot = slot_of(line)?;
+    let slot = slot_of_blocks(line)?;
     Some(LogLine::Slot(slot))
 }
 
@@ -96,20 +122,6 @@ fn is_laid_out(line: &[u8], length: usize) -> bool
 }
 
 /// What the four blocks of the line carry; `None` where one of them is no block.
-#[inline(always)]
-fn slot_of(line: &[u8]) -> Option<Option<Group>>
-    requires { 19 ≤ length line.now }
-    ensures some { IfSome result (SaysSlot line.now) }
-    ensures none { IfNone result ((slot : Option Group) → SaysSlot line.now slot → ⊥) }
-{
-    if let Some(words) = four_words(line) {
-        return Some(Some(Group::from_blocks(words)));
-    }
-    slot_of_blocks(line)
-}
-
-/// The same, block by block, where not all four are words. It stands apart so that most lines pay nothing for it.
-#[inline(never)]
 fn slot_of_blocks(line: &[u8]) -> Option<Option<Group>>
     requires { 19 ≤ length line.now }
     ensures some { IfSome result (SaysSlot line.now) }

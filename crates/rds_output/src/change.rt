@@ -106,7 +106,7 @@ fn bit_content(is_set: bool) -> &'static [u8]
 }
 
 /// Appends the name of a class, or its number where it has none.
-fn push_class<const N: usize>(class: u8, lines: &mut Lines<N>)
+pub fn push_class<const N: usize>(class: u8, lines: &mut Lines<N>)
     requires { length lines.old + 21 ≤ N }
     ensures class { lines.new ≡ lines.old ++ codes " " ++ name_or_number (class_name class) class }
     ensures room { length lines.new ≤ length lines.old + 21 }
@@ -140,7 +140,7 @@ fn class_name(class: u8) -> Option<&'static [u8]>
 }
 
 /// Appends a text between quotation marks.
-fn push_quoted<const N: usize>(text: &[u8], lines: &mut Lines<N>)
+pub fn push_quoted<const N: usize>(text: &[u8], lines: &mut Lines<N>)
     requires text { length text.now ≤ 64 }
     requires room { length lines.old + 259 ≤ N }
     ensures quoted { lines.new ≡ lines.old ++ quoted text.now }

@@ -7,7 +7,7 @@ mod fault;
 mod kept;
 mod shown;
 
-pub use change::{LINE_ROOM, SLOT_ROOM, Stamp};
+pub use change::{LINE_ROOM, SLOT_ROOM, Stamp, push_class, push_quoted};
 pub use fault::{BadLine, LogFault};
 pub use kept::{Bytes, KeptView};
 pub use shown::show;

@@ -19,19 +19,23 @@ fn goes_on_from_what_is_stored(rt: HostRuntime) -> Result<(), Fail> {
     Ok(())
 }
 
-/// Slots that say nothing make what is held older, until one gives it up; a segment is for a receiver to take.
+/// Slots that say nothing, or once more what is held, make what is held older, until one gives it up; another segment
+/// is for a receiver to take.
 #[test]
 fn rests_until_something_is_given_up(rt: HostRuntime) -> Result<(), Fail> {
     let mut receiver = Receiver::new(0xC201, Dwell::new(3).ok_or("dwell")?);
     let group = Group::from_blocks([0xC201, 0x2140, 0x4849, 0x0D20]);
     receiver.slot(Some(group));
+    let other_group = Group::from_blocks([0xC201, 0x2140, 0x484F, 0x0D20]);
     let mut stored = receiver.store();
-    let segment = stored.rest(Some(Message::of(&group)));
+    let segment = stored.rest(Some(Message::of(&other_group)));
+    let again = stored.rest(Some(Message::of(&group)));
     let nothing = stored.rest(None);
     let other = stored.rest(Some(Message::Other));
     let given_up = stored.rest(None);
-    let answers = (segment, nothing, other, given_up, stored.text.age);
-    same(&rt, answers, (false, true, true, false, 2));
+    let answers = (segment, again, nothing, other, given_up);
+    same(&rt, answers, (false, true, true, true, false));
+    same(&rt, stored.text.age, 2);
     Ok(())
 }
 

@@ -76,6 +76,10 @@ pub pair_of_other : (first : ℕ) (begins : Option ℕ) (heard : List (Option Me
 pair_of_other first None heard = refl
 pair_of_other first (Some since) heard = refl
 
+pub pair_of_name : (first : ℕ) (begins : Option ℕ) (heard : List (Option Message)) (f : Bool) (a : ℕ) (b : List ℕ) → pair_from first begins heard ≡ pair_from first begins (Some (Name f a b) ∷ heard)
+pair_of_name first None heard f a b = refl
+pair_of_name first (Some since) heard f a b = refl
+
 -- and while it is known they are held, where a run is
 tags_known : (first : ℕ) (g : Segment) (older : List Segment) (heard : List (Option Message)) (pair : PairFields) → AllBelow (first + length heard) (g ∷ older) → is_known heard ≡ true
     → Some pair ≡ pair_from first (begins_in (g ∷ older)) (Some (Tags pair) ∷ heard)

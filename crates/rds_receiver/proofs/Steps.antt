@@ -3,15 +3,15 @@ use Rattle.std.proofs.Common.{◌≡◌, ◌≢◌, ◌⊎◌, ◌+◌, ◌<◌,
 use Rattle.std.specs.FinMap.{empty, insert}
 use Rattle.rds_block.specs.declared.group.Group.{Group}
 use Rattle.rds_fields.specs.declared.message.Message.{Message}
-use Rattle.rds_fields.specs.declared.message.Message.TheVariants.{Other, Tags, Text}
+use Rattle.rds_fields.specs.declared.message.Message.TheVariants.{Name, Other, Tags, Text}
 use Rattle.rds_fields.specs.Tag.{PairFields}
 use Rattle.rds_receiver.specs.Receipts.{Hears, Fragment, Segment, Tuning, name_fragment, segments, text_fragment}
 use Rattle.rds_receiver.specs.Run.{begins_in, run, run_before}
-use Rattle.rds_receiver.specs.StandsAt.{HasFlag, HoldsAt, HoldsRun, StandsAt}
+use Rattle.rds_receiver.specs.StandsAt.{HasFlag, HoldsAlready, HoldsAt, HoldsRun, StandsAt}
 use Rattle.rds_receiver.specs.State.{HeldSegments, ReceiverState}
 use Rattle.rds_receiver.specs.Tags.{pair_from}
 use Rattle.rds_receiver.proofs.Runs.{before_other, before_same, equal_or_not, held_taken, run_recent}
-use Rattle.rds_receiver.proofs.Pairs.{none_since, pair_goes_on, pair_of_none, pair_of_other, tags_taken}
+use Rattle.rds_receiver.proofs.Pairs.{none_since, pair_goes_on, pair_of_name, pair_of_none, pair_of_other, tags_taken}
 
 -- nothing heard
 pub nothing_heard : (m first : ℕ) (r : ReceiverState) (heard : List (Option Message)) → HoldsAt m (first + length heard) first r heard → HoldsAt m (first + length heard) first r (None ∷ heard)
@@ -43,7 +43,7 @@ pub record Takes (p : Fragment) (h after : HeldSegments) : Type 0 where
   pub age : after.age ≡ 0
 
 -- a text's segment
-text_heard : (m first : ℕ) (r after : ReceiverState) (heard : List (Option Message)) (f : Bool) (a : ℕ) (b : List ℕ)
+pub text_heard : (m first : ℕ) (r after : ReceiverState) (heard : List (Option Message)) (f : Bool) (a : ℕ) (b : List ℕ)
     → after.dwell ≡ r.dwell → after.is_known ≡ r.is_known → after.name ≡ r.name → Takes record { flag = f; address = a; bytes = b } r.text after.text
     → (f ≡ r.text.flag → after.pair ≡ r.pair) → (f ≢ r.text.flag → after.pair ≡ None)
     → HoldsAt m (first + length heard) first r heard → HoldsAt m (first + length heard) first after (Some (Text f a b) ∷ heard)
@@ -77,6 +77,29 @@ text_heard m first r after heard f a b dwell known name takes stays gone st = re
         let begins = before_other m n f r.text.flag segs st.text.flag ne in
         gone ne ∙ sym (none_since first n heard (omega arith))
         ∙ ap (λ (x : List Segment). pair_from first (begins_in (g ∷ x)) (Some (Text f a b) ∷ heard)) (sym begins)
+
+-- a name's segment
+pub name_heard : (m first : ℕ) (r after : ReceiverState) (heard : List (Option Message)) (f : Bool) (a : ℕ) (b : List ℕ)
+    → after.dwell ≡ r.dwell → after.is_known ≡ r.is_known → after.text ≡ r.text → after.pair ≡ r.pair → Takes record { flag = f; address = a; bytes = b } r.name after.name
+    → HoldsAt m (first + length heard) first r heard → HoldsAt m (first + length heard) first after (Some (Name f a b) ∷ heard)
+name_heard m first r after heard f a b dwell known text pair takes st = record {
+  dwell = dwell ∙ st.dwell;
+  lasts = st.lasts;
+  text = subst (λ (h : HeldSegments). HoldsRun m (first + length heard) (run m (first + length heard) (segments text_fragment first heard)) h) (sym text) st.text;
+  name = held_taken m (first + length heard) (segments name_fragment first heard) record { flag = f; address = a; bytes = b } r.name after.name st.lasts takes.same takes.other takes.flag takes.age st.name;
+  pair = pair ∙ st.pair ∙ pair_of_name first (begins_in (run m (first + length heard) (segments text_fragment first heard))) heard f a b;
+  known = known ∙ st.known;
+}
+
+-- a segment that is held is taken once more, also after its age grew
+pub takes_again : (f : Bool) (a : ℕ) (b : List ℕ) (h older after : HeldSegments) → HoldsAlready h f a b → older.flag ≡ h.flag → older.cells ≡ h.cells → after ≡ record older { age = 0 }
+    → Takes record { flag = f; address = a; bytes = b } older after
+takes_again f a b h older after already flag cells is = record {
+  same = λ _. ap (λ (x : HeldSegments). x.cells) is ∙ cells ∙ already.same_cells ∙ sym (ap (λ c. insert c a b) cells);
+  other = λ ne. absurd (ne (already.same_flag ∙ sym flag));
+  flag = ap (λ (x : HeldSegments). x.flag) is ∙ flag ∙ sym already.same_flag;
+  age = ap (λ (x : HeldSegments). x.age) is;
+}
 
 -- tags that are taken
 pub tags_heard : (m first : ℕ) (r : ReceiverState) (heard : List (Option Message)) (pair : PairFields) → r.is_known ≡ true → r.text.age < m

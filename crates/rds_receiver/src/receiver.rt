@@ -117,8 +117,13 @@ impl Receiver {
         ensures same { IsFalse result → (view : ShownView)
             → WhereItStands self.old (λ t input. IsView t input view → IsView t (group ∷ input) view) }
     {
-        let message = heard(self.pi, group);
-        self.slot_message(message)
+        // the group is read after the ages grew, so that what is heard is taken where it is read
+        let aged = self.grow_older();
+        let Some(message) = heard(self.pi, group) else {
+            return aged;
+        };
+        let is_new = self.hear(message);
+        is_new || aged
     }
 
     /// [`slot`](Self::slot) of a group that was read before: the message that is heard of it.
@@ -222,6 +227,7 @@ impl Receiver {
     }
 
     /// Handles a message of the programme. False where all that is shown stays.
+    #[inline(always)]
     fn hear(&mut self, message: Message) -> bool
         ensures programme { self.new.programme ≡ self.old.programme }
         ensures holds { HearsMore self.old self.new message }

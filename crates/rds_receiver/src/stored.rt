@@ -1,11 +1,11 @@
 //! All that a receiver holds, as plain numbers, which another program can hold.
-ghost use Rattle.std.specs.Prelude.{◌≡◌, ◌+◌, ◌<◌, ◌≤◌, ◌∷◌, ◌⊎◌, ℕ, IsFalse, IsTrue, List, None, Option, Some, length};
+ghost use Rattle.std.specs.Prelude.{◌≡◌, ◌+◌, ◌<◌, ◌≤◌, ◌∷◌, ◌↔◌, ℕ, IsFalse, IsTrue, List, None, Option, Some, length};
 ghost use Rattle.rds_block.specs.declared.group.Group.{Group};
 ghost use Rattle.rds_fields.specs.declared.message.Message.{Message};
 ghost use Rattle.rds_receiver.specs.Receipts.{Hears};
 ghost use Rattle.rds_receiver.specs.Shown.{IsView, ShownView};
-ghost use Rattle.rds_receiver.specs.StandsAt.{HoldsAt, ShowsAlike, StandsAt, WhereItStands, newest_slot};
-ghost use Rattle.rds_receiver.specs.Stored.{IsStored, receiver_stored};
+ghost use Rattle.rds_receiver.specs.StandsAt.{GoesOn, HoldsAlready, HoldsAt, ShowsAlike, StandsAt, WhereItStands, newest_slot};
+ghost use Rattle.rds_receiver.specs.Stored.{IsStored, receiver_stored, segments_stored};
 
 use rds_fields::{Message, StoredPair};
 
@@ -19,6 +19,34 @@ pub struct StoredSegments {
     /// The slots since the newest came; the dwell where nothing is held.
     pub age: u16,
     pub flag: u8,
+}
+
+impl StoredSegments {
+    /// Whether the segment is held, with this flag.
+    fn holds(&self, flag: bool, address: u8, bytes: [u8; 4]) -> bool
+        requires { address < 16 }
+        ensures { IsTrue result → HoldsAlready (segments_stored self.now) flag address bytes }
+    {
+        let is_held = self.mask >> address & 1 == 1;
+        if !is_held {
+            return false;
+        }
+        let is_set = self.flag != 0;
+        if flag != is_set {
+            return false;
+        }
+        let first = 4 * usize::from(address);
+        is_same(&self.bytes[first..first + 4], &bytes)
+    }
+}
+
+/// Whether the four bytes are these, compared as one word.
+fn is_same(segment: &[u8], bytes: &[u8; 4]) -> bool
+    requires { length segment.now ≡ 4 }
+    ensures { IsTrue result ↔ (segment.now ≡ bytes.now) }
+{
+    let held = [segment[0], segment[1], segment[2], segment[3]];
+    u32::from_le_bytes(held) == u32::from_le_bytes(*bytes)
 }
 
 /// All that a receiver holds. What is whole is no part of it: `restore` finds that anew.
@@ -37,8 +65,8 @@ pub struct StoredReceiver {
 
 impl StoredReceiver {
     /// Takes a slot that leaves nothing but the ages to change, without a receiver that is made for it: nothing is
-    /// heard in it, or no text, name, tags or announcement, and nothing is given up. False, and no change, in any other
-    /// slot.
+    /// heard in it, or a segment that is held, or no text, name, tags or announcement, and nothing is given up. False,
+    /// and no change, in any other slot.
     pub fn rest(&mut self, message: Option<Message>) -> bool
         ensures stands { IsTrue result → WhereItStands (receiver_stored self.old) (λ t input.
             (group : Option Group) → Hears t.programme group message
@@ -49,10 +77,63 @@ impl StoredReceiver {
         ensures good { IsStored self.old → IsStored self.new }
         ensures kept { IsFalse result → self.new ≡ self.old }
     {
-        if !says_nothing(message) {
+        let Some(message) = message else {
+            return self.grow_older();
+        };
+        match message {
+            Message::Text {
+                flag,
+                address,
+                bytes,
+            } => self.rest_text(flag, address.get(), bytes),
+            Message::Name {
+                flag,
+                address,
+                bytes,
+            } => self.rest_name(flag, address.get(), bytes),
+            Message::Other => self.grow_older(),
+            Message::Announce { .. } | Message::Tags(_) => false,
+        }
+    }
+
+    /// One slot older, in which a segment of a text came that is held; else false, and no change.
+    fn rest_text(&mut self, flag: bool, address: u8, bytes: [u8; 4]) -> bool
+        requires { address < 16 }
+        ensures programme { self.new.programme ≡ self.old.programme }
+        ensures holds { IsTrue result → GoesOn (receiver_stored self.old) (receiver_stored self.new)
+            (Some (Message.Text flag address bytes)) }
+        ensures same { IsTrue result → ShowsAlike (receiver_stored self.old) (receiver_stored self.new) }
+        ensures good { IsStored self.old → IsStored self.new }
+        ensures kept { IsFalse result → self.new ≡ self.old }
+    {
+        if !self.text.holds(flag, address, bytes) {
             return false;
         }
-        self.grow_older()
+        if !self.grow_older() {
+            return false;
+        }
+        self.text.age = 0;
+        true
+    }
+
+    /// One slot older, in which a segment of a name came that is held; else false, and no change.
+    fn rest_name(&mut self, flag: bool, address: u8, bytes: [u8; 4]) -> bool
+        requires { address < 16 }
+        ensures programme { self.new.programme ≡ self.old.programme }
+        ensures holds { IsTrue result → GoesOn (receiver_stored self.old) (receiver_stored self.new)
+            (Some (Message.Name flag address bytes)) }
+        ensures same { IsTrue result → ShowsAlike (receiver_stored self.old) (receiver_stored self.new) }
+        ensures good { IsStored self.old → IsStored self.new }
+        ensures kept { IsFalse result → self.new ≡ self.old }
+    {
+        if !self.name.holds(flag, address, bytes) {
+            return false;
+        }
+        if !self.grow_older() {
+            return false;
+        }
+        self.name.age = 0;
+        true
     }
 
     /// One slot older, where nothing is given up by it; else false, and no change.
@@ -64,6 +145,10 @@ impl StoredReceiver {
         ensures same { IsTrue result → ShowsAlike (receiver_stored self.old) (receiver_stored self.new) }
         ensures good { IsStored self.old → IsStored self.new }
         ensures kept { IsFalse result → self.new ≡ self.old }
+        ensures rest { self.new ≡ record self.old {
+          text = record self.old.text { age = self.new.text.age };
+          name = record self.old.name { age = self.new.name.age };
+        } }
     {
         let Some(text) = age_after(self.text.age, self.dwell) else {
             return false;
@@ -74,16 +159,6 @@ impl StoredReceiver {
         self.text.age = text;
         self.name.age = name;
         true
-    }
-}
-
-/// Whether nothing was heard, or nothing of a text, a name or tags.
-fn says_nothing(message: Option<Message>) -> bool
-    ensures { IsTrue result → (message ≡ None) ⊎ (message ≡ Some Message.Other) }
-{
-    match message {
-        None => true,
-        Some(message) => message == Message::Other,
     }
 }
 

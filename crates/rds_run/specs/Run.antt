@@ -15,10 +15,11 @@ use Rattle.rds_script.specs.Play.{Plays, Reading}
 use Rattle.rds_output.specs.declared.fault.LogFault.{LogFault}
 use Rattle.rds_output.specs.declared.fault.LogFault.TheVariants.{BadLine, BadRow, Read, Write, TooLong, Memory}
 use Rattle.rds_script.specs.declared.form.Form.TheVariants.{Log, Simulation}
+use Rattle.rds_witness.specs.Witness.{Witnesses}
 use Rattle.rds_words.specs.CommandLine.{AreRefused, AskFor, AskForHelp, Asked, IsPi, TakesWords, asked_in}
 use Rattle.rds_words.specs.declared.request.Programme.{Programme}
 use Rattle.rds_words.specs.declared.request.Task.{Task}
-use Rattle.rds_words.specs.declared.request.Task.TheVariants.{Audit, Decode, Encode, Simulate}
+use Rattle.rds_words.specs.declared.request.Task.TheVariants.{Audit, Decode, Encode, Simulate, Witness}
 
 -- what a call did begins with these bytes and these failures
 pub record StartsFrom (t : Traffic) (bytes : Option (List ℕ)) (failures : ℕ) : Type 0 where
@@ -44,6 +45,7 @@ mark_of Decode = []
 mark_of (Encode programme late) = codes "# "
 mark_of (Simulate programme late) = []
 mark_of (Audit late) = []
+mark_of Witness = []
 
 abbrev pub TellsFault : Task → List ℕ → Traffic → Type 0
 TellsFault task text w = PutsLine (mark_of task ++ text ++ codes "\n") w
@@ -71,6 +73,10 @@ done _ = 0
 -- of a yes, and of a no
 abbrev pub verdict_status : Bool → ℕ
 verdict_status passed = if passed then 0 else 1
+
+-- of a witness that is found, and of none
+abbrev pub witness_status : Bool → ℕ
+witness_status found = if found then 1 else 0
 
 -- an engine ran, and then its outcome gave the status; `mid` and `failures` are the writer's in between
 pub record Runs {X : Type 0} (Engine : Traffic → Result X LogFault → Type 0) (status_of : X → ℕ) (task : Task)
@@ -106,6 +112,7 @@ TaskRuns (Simulate programme late) t r ReadFailed w status =
     (Simulate programme late) w status
 TaskRuns (Audit late) t r ReadFailed w status =
     Runs (Audits t.programme (t.dwell + late) (2 ^ 32) r) verdict_status (Audit late) w status
+TaskRuns Witness t r ReadFailed w status = Runs (Witnesses t r) witness_status Witness w status
 
 -- the programme identification is refused
 pub record RefusesPi (task : Task) (w : Traffic) (status : ℕ) : Type 0 where

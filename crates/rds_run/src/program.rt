@@ -18,6 +18,7 @@ use rds_fields::{Dwell, Head, Late};
 use rds_log::{audit, decode};
 use rds_output::LogFault;
 use rds_script::{encode, simulate};
+use rds_witness::witness;
 use rds_words::{Programme, Request, Task, identification_of, read_words};
 use rds_world::Config;
 use std::alloc::Global;
@@ -25,7 +26,7 @@ use std::alloc::Global;
 /// The status where all was done, the audit says yes, or help was asked for.
 const DONE: u8 = 0;
 
-/// The status where the audit says no.
+/// The status where the audit says no, and where a witness is found.
 const NO: u8 = 1;
 
 /// The status after a fault of the log or script, the reader or the writer, and where there is no memory.
@@ -41,10 +42,11 @@ const LINE: usize = 64;
 ///
 /// `decode` reads a log and writes what a receiver of the programme shows; `encode` and `sim` read a script
 /// and write the log of a station, or what it sends and its receivers show; `audit` reads a log and writes
-/// whether it passes. A fault is told by its line, the last that is written. Where the words are refused or
-/// ask for help, the text of `clap` is written and nothing is read: `run_lent` says it of its reader. `clap`'s
-/// contract doesn't say that numbers which it took lie in their range: where one didn't, `nothing_asked` holds. Nor
-/// does it say whether `help` and a word after it give help or are refused: `not_taken` bounds the status.
+/// whether it passes, and `witness` which of its slots a receiver has to lose to show a mix. A fault is told by its
+/// line, the last that is written. Where the words are refused or ask for help, the text of `clap` is written and
+/// nothing is read: `run_lent` says it of its reader. `clap`'s contract doesn't say that numbers which it took lie in
+/// their range: where one didn't, `nothing_asked` holds. Nor does it say whether `help` and a word after it give help
+/// or are refused: `not_taken` bounds the status.
 pub fn run<R: TellingRead + Drop, W: TellingWrite>(
     alloc: Global,
     words: &[&str],
@@ -153,6 +155,11 @@ fn run_task<R: TellingRead, W: TellingWrite>(
             Ok(false) => NO,
             Err(fault) => fail_with(asked, fault, writer),
         },
+        Task::Witness => match witness(alloc, reader, writer, pi, dwell) {
+            Ok(true) => NO,
+            Ok(false) => DONE,
+            Err(fault) => fail_with(asked, fault, writer),
+        },
     }
 }
 
@@ -237,7 +244,7 @@ fn mark(task: Task) -> &'static [u8]
 {
     match task {
         Task::Encode(..) => b"# ",
-        Task::Decode | Task::Simulate(..) | Task::Audit(_) => b"",
+        Task::Decode | Task::Simulate(..) | Task::Audit(_) | Task::Witness => b"",
     }
 }
 

@@ -21,14 +21,15 @@ use Rattle.rds_safety.proofs.Entries.{arrival, mark_sent}
 use Rattle.rds_safety.proofs.Hearing.{AreFalling, IsPicked, all_picked, segments_fall}
 use Rattle.rds_safety.specs.Laws.{PlanLaws}
 use Rattle.rds_safety.proofs.OwnClocks.{late_hears}
-use Rattle.rds_safety.proofs.OneBroadcast.{AreOf, IsSegmentOf, PicksWhatIsMarked, RunLiesInOne, heard_run_lies}
+use Rattle.rds_safety.proofs.OneBroadcast.{PicksWhatIsMarked, RunLiesInOne, heard_run_lies}
+use Rattle.rds_safety.proofs.Told.{AreOf, IsSegmentOf}
 
 -- one of the segments
 abbrev pub IsIn : List Segment → Segment → Type 0
 IsIn [] g = ⊥
 IsIn (newest ∷ older) g = (g ≡ newest) ⊎ IsIn older g
 
-all_in : (P : Segment → Type 0) (gs : List Segment) (g : Segment) → AllByRecursion P gs → IsIn gs g → P g
+pub all_in : (P : Segment → Type 0) (gs : List Segment) (g : Segment) → AllByRecursion P gs → IsIn gs g → P g
 all_in P [] g all is_in = absurd is_in
 all_in P (h ∷ older) g all (inl e) = subst P (sym e) all.0
 all_in P (h ∷ older) g all (inr is_in) = all_in P older g all.1 is_in
@@ -49,7 +50,7 @@ in_segments pick first (x ∷ before) u message p (inr earlier) is = by (picked 
     by None has = has
     by (Some q) has = inr has
 
-in_below : (n : ℕ) (gs : List Segment) (g : Segment) → AreFalling n gs → IsIn gs g → g.slot < n
+pub in_below : (n : ℕ) (gs : List Segment) (g : Segment) → AreFalling n gs → IsIn gs g → g.slot < n
 in_below n [] g falls is_in = absurd is_in
 in_below n (h ∷ older) g falls (inl e) = subst (λ (x : Segment). x.slot < n) (sym e) falls.0
 in_below n (h ∷ older) g falls (inr is_in) = omega (arith, falls.0, in_below h.slot older g falls.1 is_in)
@@ -112,7 +113,7 @@ held_own kind input b (h ∷ older) g all is_in =
     by false e (inr is_in) rest = rest is_in
 
 -- one broadcast covers a slot
-one_covers : PlanLaws → (d : ℕ) (plan : List Broadcast) (k l : ℕ) (a b : Broadcast) (u : ℕ) → IsSpaced d plan → HasNumber plan k a → HasNumber plan l b → Covers a u → Covers b u → a ≡ b
+pub one_covers : PlanLaws → (d : ℕ) (plan : List Broadcast) (k l : ℕ) (a b : Broadcast) (u : ℕ) → IsSpaced d plan → HasNumber plan k a → HasNumber plan l b → Covers a u → Covers b u → a ≡ b
 one_covers laws d plan k l a b u spaced p q v w =
     elim (cases_order k l) [
       | inl same ↦ laws.one plan l a b (subst (λ (n : ℕ). HasNumber plan n a) {x = k} same p) q

@@ -94,7 +94,7 @@ newer c = record { start = c; end = c; flag = false; bytes = newer_text }
 abbrev pub plan : ℕ → List Broadcast
 plan c = newer c ∷ older ∷ []
 
-which : (c k : ℕ) (b : Broadcast) → HasNumber (plan c) k b → ((k ≡ 1) × (b ≡ newer c)) ⊎ ((k ≡ 0) × (b ≡ older))
+pub which : (c k : ℕ) (b : Broadcast) → HasNumber (plan c) k b → ((k ≡ 1) × (b ≡ newer c)) ⊎ ((k ≡ 0) × (b ≡ older))
 which c k b (inl p) = inl p
 which c k b (inr (inl p)) = inr p
 which c k b (inr (inr p)) = absurd p
@@ -133,7 +133,7 @@ marks_long : (j : ℕ) → length (marks text_mark (quiet j)) ≡ suc j
 marks_long zero = refl
 marks_long (suc j) = ap suc (marks_long j)
 
-quiet_texts : (j t : ℕ) (m : Mark) → IsMarkIn (marks text_mark (quiet j)) t m → (m ≡ Nothing) ⊎ ((t ≡ 0) × (m ≡ Sends first_fragment))
+pub quiet_texts : (j t : ℕ) (m : Mark) → IsMarkIn (marks text_mark (quiet j)) t m → (m ≡ Nothing) ⊎ ((t ≡ 0) × (m ≡ Sends first_fragment))
 quiet_texts zero t m (inl s) = inr s
 quiet_texts zero t m (inr s) = absurd s
 quiet_texts (suc j) t m (inl s) = inl s.1
@@ -149,7 +149,7 @@ quiet_names (suc j) t m (inr s) = quiet_names j t m s
 abbrev pub log : ℕ → List (Option Message)
 log j = last_message ∷ quiet j
 
-texts_lawful : (j : ℕ) → IsLawful (j + 1) texts (plan (j + 1)) (marks text_mark (log j))
+pub texts_lawful : (j : ℕ) → IsLawful (j + 1) texts (plan (j + 1)) (marks text_mark (log j))
 texts_lawful j = record {
   spaced = spaced (j + 1) (omega arith);
   values = λ k b p. elim (which (j + 1) k b p) [ inl q ↦ rw q.1 (is_text 66 68 (omega arith) (omega arith) refl refl) | inr q ↦ rw q.1 (is_text 65 67 (omega arith) (omega arith) refl refl) ];
@@ -202,7 +202,7 @@ heard n = last_message ∷ quiet n
 abbrev pub input : ℕ → ℕ → ℕ → Input
 input k n j = input_of k (heard n) (Some (j + 1) ∷ quiet_origins n)
 
-first_sent : (j : ℕ) → HasEntry 0 (quiet j) 0 first_message
+pub first_sent : (j : ℕ) → HasEntry 0 (quiet j) 0 first_message
 first_sent zero = inl (omega arith, refl)
 first_sent (suc j) = inr (first_sent j)
 
@@ -221,7 +221,7 @@ is_late k n = one_more k (log (n + k)) k (quiet n) (quiet_origins n) (Some (n + 
     (inl (omega (arith, quiet_long (n + k)), refl)) (omega (arith, quiet_long n), omega (arith, quiet_long n))
     (λ r u s e a. (let r_is : n + k + 1 ≡ r = cc in omega (arith, all_from_first k n u s a)))
 
-quiet_in_order : (n : ℕ) (sent : List (Option Message)) → SentIn sent 0 first_message → IsHeardInOrder sent (input_of 0 (quiet n) (quiet_origins n))
+pub quiet_in_order : (n : ℕ) (sent : List (Option Message)) → SentIn sent 0 first_message → IsHeardInOrder sent (input_of 0 (quiet n) (quiet_origins n))
 quiet_in_order zero sent s = one_more_in_order sent 0 [] [] (Some 0) first_message (nothing_in_order sent 0) s (λ r u s e a. absurd a)
 quiet_in_order (suc n) sent s = one_more_in_order sent 0 (quiet n) (quiet_origins n) None None (quiet_in_order n sent s) refl (λ r u s e a. absurd (cc))
 
@@ -277,7 +277,7 @@ both_held (suc (suc a)) h = absurd (omega arith)
 pub mix_is_whole : IsWholeText both_cells mix
 mix_is_whole = all_text both_cells mix (is_text 65 68 (omega arith) (omega arith) refl refl) record { held = both_held }
 
-abbrev view : ℕ → ℕ → ShownView
+abbrev pub view : ℕ → ℕ → ShownView
 view k n = record {
   text = Some mix;
   name = None;
@@ -286,7 +286,7 @@ view k n = record {
   two = tag_of Two (Some mix) (pair_held (n + 2) k (heard n));
 }
 
-shows : (k n : ℕ) → ShowsView (n + 2) k (heard n) (view k n)
+pub shows : (k n : ℕ) → ShowsView (n + 2) k (heard n) (view k n)
 shows k n = record {
   text = rw (mixed k n) mix_is_whole;
   name = rw (no_name k n) no_name_of_none;
@@ -313,13 +313,13 @@ listens_by_own_clock n j = record {
 }
 
 -- no broadcast has that text, so it was not on air
-one_byte : (a b : ℕ) (xs ys : List ℕ) → ◌≡◌ {A = List ℕ} (a ∷ xs) (b ∷ ys) → a ≡ b
+pub one_byte : (a b : ℕ) (xs ys : List ℕ) → ◌≡◌ {A = List ℕ} (a ∷ xs) (b ∷ ys) → a ≡ b
 one_byte a b xs ys e = cc
 
-fifth_byte : (a b a' b' : ℕ) → text_of_two a b ≡ text_of_two a' b' → b ≡ b'
+pub fifth_byte : (a b a' b' : ℕ) → text_of_two a b ≡ text_of_two a' b' → b ≡ b'
 fifth_byte a b a' b' e = cc
 
-of_none : (c k : ℕ) (b : Broadcast) → HasNumber (plan c) k b → b.bytes ≡ mix → ⊥
+pub of_none : (c k : ℕ) (b : Broadcast) → HasNumber (plan c) k b → b.bytes ≡ mix → ⊥
 of_none c k b p same = elim (which c k b p) [
   | inl q ↦ (let e : newer_text ≡ mix = ap (λ (x : Broadcast). x.bytes) (sym q.1) ∙ same in omega (arith, one_byte _ _ _ _ e))
   | inr q ↦ (let e : older_text ≡ mix = ap (λ (x : Broadcast). x.bytes) (sym q.1) ∙ same in omega (arith, fifth_byte 65 67 65 68 e))

@@ -1,5 +1,6 @@
 pub mod Entries
 pub mod Hearing
+pub mod Told
 pub mod OneBroadcast
 pub mod Bytes
 pub mod Sources
@@ -11,4 +12,9 @@ pub mod Groups
 pub mod Least
 pub mod LooserClocks
 pub mod HeldWhole
+pub mod FlagRuns
+pub mod FlagSafety
+pub mod FlagSlots
+pub mod FlagBounds
+pub mod FlagCuts
 pub mod WorkedRows

@@ -10,13 +10,14 @@ use Rattle.rds_encoder.specs.Spaced.{IsSpaced}
 use Rattle.rds_receiver.specs.Receipts.{Fragment, Segment, segments}
 use Rattle.rds_receiver.specs.Run.{is_same, run, run_at, run_before}
 use Rattle.rds_safety.specs.Late.{CameFrom, Input, IsHeardInOrder}
-use Rattle.rds_safety.specs.Lawful.{HasOne, HasFragment, IsLawful, Kind}
+use Rattle.rds_safety.specs.Lawful.{IsLawful, Kind}
 use Rattle.rds_safety.specs.Laws.{PlanLaws}
 use Rattle.rds_safety.specs.Marks.{Mark, Sends, marks}
 use Rattle.rds_safety.specs.OwnClock.{IsHeardByOwnClock}
 use Rattle.rds_safety.proofs.Entries.{arrival, mark_sent}
 use Rattle.rds_safety.specs.Flags.{same_flag}
 use Rattle.rds_safety.proofs.Hearing.{AreFalling, IsPicked, all_picked, segments_fall}
+use Rattle.rds_safety.proofs.Told.{AreJoined, AreOf, IsOfAny, IsTold, all_of_one}
 
 -- broadcasts of one flag that cover slots less than d apart are one
 one_number : PlanLaws → (d : ℕ) (plan : List Broadcast) (k l : ℕ) (a b : Broadcast) (s r : ℕ) → IsSpaced d plan → HasNumber plan k a → HasNumber plan l b
@@ -30,26 +31,12 @@ one_number laws d plan k l a b s r spaced p q u v after before e =
       ]
     ]
 
--- the segment was sent in a slot in which the broadcast has its fragment
-pub record IsSegmentOf (kind : Kind) (input : Input) (g : Segment) (b : Broadcast) : Type 0 where
-  pub slot : ℕ
-  pub from : CameFrom input g.slot slot
-  pub has : HasFragment kind slot g.fragment b
-
--- the segment is one of some broadcast of the plan
-abbrev pub IsOfAny : Kind → List Broadcast → Input → Segment → Type 0
-IsOfAny kind plan input g = HasOne plan (IsSegmentOf kind input g)
-
--- the segments are all of this broadcast
-abbrev pub AreOf : Kind → Input → Broadcast → List Segment → Type 0
-AreOf kind input b gs = AllByRecursion (λ (g : Segment). IsSegmentOf kind input g b) gs
-
 -- what is picked of a message is the fragment of its mark
 abbrev pub PicksWhatIsMarked : (Message → Option Fragment) → (Option Message → Mark) → Type 0
 PicksWhatIsMarked pick of = (message : Message) (p : Fragment) → pick message ≡ Some p → of (Some message) ≡ Sends p
 
 -- each segment picked is one of some broadcast
-all_of_any : (d : ℕ) (kind : Kind) (pick : Message → Option Fragment) (of : Option Message → Mark) (plan : List Broadcast) (log : List (Option Message)) (input : Input) (gs : List Segment)
+pub all_of_any : (d : ℕ) (kind : Kind) (pick : Message → Option Fragment) (of : Option Message → Mark) (plan : List Broadcast) (log : List (Option Message)) (input : Input) (gs : List Segment)
     → PicksWhatIsMarked pick of → IsLawful d kind plan (marks of log) → IsHeardInOrder log input → AllByRecursion (IsPicked pick input.first input.heard) gs → AllByRecursion (IsOfAny kind plan input) gs
 all_of_any d kind pick of plan log input [] alike law order all = tt
 all_of_any d kind pick of plan log input (g ∷ gs) alike law order all =
@@ -79,26 +66,30 @@ abbrev pub RunLiesInOne : ℕ → ℕ → Kind → List Broadcast → Input → 
 RunLiesInOne d t kind plan input [] = Unit {0}
 RunLiesInOne d t kind plan input (g ∷ older) = LiesInOne d t kind plan input g older
 
+-- each one of a run is one of the segments
+all_before : (P : Segment → Type 0) (m : ℕ) (f : Bool) (s : ℕ) (gs : List Segment) → AllByRecursion P gs → AllByRecursion P (run_before m f s gs)
+all_before P m f s [] all = tt
+all_before P m f s (g ∷ older) all =
+    cond_both (is_same f g.fragment.flag && nat_lt s (g.slot + m)) (g ∷ run_before m f g.slot older) [] (AllByRecursion P) (λ _. (all.0, all_before P m f g.slot older all.1)) (λ _. tt)
+
 module _ (laws : PlanLaws) (d m t : ℕ) (kind : Kind) (plan : List Broadcast) (log : List (Option Message)) (input : Input) (spaced : IsSpaced d plan) (hears : IsHeardByOwnClock d m t log input) where
-  -- what stands before a segment of a run lies in its broadcast
-  goes_on : (number : ℕ) (b : Broadcast) (g : Segment) (older : List Segment) → HasNumber plan number b → IsSegmentOf kind input g b
-      → AreFalling g.slot older → AllByRecursion (IsOfAny kind plan input) older → AreOf kind input b (run_before m g.fragment.flag g.slot older)
-  goes_on number b g [] p own falls all = tt
-  goes_on number b g (h ∷ older) p own falls all =
-      cond_both (is_same g.fragment.flag h.fragment.flag && nat_lt g.slot (h.slot + m)) (h ∷ run_before m g.fragment.flag h.slot older) [] (AreOf kind input b)
+  -- less than d slots apart the flag tells one broadcast from another
+  told : (g h : Segment) → h.slot < g.slot → g.slot < h.slot + m → (r s : ℕ) → CameFrom input h.slot r → CameFrom input g.slot s → IsTold (λ x y. x ≡ y) plan r s
+  told g h falls near r s from to k l a b p q u v flag =
+      let later = hears.order.rising h.slot g.slot r s from to falls in
+      let soon = hears.between h.slot g.slot r s from to near in
+      let same = one_number laws d plan k l a b r s spaced p q u v soon (omega (arith, later)) flag in
+      laws.one plan l a b (subst (λ (n : ℕ). HasNumber plan n a) {x = k} same p) q
+
+  -- so a run is joined
+  joined_before : (f : Bool) (g : Segment) (gs : List Segment) → g.fragment.flag ≡ f → AreFalling g.slot gs → AreJoined (λ x y. x ≡ y) plan input (g ∷ run_before m f g.slot gs)
+  joined_before f g [] e falls = tt
+  joined_before f g (h ∷ older) e falls =
+      cond_both (is_same f h.fragment.flag && nat_lt g.slot (h.slot + m)) (h ∷ run_before m f h.slot older) [] (λ (gs : List Segment). AreJoined (λ x y. x ≡ y) plan input (g ∷ gs))
       (λ joins.
-      let parts = and_parts (is_same g.fragment.flag h.fragment.flag) (nat_lt g.slot (h.slot + m)) joins in
-      let flag : g.fragment.flag ≡ h.fragment.flag = same_flag _ _ parts.0 in
-      let near : g.slot < h.slot + m = ltb-true _ _ parts.1 in
-      let its = all.0.is in
-      let later = hears.order.rising h.slot g.slot its.slot own.slot its.from own.from falls.0 in
-      let soon = hears.between h.slot g.slot its.slot own.slot its.from own.from near in
-      let same = one_number laws d plan number all.0.number b all.0.broadcast own.slot its.slot spaced p all.0.planned own.has.covers its.has.covers (omega (arith, later)) soon (sym own.has.flag ∙ flag ∙ its.has.flag) in
-      let b_is : all.0.broadcast ≡ b = laws.one plan number all.0.broadcast b (subst (λ (n : ℕ). HasNumber plan n all.0.broadcast) (sym same) all.0.planned) p in
-      let here : IsSegmentOf kind input h b = subst (IsSegmentOf kind input h) b_is its in (
-        here,
-        subst (λ (f : Bool). AreOf kind input b (run_before m f h.slot older)) (sym flag) (goes_on number b h older p here falls.1 all.1),
-      ))
+      let parts = and_parts (is_same f h.fragment.flag) (nat_lt g.slot (h.slot + m)) joins in
+      let flag : f ≡ h.fragment.flag = same_flag f h.fragment.flag parts.0 in
+      (record { flag = e ∙ flag; told = told g h falls.0 (ltb-true g.slot (h.slot + m) parts.1) }, joined_before f h older (sym flag) falls.1))
       (λ _. tt)
 
   run_lies : (n : ℕ) (gs : List Segment) → input.first + length input.heard ≡ n + 1 → AreFalling (n + 1) gs → AllByRecursion (IsOfAny kind plan input) gs → RunLiesInOne d t kind plan input (run m n gs)
@@ -111,7 +102,11 @@ module _ (laws : PlanLaws) (d m t : ℕ) (kind : Kind) (plan : List Broadcast) (
         number = all.0.number;
         broadcast = all.0.broadcast;
         planned = all.0.planned;
-        all = (its, goes_on all.0.number all.0.broadcast g older all.0.planned its falls.1 all.1);
+        all = (
+          its,
+          all_of_one kind plan input all.0.number all.0.broadcast g (run_before m g.fragment.flag g.slot older) all.0.planned its
+              (joined_before g.fragment.flag g older refl falls.1) (all_before (IsOfAny kind plan input) m g.fragment.flag g.slot older all.1),
+        );
         past = hears.past g.slot its.slot its.from;
         recent = hears.since g.slot its.slot its.from (omega (arith, next, ltb-true _ _ near));
       })

@@ -23,7 +23,8 @@ use Rattle.rds_safety.specs.Safe.{NamesPiece, ShowsNoTags, ShowsTagsOf}
 use Rattle.rds_safety.specs.Source.{text_run}
 use Rattle.rds_safety.proofs.Bytes.{bytes_of_run, text_service}
 use Rattle.rds_safety.proofs.Entries.{arrival, mark_sent}
-use Rattle.rds_safety.proofs.OneBroadcast.{AreOf, LiesInOne, RunLiesInOne}
+use Rattle.rds_safety.proofs.OneBroadcast.{LiesInOne, RunLiesInOne}
+use Rattle.rds_safety.proofs.Told.{AreOf}
 use Rattle.rds_safety.proofs.Sources.{source_of}
 
 -- the pair was heard later than slot `since`
@@ -42,7 +43,7 @@ not_taken_away (Some true) held pair e = e
 not_taken_away (Some false) held pair e = absurd (cc)
 
 -- the pair held since a slot was heard later than that slot
-was_heard : (first since : ℕ) (heard : List (Option Message)) (pair : PairFields) → pair_since first since heard ≡ Some pair → WasHeardSince first since heard pair
+pub was_heard : (first since : ℕ) (heard : List (Option Message)) (pair : PairFields) → pair_since first since heard ≡ Some pair → WasHeardSince first since heard pair
 was_heard first since [] pair e = absurd (cc)
 was_heard first since (None ∷ before) pair e = still_heard first since None before pair (was_heard first since before pair e)
 was_heard first since (Some (Text f a b) ∷ before) pair e = still_heard first since (Some (Text f a b)) before pair (was_heard first since before pair e)
@@ -114,7 +115,7 @@ real_ends tag n real t = by (tag.class == 0) refl t
     by false e u = leb-true _ _ u
 
 -- what is shown of a tag is the piece that it names
-names_piece : (tag : TagFields) (x bytes : List ℕ) (shown : Option (ℕ × List ℕ)) → x ≡ bytes → shown ≡ cut_by tag x → IfSome shown (NamesPiece tag bytes)
+pub names_piece : (tag : TagFields) (x bytes : List ℕ) (shown : Option (ℕ × List ℕ)) → x ≡ bytes → shown ≡ cut_by tag x → IfSome shown (NamesPiece tag bytes)
 names_piece tag x bytes shown same e =
     subst (λ (s : Option (ℕ × List ℕ)). IfSome s (NamesPiece tag bytes)) (sym e)
     (cond_both (nat_lt 0 tag.class && ends_in (length x) tag) (Some (take (tag.extra + 1) (drop tag.start x))) None

@@ -1,11 +1,12 @@
 -- Rows worked by hand, for the definitions of safety. Lists have the newest first.
-use Rattle.std.proofs.Common.{◌≡◌, ◌-◌, ◌<◌, ℕ, true, false, List, [], ◌∷◌, ◌++◌, take, drop, slice_index, Option, Some, None, refl, sym, ap, ◌∙◌, inl, inr, arith, replicate}
+use Rattle.std.proofs.Common.{◌≡◌, ℕ, true, false, List, [], ◌∷◌, ◌++◌, take, drop, slice_index, Option, Some, None, refl, sym, ap, ◌∙◌, inl, inr, arith, replicate}
 use Rattle.rds_fields.specs.declared.message.Message.{Message}
 use Rattle.rds_fields.specs.declared.message.Message.TheVariants.{Text}
 use Rattle.rds_encoder.specs.Entries.{Entry, Restart, SetText, SetName, SetTags, Tick, text_moves}
 use Rattle.rds_encoder.specs.Plan.{Broadcast, Covers, HasNumber, plan_of}
 use Rattle.rds_encoder.specs.Sent.{sent_in}
-use Rattle.rds_receiver.specs.Receipts.{Segment}
+use Rattle.rds_receiver.specs.Receipts.{Segment, text_fragment}
+use Rattle.rds_safety.specs.FlagAlone.{run_by_flag}
 use Rattle.rds_safety.specs.Late.{CameFrom, HasEntry, Input, IsHeardLate, IsHeardOnTime}
 use Rattle.rds_safety.specs.Safe.{NamesPiece, WasOnAir}
 use Rattle.rds_safety.specs.Source.{IsSource, text_run}
@@ -144,6 +145,31 @@ run_in_24 = refl
 
 source_in_24 : IsSource (songs 24) heard_in_24 (text_run 4 heard_in_24) 2 (third_broadcast 24)
 source_in_24 = record { planned = inl (refl, refl); slot = 24; sent = inl (refl, refl); covers = record { from = omega arith; to = omega arith } }
+
+-- a receiver with the flag bit alone, handed the same, joins in slot 20 what the dwell keeps apart
+run_by_flag_in_20 : run_by_flag text_fragment heard_in_20
+    ≡ third_segment 20 0 (0x54 ∷ 0x48 ∷ 0x49 ∷ 0x52 ∷ [])
+    ∷ third_segment 8 2 (0x4E ∷ 0x47 ∷ 0x0D ∷ 0x20 ∷ [])
+    ∷ third_segment 6 1 (0x54 ∷ 0x20 ∷ 0x53 ∷ 0x4F ∷ [])
+    ∷ []
+run_by_flag_in_20 = refl
+
+-- where it is handed slot 12 too, a segment of `OTHER SONG`, it begins anew there and in slot 20
+abbrev othe : Option Message
+othe = Some (Text true 0 (0x4F ∷ 0x54 ∷ 0x48 ∷ 0x45 ∷ []))
+
+sent_in_12 : HasEntry 0 (sent 4 three_songs) 12 othe
+sent_in_12 = inr (inr (inr (inr (inr (inr (inr (inr (inl (refl, refl)))))))))
+
+abbrev heard_with_other : Input
+heard_with_other = record {
+  first = 0;
+  heard = thir ∷ nothing 7 ++ othe ∷ nothing 3 ++ ng ∷ None ∷ t_so ∷ nothing 6;
+  origins = Some 20 ∷ lost 7 ++ Some 12 ∷ lost 3 ++ Some 8 ∷ None ∷ Some 6 ∷ lost 6;
+}
+
+run_with_other : run_by_flag text_fragment heard_with_other ≡ third_segment 20 0 (0x54 ∷ 0x48 ∷ 0x49 ∷ 0x52 ∷ []) ∷ []
+run_with_other = refl
 
 -- neighbours in one slot: at a dwell of 4, `ONE` is on air from slot 4 on and `TWO` from slot 12 on. The group
 -- of slot 12 is lost for one of two receivers

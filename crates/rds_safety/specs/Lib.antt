@@ -9,5 +9,8 @@ pub mod Safe
 pub mod OwnClock
 pub mod Laws
 pub mod ClockBounds
+pub mod FlagAlone
+pub mod FlagLaws
+pub mod FlagBounds
 -- Lemmas that crates above use.
 pub mod Flags

@@ -1,6 +1,14 @@
 //! What holds of all plans, logs and inputs.
 ghost use Rattle.rds_safety.specs.ClockBounds.{OneSlotAheadIsUnsafe, OneSlotMoreBetweenMixes};
 ghost use Rattle.rds_safety.specs.ClockBounds.{OneSlotMoreSinceIsUnsafe, OwnClocksHaveTheseBounds};
+ghost use Rattle.rds_safety.specs.FlagBounds.{OneFlagTwiceMixes, OneSlotMoreCutsByFlag, OneSlotMoreMixesByFlag};
+ghost use Rattle.rds_safety.specs.FlagLaws.{NamesByFlagAreNew, NamesByFlagAreOfTheirSource, NamesWithADwellAreNew};
+ghost use Rattle.rds_safety.specs.FlagLaws.{NewSourcesAreNear, TextsWithADwellAreNew};
+ghost use Rattle.rds_safety.specs.FlagLaws.{TagsByFlagAreOfTheirText, TextsByFlagAreHeldAlone, TextsByFlagAreNew};
+ghost use Rattle.rds_safety.specs.FlagLaws.{TextsByFlagAreOfTheirSource};
+ghost use Rattle.rds_safety.specs.FlagLaws.{TheFlagAloneIsALongDwell, WhoGetsSomeHearsOneIn};
+ghost use Rattle.rds_safety.specs.FlagLaws.{WhoHearsOneInHearsEach};
+ghost use Rattle.rds_safety.specs.FlagLaws.{WhoHearsOneInHearsTextBeforeTags, WhoLosesFewGetsSome};
 ghost use Rattle.rds_safety.specs.Laws.{ARunHasOneSource, ASlowClockIsAnOwnClock, LateGroupsAreLateMessages};
 ghost use Rattle.rds_safety.specs.Laws.{LateIsBySlowClock, LawfulPlansAreSafe, LawfulPlansAreSafeByOwnClocks};
 ghost use Rattle.rds_safety.specs.Laws.{LawfulPlansAreSafeForSlowClocks, LawfulPlansAreSafeOnTime};
@@ -85,4 +93,46 @@ pub fn each_bound_is_needed()
     ensures between { OneSlotMoreBetweenMixes }
     ensures since { OneSlotMoreSinceIsUnsafe }
     ensures past { OneSlotAheadIsUnsafe }
+{}
+
+/// A receiver with the flag bit alone, which never forgets, mixes nothing as long as it hears a segment of each
+/// broadcast that passes, where the flag turns with each one, or the bytes stay, or the empty text comes.
+pub fn safe_by_the_flag()
+    ensures texts { TextsByFlagAreOfTheirSource }
+    ensures names { NamesByFlagAreOfTheirSource }
+    ensures held { TextsByFlagAreHeldAlone }
+    ensures tags { TagsByFlagAreOfTheirText }
+    ensures new_texts { TextsByFlagAreNew }
+    ensures new_names { NamesByFlagAreNew }
+    ensures texts_with_a_dwell { TextsWithADwellAreNew }
+    ensures names_with_a_dwell { NamesWithADwellAreNew }
+    ensures neighbours { NewSourcesAreNear }
+{
+    plan_laws();
+    numbers_name_broadcasts();
+}
+
+/// In slots: where each broadcast lasts for n slots, it is enough to hear a segment of each n slots in a row, and for
+/// tags of each d.
+pub fn often_is_enough()
+    ensures each { WhoHearsOneInHearsEach }
+    ensures tags { WhoHearsOneInHearsTextBeforeTags }
+    ensures in_a_row { WhoGetsSomeHearsOneIn }
+    ensures losses { WhoLosesFewGetsSome }
+{
+    plan_laws();
+}
+
+/// A receiver with the flag bit alone is one whose dwell is longer than all that it heard.
+pub fn the_flag_alone_is_a_long_dwell()
+    ensures { TheFlagAloneIsALongDwell }
+{}
+
+/// What is asked for receivers with the flag bit alone is needed: where the flag does not turn, or a segment is heard of
+/// each n + 1 slots in a row alone and a text lasts for n, one shows a text which no broadcast has; where one is heard of
+/// each d + 1, one shows tags of another text.
+pub fn the_flag_asks_no_less()
+    ensures turns { OneFlagTwiceMixes }
+    ensures often { OneSlotMoreMixesByFlag }
+    ensures tags { OneSlotMoreCutsByFlag }
 {}

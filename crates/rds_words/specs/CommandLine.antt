@@ -19,7 +19,7 @@ use Rattle.clap.specs.declared.error.kind.ErrorKind.TheVariants.{DisplayHelp, Di
 use Rattle.rds_charset.specs.Digits.{HasWord}
 use Rattle.rds_words.specs.declared.request.Programme.{Programme}
 use Rattle.rds_words.specs.declared.request.Task.{Task}
-use Rattle.rds_words.specs.declared.request.Task.TheVariants.{Audit, Decode, Encode, Simulate}
+use Rattle.rds_words.specs.declared.request.Task.TheVariants.{Audit, Decode, Encode, Simulate, Witness}
 
 -- ---- the command line
 
@@ -78,13 +78,14 @@ decoder_app = with_subcommand top_app (log_app (codes "decode")).top
 
 -- with those that read a log
 unfoldable pub log_readers_app : App
-log_readers_app = with_subcommand decoder_app (late_app (codes "audit")).top
+log_readers_app =
+    with_subcommand (with_subcommand decoder_app (late_app (codes "audit")).top) (log_app (codes "witness")).top
 
 -- with all but `sim`
 abbrev pub without_sim_app : App
 without_sim_app = with_subcommand log_readers_app (station_app (codes "encode")).top
 
--- with all four
+-- with all five
 abbrev pub whole_app : App
 whole_app = with_subcommand without_sim_app (station_app (codes "sim")).top
 
@@ -137,6 +138,7 @@ task_in name rows =
     else if bytes_eq name (codes "encode") then with_station Encode rows
     else if bytes_eq name (codes "sim") then with_station Simulate rows
     else if bytes_eq name (codes "audit") then option_map Audit (late_in rows)
+    else if bytes_eq name (codes "witness") then Some Witness
     else None
 
 abbrev pub asked : Option Task → Option Text → Option ℕ → Option Asked

@@ -3,7 +3,7 @@ use Rattle.std.specs.Prelude.{◌≡◌, ◌==◌, ◌∷◌, ℕ, Bool, List, [
 use Rattle.clap.specs.Words.{Text, fault_of, takes}
 use Rattle.clap.specs.declared.error.kind.ErrorKind.TheVariants.{DisplayHelp, InvalidSubcommand}
 use Rattle.rds_words.specs.CommandLine.{AreRefused, Asked, whole_app}
-use Rattle.rds_words.specs.declared.request.Task.TheVariants.{Audit, Decode, Encode, Simulate}
+use Rattle.rds_words.specs.declared.request.Task.TheVariants.{Audit, Decode, Encode, Simulate, Witness}
 
 abbrev pub in_front : ℕ → List Text → List Text
 in_front c [] = (c ∷ []) ∷ []
@@ -33,6 +33,9 @@ encoding dwell pty = record { task = Encode (record { pty = pty; tp = false }) 0
 abbrev pub simulating : ℕ → ℕ → Bool → ℕ → Asked
 simulating dwell pty tp late =
     record { task = Simulate (record { pty = pty; tp = tp }) late; pi = codes "C201"; dwell = dwell }
+
+abbrev pub witnessing : ℕ → Asked
+witnessing dwell = record { task = Witness; pi = codes "C201"; dwell = dwell }
 
 abbrev pub auditing : ℕ → ℕ → Asked
 auditing dwell late = record { task = Audit late; pi = codes "C201"; dwell = dwell }

@@ -158,6 +158,24 @@ fn audit<'a>(alloc: Global) -> Result<Command<'a>, AllocError>
     late_reader(alloc, "audit", page)
 }
 
+/// The subcommand `witness`.
+fn witness<'a>(alloc: Global) -> Result<Command<'a>, AllocError>
+    ensures app { IfOk result (λ c. app_of c ≡ log_app (codes "witness")) }
+    ensures local { IfOk result (λ c. (out-Command c).has_globals ≡ false) }
+{
+    let page = Page {
+        about: "Reads a log of all groups that were sent, a slot a line, and looks for slots to lose to \
+                show a mix",
+        ending: "It prints `lose A-B: ` and then a line as `decode` prints it, status 1: a receiver of this\n\
+                 dwell that loses the slots A to B of the log shows that text, name or tag in its slot,\n\
+                 and one that loses nothing shows it in no slot before it and none within the dwell\n\
+                 after it. It prints `no witness found`, status 0, where its search finds none, which\n\
+                 does not say that there is none.\n\n\
+                 Example:\n  rdsrt witness --pi C201 --m 64 < sent.log",
+    };
+    log_reader(alloc, "witness", page)
+}
+
 /// A subcommand with a station of its own.
 #[tactic(auto, unfolding(crate::specs::CommandLine::station_app))]
 fn station<'a>(alloc: Global, name: &'a str, page: Page<'a>) -> Result<Command<'a>, AllocError>
@@ -225,6 +243,7 @@ pub fn whole<'a>(alloc: Global) -> Result<Command<'a>, AllocError>
 {
     let with_decode = with(top(alloc), decode(alloc))?;
     let with_audit = with(with_decode, audit(alloc))?;
-    let with_encode = with(with_audit, encode(alloc))?;
+    let with_witness = with(with_audit, witness(alloc))?;
+    let with_encode = with(with_witness, encode(alloc))?;
     with(with_encode, simulate(alloc))
 }

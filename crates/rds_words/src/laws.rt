@@ -1,7 +1,7 @@
 //! What the definition of the command line says of words that are written out.
 ghost use Rattle.std.specs.Prelude.{codes, false, true};
 ghost use Rattle.rds_words.specs.CommandLine.{AskFor, AskForHelp};
-ghost use Rattle.rds_words.specs.Examples.{AreNotTaken, CallForHelp, auditing, decoding, encoding, simulating, typed};
+ghost use Rattle.rds_words.specs.Examples.{AreNotTaken, CallForHelp, auditing, decoding, encoding, simulating, typed, witnessing};
 
 /// The words of README's examples are taken and ask for what they say: the definition is no empty one. A dwell of 0
 /// slots, a programme type of 32, a subcommand with no programme and no subcommand are refused. Help and the
@@ -18,6 +18,7 @@ pub fn words_of_the_examples()
     ensures sim_tp { AskFor (typed (codes "rdsrt sim --pi C201 --pty 10 --tp")) (simulating 128 10 true 0) }
     ensures audit { AskFor (typed (codes "rdsrt audit --pi C201 --m 4")) (auditing 4 0) }
     ensures audit_late { AskFor (typed (codes "rdsrt audit --pi C201 --m 4 --k 2")) (auditing 4 2) }
+    ensures witness { AskFor (typed (codes "rdsrt witness --pi C201 --m 8")) (witnessing 8) }
     ensures sim_late { AskFor (typed (codes "rdsrt sim --pi C201 --k 1024")) (simulating 128 0 false 1024) }
     ensures sim_of_eleven { AskFor (typed (codes "rdsrt sim --pi C201 --m 8 --k 2 --pty 24 --tp --"))
         (simulating 8 24 true 2) }

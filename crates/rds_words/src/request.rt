@@ -33,6 +33,8 @@ pub enum Task {
     Simulate(Programme, Late),
     /// Print whether a log of all groups that were sent passes the audit.
     Audit(Late),
+    /// Print which slots of such a log a receiver has to lose to show a mix.
+    Witness,
 }
 
 /// What the words ask for.
@@ -103,6 +105,7 @@ fn task_of(name: &str, inner: &ArgMatches<'_>) -> Option<Task>
         "encode" => Some(Task::Encode(programme_of(inner)?, late_of(inner)?)),
         "sim" => Some(Task::Simulate(programme_of(inner)?, late_of(inner)?)),
         "audit" => Some(Task::Audit(late_of(inner)?)),
+        "witness" => Some(Task::Witness),
         _ => None,
     }
 }

@@ -6,4 +6,8 @@ pub mod InTime
 pub mod SafeWorld
 pub mod SentWhole
 pub mod Delivered
+pub mod FlagStation
+pub mod FlagSafeStation
+pub mod SendsOne
+pub mod RestartMixes
 pub mod WorkedRows

@@ -1,4 +1,5 @@
--- The station and its receivers, slot by slot. Read in this order; SafeSlots and Delivery are what a world promises.
+-- The station and its receivers, slot by slot. Read in this order; SafeSlots and Delivery are what a world promises, and
+-- FlagStation what its station promises to receivers with the flag bit alone.
 pub mod Event
 pub mod Due
 pub mod Slots
@@ -8,3 +9,4 @@ pub mod StandsAt
 pub mod Station
 pub mod SafeSlots
 pub mod Delivery
+pub mod FlagStation

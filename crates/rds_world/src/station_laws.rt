@@ -1,13 +1,19 @@
 //! What holds of a station and its receivers, whatever the slots are.
 ghost use Rattle.rds_world.specs.Delivery.{ANameIsDelivered, ATextIsDelivered, AnyTextIsDelivered};
+ghost use Rattle.rds_world.specs.FlagStation.{ARestartMixes, InOneLifeNothingIsAsked, NamesOfAStationAreNew};
+ghost use Rattle.rds_world.specs.FlagStation.{NamesOfAStationAreOfTheirSource, TagsOfAStationAreOfTheirText};
+ghost use Rattle.rds_world.specs.FlagStation.{TextsOfAStationAreNew, TextsOfAStationAreOfTheirSource};
+ghost use Rattle.rds_world.specs.FlagStation.{TheStationKeepsEach, TheStationSendsOneIn, TheStationTurnsTheFlag};
+ghost use Rattle.rds_world.specs.FlagStation.{WhoGetsSomeShowsTextsOfTheirSource, WhoLosesFewShowsTextsOfTheirSource};
 ghost use Rattle.rds_world.specs.SafeSlots.{EveryWorldShowsOnlyWhatWasOnAir};
 ghost use Rattle.rds_world.specs.Station.{TheEncoderIsLawful};
 
 use rds_encoder::{
-    broadcasts_are_spaced, numbers_name_broadcasts, on_air_from_its_start_on, on_air_is_sent_whole,
-    on_air_is_what_covers_the_slot, planned_is_what_was_on_air, sent_is_of_what_is_on_air,
+    broadcasts_are_spaced, even_turns_are_the_texts, numbers_name_broadcasts,
+    on_air_from_its_start_on, on_air_is_sent_whole, on_air_is_what_covers_the_slot,
+    planned_is_what_was_on_air, sent_is_of_what_is_on_air,
 };
-use rds_safety::safe_by_plans;
+use rds_safety::{often_is_enough, safe_by_plans, safe_by_the_flag};
 
 /// What an encoder sends is lawful for its plans.
 pub fn the_encoder_is_lawful()
@@ -41,3 +47,45 @@ pub fn on_air_is_delivered()
     on_air_is_what_covers_the_slot();
     on_air_is_sent_whole();
 }
+
+/// The flag turns with each text or name that an encoder accepts, and each stays for two dwells, but across a restart:
+/// there the empty text has to come first, or for the flag alone the bytes that were on air before.
+pub fn the_station_turns_the_flag()
+    ensures turns { TheStationTurnsTheFlag }
+    ensures keeps { TheStationKeepsEach }
+    ensures one_life { InOneLifeNothingIsAsked }
+{}
+
+/// A receiver with the flag bit alone shows no text or name that was not set, as long as it hears a segment of each two
+/// dwells in a row, and no tags but those of its text, as long as it hears one of each dwell.
+pub fn a_station_is_safe_by_the_flag()
+    ensures texts { TextsOfAStationAreOfTheirSource }
+    ensures names { NamesOfAStationAreOfTheirSource }
+    ensures tags { TagsOfAStationAreOfTheirText }
+    ensures new_texts { TextsOfAStationAreNew }
+    ensures new_names { NamesOfAStationAreNew }
+{
+    the_encoder_is_lawful();
+    safe_by_the_flag();
+    often_is_enough();
+}
+
+/// Of two slots of a text that are lent one after the other one sends a segment of it; so a receiver with the flag bit
+/// alone mixes nothing as long as it gets some slots in a row of each two dwells, of which two were lent, or loses few.
+pub fn two_slots_are_enough()
+    ensures sends { TheStationSendsOneIn }
+    ensures texts { WhoGetsSomeShowsTextsOfTheirSource }
+    ensures losses { WhoLosesFewShowsTextsOfTheirSource }
+{
+    on_air_from_its_start_on();
+    on_air_is_what_covers_the_slot();
+    even_turns_are_the_texts();
+    often_is_enough();
+    a_station_is_safe_by_the_flag();
+}
+
+/// Where another text than the empty one comes first after a restart, a receiver with the flag bit alone can show a text
+/// that nobody set, though it loses nothing.
+pub fn a_restart_mixes()
+    ensures { ARestartMixes }
+{}

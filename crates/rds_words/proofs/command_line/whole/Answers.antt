@@ -17,13 +17,16 @@ returns c =
     let decoder : app_of c.in_ok-with_decode.with_decode ≡ decoder_app =
     one_more app_of _ _ _ _ _ c.in_ok-with_decode.was
     (c.with.ensures (log_app (codes "decode")) c.decode.ensures.app c.decode.ensures.local) c.top.ensures in
-    let log_readers : app_of c.in_ok-with_audit.with_audit ≡ log_readers_app =
+    let audited : app_of c.in_ok-with_audit.with_audit ≡ with_subcommand decoder_app (late_app (codes "audit")).top =
     one_more app_of _ _ _ _ _ c.in_ok-with_audit.was
     (c.with-2.ensures (late_app (codes "audit")) c.audit.ensures.app c.audit.ensures.local) decoder in
+    let log_readers : app_of c.in_ok-with_witness.with_witness ≡ log_readers_app =
+    one_more app_of _ _ _ _ _ c.in_ok-with_witness.was
+    (c.with-3.ensures (log_app (codes "witness")) c.witness.ensures.app c.witness.ensures.local) audited in
     let without_sim : app_of c.in_ok-with_encode.with_encode ≡ without_sim_app =
     one_more app_of _ _ _ _ _ c.in_ok-with_encode.was
-    (c.with-3.ensures (station_app (codes "encode")) c.encode.ensures.app c.encode.ensures.local) log_readers in
+    (c.with-4.ensures (station_app (codes "encode")) c.encode.ensures.app c.encode.ensures.local) log_readers in
     record {
-      app = subst (λ a. IfOk c.with-4.result (λ m. app_of m ≡ with_subcommand a (station_app (codes "sim")).top)) without_sim
-          (c.with-4.ensures (station_app (codes "sim")) c.simulate.ensures.app c.simulate.ensures.local);
+      app = subst (λ a. IfOk c.with-5.result (λ m. app_of m ≡ with_subcommand a (station_app (codes "sim")).top)) without_sim
+          (c.with-5.ensures (station_app (codes "sim")) c.simulate.ensures.app c.simulate.ensures.local);
     }

@@ -15,6 +15,7 @@ returns c = record {
   sim_tp = record { taken = refl; ask = refl };
   audit = record { taken = refl; ask = refl };
   audit_late = record { taken = refl; ask = refl };
+  witness = record { taken = refl; ask = refl };
   sim_late = record { taken = refl; ask = refl };
   sim_of_eleven = record { taken = refl; ask = refl };
   help = refl;

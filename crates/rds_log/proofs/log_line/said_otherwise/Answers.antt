@@ -1,7 +1,7 @@
 use Rattle.std.proofs.Common.{rules}
 use Rattle.rds_log.proofs.SaidLemmas.{bad_by_slot}
 use Rattle.rds_log.specs.LineSays.{IsSkipped}
-use Rattle.rds_log.proofs.log_line.said_by.Goals as goal
+use Rattle.rds_log.proofs.log_line.said_otherwise.Goals as goal
 
 pub returns-in_err-slot-clause-none : goal.returns-in_err-slot-clause-none
 returns-in_err-slot-clause-none c =

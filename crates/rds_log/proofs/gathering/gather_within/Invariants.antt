@@ -1,0 +1,14 @@
+use Rattle.std.proofs.Common.{List, reverse}
+use Rattle.rds_log.specs.LogLines.{Line}
+use Rattle.rds_log.specs.LogWrites.{AreSlots}
+use Rattle.rds_log.specs.Inside.Source.{SourceStandsAt, budget, state_of}
+use Rattle.rds_log.proofs.gathering.gather_within.Given as goal
+
+abbrev pub invariant-loop-slots : goal.invariant-loop-slots
+invariant-loop-slots g l =
+    (lines : List Line) × SourceStandsAt l.source l.fn.reads (state_of g.R.Read.remaining g.R.TellingRead.failures g.R.TellingRead.reads l.initial.reader)
+    (state_of g.R.Read.remaining g.R.TellingRead.failures g.R.TellingRead.reads l.reader) lines
+    × AreSlots lines (reverse l.slots.items)
+
+abbrev pub decreases-loop-slots : goal.decreases-loop-slots
+decreases-loop-slots g l = budget l.source

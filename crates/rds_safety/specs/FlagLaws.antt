@@ -1,0 +1,164 @@
+-- What receivers with the flag bit alone are promised (this project's own rule). Lists have the newest first.
+use Rattle.std.specs.Prelude.{◌≡◌, ◌+◌, ◌*◌, ◌≤◌, ◌⊎◌, ◌↔◌, ℕ, Bool, List, [], Option, Some, None, IfSome}
+use Rattle.std.specs.List.{AllByRecursion}
+use Rattle.rds_fields.specs.declared.message.Message.{Message}
+use Rattle.rds_fields.specs.Tag.{PairFields}
+use Rattle.rds_encoder.specs.Plan.{Broadcast, HasNumber}
+use Rattle.rds_encoder.specs.Spaced.{IsSpaced}
+use Rattle.rds_receiver.specs.Receipts.{Fragment, Segment, name_fragment, text_fragment}
+use Rattle.rds_receiver.specs.Shown.{ShowsView, ShownView}
+use Rattle.rds_safety.specs.FlagAlone.{EachLasts, GetsSome, HearsEach, HearsOneIn, HearsTextBeforeTags, ListensByFlag}
+use Rattle.rds_safety.specs.FlagAlone.{LosesInARow, SendsOneIn, ShowsByFlag, TurnsTheFlag, run_by_flag}
+use Rattle.rds_safety.specs.Late.{CameFrom, Input, IsHeardInOrder}
+use Rattle.rds_safety.specs.Lawful.{IsFragmentOf, IsLawful, Kind, names, texts}
+use Rattle.rds_safety.specs.Marks.{IsMarkIn, Mark, Tagged, marks, name_mark, text_mark}
+use Rattle.rds_safety.specs.OwnClock.{ListensByOwnClock, next_slot}
+use Rattle.rds_safety.specs.Safe.{Listener, NamesPiece, ShowsNoTags}
+use Rattle.rds_safety.specs.Source.{IsSource, name_run, text_run}
+
+-- a receiver with the flag bit alone is one whose dwell is longer than all that it heard
+abbrev pub TheFlagAloneIsALongDwell : Type 0
+TheFlagAloneIsALongDwell =
+    (m : ℕ) (input : Input) (view : ShownView) → next_slot input ≤ m
+    → ShowsByFlag input view ↔ ShowsView m input.first input.heard view
+
+-- the value is that of the source of the run
+pub record IsOfItsSource (plan : List Broadcast) (input : Input) (the_run : List Segment)
+    (value : List ℕ) : Type 0 where
+  pub number : ℕ
+  pub broadcast : Broadcast
+  pub source : IsSource plan input the_run number broadcast
+  pub bytes : broadcast.bytes ≡ value
+
+-- all segments of the run are of the value of its source, or that is the empty text
+abbrev pub HoldsItsSource : Kind → List Broadcast → Input → List Segment → Type 0
+HoldsItsSource kind plan input the_run =
+    (k : ℕ) (b : Broadcast) → IsSource plan input the_run k b
+    → (b.bytes ≡ []) ⊎ AllByRecursion (λ (g : Segment). IsFragmentOf (kind.body b.bytes) g.fragment) the_run
+
+-- the tags shown were sent for a broadcast of the text shown, d slots after its start or later, and name pieces of it
+pub record ShowsTagsOfText (d : ℕ) (plan : List Broadcast) (sent : List Mark) (view : ShownView) : Type 0 where
+  pub number : ℕ
+  pub broadcast : Broadcast
+  pub planned : HasNumber plan number broadcast
+  pub text : view.text ≡ Some broadcast.bytes
+  pub pair : PairFields
+  pub slot : ℕ
+  pub tagged : IsMarkIn sent slot (Tagged pair)
+  pub lasted : broadcast.start + d ≤ slot
+  pub to : slot ≤ broadcast.end
+  pub item : view.item ≡ Some (pair.toggle, pair.running)
+  pub one : IfSome view.one (NamesPiece pair.one broadcast.bytes)
+  pub two : IfSome view.two (NamesPiece pair.two broadcast.bytes)
+
+-- the empty text is shown, and no tag of it
+pub record ShowsEmptyText (view : ShownView) : Type 0 where
+  pub text : view.text ≡ Some []
+  pub one : view.one ≡ None
+  pub two : view.two ≡ None
+
+-- a text that is shown is that of the broadcast in which the last segment heard was sent
+abbrev pub TextsByFlagAreOfTheirSource : Type 0
+TextsByFlagAreOfTheirSource =
+    (d now : ℕ) (plan : List Broadcast) (log : List (Option Message)) (r : Listener)
+    → IsLawful d texts plan (marks text_mark log) → TurnsTheFlag plan → ListensByFlag now log r
+    → HearsEach text_fragment plan now r.input
+    → IfSome r.view.text (IsOfItsSource plan r.input (run_by_flag text_fragment r.input))
+
+-- so is a name
+abbrev pub NamesByFlagAreOfTheirSource : Type 0
+NamesByFlagAreOfTheirSource =
+    (d now : ℕ) (plan : List Broadcast) (log : List (Option Message)) (r : Listener)
+    → IsLawful d names plan (marks name_mark log) → TurnsTheFlag plan → ListensByFlag now log r
+    → HearsEach name_fragment plan now r.input
+    → IfSome r.view.name (IsOfItsSource plan r.input (run_by_flag name_fragment r.input))
+
+-- and nothing else is held of a text, so that one which is shown in part is no mix either
+abbrev pub TextsByFlagAreHeldAlone : Type 0
+TextsByFlagAreHeldAlone =
+    (d now : ℕ) (plan : List Broadcast) (log : List (Option Message)) (r : Listener)
+    → IsLawful d texts plan (marks text_mark log) → TurnsTheFlag plan → ListensByFlag now log r
+    → HearsEach text_fragment plan now r.input
+    → HoldsItsSource texts plan r.input (run_by_flag text_fragment r.input)
+
+-- tags that are shown are those of the text that is shown
+abbrev pub TagsByFlagAreOfTheirText : Type 0
+TagsByFlagAreOfTheirText =
+    (d now : ℕ) (plan : List Broadcast) (log : List (Option Message)) (r : Listener)
+    → IsLawful d texts plan (marks text_mark log) → TurnsTheFlag plan → ListensByFlag now log r
+    → HearsEach text_fragment plan now r.input → HearsTextBeforeTags plan r.input
+    → ShowsNoTags r.view ⊎ ShowsEmptyText r.view ⊎ ShowsTagsOfText d plan (marks text_mark log) r.view
+
+-- the source of a run is the newest broadcast that began by slot `now`, or the one before that; but the empty text may
+-- have come since
+abbrev pub HasNewSource : List Broadcast → ℕ → Input → List Segment → Type 0
+HasNewSource plan now input the_run =
+    (k l : ℕ) (a b : Broadcast) → IsSource plan input the_run k a → HasNumber plan l b → b.start ≤ now
+    → (l ≤ k + 1) ⊎ (b.bytes ≡ [])
+
+-- so it is of a receiver that heard a segment of each broadcast of texts
+abbrev pub TextsByFlagAreNew : Type 0
+TextsByFlagAreNew =
+    (d now : ℕ) (plan : List Broadcast) (log : List (Option Message)) (r : Listener)
+    → IsLawful d texts plan (marks text_mark log) → ListensByFlag now log r → HearsEach text_fragment plan now r.input
+    → HasNewSource plan now r.input (run_by_flag text_fragment r.input)
+
+-- or of names
+abbrev pub NamesByFlagAreNew : Type 0
+NamesByFlagAreNew =
+    (d now : ℕ) (plan : List Broadcast) (log : List (Option Message)) (r : Listener)
+    → IsLawful d names plan (marks name_mark log) → ListensByFlag now log r → HearsEach name_fragment plan now r.input
+    → HasNewSource plan now r.input (run_by_flag name_fragment r.input)
+
+-- so it is of each receiver with a dwell, whatever it hears
+abbrev pub TextsWithADwellAreNew : Type 0
+TextsWithADwellAreNew =
+    (d m now : ℕ) (plan : List Broadcast) (log : List (Option Message)) (r : Listener)
+    → IsLawful d texts plan (marks text_mark log) → ListensByOwnClock d m now log r
+    → HasNewSource plan now r.input (text_run m r.input)
+
+abbrev pub NamesWithADwellAreNew : Type 0
+NamesWithADwellAreNew =
+    (d m now : ℕ) (plan : List Broadcast) (log : List (Option Message)) (r : Listener)
+    → IsLawful d names plan (marks name_mark log) → ListensByOwnClock d m now log r
+    → HasNewSource plan now r.input (name_run m r.input)
+
+-- the sources of two runs are one broadcast, or two that follow each other, or the later one is the empty text
+abbrev pub HaveNearSourcesByFlag : List Broadcast → Input → List Segment → Input → List Segment → Type 0
+HaveNearSourcesByFlag plan x x_run y y_run =
+    (k l : ℕ) (a b : Broadcast) → IsSource plan x x_run k a → IsSource plan y y_run l b
+    → ((l ≤ k + 1) ⊎ (b.bytes ≡ [])) × ((k ≤ l + 1) ⊎ (a.bytes ≡ []))
+
+-- so are those of two such receivers, with a dwell or without
+abbrev pub NewSourcesAreNear : Type 0
+NewSourcesAreNear =
+    (now : ℕ) (plan : List Broadcast) (x y : Input) (x_run y_run : List Segment)
+    → ((t s : ℕ) → CameFrom x t s → s ≤ now) → ((t s : ℕ) → CameFrom y t s → s ≤ now)
+    → HasNewSource plan now x x_run → HasNewSource plan now y y_run → HaveNearSourcesByFlag plan x x_run y y_run
+
+-- who hears a segment of each n slots in a row of a broadcast hears one of each broadcast that lasts so long
+abbrev pub WhoHearsOneInHearsEach : Type 0
+WhoHearsOneInHearsEach =
+    (d n now : ℕ) (pick : Message → Option Fragment) (plan : List Broadcast) (input : Input)
+    → IsSpaced d plan → EachLasts n plan → HearsOneIn n pick plan now input → HearsEach pick plan now input
+
+-- and who hears one of each d slots in a row of a broadcast hears no tags before their text
+abbrev pub WhoHearsOneInHearsTextBeforeTags : Type 0
+WhoHearsOneInHearsTextBeforeTags =
+    (d now : ℕ) (plan : List Broadcast) (log : List (Option Message)) (r : Listener)
+    → IsLawful d texts plan (marks text_mark log) → ListensByFlag now log r
+    → HearsOneIn d text_fragment plan now r.input → HearsTextBeforeTags plan r.input
+
+-- who gets r slots in a row of each n, where one of each r sends a segment, hears a segment of each n
+abbrev pub WhoGetsSomeHearsOneIn : Type 0
+WhoGetsSomeHearsOneIn =
+    (r n now : ℕ) (pick : Message → Option Fragment) (plan : List Broadcast) (log : List (Option Message))
+    (input : Input)
+    → IsHeardInOrder log input → SendsOneIn r pick plan log → GetsSome r n pick plan now input
+    → HearsOneIn n pick plan now input
+
+-- and who loses at most so many in a row gets r in a row of each n, where n is one less than these and 2 r or more
+abbrev pub WhoLosesFewGetsSome : Type 0
+WhoLosesFewGetsSome =
+    (most r n now : ℕ) (pick : Message → Option Fragment) (plan : List Broadcast) (input : Input) (got : ℕ → Bool)
+    → most + 2 * r ≤ n + 1 → LosesInARow most r pick now input got → GetsSome r n pick plan now input

@@ -1,0 +1,4 @@
+pub mod Slots
+pub mod Mixes
+pub mod Logs
+pub mod Parts

@@ -1,0 +1,153 @@
+-- A mix is a line of `decode` over what is left of the log.
+use Rattle.std.proofs.Common.{◌≡◌, ◌+◌, ◌<◌, ◌∷◌, ◌++◌, ◌==◌, ◌&&◌, [], ◌∙◌, ℕ, Bool, true, false, List, Option, None, Some, add-one, ap, append_assoc, arith, codes, inl, inr, length, refl, subst, suc, sym, zero}
+use Rattle.std.proofs.lemmas.Bool.{and_parts, cases_lt}
+use Rattle.std.proofs.lemmas.Bool.Decides.{nat_tests}
+use Rattle.std.proofs.lemmas.List.{append-nil}
+use Rattle.std.proofs.lemmas.Slice.Eq.{bytes_eq-Decides}
+use Rattle.std.specs.Str.{bytes_eq}
+use Rattle.rds_block.specs.declared.group.Group.{Group}
+use Rattle.rds_fields.specs.declared.pair.Which.TheVariants.{One, Two}
+use Rattle.rds_receiver.specs.OneView.{same_view}
+use Rattle.rds_receiver.specs.Receipts.{Tuning}
+use Rattle.rds_receiver.specs.Shown.{IsView, ShownView}
+use Rattle.rds_output.specs.NoChange.{view_of_none}
+use Rattle.rds_output.specs.Output.{change, changes_of, is_same_tag, is_same_text, item_change, line_of, newest, slot_stamp, tag_change, tag_content, text_change, text_content, unless_same}
+use Rattle.rds_log.specs.LogWrites.{AreViews}
+use Rattle.rds_witness.specs.Lines.{shown_line}
+use Rattle.rds_witness.specs.Lost.{got}
+use Rattle.rds_witness.specs.Mix.{Has, IsMix, IsNew, Name, Shows, Tag, Text, Thing}
+use Rattle.rds_witness.specs.Prints.{HasPart}
+use Rattle.rds_witness.specs.declared.burst.Burst.{Burst}
+
+part_here : (x : List ℕ) → HasPart x x
+part_here x = record { front = []; back = []; cut = sym (append-nil x) }
+
+part_left : (part a b : List ℕ) → HasPart part a → HasPart part (a ++ b)
+part_left part a b h = record {
+  front = h.front;
+  back = h.back ++ b;
+  cut = ap (λ (l : List ℕ). l ++ b) h.cut ∙ append_assoc (h.front ++ part) h.back b;
+}
+
+part_right : (part a b : List ℕ) → HasPart part b → HasPart part (a ++ b)
+part_right part a b h = record {
+  front = a ++ h.front;
+  back = h.back;
+  cut = ap (λ (l : List ℕ). a ++ l) h.cut ∙ sym (append_assoc a (h.front ++ part) h.back)
+      ∙ ap (λ (l : List ℕ). l ++ h.back) (sym (append_assoc a h.front part));
+}
+
+part_is : (part whole : List ℕ) → whole ≡ part → HasPart part whole
+part_is part whole same = subst (HasPart part) (sym same) (part_here part)
+
+not_true : (b : Bool) → (b ≡ true → ⊥) → b ≡ false
+not_true true isnt = absurd (isnt refl)
+not_true false isnt = refl
+
+text_differs : (o : Option (List ℕ)) (x : List ℕ) → (o ≡ Some x → ⊥) → is_same_text o (Some x) ≡ false
+text_differs None x isnt = refl
+text_differs (Some y) x isnt = not_true (bytes_eq y x) (λ (e : bytes_eq y x ≡ true). isnt (ap Some ((bytes_eq-Decides y x).0 e)))
+
+tag_differs : (o : Option (ℕ × List ℕ)) (c : ℕ) (x : List ℕ) → (o ≡ Some (c, x) → ⊥) → is_same_tag o (Some (c, x)) ≡ false
+tag_differs None c x isnt = refl
+tag_differs (Some (d, y)) c x isnt =
+    not_true (d == c && bytes_eq y x) (λ (e : (d == c && bytes_eq y x) ≡ true).
+    let parts = and_parts (d == c) (bytes_eq y x) e in
+    let class : d ≡ c = grind (arith, nat_tests) in
+    let piece : y ≡ x = (bytes_eq-Decides y x).0 parts.1 in
+    isnt (λ i. Some (class i, piece i)))
+
+text_line : (stamp part : List ℕ) (before after : Option (List ℕ)) (x : List ℕ) → (before ≡ Some x → ⊥) → after ≡ Some x → text_change stamp part before after ≡ line_of stamp part (text_content (Some x))
+text_line stamp part before after x isnt has =
+    ap (λ (o : Option (List ℕ)). text_change stamp part before o) has
+    ∙ ap (λ (b : Bool). unless_same b (line_of stamp part (text_content (Some x)))) (text_differs before x isnt)
+
+tag_line : (stamp part : List ℕ) (before after : Option (ℕ × List ℕ)) (c : ℕ) (x : List ℕ) → (before ≡ Some (c, x) → ⊥) → after ≡ Some (c, x)
+    → tag_change stamp part before after ≡ line_of stamp part (tag_content (Some (c, x)))
+tag_line stamp part before after c x isnt has =
+    ap (λ (o : Option (ℕ × List ℕ)). tag_change stamp part before o) has
+    ∙ ap (λ (b : Bool). unless_same b (line_of stamp part (tag_content (Some (c, x))))) (tag_differs before c x isnt)
+
+change_has : (slot : ℕ) (v w : ShownView) (thing : Thing) → (Shows v thing → ⊥) → Has w thing → HasPart (shown_line slot thing) (change (slot_stamp slot) v w)
+change_has slot v w (Text x) isnt has =
+    let stamp = slot_stamp slot in
+    let a = text_change stamp (codes "text") v.text w.text in
+    let b = text_change stamp (codes "name") v.name w.name in
+    let c = item_change stamp (codes "item") v.item w.item in
+    let d = tag_change stamp (codes "tag1") v.one w.one in
+    let e = tag_change stamp (codes "tag2") v.two w.two in
+    let line = shown_line slot (Text x) in
+    part_left line (((a ++ b) ++ c) ++ d) e (part_left line ((a ++ b) ++ c) d (part_left line (a ++ b) c (part_left line a b (part_is line a (text_line stamp (codes "text") v.text w.text x isnt has)))))
+change_has slot v w (Name x) isnt has =
+    let stamp = slot_stamp slot in
+    let a = text_change stamp (codes "text") v.text w.text in
+    let b = text_change stamp (codes "name") v.name w.name in
+    let c = item_change stamp (codes "item") v.item w.item in
+    let d = tag_change stamp (codes "tag1") v.one w.one in
+    let e = tag_change stamp (codes "tag2") v.two w.two in
+    let line = shown_line slot (Name x) in
+    part_left line (((a ++ b) ++ c) ++ d) e (part_left line ((a ++ b) ++ c) d (part_left line (a ++ b) c (part_right line a b (part_is line b (text_line stamp (codes "name") v.name w.name x isnt has)))))
+change_has slot v w (Tag One class x) isnt has =
+    let stamp = slot_stamp slot in
+    let a = text_change stamp (codes "text") v.text w.text in
+    let b = text_change stamp (codes "name") v.name w.name in
+    let c = item_change stamp (codes "item") v.item w.item in
+    let d = tag_change stamp (codes "tag1") v.one w.one in
+    let e = tag_change stamp (codes "tag2") v.two w.two in
+    let line = shown_line slot (Tag One class x) in
+    part_left line (((a ++ b) ++ c) ++ d) e (part_right line ((a ++ b) ++ c) d (part_is line d (tag_line stamp (codes "tag1") v.one w.one class x (λ (h : v.one ≡ Some (class, x)). isnt (inl h)) has)))
+change_has slot v w (Tag Two class x) isnt has =
+    let stamp = slot_stamp slot in
+    let a = text_change stamp (codes "text") v.text w.text in
+    let b = text_change stamp (codes "name") v.name w.name in
+    let c = item_change stamp (codes "item") v.item w.item in
+    let d = tag_change stamp (codes "tag1") v.one w.one in
+    let e = tag_change stamp (codes "tag2") v.two w.two in
+    let line = shown_line slot (Tag Two class x) in
+    part_right line (((a ++ b) ++ c) ++ d) e (part_is line e (tag_line stamp (codes "tag2") v.two w.two class x (λ (h : v.two ≡ Some (class, x)). isnt (inr h)) has))
+
+newest_view : (t : Tuning) (slots : List (Option Group)) (views : List ShownView) → AreViews t slots views → IsView t slots (newest views)
+newest_view t [] [] are = view_of_none t
+newest_view t [] (view ∷ older) are = absurd are
+newest_view t (slot ∷ before) [] are = absurd are
+newest_view t (slot ∷ before) (view ∷ older) are = are.0
+
+as_many : (t : Tuning) (slots : List (Option Group)) (views : List ShownView) → AreViews t slots views → length views ≡ length slots
+as_many t [] [] are = refl
+as_many t [] (view ∷ older) are = absurd are
+as_many t (slot ∷ before) [] are = absurd are
+as_many t (slot ∷ before) (view ∷ older) are = (let rest = as_many t before older are.1 in omega (arith, rest))
+
+got_length : (lost : Option Burst) (log : List (Option Group)) (n : ℕ) → length (got lost log n) ≡ n
+unfolding got
+got_length lost log zero = refl
+got_length lost log (suc n) = (let rest = got_length lost log n in omega (arith, rest))
+
+-- the lines of the changes up to any slot behind the one in which the thing is new
+prints_by : (t : Tuning) (log : List (Option Group)) (lost : Option Burst) (slot : ℕ) (thing : Thing) (n : ℕ) (views : List ShownView) → IsNew t log lost slot thing → slot < n
+    → AreViews t (got lost log n) views → HasPart (shown_line slot thing) (changes_of views)
+unfolding got
+prints_by t log lost slot thing zero views new less are = absurd (omega arith)
+prints_by t log lost slot thing (suc n) [] new less are = absurd are
+prints_by t log lost slot thing (suc n) (view ∷ older) new less are =
+    let line = shown_line slot thing in
+    elim (cases_lt slot n) [
+      | inl before ↦ part_left line (changes_of older) (change (slot_stamp (length older)) (newest older) view) (prints_by t log lost slot thing n older new before are.1)
+      | inr from ↦ (
+          let here : slot ≡ n = omega arith in
+          let count : length older ≡ n = as_many t (got lost log n) older are.1 ∙ got_length lost log n in
+          let was : IsView t (got lost log n) new.before = subst (λ (k : ℕ). IsView t (got lost log k) new.before) here new.was in
+          let is : IsView t (got lost log (n + 1)) new.after = subst (λ (k : ℕ). IsView t (got lost log (k + 1)) new.after) here new.is in
+          let is_next : IsView t (got lost log (suc n)) new.after = subst (λ (k : ℕ). IsView t (got lost log k) new.after) (add-one n) is in
+          let old : newest older ≡ new.before = same_view t (got lost log n) (newest older) new.before (newest_view t (got lost log n) older are.1) was in
+          let now : view ≡ new.after = same_view t (got lost log (suc n)) view new.after are.0 is_next in
+          let place : length older ≡ slot = count ∙ sym here in
+          let isnt : Shows (newest older) thing → ⊥ = subst (λ (v : ShownView). Shows v thing → ⊥) (sym old) new.not_shown in
+          let has : Has view thing = subst (λ (v : ShownView). Has v thing) (sym now) new.has in
+          let changed : HasPart line (change (slot_stamp slot) (newest older) view) = change_has slot (newest older) view thing isnt has in
+          part_right line (changes_of older) (change (slot_stamp (length older)) (newest older) view) (subst (λ (k : ℕ). HasPart line (change (slot_stamp k) (newest older) view)) (sym place) changed))
+    ]
+
+pub prints : (t : Tuning) (log : List (Option Group)) (burst : Burst) (slot : ℕ) (thing : Thing) (views : List ShownView) → IsMix t log burst slot thing
+    → AreViews t (got (Some burst) log (length log)) views → HasPart (shown_line slot thing) (changes_of views)
+prints t log burst slot thing views mix are = prints_by t log (Some burst) slot thing (length log) views mix.new mix.place.inside are

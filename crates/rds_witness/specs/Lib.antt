@@ -1,0 +1,8 @@
+-- What a receiver gets of a log of which it loses some slots, and when what it shows then is a mix.
+pub mod Lost
+pub mod Mix
+pub mod Lent
+-- The lines that are written, and the promise of the call.
+pub mod Lines
+pub mod Witness
+pub mod Prints

@@ -1,0 +1,60 @@
+-- The lines that `witness` writes. This is the project's own format.
+use Rattle.std.specs.Prelude.{◌≡◌, ◌≢◌, ◌⊎◌, ◌==◌, ◌++◌, ◌∷◌, [], ℕ, Bool, true, false, List, All, Option, Some, codes, decimal}
+use Rattle.std.specs.Prelude.{if◌then◌else◌}
+use Rattle.rds_block.specs.declared.group.Group.{Group}
+use Rattle.rds_fields.specs.declared.pair.Which.{Which}
+use Rattle.rds_fields.specs.declared.pair.Which.TheVariants.{One, Two}
+use Rattle.rds_receiver.specs.Receipts.{Tuning}
+use Rattle.rds_output.specs.Output.{line_of, slot_stamp, tag_content, text_content}
+use Rattle.rds_witness.specs.Mix.{IsMix, Name, Tag, Text, Thing}
+use Rattle.rds_witness.specs.declared.burst.Burst.{Burst}
+
+abbrev pub tag_name : Which → List ℕ
+tag_name One = codes "tag1"
+tag_name Two = codes "tag2"
+
+-- the line of `decode` where this is shown in a slot
+abbrev pub shown_line : ℕ → Thing → List ℕ
+shown_line slot (Text x) = line_of (slot_stamp slot) (codes "text") (text_content (Some x))
+shown_line slot (Name x) = line_of (slot_stamp slot) (codes "name") (text_content (Some x))
+shown_line slot (Tag which class piece) =
+    line_of (slot_stamp slot) (tag_name which) (tag_content (Some (class, piece)))
+
+-- the slots of a burst: its first and its last one, or the one that it is
+abbrev pub burst_text : Burst → List ℕ
+burst_text burst =
+    if burst.first == burst.last then decimal burst.first else decimal burst.first ++ codes "-" ++ decimal burst.last
+
+-- the slots to lose, and the line of `decode` then
+abbrev pub mix_line : Burst → ℕ → Thing → List ℕ
+mix_line burst slot thing = codes "lose " ++ burst_text burst ++ codes ": " ++ shown_line slot thing
+
+-- the lines of mixes, the newest first in the list
+abbrev pub mix_lines : Burst → ℕ → List Thing → List ℕ
+mix_lines burst slot [] = []
+mix_lines burst slot (thing ∷ older) = mix_lines burst slot older ++ mix_line burst slot thing
+
+-- these are lines of mixes
+pub record AreMixLines (t : Tuning) (log : List (Option Group)) (burst : Burst) (slot : ℕ)
+    (lines : List ℕ) : Type 0 where
+  pub things : List Thing
+  pub mixes : All (IsMix t log burst slot) things
+  pub are : lines ≡ mix_lines burst slot things
+
+-- what is appended to lines of mixes makes lines of mixes
+abbrev pub AddsMixes : Tuning → List (Option Group) → Burst → ℕ → List ℕ → List ℕ → Type 0
+AddsMixes t log burst slot before after =
+    AreMixLines t log burst slot before → AreMixLines t log burst slot after
+
+abbrev pub no_witness : List ℕ
+no_witness = codes "no witness found\n"
+
+-- where the search ended at this slot
+abbrev pub no_witness_up_to : ℕ → List ℕ
+no_witness_up_to slot = codes "no witness found up to slot " ++ decimal slot ++ codes "\n"
+
+-- the answer to a log: lines of mixes, one at least, or that none was found
+abbrev pub IsAnswer : Tuning → List (Option Group) → Bool → List ℕ → Type 0
+IsAnswer t log true written =
+    (burst : Burst) × (slot : ℕ) × AreMixLines t log burst slot written × (written ≢ [])
+IsAnswer t log false written = (written ≡ no_witness) ⊎ ((slot : ℕ) × (written ≡ no_witness_up_to slot))

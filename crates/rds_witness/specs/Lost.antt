@@ -1,0 +1,30 @@
+-- What a receiver gets of a log of which it loses a burst, slots that stand side by side. A log has its oldest slot
+-- first; what a receiver got has the newest first.
+use Rattle.std.proofs.Common.{add-one, ap, refl}
+use Rattle.std.specs.Prelude.{◌≡◌, ◌&&◌, ◌+◌, ◌∷◌, [], ℕ, Bool, List, Option, None, Some, false, nat_le}
+use Rattle.std.specs.Prelude.{slice_index_or, if◌then◌else◌, suc, zero}
+use Rattle.rds_block.specs.declared.group.Group.{Group}
+use Rattle.rds_witness.specs.declared.burst.Burst.{Burst}
+
+-- whether slot n is lost
+abbrev pub is_lost : Option Burst → ℕ → Bool
+is_lost None n = false
+is_lost (Some burst) n = nat_le burst.first n && nat_le n burst.last
+
+-- what comes in slot n
+abbrev pub received : Option Burst → List (Option Group) → ℕ → Option Group
+received lost log n = if is_lost lost n then None else slice_index_or log n None
+
+-- what came before slot n
+unfoldable pub got : Option Burst → List (Option Group) → ℕ → List (Option Group)
+got lost log zero = []
+got lost log (suc n) = received lost log n ∷ got lost log n
+
+pub got-none : (lost : Option Burst) (log : List (Option Group)) → got lost log 0 ≡ []
+unfolding got
+got-none lost log = refl
+
+pub got-more : (lost : Option Burst) (log : List (Option Group)) (n : ℕ)
+    → got lost log (n + 1) ≡ received lost log n ∷ got lost log n
+unfolding got
+got-more lost log n = ap (got lost log) (add-one n)

@@ -1,0 +1,66 @@
+-- When a thing that a receiver shows is a mix: a receiver that lost a burst shows it newly, and one that lost nothing
+-- shows it nowhere up to a dwell later.
+use Rattle.std.specs.Prelude.{◌≡◌, ◌⊎◌, ◌≤◌, ◌<◌, ◌+◌, ℕ, List, Option, None, Some, length, nat_le, if◌then◌else◌}
+use Rattle.rds_block.specs.declared.group.Group.{Group}
+use Rattle.rds_fields.specs.declared.pair.Which.{Which}
+use Rattle.rds_fields.specs.declared.pair.Which.TheVariants.{One, Two}
+use Rattle.rds_receiver.specs.Receipts.{Tuning}
+use Rattle.rds_receiver.specs.Shown.{IsView, ShownView}
+use Rattle.rds_witness.specs.Lost.{got}
+use Rattle.rds_witness.specs.declared.burst.Burst.{Burst}
+
+-- a thing that a view can show
+pub data Thing : Type 0 where
+  Text : (bytes : List ℕ) → Thing
+  Name : (bytes : List ℕ) → Thing
+  Tag : (which : Which) (class : ℕ) (piece : List ℕ) → Thing
+
+-- the view shows the thing, a tag in either place
+abbrev pub Shows : ShownView → Thing → Type 0
+Shows view (Text x) = view.text ≡ Some x
+Shows view (Name x) = view.name ≡ Some x
+Shows view (Tag which class piece) = (view.one ≡ Some (class, piece)) ⊎ (view.two ≡ Some (class, piece))
+
+-- the view has the thing, a tag in its own place
+abbrev pub Has : ShownView → Thing → Type 0
+Has view (Text x) = view.text ≡ Some x
+Has view (Name x) = view.name ≡ Some x
+Has view (Tag One class piece) = view.one ≡ Some (class, piece)
+Has view (Tag Two class piece) = view.two ≡ Some (class, piece)
+
+-- with these slots lost, the view of slot t has the thing, and that of the slot before does not show it
+pub record IsNew (t : Tuning) (log : List (Option Group)) (lost : Option Burst) (slot : ℕ) (thing : Thing) : Type 0 where
+  pub before : ShownView
+  pub after : ShownView
+  pub was : IsView t (got lost log slot) before
+  pub is : IsView t (got lost log (slot + 1)) after
+  pub not_shown : Shows before thing → ⊥
+  pub has : Has after thing
+
+-- with nothing lost, no view of the first n slots shows the thing
+abbrev pub NeverShows : Tuning → List (Option Group) → ℕ → Thing → Type 0
+NeverShows t log n thing =
+    (slot : ℕ) (view : ShownView) → slot < n → IsView t (got None log (slot + 1)) view → Shows view thing → ⊥
+
+-- the number of slots up to a dwell after this one, or of all where there are fewer
+abbrev pub until : ℕ → List (Option Group) → ℕ → ℕ
+until dwell log slot = if nat_le (slot + dwell) (length log) then slot + dwell else length log
+
+-- the burst stands before the slot, and both in the log
+pub record IsPlace (burst : Burst) (slot : ℕ) (log : List (Option Group)) : Type 0 where
+  pub order : burst.first ≤ burst.last
+  pub before : burst.last < slot
+  pub inside : slot < length log
+
+-- the views before the slot and after it, with the burst lost
+pub record AreAround (t : Tuning) (log : List (Option Group)) (burst : Burst) (slot : ℕ)
+    (before after : ShownView) : Type 0 where
+  pub place : IsPlace burst slot log
+  pub was : IsView t (got (Some burst) log slot) before
+  pub is : IsView t (got (Some burst) log (slot + 1)) after
+
+-- with the burst lost the thing is new in the slot, and with nothing lost it is shown in no slot up to a dwell later
+pub record IsMix (t : Tuning) (log : List (Option Group)) (burst : Burst) (slot : ℕ) (thing : Thing) : Type 0 where
+  pub place : IsPlace burst slot log
+  pub new : IsNew t log (Some burst) slot thing
+  pub never : NeverShows t log (until t.dwell log slot) thing

@@ -1,0 +1,67 @@
+//! Whether what a receiver shows is a mix.
+ghost use Rattle.std.specs.Prelude.{◌≡◌, ◌<◌, ◌≤◌, ◌+◌, IsTrue, None, Option, Some, length};
+ghost use Rattle.rds_log.specs.LogWrites.{tuned};
+ghost use Rattle.rds_receiver.specs.StandsAt.{StandsAt};
+ghost use Rattle.rds_receiver.specs.Lent.{view_lent};
+ghost use Rattle.rds_witness.specs.Lent.{thing_lent};
+ghost use Rattle.rds_witness.specs.Lost.{got};
+ghost use Rattle.rds_witness.specs.Mix.{NeverShows, until};
+
+use crate::burst::{Burst, received};
+use crate::thing::{Thing, shows};
+use rds_block::Group;
+use rds_fields::Dwell;
+use rds_receiver::Receiver;
+
+/// The receiver that got what came before a slot, but for what is lost.
+pub(crate) fn receiver_before(
+    log: &[Option<Group>],
+    pi: u16,
+    dwell: Dwell,
+    lost: Option<Burst>,
+    slot: usize,
+) -> Receiver
+    requires { slot ≤ length log.now }
+    ensures { StandsAt (tuned pi dwell) result (got lost log.now slot) }
+{
+    let mut receiver = Receiver::new(pi, dwell);
+    for n in 0..slot {
+        receiver.slot(received(log, lost, n));
+    }
+    receiver
+}
+
+/// Whether a receiver that loses nothing never shows the thing in the first slots.
+pub(crate) fn is_never_shown(
+    log: &[Option<Group>],
+    pi: u16,
+    dwell: Dwell,
+    slots: usize,
+    thing: Thing<'_>,
+) -> bool
+    requires { slots ≤ length log.now }
+    ensures { IsTrue result → NeverShows (tuned pi dwell) log.now slots (thing_lent thing.entry) }
+{
+    let mut receiver = Receiver::new(pi, dwell);
+    for n in 0..slots {
+        receiver.slot(received(log, None, n));
+        if shows(receiver.view(), thing) {
+            return false;
+        }
+    }
+    true
+}
+
+/// How many slots there are up to a dwell after this one.
+pub(crate) fn slots_until(log: &[Option<Group>], dwell: Dwell, slot: usize) -> usize
+    requires { slot < length log.now }
+    ensures value { result ≡ until dwell log.now slot }
+    ensures within { result ≤ length log.now }
+{
+    let slots = usize::from(dwell.get());
+    if slots <= log.len() - slot {
+        slot + slots
+    } else {
+        log.len()
+    }
+}

@@ -1,0 +1,178 @@
+//! Receivers that lost a burst and hear again.
+
+use crate::burst::Burst;
+use crate::first_shown::FirstShown;
+use crate::number::{number_of_content, number_of_pair, number_of_state};
+use crate::services::{Service, is_part};
+use rds_fields::{Dwell, Message};
+use rds_receiver::{Receiver, StoredReceiver};
+use std::alloc::{AllocError, Global};
+
+/// How many receivers are followed at most.
+const MOST: usize = 4096;
+
+/// The work of a step in which a receiver hears something; it is 1 where it hears nothing.
+const STEP: u64 = 8;
+
+/// How many numbers of states are kept.
+const SEEN: usize = 1024;
+
+/// What may be a mix: what is lost, and the slot in which it is shown.
+#[derive(Clone, Copy)]
+pub(crate) struct Candidate {
+    pub(crate) burst: Burst,
+    pub(crate) slot: usize,
+}
+
+/// A receiver, and what it lost.
+#[derive(Drop)]
+pub(crate) struct Hearing {
+    pub(crate) receiver: Receiver,
+    pub(crate) burst: Burst,
+    /// Whether it is let go.
+    pub(crate) is_over: bool,
+}
+
+/// What came in a slot, and what a receiver that loses nothing holds with it.
+#[derive(Drop)]
+pub(crate) struct Heard {
+    pub(crate) slot: usize,
+    pub(crate) message: Message,
+    pub(crate) whole: StoredReceiver,
+}
+
+/// The receivers that lost a burst and hear again. Of equal ones some are left out; so is each that holds a part of what
+/// the receiver holds that loses nothing: both hear the same from now on, so what it makes whole is whole there too.
+#[derive(Drop)]
+pub(crate) struct Followed {
+    service: Service,
+    dwell: Dwell,
+    hearing: Vec<Hearing>,
+    /// Those that hear again since this slot.
+    fresh: Vec<Hearing>,
+    /// Numbers of states of this slot, each at its place, among older ones.
+    seen: [u64; SEEN],
+    /// The work of the receivers so far.
+    pub(crate) work: u64,
+}
+
+impl Followed {
+    pub(crate) fn new(alloc: Global, service: Service, dwell: Dwell) -> Followed {
+        Followed {
+            service,
+            dwell,
+            hearing: Vec::new(alloc),
+            fresh: Vec::new(alloc),
+            seen: [0; SEEN],
+            work: 0,
+        }
+    }
+
+    /// A slot in which the service hears nothing, for so many receivers beside those that are followed.
+    pub(crate) fn rest(&mut self, others: usize) {
+        let receivers = self.hearing.len().saturating_add(others);
+        self.work = self.work.saturating_add(receivers as u64);
+        for it in &mut self.hearing {
+            it.receiver.slot_message(None);
+        }
+    }
+
+    /// Lets one hear that just lost a burst, and follows it; what it shows then where that may be a mix.
+    pub(crate) fn follow(
+        &mut self,
+        first: &FirstShown,
+        mut it: Hearing,
+        heard: &Heard,
+    ) -> Result<Option<Candidate>, AllocError> {
+        self.work = self.work.saturating_add(STEP);
+        match hear(
+            &mut it,
+            first,
+            self.service,
+            self.dwell,
+            heard,
+            &mut self.seen,
+        ) {
+            Outcome::Mix(found) => return Ok(Some(found)),
+            Outcome::Known => {}
+            Outcome::Other => self.fresh.push(it)?,
+        }
+        Ok(None)
+    }
+
+    /// Lets those hear that are followed, and lets go whom there is nothing to be seen of; what one of them shows then
+    /// where that may be a mix.
+    pub(crate) fn hear(
+        &mut self,
+        first: &FirstShown,
+        heard: &Heard,
+    ) -> Result<Option<Candidate>, AllocError> {
+        for it in &mut self.hearing {
+            self.work = self.work.saturating_add(STEP);
+            match hear(it, first, self.service, self.dwell, heard, &mut self.seen) {
+                Outcome::Mix(found) => return Ok(Some(found)),
+                Outcome::Known => it.is_over = true,
+                Outcome::Other => {}
+            }
+        }
+        self.hearing.retain(|it| !it.is_over);
+        if self.hearing.len() < MOST {
+            self.hearing.append(&mut self.fresh)?;
+        }
+        self.fresh.clear();
+        Ok(None)
+    }
+}
+
+/// What comes of a receiver that hears.
+#[derive(Drop)]
+enum Outcome {
+    /// It may show a mix.
+    Mix(Candidate),
+    /// It holds what another one holds, or a part of what the one holds that loses nothing.
+    Known,
+    /// Neither.
+    Other,
+}
+
+/// Lets a receiver hear.
+fn hear(
+    it: &mut Hearing,
+    first: &FirstShown,
+    service: Service,
+    dwell: Dwell,
+    heard: &Heard,
+    seen: &mut [u64; SEEN],
+) -> Outcome {
+    let changed = it.receiver.slot_message(Some(heard.message));
+    let stored = it.receiver.store();
+    if is_inside(service, &stored, &heard.whole) || is_seen(service, &stored, heard.slot, seen) {
+        return Outcome::Known;
+    }
+    let until = heard.slot.saturating_add(usize::from(dwell.get()));
+    if changed && first.lacks_some(it.receiver.view(), until) {
+        return Outcome::Mix(Candidate {
+            burst: it.burst,
+            slot: heard.slot,
+        });
+    }
+    Outcome::Other
+}
+
+/// Whether the one holds a part of what the other holds.
+fn is_inside(service: Service, one: &StoredReceiver, whole: &StoredReceiver) -> bool {
+    let pair = number_of_pair(&one.pair);
+    one.is_known <= whole.is_known
+        && (pair == 0 || pair == number_of_pair(&whole.pair))
+        && is_part(&service.held(one), &service.held(whole))
+}
+
+/// Whether a receiver that came to this slot before holds the same; for most of those that do.
+fn is_seen(service: Service, stored: &StoredReceiver, slot: usize, seen: &mut [u64; SEEN]) -> bool {
+    let held = service.held(stored);
+    let number = number_of_state(number_of_content(stored, &held), held.age, slot);
+    let place = (number % 1024) as usize;
+    let is_seen = seen[place] == number;
+    seen[place] = number;
+    is_seen
+}

@@ -1,0 +1,22 @@
+//! Witnesses of what a broken rule costs: slots of a log that a receiver has to lose to show what nobody sent.
+//!
+//! [`witness`] looks for them with no promise, and what it finds it checks by receivers of its own: what it writes is
+//! so by the definitions of `decode` (`IsMix`).
+#![tactic(auto)]
+
+mod burst;
+mod checking;
+mod first_shown;
+mod followed;
+mod laws;
+mod mix_lines;
+mod number;
+mod place;
+mod search;
+mod services;
+mod thing;
+mod witnessing;
+
+pub use burst::Burst;
+pub use laws::what_a_mix_means;
+pub use witnessing::witness;

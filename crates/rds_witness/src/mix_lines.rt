@@ -1,0 +1,214 @@
+//! The lines of mixes.
+ghost use Rattle.std.specs.Prelude.{◌≡◌, ◌≤◌, ◌<◌, ◌+◌, ◌++◌, [], IsTrue, length};
+ghost use Rattle.rds_log.specs.LogWrites.{tuned};
+ghost use Rattle.rds_receiver.specs.Lent.{view_lent};
+ghost use Rattle.rds_witness.specs.Lent.{IsShortThing, thing_lent};
+ghost use Rattle.rds_witness.specs.Lines.{AddsMixes, AreMixLines, burst_text, shown_line, tag_name};
+ghost use Rattle.rds_witness.specs.Mix.{AreAround, Has, NeverShows, Shows, until};
+
+use crate::burst::Burst;
+use crate::checking::{is_never_shown, receiver_before, slots_until};
+use crate::place::Place;
+use crate::thing::{Thing, shows};
+use rds_block::Group;
+use rds_charset::Lines;
+use rds_fields::{Dwell, Which};
+use rds_output::{push_class, push_quoted};
+use rds_receiver::View;
+
+/// Room for the lines of the four things of a slot.
+pub(crate) const ROOM: usize = 2048;
+
+/// Appends the slots of a burst.
+fn push_burst(burst: Burst, lines: &mut Lines<ROOM>)
+    requires { length lines.old + 41 ≤ 2048 }
+    ensures burst { lines.new ≡ lines.old ++ burst_text burst }
+    ensures room { length lines.new ≤ length lines.old + 41 }
+{
+    lines.push_number(burst.first as u64);
+    if burst.first != burst.last {
+        lines.push(b"-");
+        lines.push_number(burst.last as u64);
+    }
+}
+
+/// Appends the line of `decode` where this is shown in a slot.
+fn push_shown(slot: usize, thing: Thing<'_>, lines: &mut Lines<ROOM>)
+    requires short { IsShortThing thing }
+    requires room { length lines.old + 310 ≤ 2048 }
+    ensures shown { lines.new ≡ lines.old ++ shown_line slot (thing_lent thing.entry) }
+    ensures room { length lines.new ≤ length lines.old + 310 }
+{
+    lines.push_number(slot as u64);
+    lines.push(b" ");
+    match thing {
+        Thing::Text(text) => {
+            lines.push(b"text");
+            push_quoted(text, lines);
+        }
+        Thing::Name(name) => {
+            lines.push(b"name");
+            push_quoted(name, lines);
+        }
+        Thing::Tag(which, class, piece) => {
+            lines.push(tag_name(which));
+            push_class(class, lines);
+            push_quoted(piece, lines);
+        }
+    }
+    lines.push(b"\n");
+}
+
+/// The name of a tag's part.
+fn tag_name(which: Which) -> &'static [u8]
+    ensures name { result.now ≡ tag_name which }
+    ensures four { length result.now ≡ 4 }
+{
+    match which {
+        Which::One => b"tag1",
+        Which::Two => b"tag2",
+    }
+}
+
+/// Whether a thing that is shown in a slot is a mix there: not shown in the slot before, and nowhere where nothing is
+/// lost.
+fn is_mix(place: &Place<'_>, before: View<'_>, thing: Thing<'_>) -> bool
+    requires { place.now.slot < length place.now.log.now }
+    ensures new { IsTrue result → Shows (view_lent before.entry) (thing_lent thing.entry) → ⊥ }
+    ensures never { IsTrue result → NeverShows (tuned place.now.pi place.now.dwell) place.now.log.now
+        (until place.now.dwell place.now.log.now place.now.slot) (thing_lent thing.entry) }
+{
+    if shows(before, thing) {
+        return false;
+    }
+    let until = slots_until(place.log, place.dwell, place.slot);
+    is_never_shown(place.log, place.pi, place.dwell, until, thing)
+}
+
+/// Appends the line of a thing that the view after the slot has, where it is a mix.
+fn push_if_mix(
+    place: &Place<'_>,
+    before: View<'_>,
+    after: View<'_>,
+    thing: Thing<'_>,
+    lines: &mut Lines<ROOM>,
+)
+    requires around { AreAround (tuned place.now.pi place.now.dwell) place.now.log.now place.now.burst place.now.slot
+        (view_lent before) (view_lent after) }
+    requires has { Has (view_lent after) (thing_lent thing) }
+    requires short { IsShortThing thing }
+    requires room { length lines.old + 364 ≤ 2048 }
+    ensures mixes { AddsMixes (tuned place.now.pi place.now.dwell) place.now.log.now place.now.burst place.now.slot
+        lines.old lines.new }
+    ensures room { length lines.new ≤ length lines.old + 364 }
+{
+    if is_mix(place, before, thing) {
+        lines.push(b"lose ");
+        push_burst(place.burst, lines);
+        lines.push(b": ");
+        push_shown(place.slot, thing, lines);
+    }
+}
+
+/// Appends the line of each thing that is a mix in the slot.
+pub(crate) fn push_mixes(place: &Place<'_>, lines: &mut Lines<ROOM>)
+    requires { lines.old ≡ [] }
+    ensures { AreMixLines (tuned place.now.pi place.now.dwell) place.now.log.now place.now.burst place.now.slot
+        lines.new }
+{
+    let burst = place.burst;
+    if burst.first > burst.last || burst.last >= place.slot || place.slot >= place.log.len() {
+        return;
+    }
+    let before = receiver_before(place.log, place.pi, place.dwell, Some(burst), place.slot);
+    let after = receiver_before(
+        place.log,
+        place.pi,
+        place.dwell,
+        Some(burst),
+        place.slot + 1,
+    );
+    push_mixes_of(place, before.view(), after.view(), lines);
+}
+
+/// Appends the line of each thing of the view after the slot that is a mix.
+fn push_mixes_of(place: &Place<'_>, before: View<'_>, after: View<'_>, lines: &mut Lines<ROOM>)
+    requires around { AreAround (tuned place.now.pi place.now.dwell) place.now.log.now place.now.burst place.now.slot
+        (view_lent before) (view_lent after) }
+    requires room { length lines.old + 1456 ≤ 2048 }
+    ensures { AddsMixes (tuned place.now.pi place.now.dwell) place.now.log.now place.now.burst place.now.slot
+        lines.old lines.new }
+{
+    push_text(place, before, after, lines);
+    push_name(place, before, after, lines);
+    push_one(place, before, after, lines);
+    push_two(place, before, after, lines);
+}
+
+/// The text.
+fn push_text(place: &Place<'_>, before: View<'_>, after: View<'_>, lines: &mut Lines<ROOM>)
+    requires around { AreAround (tuned place.now.pi place.now.dwell) place.now.log.now place.now.burst place.now.slot
+        (view_lent before) (view_lent after) }
+    requires room { length lines.old + 364 ≤ 2048 }
+    ensures mixes { AddsMixes (tuned place.now.pi place.now.dwell) place.now.log.now place.now.burst place.now.slot
+        lines.old lines.new }
+    ensures room { length lines.new ≤ length lines.old + 364 }
+{
+    if let Some(text) = after.text {
+        push_if_mix(place, before, after, Thing::Text(text), lines);
+    }
+}
+
+/// The name.
+fn push_name(place: &Place<'_>, before: View<'_>, after: View<'_>, lines: &mut Lines<ROOM>)
+    requires around { AreAround (tuned place.now.pi place.now.dwell) place.now.log.now place.now.burst place.now.slot
+        (view_lent before) (view_lent after) }
+    requires room { length lines.old + 364 ≤ 2048 }
+    ensures mixes { AddsMixes (tuned place.now.pi place.now.dwell) place.now.log.now place.now.burst place.now.slot
+        lines.old lines.new }
+    ensures room { length lines.new ≤ length lines.old + 364 }
+{
+    if let Some(name) = after.name {
+        push_if_mix(place, before, after, Thing::Name(name), lines);
+    }
+}
+
+/// The first tag.
+fn push_one(place: &Place<'_>, before: View<'_>, after: View<'_>, lines: &mut Lines<ROOM>)
+    requires around { AreAround (tuned place.now.pi place.now.dwell) place.now.log.now place.now.burst place.now.slot
+        (view_lent before) (view_lent after) }
+    requires room { length lines.old + 364 ≤ 2048 }
+    ensures mixes { AddsMixes (tuned place.now.pi place.now.dwell) place.now.log.now place.now.burst place.now.slot
+        lines.old lines.new }
+    ensures room { length lines.new ≤ length lines.old + 364 }
+{
+    if let Some((class, piece)) = after.one {
+        push_if_mix(
+            place,
+            before,
+            after,
+            Thing::Tag(Which::One, class, piece),
+            lines,
+        );
+    }
+}
+
+/// The second tag.
+fn push_two(place: &Place<'_>, before: View<'_>, after: View<'_>, lines: &mut Lines<ROOM>)
+    requires around { AreAround (tuned place.now.pi place.now.dwell) place.now.log.now place.now.burst place.now.slot
+        (view_lent before) (view_lent after) }
+    requires room { length lines.old + 364 ≤ 2048 }
+    ensures mixes { AddsMixes (tuned place.now.pi place.now.dwell) place.now.log.now place.now.burst place.now.slot
+        lines.old lines.new }
+    ensures room { length lines.new ≤ length lines.old + 364 }
+{
+    if let Some((class, piece)) = after.two {
+        push_if_mix(
+            place,
+            before,
+            after,
+            Thing::Tag(Which::Two, class, piece),
+            lines,
+        );
+    }
+}

@@ -1,0 +1,84 @@
+//! Numbers that things and states are told apart by. Equal ones have equal numbers; where others have too, a search
+//! misses something, and shows nothing that is wrong.
+
+use rds_fields::StoredPair;
+use rds_receiver::{StoredReceiver, StoredSegments};
+
+/// What a number begins with, and what it is multiplied by at each step (FNV-1a, 64 bits).
+const BASIS: u64 = 0xCBF2_9CE4_8422_2325;
+
+const PRIME: u64 = 0x0000_0100_0000_01B3;
+
+/// How many segments may be held.
+const SEGMENTS: usize = 16;
+
+fn mixed(number: u64, next: u64) -> u64 {
+    (number ^ next).wrapping_mul(PRIME)
+}
+
+/// The number of a thing of this kind: 0 a text, 64 a name, and a tag by its class.
+pub(crate) fn number_of(kind: u8, bytes: &[u8]) -> u64 {
+    let mut number = mixed(BASIS, u64::from(kind));
+    for byte in bytes {
+        number = mixed(number, u64::from(*byte));
+    }
+    number
+}
+
+/// The word that a segment has, as it is stored.
+pub(crate) fn word_of(stored: &StoredSegments, address: usize) -> u32 {
+    if address >= SEGMENTS {
+        return 0;
+    }
+    let at = 4 * address;
+    u32::from_le_bytes([
+        stored.bytes[at],
+        stored.bytes[at + 1],
+        stored.bytes[at + 2],
+        stored.bytes[at + 3],
+    ])
+}
+
+/// Whether the segment is held.
+pub(crate) fn is_held(stored: &StoredSegments, address: usize) -> bool {
+    address < SEGMENTS && stored.mask >> address & 1 == 1
+}
+
+/// The number of what is held, its age left out.
+fn content_of(stored: &StoredSegments) -> u64 {
+    let mut number = mixed(BASIS, u64::from(stored.mask) << 8 | u64::from(stored.flag));
+    for address in 0..SEGMENTS {
+        if is_held(stored, address) {
+            number = mixed(number, u64::from(word_of(stored, address)));
+        }
+    }
+    number
+}
+
+/// A number that only this pair has; 0 for none.
+pub(crate) fn number_of_pair(pair: &StoredPair) -> u64 {
+    if pair.is_held == 0 {
+        return 0;
+    }
+    u64::from_le_bytes([
+        1,
+        (pair.toggle & 1) << 1 | pair.running & 1,
+        pair.one.class,
+        pair.one.start,
+        pair.one.extra,
+        pair.two.class,
+        pair.two.start,
+        pair.two.extra,
+    ])
+}
+
+/// The number of what a receiver holds of a service, without the age of its segments.
+pub(crate) fn number_of_content(receiver: &StoredReceiver, held: &StoredSegments) -> u64 {
+    let number = mixed(content_of(held), number_of_pair(&receiver.pair));
+    mixed(number, u64::from(receiver.is_known))
+}
+
+/// The number of a state, with the age of its segments, in a slot.
+pub(crate) fn number_of_state(content: u64, age: u16, slot: usize) -> u64 {
+    mixed(mixed(content, u64::from(age)), slot as u64)
+}

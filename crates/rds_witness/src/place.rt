@@ -1,0 +1,15 @@
+//! Where a mix is looked for.
+
+use crate::burst::Burst;
+use rds_block::Group;
+use rds_fields::Dwell;
+
+/// A log, the receivers of it, what they lose, and the slot in which they may show a mix.
+#[derive(Drop)]
+pub(crate) struct Place<'a> {
+    pub(crate) log: &'a [Option<Group>],
+    pub(crate) pi: u16,
+    pub(crate) dwell: Dwell,
+    pub(crate) burst: Burst,
+    pub(crate) slot: usize,
+}

@@ -1,0 +1,49 @@
+//! The things that a view shows.
+ghost use Rattle.std.specs.Prelude.{◌≡◌, ◌↔◌, IsTrue, Some};
+ghost use Rattle.std.specs.Option.{option_copied};
+ghost use Rattle.rds_receiver.specs.Lent.{tag_lent, view_lent};
+ghost use Rattle.rds_witness.specs.Lent.{thing_lent};
+ghost use Rattle.rds_witness.specs.Mix.{Shows};
+
+use rds_fields::Which;
+use rds_receiver::View;
+
+/// A thing that a view can show.
+#[derive(Clone, Copy)]
+pub(crate) enum Thing<'a> {
+    Text(&'a [u8]),
+    Name(&'a [u8]),
+    /// One of the two tags: its class, and its piece of the text.
+    Tag(Which, u8, &'a [u8]),
+}
+
+/// Whether a view shows the thing, a tag in either place.
+pub(crate) fn shows(view: View<'_>, thing: Thing<'_>) -> bool
+    ensures { IsTrue result ↔ Shows (view_lent view.entry) (thing_lent thing.entry) }
+{
+    match thing {
+        Thing::Text(text) => is_text(view.text, text),
+        Thing::Name(name) => is_text(view.name, name),
+        Thing::Tag(_, class, piece) => {
+            is_tag(view.one, class, piece) || is_tag(view.two, class, piece)
+        }
+    }
+}
+
+fn is_text(shown: Option<&[u8]>, text: &[u8]) -> bool
+    ensures { IsTrue result ↔ (option_copied shown.entry ≡ Some text.now) }
+{
+    match shown {
+        Some(shown) => shown == text,
+        None => false,
+    }
+}
+
+fn is_tag(shown: Option<(u8, &[u8])>, class: u8, piece: &[u8]) -> bool
+    ensures { IsTrue result ↔ (tag_lent shown.entry ≡ Some (class, piece.now)) }
+{
+    match shown {
+        Some((shown_class, shown)) => shown_class == class && shown == piece,
+        None => false,
+    }
+}

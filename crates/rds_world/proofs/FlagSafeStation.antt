@@ -1,0 +1,65 @@
+-- A station is safe for receivers with the flag bit alone that hear it often enough.
+use Rattle.std.proofs.Common.{◌-◌, ◌*◌, ◌≤◌, ℕ, List, Option, length, arith}
+use Rattle.rds_fields.specs.declared.message.Message.{Message}
+use Rattle.rds_encoder.specs.Entries.{name_moves, text_moves}
+use Rattle.rds_encoder.specs.Plan.{Broadcast}
+use Rattle.rds_receiver.specs.Receipts.{Fragment, name_fragment, text_fragment}
+use Rattle.rds_safety.specs.FlagAlone.{HearsOneIn}
+use Rattle.rds_safety.specs.FlagLaws.{NamesByFlagAreNew, NamesByFlagAreOfTheirSource, TagsByFlagAreOfTheirText, TextsByFlagAreNew, TextsByFlagAreOfTheirSource, WhoGetsSomeHearsOneIn, WhoHearsOneInHearsEach, WhoHearsOneInHearsTextBeforeTags, WhoLosesFewGetsSome}
+use Rattle.rds_safety.specs.Late.{Input}
+use Rattle.rds_world.specs.FlagStation.{NamesOfAStationAreNew, NamesOfAStationAreOfTheirSource, TagsOfAStationAreOfTheirText, TextsOfAStationAreNew, TextsOfAStationAreOfTheirSource, TheStationSendsOneIn, WhoGetsSomeShowsTextsOfTheirSource, WhoLosesFewShowsTextsOfTheirSource}
+use Rattle.rds_world.specs.Slots.{entries, log, plans_of}
+use Rattle.rds_world.specs.Station.{TheEncoderIsLawful}
+use Rattle.rds_world.proofs.FlagStation.{empties_are_harmless, keeps_each, turns_the_flag}
+
+-- one of each n slots is one of each m, where these are more
+oftener : (n m : ℕ) (pick : Message → Option Fragment) (plan : List Broadcast) (now : ℕ) (input : Input) → n ≤ m → HearsOneIn n pick plan now input → HearsOneIn m pick plan now input
+oftener n m pick plan now input more often k s t r b planned from to by_now heard before =
+    let w = often k s t r b planned from (omega (arith, more, to)) (omega (arith, more, by_now)) heard before in
+    record { slot = w.slot; origin = w.origin; heard = w.heard; since = w.since; until = omega (arith, w.until, more) }
+
+pub texts_are_safe : TheEncoderIsLawful → TextsByFlagAreOfTheirSource → WhoHearsOneInHearsEach → TextsOfAStationAreOfTheirSource
+texts_are_safe lawful safe enough d now events r some set first listens often =
+    let law = lawful d events some set in
+    let moves = text_moves (entries events) in
+    let turns = turns_the_flag d (length events - 1) moves (empties_are_harmless d moves first) in
+    let lasts = keeps_each d (length events - 1) moves first in
+    safe d now (plans_of d events).text (log d events) r law.text turns listens (enough d (2 * d) now text_fragment (plans_of d events).text r.input law.text.spaced lasts often)
+
+pub names_are_safe : TheEncoderIsLawful → NamesByFlagAreOfTheirSource → WhoHearsOneInHearsEach → NamesOfAStationAreOfTheirSource
+names_are_safe lawful safe enough d now events r some set first listens often =
+    let law = lawful d events some set in
+    let moves = name_moves (entries events) in
+    let turns = turns_the_flag d (length events - 1) moves (empties_are_harmless d moves first) in
+    let lasts = keeps_each d (length events - 1) moves first in
+    safe d now (plans_of d events).name (log d events) r law.name turns listens (enough d (2 * d) now name_fragment (plans_of d events).name r.input law.name.spaced lasts often)
+
+pub tags_are_safe : TheEncoderIsLawful → TagsByFlagAreOfTheirText → WhoHearsOneInHearsEach → WhoHearsOneInHearsTextBeforeTags → TagsOfAStationAreOfTheirText
+tags_are_safe lawful safe enough before_tags d now events r some set first listens often =
+    let law = lawful d events some set in
+    let moves = text_moves (entries events) in
+    let turns = turns_the_flag d (length events - 1) moves (empties_are_harmless d moves first) in
+    let lasts = keeps_each d (length events - 1) moves first in
+    safe d now (plans_of d events).text (log d events) r law.text turns listens
+    (enough d (2 * d) now text_fragment (plans_of d events).text r.input law.text.spaced lasts (oftener d (2 * d) text_fragment (plans_of d events).text now r.input (omega arith) often))
+    (before_tags d now (plans_of d events).text (log d events) r law.text listens often)
+
+pub texts_are_new : TheEncoderIsLawful → TextsByFlagAreNew → WhoHearsOneInHearsEach → TextsOfAStationAreNew
+texts_are_new lawful new enough d now events r some set first listens often =
+    let law = lawful d events some set in
+    let lasts = keeps_each d (length events - 1) (text_moves (entries events)) first in
+    new d now (plans_of d events).text (log d events) r law.text listens (enough d (2 * d) now text_fragment (plans_of d events).text r.input law.text.spaced lasts often)
+
+pub names_are_new : TheEncoderIsLawful → NamesByFlagAreNew → WhoHearsOneInHearsEach → NamesOfAStationAreNew
+names_are_new lawful new enough d now events r some set first listens often =
+    let law = lawful d events some set in
+    let lasts = keeps_each d (length events - 1) (name_moves (entries events)) first in
+    new d now (plans_of d events).name (log d events) r law.name listens (enough d (2 * d) now name_fragment (plans_of d events).name r.input law.name.spaced lasts often)
+
+pub some_are_enough : TextsOfAStationAreOfTheirSource → TheStationSendsOneIn → WhoGetsSomeHearsOneIn → WhoGetsSomeShowsTextsOfTheirSource
+some_are_enough safe sends enough d r now events l some set first listens lends gets =
+    safe d now events l some set first listens (enough r (2 * d) now text_fragment (plans_of d events).text (log d events) l.input listens.order (sends d r events some lends) gets)
+
+pub few_losses_are_harmless : WhoGetsSomeShowsTextsOfTheirSource → WhoLosesFewGetsSome → WhoLosesFewShowsTextsOfTheirSource
+few_losses_are_harmless safe enough d r most now events l got some set first listens lends few loses =
+    safe d r now events l some set first listens lends (enough most r (2 * d) now text_fragment (plans_of d events).text l.input got few loses)

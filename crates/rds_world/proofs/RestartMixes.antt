@@ -1,0 +1,126 @@
+-- A restart after which another text than the empty one comes first, at a dwell of one slot: `AAAACCC` is set in slot 1,
+-- the encoder restarts in slot 4, and `BBBBDDD` is set in slot 5, with flag 0 again. A receiver with the flag bit alone
+-- that gets each slot joins the second segment of the one with the first of the other in slot 5.
+use Rattle.std.proofs.Common.{◌≡◌, ◌<◌, ◌≤◌, ℕ, zero, suc, true, false, List, [], ◌∷◌, Option, Some, None, refl, sym, ap, ◌∙◌, inl, inr, arith}
+use Rattle.std.specs.FinMap.{empty, get, insert}
+use Rattle.rds_fields.specs.declared.message.Message.{Message}
+use Rattle.rds_fields.specs.declared.message.Message.TheVariants.{Text}
+use Rattle.rds_assembly.specs.Body.{segment_of, text_body}
+use Rattle.rds_assembly.specs.Cells.{Cells}
+use Rattle.rds_assembly.specs.OwnSegments.{all_text}
+use Rattle.rds_assembly.specs.ServiceLaws.{no_name_of_none}
+use Rattle.rds_encoder.specs.Entries.{text_moves}
+use Rattle.rds_encoder.specs.Plan.{Broadcast, HasNumber}
+use Rattle.rds_receiver.specs.Shown.{ShownView}
+use Rattle.rds_safety.specs.FlagAlone.{ShowsByFlag}
+use Rattle.rds_safety.specs.Late.{CameFrom, Input, IsHeardLate, own_origins}
+use Rattle.rds_safety.proofs.Bytes.{get-put}
+use Rattle.rds_safety.proofs.Entries.{before_end}
+use Rattle.rds_safety.proofs.Least.{four, is_text, newer_text, older_text, one_byte, fifth_byte, text_of_two, three_and_end}
+use Rattle.rds_safety.proofs.OnTime.{input_of, no_slot_late}
+use Rattle.rds_world.specs.declared.event.Command.{Command}
+use Rattle.rds_world.specs.declared.event.Command.TheVariants.{Quiet, Restart, SetText}
+use Rattle.rds_world.specs.Event.{Event}
+use Rattle.rds_world.specs.FlagStation.{IsEmptyAfter, IsFirstAfterRestart, MixesAStation}
+use Rattle.rds_world.specs.Slots.{entries, log, plans_of}
+
+abbrev slot : Command → Event
+slot command = record { command = command; free = true; receptions = [] }
+
+abbrev events : List Event
+events = slot (SetText newer_text) ∷ slot Restart ∷ slot Quiet ∷ slot Quiet ∷ slot (SetText older_text) ∷ slot Quiet ∷ []
+
+abbrev older : Broadcast
+older = record { start = 1; end = 3; flag = false; bytes = older_text }
+
+abbrev newer : Broadcast
+newer = record { start = 5; end = 5; flag = false; bytes = newer_text }
+
+planned : (plans_of 1 events).text ≡ newer ∷ older ∷ []
+planned = refl
+
+abbrev first_of_newer : Option Message
+first_of_newer = Some (Text false 0 (four 66))
+
+abbrev last_of_older : Option Message
+last_of_older = Some (Text false 1 (three_and_end 67))
+
+abbrev sent : List (Option Message)
+sent = first_of_newer ∷ None ∷ last_of_older ∷ None ∷ Some (Text false 0 (four 65)) ∷ None ∷ []
+
+sent_is : log 1 events ≡ sent
+sent_is = refl
+
+-- the receiver got each slot
+abbrev input : Input
+input = input_of 0 sent (own_origins 0 sent)
+
+late : IsHeardLate 0 sent input
+late = no_slot_late sent 0 sent (λ t entry has. inr has)
+
+by_now : (t s : ℕ) → CameFrom input t s → s ≤ 5
+by_now t s came = omega (arith, late.past t s came, before_end 0 (own_origins 0 sent) t (Some s) came)
+
+abbrev mix : List ℕ
+mix = text_of_two 66 67
+
+-- the segments of slots 1 and 3, and that of slot 5 in the place of the first
+abbrev until_slot_3 : Cells
+until_slot_3 = insert (insert empty 0 (four 65)) 1 (three_and_end 67)
+
+abbrev both : Cells
+both = insert until_slot_3 0 (four 66)
+
+both_held : (a : ℕ) → a < 2 → get both a ≡ Some (segment_of (text_body mix) a)
+both_held zero h = get-put until_slot_3 0 (four 66) 0
+both_held (suc zero) h = get-put until_slot_3 0 (four 66) 1 ∙ get-put (insert empty 0 (four 65)) 1 (three_and_end 67) 1
+both_held (suc (suc a)) h = absurd (omega arith)
+
+abbrev view : ShownView
+view = record { text = Some mix; name = None; item = None; one = None; two = None }
+
+shows : ShowsByFlag input view
+shows = record {
+  text = all_text both mix (is_text 66 67 (omega arith) (omega arith) refl refl) record { held = both_held };
+  name = no_name_of_none;
+  item = refl;
+  one = refl;
+  two = refl;
+}
+
+of_none : (k : ℕ) (b : Broadcast) → HasNumber (newer ∷ older ∷ []) k b → b.bytes ≡ mix → ⊥
+of_none k b (inl last) same = omega (arith, fifth_byte 66 68 66 67 (ap (λ (x : Broadcast). x.bytes) (sym last.1) ∙ same))
+of_none k b (inr (inl first)) same = omega (arith, one_byte _ _ _ _ (ap (λ (x : Broadcast). x.bytes) (sym first.1) ∙ same))
+of_none k b (inr (inr never)) same = never
+
+pub a_restart_mixes : MixesAStation 1
+a_restart_mixes = record {
+  events = events;
+  values = (is_text 66 68 (omega arith) (omega arith) refl refl, (tt, (tt, (tt, (is_text 65 67 (omega arith) (omega arith) refl refl, (tt, tt))))));
+  now = 5;
+  receiver = record { input = input; view = view };
+  listens = record { order = late.order; past = by_now; shows = shows };
+  got = (refl, refl, λ t s came. omega (arith, late.past t s came, late.late t s came));
+  mix = mix;
+  shown = refl;
+  of_none = of_none;
+}
+
+-- ---- with the empty text between, as it is asked
+
+abbrev with_empty : List Event
+with_empty = slot (SetText newer_text) ∷ slot Quiet ∷ slot (SetText []) ∷ slot Restart ∷ slot Quiet ∷ slot (SetText older_text) ∷ slot Quiet ∷ []
+
+planned_with_empty : (plans_of 1 with_empty).text
+    ≡ record { start = 6; end = 6; flag = true; bytes = newer_text }
+    ∷ record { start = 4; end = 5; flag = false; bytes = [] }
+    ∷ record { start = 1; end = 2; flag = false; bytes = older_text }
+    ∷ []
+planned_with_empty = refl
+
+first_is_empty : IsFirstAfterRestart IsEmptyAfter 1 (text_moves (entries with_empty))
+first_is_empty = (λ ok on. (cc), (λ ok on. refl, (λ ok on. tt, tt)))
+
+-- and it is not so without it
+first_is_none : IsFirstAfterRestart IsEmptyAfter 1 (text_moves (entries events)) → ⊥
+first_is_none first = (let none = first.0 refl refl in cc)

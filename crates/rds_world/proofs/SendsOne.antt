@@ -1,0 +1,213 @@
+-- Of two slots of a text that are lent one after the other one sends a segment of it, since every second turn is the text's.
+use Rattle.std.proofs.Common.{◌≡◌, ◌⊎◌, ◌+◌, ◌-◌, ◌%◌, ◌<◌, ◌≤◌, ℕ, Bool, true, false, nat_le, cond, List, [], ◌∷◌, ◌++◌, append_assoc, length, Option, Some, refl, sym, ap, ◌∙◌, subst, inl, inr, arith, is_ok}
+use Rattle.std.proofs.lemmas.Bool.{cases_eq, le-leb}
+use Rattle.rds_fields.specs.declared.message.Message.{Message}
+use Rattle.rds_fields.specs.declared.message.Message.TheVariants.{Text}
+use Rattle.rds_assembly.specs.Body.{segment_of, text_body}
+use Rattle.rds_encoder.specs.Entries.{Entry, Move, Begin, Set, End, restart_before, slot_of, text_moves}
+use Rattle.rds_encoder.specs.Laws.{EvenTurnsAreTheTexts, OnlyWhatIsOnAirCoversTheSlot, WhatIsOnAirBegan}
+use Rattle.rds_encoder.specs.Plan.{Broadcast, HasNumber, OnAir, endless, next_flag, on_air, plan_of}
+use Rattle.rds_encoder.specs.Reply.{reply_to}
+use Rattle.rds_encoder.specs.Sent.{next_address, one_if, sent_in, text_segment, turn_of}
+use Rattle.rds_receiver.specs.Receipts.{text_fragment}
+use Rattle.rds_safety.specs.FlagAlone.{SendsOneBetween}
+use Rattle.rds_safety.specs.Marks.{text_mark}
+use Rattle.rds_assembly.specs.Value.{IsText}
+use Rattle.rds_world.specs.declared.event.Command.{Command}
+use Rattle.rds_world.specs.declared.event.Command.TheVariants as command
+use Rattle.rds_world.specs.Event.{Event}
+use Rattle.rds_world.specs.FlagStation.{IsFreeIn, TheStationSendsOneIn}
+use Rattle.rds_world.specs.Slots.{commanded, entries, log}
+use Rattle.rds_world.proofs.InTime.{logged}
+use Rattle.rds_world.proofs.LawfulStation.{reaches, text_service}
+
+-- what is planned with one end is planned with another
+record IsPlannedToo (d end : ℕ) (h : List Move) (k : ℕ) (b : Broadcast) : Type 0 where
+  broadcast : Broadcast
+  planned : HasNumber (plan_of d end h) k broadcast
+  same : endless broadcast ≡ endless b
+  ends : (broadcast.end ≡ b.end) ⊎ (broadcast.end ≡ end)
+
+planned_too : (d e f : ℕ) (h : List Move) (k : ℕ) (b : Broadcast) → HasNumber (plan_of d e h) k b → IsPlannedToo d f h k b
+planned_too d e f [] k b p = absurd p
+planned_too d e f (Begin ∷ before) k b p = record { broadcast = b; planned = p; same = refl; ends = inl refl }
+planned_too d e f (End free ∷ before) k b p =
+    let w = planned_too d e f before k b p in
+    record { broadcast = w.broadcast; planned = w.planned; same = w.same; ends = w.ends }
+planned_too d e f (Set x ∷ before) k b p = by (is_ok (reply_to d before)) refl (λ q. planned_too d e f before k b q) p
+  where
+    by : (ok : Bool) → is_ok (reply_to d before) ≡ ok → (HasNumber (plan_of d e before) k b → IsPlannedToo d f before k b)
+        → HasNumber (cond ok (record { start = slot_of before; end = e; flag = next_flag d before; bytes = x } ∷ plan_of d (slot_of before - 1) before) (plan_of d e before)) k b
+        → IsPlannedToo d f (Set x ∷ before) k b
+    by true is lasting (inl here) = record {
+      broadcast = record { start = slot_of before; end = f; flag = next_flag d before; bytes = x };
+      planned = rw is (inl (here.0, refl));
+      same = ap endless (sym here.1);
+      ends = inr refl;
+    }
+    by true is lasting (inr older) = record { broadcast = b; planned = rw is (inr older); same = refl; ends = inl refl }
+    by false is lasting q = (let w = lasting q in record { broadcast = w.broadcast; planned = rw is w.planned; same = w.same; ends = w.ends })
+
+-- ---- what is on air in a slot that a broadcast covers
+
+module _ (only : OnlyWhatIsOnAirCoversTheSlot) (began : WhatIsOnAirBegan) (even : EvenTurnsAreTheTexts) (d : ℕ) (some : 0 < d) where
+  later_slot : (since : List Move) (free : Bool) (h : List Move) → slot_of h < slot_of (since ++ End free ∷ h)
+  later_slot [] free h = omega arith
+  later_slot (Begin ∷ more) free h = later_slot more free h
+  later_slot (Set x ∷ more) free h = later_slot more free h
+  later_slot (End f ∷ more) free h = omega (arith, later_slot more free h)
+
+  covered_is_on : (since : List Move) (free : Bool) (h : List Move) (end k : ℕ) (b : Broadcast) → HasNumber (plan_of d end (since ++ End free ∷ h)) k b → b.start ≤ slot_of h → slot_of h ≤ b.end
+      → on_air d h ≡ Some (endless b)
+  covered_is_on [] free h end k b p from to =
+      let w = planned_too d end (slot_of h) h k b p in
+      let start : w.broadcast.start ≡ b.start = ap (λ (x : OnAir). x.start) w.same in
+      let covers : slot_of h ≤ w.broadcast.end = elim w.ends [ inl same ↦ omega (arith, same, to) | inr same ↦ omega (arith, same) ] in
+      only d h k w.broadcast some w.planned record { from = omega (arith, start, from); to = covers } ∙ ap Some w.same
+  covered_is_on (Begin ∷ more) free h end k b p from to = covered_is_on more free h (slot_of (more ++ End free ∷ h) - 1) k b p from to
+  covered_is_on (End f ∷ more) free h end k b p from to = covered_is_on more free h end k b p from to
+  covered_is_on (Set x ∷ more) free h end k b p from to =
+      by (is_ok (reply_to d (more ++ End free ∷ h))) p (λ q. covered_is_on more free h (slot_of (more ++ End free ∷ h) - 1) k b q from to) (λ q. covered_is_on more free h end k b q from to)
+    where
+      by : (ok : Bool)
+          → HasNumber (cond ok (record { start = slot_of (more ++ End free ∷ h); end = end; flag = next_flag d (more ++ End free ∷ h); bytes = x } ∷ plan_of d (slot_of (more ++ End free ∷ h) - 1) (more ++ End free ∷ h))
+          (plan_of d end (more ++ End free ∷ h))) k b
+          → (HasNumber (plan_of d (slot_of (more ++ End free ∷ h) - 1) (more ++ End free ∷ h)) k b → on_air d h ≡ Some (endless b))
+          → (HasNumber (plan_of d end (more ++ End free ∷ h)) k b → on_air d h ≡ Some (endless b)) → on_air d h ≡ Some (endless b)
+      by true (inl newest) closed lasting = absurd (omega (arith, ap (λ (c : Broadcast). c.start) newest.1, from, later_slot more free h))
+      by true (inr older) closed lasting = closed older
+      by false q closed lasting = lasting q
+
+  -- the moves before the end of a slot
+  abbrev told_in : Event → List Event → List Move
+  told_in e before = text_moves (commanded e.command (entries before))
+
+  -- the broadcast is on air in each of these slots that it covers
+  abbrev IsOnWithin : Broadcast → List Event → Type 0
+  IsOnWithin b [] = Unit {0}
+  IsOnWithin b (e ∷ before) = (b.start ≤ length before → length before ≤ b.end → on_air d (told_in e before) ≡ Some (endless b)) × IsOnWithin b before
+
+  on_within : (end k : ℕ) (b : Broadcast) (all : List Move) (events : List Event) (since : List Move) → HasNumber (plan_of d end all) k b → all ≡ since ++ text_moves (entries events) → IsOnWithin b events
+  on_within end k b all [] since p told = tt
+  on_within end k b all (e ∷ before) since p told =
+      let slot : slot_of (told_in e before) ≡ length before = text_service.same_slot e.command (entries before) ∙ reaches IsText text_mark text_moves text_service before in
+      let more = text_service.longer e.command (entries before) in (
+        λ from to. covered_is_on since e.free (told_in e before) end k b (subst (λ (h : List Move). HasNumber (plan_of d end h) k b) told p) (omega (arith, from, slot)) (omega (arith, to, slot)),
+        on_within end k b all before (since ++ End e.free ∷ more.0) p
+            (told ∙ ap (λ (h : List Move). since ++ End e.free ∷ h) more.1 ∙ sym (append_assoc since (End e.free ∷ more.0) (text_moves (entries before)))),
+      )
+
+  -- ---- turns
+
+  abbrev turn_after : List Event → ℕ
+  turn_after events = turn_of d (text_moves (entries events))
+
+  loud : (h : List Move) (air : OnAir) → on_air d h ≡ Some air → nat_le (restart_before h + d) (slot_of h) ≡ true
+  loud h air on = (let w = began d h air on in le-leb (restart_before h + d) (slot_of h) (omega (arith, w.0, w.1)))
+
+  -- a command but a restart leaves the turn
+  same_turn : (c : Command) (es : List Entry) (air : OnAir) → on_air d (text_moves (commanded c es)) ≡ Some air → turn_of d (text_moves (commanded c es)) ≡ turn_of d (text_moves es)
+  same_turn command.Quiet es air on = refl
+  same_turn command.Restart es air on = absurd (cc)
+  same_turn (command.SetText x) es air on = refl
+  same_turn (command.SetName x) es air on = refl
+  same_turn (command.SetTags pair) es air on = refl
+
+  -- each free slot has one turn
+  one_turn : (e : Event) (before : List Event) (air : OnAir) → on_air d (told_in e before) ≡ Some air → turn_after (e ∷ before) ≡ one_if e.free + turn_after before
+  one_turn e before air on = by e.free ∙ ap (λ (n : ℕ). one_if e.free + n) (same_turn e.command (entries before) air on)
+    where
+      by : (free : Bool) → turn_of d (End free ∷ told_in e before) ≡ one_if free + turn_of d (told_in e before)
+      by true = ap (λ (b : Bool). one_if b + turn_of d (told_in e before)) (loud (told_in e before) air on)
+      by false = refl
+
+  -- a free slot with an even turn sends a segment of the text
+  abbrev SendsSegment : Option Message → Type 0
+  SendsSegment sent = (f : Bool) × (a : ℕ) × (x : List ℕ) × (sent ≡ Some (Text f a x))
+
+  sends_segment : (free : Bool) (es : List Entry) (air : OnAir) → free ≡ true → on_air d (text_moves es) ≡ Some air → turn_of d (text_moves es) % 2 ≡ 0 → SendsSegment (sent_in d free es)
+  sends_segment false es air is on number = absurd (cc)
+  sends_segment true es air is on number = (
+    air.flag,
+    next_address d (text_moves es) air,
+    segment_of (text_body air.bytes) (next_address d (text_moves es) air),
+    rw (loud (text_moves es) air on, (even (turn_of d (text_moves es))).0 number) (ap (text_segment d (text_moves es)) on),
+  )
+
+  sends_now : (e : Event) (before : List Event) (air : OnAir) (from until : ℕ) → e.free ≡ true → on_air d (told_in e before) ≡ Some air → turn_after before % 2 ≡ 0 → from ≤ length before → length before < until
+      → SendsOneBetween text_fragment (log d (e ∷ before)) from until
+  sends_now e before air from until is on number since before_until =
+      let same = same_turn e.command (entries before) air on in
+      let w = sends_segment e.free (commanded e.command (entries before)) air is on (rw same number) in
+      record {
+        slot = length before;
+        message = Text w.0 w.1 w.2;
+        fragment = record { flag = w.0; address = w.1; bytes = w.2 };
+        is_sent = inl (omega (arith, logged d before), sym w.3);
+        picked = refl;
+        since = since;
+        until = before_until;
+      }
+
+  earlier : (e : Event) (before : List Event) (from until more : ℕ) → until ≤ more → SendsOneBetween text_fragment (log d before) from until → SendsOneBetween text_fragment (log d (e ∷ before)) from more
+  earlier e before from until more le w = record { slot = w.slot; message = w.message; fragment = w.fragment; is_sent = inr w.is_sent; picked = w.picked; since = w.since; until = omega (arith, w.until, le) }
+
+  free_before : (events : List Event) (s : ℕ) → IsFreeIn events s → s < length events
+  free_before [] s f = absurd f
+  free_before (e ∷ before) s (inl now) = omega (arith, now.0)
+  free_before (e ∷ before) s (inr f) = omega (arith, free_before before s f)
+
+  -- where the turn is odd, the free slot before sent a segment
+  one_before : (b : Broadcast) (events : List Event) (s : ℕ) → IsOnWithin b events → IsFreeIn events s → b.start ≤ s → length events ≤ b.end + 1 → turn_after events % 2 ≡ 1
+      → SendsOneBetween text_fragment (log d events) s (length events)
+  one_before b [] s on free from to odd = absurd free
+  one_before b (e ∷ before) s on free from to odd = by e.free refl (λ g odd_too. one_before b before s on.1 g from (omega (arith, to)) odd_too) free
+    where
+      here : s ≤ length before
+      here = (let less = free_before (e ∷ before) s free in omega arith)
+
+      air : on_air d (told_in e before) ≡ Some (endless b)
+      air = on.0 (omega (arith, here, from)) (omega (arith, to))
+
+      turns : turn_after (e ∷ before) ≡ one_if e.free + turn_after before
+      turns = one_turn e before (endless b) air
+
+      by : (f : Bool) → e.free ≡ f → (IsFreeIn before s → turn_after before % 2 ≡ 1 → SendsOneBetween text_fragment (log d before) s (length before)) → IsFreeIn (e ∷ before) s
+          → SendsOneBetween text_fragment (log d (e ∷ before)) s (length (e ∷ before))
+      by true is rest g =
+          let one : turn_after (e ∷ before) ≡ 1 + turn_after before = turns ∙ ap (λ (x : Bool). one_if x + turn_after before) is in
+          sends_now e before (endless b) s (length (e ∷ before)) is air (omega (arith, one, odd)) here (omega arith)
+      by false is rest (inl now) = absurd (let bad : true ≡ false = sym now.1 ∙ is in cc)
+      by false is rest (inr g) =
+          let none : turn_after (e ∷ before) ≡ 0 + turn_after before = turns ∙ ap (λ (x : Bool). one_if x + turn_after before) is in
+          earlier e before s (length before) (length (e ∷ before)) (omega arith) (rest g (omega (arith, none, odd)))
+
+  one_of_two : (b : Broadcast) (events : List Event) (s q until : ℕ) → IsOnWithin b events → IsFreeIn events s → IsFreeIn events q → s < q → q < until → b.start ≤ s → q ≤ b.end
+      → SendsOneBetween text_fragment (log d events) s until
+  one_of_two b [] s q until on free then less below from to = absurd free
+  one_of_two b (e ∷ before) s q until on free (inr then) less below from to =
+      earlier e before s until until (omega arith) (one_of_two b before s q until on.1 (is_earlier free) then less below from to)
+    where
+      is_earlier : IsFreeIn (e ∷ before) s → IsFreeIn before s
+      is_earlier (inl now) = absurd (omega (arith, now.0, less, free_before before q then))
+      is_earlier (inr f) = f
+  one_of_two b (e ∷ before) s q until on (inl now) (inl here) less below from to = absurd (omega (arith, now.0, here.0, less))
+  one_of_two b (e ∷ before) s q until on (inr free) (inl here) less below from to =
+      let slot : q ≡ length before = here.0 in
+      let air : on_air d (told_in e before) ≡ Some (endless b) = on.0 (omega (arith, slot, less, from)) (omega (arith, slot, to)) in
+      elim (cases_eq (turn_after before % 2) 0) [
+        | inl even_turn ↦ sends_now e before (endless b) s until here.1 air even_turn (omega (arith, slot, less)) (omega (arith, slot, below))
+        | inr not_even ↦
+            earlier e before s (length before) until (omega (arith, slot, below))
+            (one_before b before s on.1 free from (omega (arith, slot, to)) (odd (turn_after before) not_even))
+      ]
+    where
+      odd : (n : ℕ) → (n % 2 ≡ 0 → ⊥) → n % 2 ≡ 1
+      odd n h = elim (cases_eq (n % 2) 1) [ inl one ↦ one | inr other ↦ absurd (h (omega (arith, other))) ]
+
+pub sends_one_in : OnlyWhatIsOnAirCoversTheSlot → WhatIsOnAirBegan → EvenTurnsAreTheTexts → TheStationSendsOneIn
+sends_one_in only began even d r events some lends k u b p from to =
+    let two = lends k u b p from to in
+    let on = on_within only began even d some (length events - 1) k b (text_moves (entries events)) events [] p refl in
+    let w = one_of_two only began even d some b events two.one two.two (u + r) on two.one_free two.two_free two.later two.until (omega (arith, from, two.since)) (omega (arith, two.until, to)) in
+    record { slot = w.slot; message = w.message; fragment = w.fragment; is_sent = w.is_sent; picked = w.picked; since = omega (arith, two.since, w.since); until = w.until }
