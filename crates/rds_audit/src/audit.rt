@@ -71,10 +71,10 @@ impl Audit {
         }
     }
 
-    /// The audit that was stored, where these are numbers that one is stored as; some audit of the programme where
-    /// they are not.
+    /// Rebuilds a stored audit. Invalid numbers give an arbitrary valid audit of the stored programme.
     pub fn restore(stored: &StoredAudit) -> Audit
-        ensures { IsStored stored.now → result ≡ audit_stored stored.now }
+        ensures same { IsStored stored.now → result ≡ audit_stored stored.now }
+        ensures programme { result.programme ≡ stored.now.pi }
     {
         Audit {
             pi: stored.pi,

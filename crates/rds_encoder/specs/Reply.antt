@@ -40,6 +40,22 @@ last_accepted m (End free ∷ before) = last_accepted m before
 abbrev pub reply_to : ℕ → List Move → Reply
 reply_to m before = reply_in m (slot_of before) (restart_before before) (last_accepted m before)
 
+-- what a set of a text or of a name can reply: done, silent or held back
+abbrev pub IsSetReply : Reply → Type 0
+IsSetReply (Ok done) = Unit {0}
+IsSetReply (Err (Silent k)) = Unit {0}
+IsSetReply (Err (Held k)) = Unit {0}
+IsSetReply (Err NoText) = ⊥
+IsSetReply (Err (OutOfText which)) = ⊥
+
+-- what a set of tags can reply: done, silent, no text, or out of the text
+abbrev pub IsTagsReply : Reply → Type 0
+IsTagsReply (Ok done) = Unit {0}
+IsTagsReply (Err (Silent k)) = Unit {0}
+IsTagsReply (Err (Held k)) = ⊥
+IsTagsReply (Err NoText) = Unit {0}
+IsTagsReply (Err (OutOfText which)) = Unit {0}
+
 -- for how many slots more a reply refuses as silent, and as held back: 0 where it does not
 abbrev pub silent_for : Reply → ℕ
 silent_for (Ok done) = 0

@@ -6,7 +6,7 @@ ghost use Rattle.rds_assembly.specs.Value.{IsName, IsText};
 ghost use Rattle.rds_encoder.specs.Entries.{Entry, Restart, SetText, SetName, SetTags};
 ghost use Rattle.rds_encoder.specs.Entries.{Tick, name_moves, slot_of, text_moves};
 ghost use Rattle.rds_encoder.specs.Plan.{bytes_of, on_air};
-ghost use Rattle.rds_encoder.specs.Reply.{held_for, reply_to, silent_for};
+ghost use Rattle.rds_encoder.specs.Reply.{IsSetReply, IsTagsReply, held_for, reply_to, silent_for};
 ghost use Rattle.rds_encoder.specs.Round.{turn_in};
 ghost use Rattle.rds_encoder.specs.Sent.{IsSent, is_turn, name_segment, sent_in, tags_due, text_segment};
 ghost use Rattle.rds_encoder.specs.StandsAt.{StandsAt, Takes, WhereItStands};
@@ -139,6 +139,7 @@ impl Encoder {
     pub fn set_text(&mut self, text: Text) -> Result<(), Refusal>
         ensures reply { WhereItStands self.old
             (λ _ m entries. result ≡ reply_to m (text_moves entries)) }
+        ensures kind { IsSetReply result }
         ensures text { IsText text }
         ensures stands { Takes self.old self.new (SetText text) }
         ensures kept { OnErr result (self.new ≡ self.old) }
@@ -157,6 +158,7 @@ impl Encoder {
     pub fn set_name(&mut self, name: Name) -> Result<(), Refusal>
         ensures reply { WhereItStands self.old
             (λ _ m entries. result ≡ reply_to m (name_moves entries)) }
+        ensures kind { IsSetReply result }
         ensures name { IsName name }
         ensures stands { Takes self.old self.new (SetName name) }
         ensures kept { OnErr result (self.new ≡ self.old) }
@@ -173,6 +175,7 @@ impl Encoder {
     /// every text.
     pub fn set_tags(&mut self, pair: TagPair) -> Result<(), Refusal>
         ensures reply { WhereItStands self.old (λ _ m entries. result ≡ tags_reply m pair entries) }
+        ensures kind { IsTagsReply result }
         ensures stands { Takes self.old self.new (SetTags pair) }
         ensures kept { OnErr result (self.new ≡ self.old) }
     {
@@ -239,7 +242,8 @@ impl Encoder {
 
     /// Refuses tags that do not end in the text on air.
     fn check_tags(&self, pair: TagPair) -> Result<(), Refusal>
-        ensures { WhereItStands self.now
+        ensures kind { IsTagsReply result }
+        ensures reply { WhereItStands self.now
             (λ _ m entries. result ≡ fitting_reply pair (on_air m (text_moves entries))) }
     {
         let Some(text) = self.text() else {

@@ -2,7 +2,7 @@
 ghost use Rattle.std.specs.Prelude.{◌≡◌, ◌+◌, ℕ, Bool, List, [], ◌∷◌, Option, Some, Ok, nat_le};
 ghost use Rattle.rds_encoder.specs.Entries.{Move, Begin, Set, End, slot_of};
 ghost use Rattle.rds_encoder.specs.Plan.{OnAir, on_air};
-ghost use Rattle.rds_encoder.specs.Reply.{held_reply, last_accepted, reply_to};
+ghost use Rattle.rds_encoder.specs.Reply.{IsSetReply, held_reply, last_accepted, reply_to};
 ghost use Rattle.rds_encoder.specs.StandsAt.{HoldsBack};
 ghost use Rattle.rds_encoder.specs.Stored.{hold_stored};
 
@@ -63,7 +63,8 @@ impl Hold {
 
     /// Refuses a set that is held back.
     pub(crate) fn check(&self) -> Result<(), Refusal>
-        ensures { (m : ℕ) (moves : List Move) → HoldsBack m self.now moves
+        ensures kind { IsSetReply result }
+        ensures reply { (m : ℕ) (moves : List Move) → HoldsBack m self.now moves
             → result ≡ held_reply m (slot_of moves) (last_accepted m moves) }
     {
         match self.left {

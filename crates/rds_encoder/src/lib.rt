@@ -32,6 +32,7 @@ pub use laws::{
     on_air_from_its_start_on, on_air_is_sent_whole, on_air_is_what_covers_the_slot,
     planned_is_what_was_on_air, sent_is_of_what_is_on_air,
 };
+pub use rds_fields::Late;
 pub use refusal::Refusal;
 pub use stored::{StoredEncoder, StoredHold, StoredName, StoredText};
 pub use wait::Wait;

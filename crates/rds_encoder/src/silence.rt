@@ -1,7 +1,7 @@
 //! The silence after a restart.
 ghost use Rattle.std.specs.Prelude.{◌≡◌, ◌-◌, ◌↔◌, ℕ, List, Ok, IsTrue};
 ghost use Rattle.rds_encoder.specs.Entries.{Move, restart_before, slot_of};
-ghost use Rattle.rds_encoder.specs.Reply.{unless_silent};
+ghost use Rattle.rds_encoder.specs.Reply.{IsSetReply, IsTagsReply, unless_silent};
 ghost use Rattle.rds_encoder.specs.StandsAt.{silence_left};
 
 use crate::Refusal;
@@ -41,7 +41,9 @@ impl Silence {
 
     /// Refuses every set while it lasts.
     pub(crate) fn check(&self) -> Result<(), Refusal>
-        ensures { (m : ℕ) (moves : List Move) → self.now ≡ silence_left m moves
+        ensures of_a_set { IsSetReply result }
+        ensures of_tags { IsTagsReply result }
+        ensures reply { (m : ℕ) (moves : List Move) → self.now ≡ silence_left m moves
             → result ≡ unless_silent m (slot_of moves) (restart_before moves) (Ok tt) }
     {
         match self.left {

@@ -2,7 +2,7 @@
 ghost use Rattle.std.specs.Prelude.{◌≡◌, ◌+◌, ℕ, Bool, List, [], ◌∷◌, Some, Ok, OnOk, OnErr};
 ghost use Rattle.rds_encoder.specs.Entries.{Move, Begin, Set, End, slot_of};
 ghost use Rattle.rds_encoder.specs.Plan.{OnAir};
-ghost use Rattle.rds_encoder.specs.Reply.{held_reply, last_accepted, reply_to};
+ghost use Rattle.rds_encoder.specs.Reply.{IsSetReply, held_reply, last_accepted, reply_to};
 ghost use Rattle.rds_encoder.specs.StandsAt.{Follows, HoldsBack};
 
 use crate::Refusal;
@@ -45,6 +45,7 @@ impl<V: Drop> Track<V> {
     pub(crate) fn set(&mut self, value: V, distance: Distance) -> Result<(), Refusal>
         ensures reply { (moves : List Move) → HoldsBack distance self.old.hold moves
             → result ≡ held_reply distance (slot_of moves) (last_accepted distance moves) }
+        ensures kind { IsSetReply result }
         ensures kept { OnErr result (self.new ≡ self.old) }
         ensures value { OnOk result (self.new.on_air ≡ Some value) }
         ensures hold { OnOk result ((moves : List Move) (x : List ℕ)

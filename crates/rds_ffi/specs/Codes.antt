@@ -87,9 +87,9 @@ reply_of (Err NoText) = record { code = RDSRT_NO_TEXT; number = 0 }
 reply_of (Err (OutOfText One)) = record { code = RDSRT_OUT_OF_TEXT_1; number = 0 }
 reply_of (Err (OutOfText Two)) = record { code = RDSRT_OUT_OF_TEXT_2; number = 0 }
 
--- the numbers are those of some reply
-abbrev pub IsReply : RdsrtReply → Type 0
-IsReply r = (reply : Reply) × (r ≡ reply_of reply)
+-- the numbers are those of some reply of this kind
+abbrev pub IsReplyOf : (Reply → Type 0) → RdsrtReply → Type 0
+IsReplyOf IsKind r = (reply : Reply) × IsKind reply × (r ≡ reply_of reply)
 
 -- the code of bytes that are no text or no name, with the place of the first bad one
 abbrev pub refusal_of : TextRefused → RdsrtReply

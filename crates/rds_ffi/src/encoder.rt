@@ -8,15 +8,15 @@ ghost use Rattle.rds_assembly.specs.Body.{name_body};
 ghost use Rattle.rds_assembly.specs.Value.{IsGivenName, IsRefusedFor, IsText, is_name_byte, is_text_byte};
 ghost use Rattle.rds_encoder.specs.Entries.{Entry, Restart, SetName, SetTags, SetText, Tick, name_moves, text_moves};
 ghost use Rattle.rds_encoder.specs.Plan.{bytes_of, on_air};
-ghost use Rattle.rds_encoder.specs.Reply.{held_for, reply_to, silent_for};
+ghost use Rattle.rds_encoder.specs.Reply.{IsSetReply, IsTagsReply, held_for, reply_to, silent_for};
 ghost use Rattle.rds_encoder.specs.Sent.{IsSent, sent_in};
 ghost use Rattle.rds_encoder.specs.Stored.{IsStored, encoder_stored};
 ghost use Rattle.rds_encoder.specs.Tags.{tags_reply};
-ghost use Rattle.rds_ffi.specs.Codes.{RDSRT_BAD_ARGUMENT, RDSRT_BAD_TAGS, RDSRT_OK, IsReply, refusal_of, reply_of};
+ghost use Rattle.rds_ffi.specs.Codes.{RDSRT_BAD_ARGUMENT, RDSRT_BAD_TAGS, RDSRT_OK, IsReplyOf, refusal_of, reply_of};
 ghost use Rattle.rds_ffi.specs.EncoderLies.{EncoderLies, TakesStored, WhereItLies};
 ghost use Rattle.rds_ffi.specs.Sent.{IsOut};
 ghost use Rattle.rds_ffi.specs.Tagged.{AreGiven, pair_of};
-ghost use Rattle.rds_ffi.specs.Viewed.{name_viewed, text_viewed};
+ghost use Rattle.rds_ffi.specs.Viewed.{IsPlainName, IsPlainText, name_viewed, text_viewed};
 
 use crate::codes;
 use crate::reply::{RdsrtReply, plain_refusal, plain_reply};
@@ -98,7 +98,7 @@ pub extern "C" fn rdsrt_encoder_set_text(encoder: &mut StoredEncoder, text: &[u8
     ensures stands { IsText text.now → TakesStored encoder.old encoder.new (SetText text.now) }
     ensures refused { (IsText text.now → ⊥) → (refused : TextRefused)
         × IsRefusedFor 64 is_text_byte text.now refused × (result ≡ refusal_of refused) }
-    ensures codes { IsText text.now → IsReply result }
+    ensures codes { IsText text.now → IsReplyOf IsSetReply result }
     ensures kept { result.code ≢ RDSRT_OK → encoder.new ≡ encoder.old }
 {
     let text = match Text::new(text) {
@@ -124,7 +124,7 @@ pub extern "C" fn rdsrt_encoder_set_name(encoder: &mut StoredEncoder, name: &[u8
         → TakesStored encoder.old encoder.new (SetName (name_body name.now)) }
     ensures refused { (IsGivenName name.now → ⊥) → (refused : TextRefused)
         × IsRefusedFor 8 is_name_byte name.now refused × (result ≡ refusal_of refused) }
-    ensures codes { IsGivenName name.now → IsReply result }
+    ensures codes { IsGivenName name.now → IsReplyOf IsSetReply result }
     ensures kept { result.code ≢ RDSRT_OK → encoder.new ≡ encoder.old }
 {
     let name = match Name::new(name) {
@@ -151,7 +151,7 @@ pub extern "C" fn rdsrt_encoder_set_tags(
         (λ _ m entries. result ≡ reply_of (tags_reply m (pair_of tags.now) entries)) }
     ensures stands { AreGiven tags.now → TakesStored encoder.old encoder.new (SetTags (pair_of tags.now)) }
     ensures refused { (AreGiven tags.now → ⊥) → result ≡ record { code = RDSRT_BAD_TAGS; number = 0 } }
-    ensures codes { AreGiven tags.now → IsReply result }
+    ensures codes { AreGiven tags.now → IsReplyOf IsTagsReply result }
     ensures kept { result.code ≢ RDSRT_OK → encoder.new ≡ encoder.old }
 {
     let Some(pair) = pair_given(tags) else {
@@ -196,7 +196,8 @@ pub extern "C" fn rdsrt_encoder_on_air(encoder: &StoredEncoder, air: &mut RdsrtO
         text_viewed air.new.text ≡ option_map bytes_of (on_air m (text_moves entries))) }
     ensures name { WhereItLies encoder.now (λ _ m entries.
         name_viewed air.new.name ≡ option_map bytes_of (on_air m (name_moves entries))) }
-    ensures within { air.new.text.length ≤ 64 }
+    ensures plain_text { IsPlainText air.new.text }
+    ensures plain_name { IsPlainName air.new.name }
 {
     let inner = Encoder::restore(encoder);
     *air = RdsrtOnAir {

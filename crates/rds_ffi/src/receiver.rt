@@ -1,16 +1,19 @@
 //! A receiver in the caller's memory.
 ghost use Rattle.std.specs.Prelude.{◌≡◌, ◌≢◌, ◌<◌, ◌≤◌, ◌↔◌, ◌⊎◌, ℕ, IsFalse, IsTrue, List, [], ◌∷◌, Option};
 ghost use Rattle.rds_block.specs.declared.group.Group.{Group};
+ghost use Rattle.rds_fields.specs.declared.message.Message.{Message};
+ghost use Rattle.rds_receiver.specs.Receipts.{AreHeard, Hears};
 ghost use Rattle.rds_receiver.specs.Shown.{IsView, ShownView};
+ghost use Rattle.rds_receiver.specs.Tags.{pair_held};
 ghost use Rattle.rds_ffi.specs.Codes.{RDSRT_BAD_ARGUMENT, RDSRT_CHANGED, RDSRT_OK};
 ghost use Rattle.rds_ffi.specs.Lies.{ReceiverLies, WhereItLies};
 ghost use Rattle.rds_ffi.specs.Slots.{Bring, IsCount};
-ghost use Rattle.rds_ffi.specs.Viewed.{IsWithin, viewed};
+ghost use Rattle.rds_ffi.specs.Viewed.{AreTagsOf, IsPlainView, viewed};
 
 use crate::codes;
 use crate::slots::brought;
 use crate::view::{RdsrtView, seen};
-use rds_fields::Dwell;
+use rds_fields::{Dwell, Message};
 use rds_receiver::{Receiver, StoredReceiver, heard};
 
 /// Makes a receiver of this programme that heard nothing yet; the dwell is in slots.
@@ -49,47 +52,28 @@ pub extern "C" fn rdsrt_receiver_slot(receiver: &mut StoredReceiver, blocks: &[u
         IsView t input view → (slot : Option Group) × Bring blocks.now slot × IsView t (slot ∷ input) view) }
     ensures kept { result ≡ RDSRT_BAD_ARGUMENT → receiver.new ≡ receiver.old }
 {
-    if rests(receiver, blocks) {
-        return codes::DONE;
-    }
-    go_on(receiver, blocks)
-}
-
-/// Takes a slot that leaves nothing but the ages to change; false, and no change, in any other slot.
-#[inline(always)]
-fn rests(receiver: &mut StoredReceiver, blocks: &[u16]) -> bool
-    ensures count { IsTrue result → IsCount blocks.now }
-    ensures stands { IsTrue result → WhereItLies receiver.old (λ t input.
-        (slot : Option Group) × Bring blocks.now slot × ReceiverLies t receiver.new (slot ∷ input)) }
-    ensures same { IsTrue result → (view : ShownView) → WhereItLies receiver.old (λ t input.
-        IsView t input view → (slot : Option Group) × Bring blocks.now slot × IsView t (slot ∷ input) view) }
-    ensures kept { IsFalse result → receiver.new ≡ receiver.old }
-{
-    let Ok(slot) = brought(blocks) else {
-        return false;
-    };
-    // a copy by a name of its own: what is passed on below may not have been lent
-    let programme = receiver.programme;
-    let message = heard(programme, slot);
-    receiver.rest(message)
-}
-
-/// Handles a slot by a receiver that is made for it. It stands apart so that a slot that rests pays nothing for it.
-#[inline(never)]
-fn go_on(receiver: &mut StoredReceiver, blocks: &[u16]) -> u32
-    ensures code { result ≢ RDSRT_BAD_ARGUMENT ↔ IsCount blocks.now }
-    ensures few { result ≢ RDSRT_BAD_ARGUMENT → (result ≡ RDSRT_OK) ⊎ (result ≡ RDSRT_CHANGED) }
-    ensures stands { result ≢ RDSRT_BAD_ARGUMENT → WhereItLies receiver.old (λ t input.
-        (slot : Option Group) × Bring blocks.now slot × ReceiverLies t receiver.new (slot ∷ input)) }
-    ensures same { result ≡ RDSRT_OK → (view : ShownView) → WhereItLies receiver.old (λ t input.
-        IsView t input view → (slot : Option Group) × Bring blocks.now slot × IsView t (slot ∷ input) view) }
-    ensures kept { result ≡ RDSRT_BAD_ARGUMENT → receiver.new ≡ receiver.old }
-{
     let Ok(slot) = brought(blocks) else {
         return codes::BAD_ARGUMENT;
     };
+    let message = heard(receiver.programme, slot);
+    if receiver.rest(&message) {
+        return codes::DONE;
+    }
+    go_on(receiver, message)
+}
+
+/// Handles a slot by a receiver that is made for it. It is never inlined, so that a slot that rests pays nothing for it.
+#[inline(never)]
+fn go_on(receiver: &mut StoredReceiver, message: Option<Message>) -> u32
+    ensures few { (result ≡ RDSRT_OK) ⊎ (result ≡ RDSRT_CHANGED) }
+    ensures stands { WhereItLies receiver.old (λ t input. (slot : Option Group)
+        → Hears t.programme slot message → ReceiverLies t receiver.new (slot ∷ input)) }
+    ensures same { result ≡ RDSRT_OK → (view : ShownView) → WhereItLies receiver.old (λ t input.
+        (slot : Option Group) → Hears t.programme slot message
+        → IsView t input view → IsView t (slot ∷ input) view) }
+{
     let mut inner = Receiver::restore(receiver);
-    let changed = inner.slot(slot);
+    let changed = inner.slot_message(message);
     *receiver = inner.store();
     told(changed)
 }
@@ -98,7 +82,9 @@ fn go_on(receiver: &mut StoredReceiver, blocks: &[u16]) -> u32
 #[unsafe(no_mangle)]
 pub extern "C" fn rdsrt_receiver_view(receiver: &StoredReceiver, view: &mut RdsrtView)
     ensures shown { WhereItLies receiver.now (λ t input. IsView t input (viewed view.new)) }
-    ensures within { IsWithin view.new }
+    ensures tags { WhereItLies receiver.now (λ t input. (heard : List (Option Message))
+        → AreHeard t.programme input heard → AreTagsOf (pair_held t.dwell t.first heard) view.new) }
+    ensures plain { IsPlainView view.new }
 {
     *view = seen(&Receiver::restore(receiver));
 }

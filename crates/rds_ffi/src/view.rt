@@ -1,10 +1,12 @@
 //! What a receiver shows, as a plain struct.
-ghost use Rattle.std.specs.Prelude.{◌≡◌, ◌+◌, ◌≤◌, ℕ, List, Some, length};
+ghost use Rattle.std.specs.Prelude.{◌≡◌, ◌≢◌, ◌+◌, ◌≤◌, ℕ, List, None, Some, length};
 ghost use Rattle.std.specs.Option.{ForSome, option_copied};
 ghost use Rattle.rds_receiver.specs.Shown.{IsView};
-ghost use Rattle.rds_receiver.specs.StandsAt.{WhereItStands};
-ghost use Rattle.rds_receiver.specs.Tags.{cut_by, tag_of};
-ghost use Rattle.rds_ffi.specs.Viewed.{IsWithin, count_of, item_viewed, name_viewed, tag_viewed, text_viewed, viewed};
+ghost use Rattle.rds_receiver.specs.StandsAt.{WhatItHeard, WhereItStands};
+ghost use Rattle.rds_receiver.specs.Tags.{cut_by, pair_held, tag_of};
+ghost use Rattle.rds_ffi.specs.Viewed as specs;
+ghost use Rattle.rds_ffi.specs.Viewed.{AreTagsOf, IsPlainItem, IsPlainName, IsPlainText, IsPlainView, IsTagOf};
+ghost use Rattle.rds_ffi.specs.Viewed.{count_of, item_viewed, name_viewed, tag_plain, tag_viewed, text_viewed, viewed};
 
 use rds_fields::{Tag, TagPair, Which};
 use rds_receiver::Receiver;
@@ -58,7 +60,8 @@ pub struct RdsrtView {
 /// What the receiver shows.
 pub(crate) fn seen(receiver: &Receiver) -> RdsrtView
     ensures shown { WhereItStands receiver.now (λ t input. IsView t input (viewed result)) }
-    ensures within { IsWithin result }
+    ensures tags { WhatItHeard receiver.now (λ m first heard. AreTagsOf (pair_held m first heard) result) }
+    ensures plain { IsPlainView result }
 {
     let text = receiver.text();
     RdsrtView {
@@ -75,7 +78,8 @@ pub(crate) fn plain_text(text: Option<&[u8]>) -> RdsrtText
     requires { ForSome text (λ x. length x.now ≤ 64) }
     ensures same { text_viewed result ≡ option_copied text.entry }
     ensures count { result.length ≡ count_of text.entry }
-    ensures within { result.length ≤ 64 }
+    ensures plain { IsPlainText result }
+    ensures none { result.is_shown ≡ 0 → text.entry ≡ None }
 {
     let mut bytes = [0; 64];
     let Some(text) = text else {
@@ -96,7 +100,8 @@ pub(crate) fn plain_text(text: Option<&[u8]>) -> RdsrtText
 /// The name.
 pub(crate) fn plain_name(name: Option<&[u8]>) -> RdsrtName
     requires { ForSome name (λ x. length x.now ≡ 8) }
-    ensures { name_viewed result ≡ option_copied name.entry }
+    ensures same { name_viewed result ≡ option_copied name.entry }
+    ensures plain { IsPlainName result }
 {
     let mut bytes = [0; 8];
     let Some(name) = name else {
@@ -108,7 +113,8 @@ pub(crate) fn plain_name(name: Option<&[u8]>) -> RdsrtName
 
 /// The bits of the item.
 fn plain_item(item: Option<(bool, bool)>) -> RdsrtItem
-    ensures { item_viewed result ≡ item }
+    ensures same { item_viewed result ≡ item }
+    ensures plain { IsPlainItem result }
 {
     match item {
         None => RdsrtItem {
@@ -130,6 +136,9 @@ fn plain_tag(text: Option<&[u8]>, which: Which, pair: Option<TagPair>) -> RdsrtT
     ensures same { tag_viewed result (option_copied text.entry)
         ≡ tag_of which (option_copied text.entry) pair }
     ensures within { result.start + result.length ≤ count_of text.entry }
+    ensures none { result.content_type ≡ 0 → result ≡ specs.no_tag }
+    ensures no_text { text.entry ≡ None → result ≡ specs.no_tag }
+    ensures of_pair { IsTagOf which pair result }
 {
     let Some(text) = text else {
         return no_tag();
@@ -146,7 +155,7 @@ fn plain_tag(text: Option<&[u8]>, which: Which, pair: Option<TagPair>) -> RdsrtT
 
 /// No tag.
 fn no_tag() -> RdsrtTag
-    ensures { result ≡ record { content_type = 0; start = 0; length = 0 } }
+    ensures { result ≡ specs.no_tag }
 {
     RdsrtTag {
         content_type: 0,
@@ -160,6 +169,8 @@ fn cut(tag: Tag, count: usize) -> RdsrtTag
     requires { count ≤ 64 }
     ensures same { (x : List ℕ) → length x ≡ count → tag_viewed result (Some x) ≡ cut_by tag x }
     ensures within { result.start + result.length ≤ count }
+    ensures none { result.content_type ≡ 0 → result ≡ specs.no_tag }
+    ensures of_tag { result.content_type ≢ 0 → result ≡ tag_plain tag }
 {
     if tag.class() == 0 || !tag.ends_in(count) {
         return no_tag();

@@ -31,9 +31,10 @@ impl Dwell {
         Some(Dwell { slots })
     }
 
-    /// The dwell of this many slots, and of one where there is none.
+    /// Returns the dwell of this many slots, or of one slot for 0.
     pub fn at_least_one(slots: u16) -> Self
-        ensures { 0 < slots → result ≡ slots }
+        ensures same { 0 < slots → result ≡ slots }
+        ensures one { slots ≡ 0 → result ≡ 1 }
     {
         Dwell {
             slots: slots.max(1),

@@ -79,10 +79,10 @@ impl Receiver {
         }
     }
 
-    /// The receiver that was stored, where these are numbers that one is stored as; some receiver of the
-    /// programme where they are not.
+    /// Rebuilds a stored receiver. Invalid numbers give an arbitrary valid receiver of the stored programme.
     pub fn restore(stored: &StoredReceiver) -> Receiver
-        ensures { IsStored stored.now → result ≡ receiver_stored stored.now }
+        ensures same { IsStored stored.now → result ≡ receiver_stored stored.now }
+        ensures programme { result.programme ≡ stored.now.programme }
     {
         Receiver {
             pi: stored.programme,

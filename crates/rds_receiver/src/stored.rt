@@ -67,12 +67,12 @@ impl StoredReceiver {
     /// Takes a slot that leaves nothing but the ages to change, without a receiver that is made for it: nothing is
     /// heard in it, or a segment that is held, or no text, name, tags or announcement, and nothing is given up. False,
     /// and no change, in any other slot.
-    pub fn rest(&mut self, message: Option<Message>) -> bool
+    pub fn rest(&mut self, message: &Option<Message>) -> bool
         ensures stands { IsTrue result → WhereItStands (receiver_stored self.old) (λ t input.
-            (group : Option Group) → Hears t.programme group message
+            (group : Option Group) → Hears t.programme group message.now
             → StandsAt t (receiver_stored self.new) (group ∷ input)) }
         ensures same { IsTrue result → (view : ShownView) → WhereItStands (receiver_stored self.old)
-            (λ t input. (group : Option Group) → Hears t.programme group message
+            (λ t input. (group : Option Group) → Hears t.programme group message.now
             → IsView t input view → IsView t (group ∷ input) view) }
         ensures good { IsStored self.old → IsStored self.new }
         ensures kept { IsFalse result → self.new ≡ self.old }
@@ -85,12 +85,12 @@ impl StoredReceiver {
                 flag,
                 address,
                 bytes,
-            } => self.rest_text(flag, address.get(), bytes),
+            } => self.rest_text(*flag, address.get(), *bytes),
             Message::Name {
                 flag,
                 address,
                 bytes,
-            } => self.rest_name(flag, address.get(), bytes),
+            } => self.rest_name(*flag, address.get(), *bytes),
             Message::Other => self.grow_older(),
             Message::Announce { .. } | Message::Tags(_) => false,
         }

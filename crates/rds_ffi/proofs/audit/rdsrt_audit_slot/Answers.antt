@@ -7,7 +7,7 @@ pub returns-clause-stands : goal.returns-clause-stands
 returns-clause-stands c good pi d log s = (
   c.in-Ok.slot,
   c.in-Ok.ensures.value,
-  back pi d _ _ _ c.store.ensures.same c.store.ensures.good (c.slot-found.ensures.stands pi d log (there pi d _ log _ c.restore-inner.ensures s)),
+  back pi d _ _ _ c.store.ensures.same c.store.ensures.good (c.slot-found.ensures.stands pi d log (there pi d _ log _ c.restore-inner.ensures.same s)),
 )
 
 pub returns-clause-which : goal.returns-clause-which

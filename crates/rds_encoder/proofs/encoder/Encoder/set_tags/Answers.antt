@@ -7,5 +7,5 @@ pub returns-in_err-check_tags-clause-reply : goal.returns-in_err-check_tags-clau
 returns-in_err-check_tags-clause-reply c station m entries st =
     let at = rw (← c.self.view_is) at st in
     passed_on _ _ c.from_residual-in_err-check_tags.ensures.1
-    ∙ c.in_err-check_tags.ensures station m entries st
-    ∙ sym (silence_over m (slot_of (text_moves entries)) (restart_before (text_moves entries)) _ (sym (c.in_ok-check.ensures m (text_moves entries) at.silence)))
+    ∙ c.in_err-check_tags.ensures.reply station m entries st
+    ∙ sym (silence_over m (slot_of (text_moves entries)) (restart_before (text_moves entries)) _ (sym (c.in_ok-check.ensures.reply m (text_moves entries) at.silence)))
