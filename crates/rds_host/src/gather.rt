@@ -2,6 +2,7 @@
 //! of all that a read gave, and all of that is out before a read can wait for more.
 ghost use Rattle.std.specs.Prelude.{◌≡◌, ◌<◌, ◌≤◌, ◌++◌, ◌-◌, IfOk, IsErr, OnErr, OnOk, [], length, take};
 ghost use Rattle.std.specs.Io.KnownBytes.{Appends};
+ghost use Rattle.rds_charset.specs.Told.{AppendsPrefix};
 ghost use Rattle.rds_host.specs.Gathered.{failures_in, given_to, kept_in, writer_in};
 
 use rds_charset::{TellingWrite, Told, WriteFault, put};
@@ -91,10 +92,12 @@ impl<W: Write> Gathered<W> {
     ///
     /// # Errors
     ///
-    /// [`WriteFault`] at a write that fails, and from then on.
+    /// [`WriteFault`] at a write that fails, and from then on. A first part of what was kept is then out.
     pub fn send(&mut self) -> Result<(), WriteFault>
         ensures sent { OnOk result (Appends (W.contents (writer_in self.old)) (W.contents (writer_in self.new))
             (kept_in self.old)) }
+        ensures part { OnErr result (AppendsPrefix (W.contents (writer_in self.old))
+            (W.contents (writer_in self.new)) (kept_in self.old)) }
         ensures empty { OnOk result (kept_in self.new ≡ []) }
         ensures failed { OnErr result (0 < failures_in self.new) }
         ensures no_more { 0 < failures_in self.old → IsErr result }
@@ -113,13 +116,15 @@ impl<W: Write> Gathered<W> {
     ///
     /// # Errors
     ///
-    /// [`WriteFault`] where that fails, and from then on.
+    /// [`WriteFault`] if that write fails, and from then on. A first part of what was kept is then out.
     #[inline]
     pub fn keep(&mut self, bytes: &[u8]) -> Result<usize, WriteFault>
         ensures kept { IfOk result (λ n. Appends (given_to W.contents self.old) (given_to W.contents self.new)
             (take n bytes.now)) }
         ensures within { IfOk result (λ n. n ≤ length bytes.now) }
         ensures some { IfOk result (λ n. 0 < length bytes.now → 0 < n) }
+        ensures part { OnErr result (AppendsPrefix (W.contents (writer_in self.old))
+            (W.contents (writer_in self.new)) (kept_in self.old)) }
         ensures failed { OnErr result (0 < failures_in self.new) }
         ensures no_more { 0 < failures_in self.old → IsErr result }
         ensures unasked { 0 < failures_in self.old → self.new ≡ self.old }

@@ -9,4 +9,5 @@ pub mod Audits
 pub mod KeptSlots
 pub mod WholeBytes
 pub mod OneOutput
+pub mod Meaning
 pub mod OneVerdict

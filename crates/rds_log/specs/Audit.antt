@@ -1,8 +1,8 @@
 -- What `audit` answers, and what it leaves at each end: how much of the reader it took, and what it wrote. Lists of
 -- slots and of lines have the newest first; d is the number of slots that keeps broadcasts apart, the dwell and the
 -- lateness; r is what a call did to the reader, w what it did to the writer.
-use Rattle.std.specs.Prelude.{◌≡◌, ◌↔◌, ◌++◌, ◌∷◌, []}
-use Rattle.std.specs.Prelude.{ℕ, Bool, List, IsTrue, Ok, Err, Result, None, Some, codes, decimal, length, Option}
+use Rattle.std.specs.Prelude.{◌≡◌, ◌↔◌, ◌+◌, ◌++◌, ◌∷◌, []}
+use Rattle.std.specs.Prelude.{ℕ, Bool, true, false, List, IsTrue, Ok, Err, Result, None, Some, codes, decimal, length, Option}
 use Rattle.std.specs.Io.KnownBytes.{Appends, Consumes, IsAtEnd}
 use Rattle.rds_block.specs.declared.group.Group.{Group}
 use Rattle.rds_charset.specs.Told.{AppendsPrefix, HasFailed, IsCalm, PutsNothing, Traffic}
@@ -151,6 +151,36 @@ pub record AnswersVerdictOf (pi d : ℕ) (bytes : List ℕ) (w : Traffic) (passe
   pub is : IsVerdictOf pi d bytes verdict
   pub answer : IsTrue passed ↔ IsYes verdict
   pub wrote : Appends w.before w.after (verdict_line verdict)
+
+-- ---- what an answer means
+
+-- the log was read to its end, its lines are good, and their slots are safe
+pub record WholeIsSafe (pi m k : ℕ) (r : Traffic) : Type 0 where
+  pub text : List ℕ
+  pub read : Consumes r.before r.after text
+  pub end : IsAtEnd r.after
+  pub lines : List Line
+  pub are : AreLines text lines
+  pub slots : List (Option Group)
+  pub say : AreSlots lines slots
+  pub safe : SlotsAreSafe pi m k slots
+
+-- the log begins with good lines whose slots have no plans
+pub record BeginsWithNoPlans (pi d : ℕ) (r : Traffic) : Type 0 where
+  pub text : List ℕ
+  pub read : Consumes r.before r.after text
+  pub lines : List Line
+  pub begins : BeginsWith text r.after lines
+  pub slots : List (Option Group)
+  pub say : AreSlots lines slots
+  pub none : SlotsHaveNoPlans pi d slots
+
+-- after a yes the whole log is safe for every receiver of dwell m whose groups come no more than k slots late; after a
+-- no the log has no plans that are lawful and dense
+abbrev pub Means : ℕ → ℕ → ℕ → Traffic → Result Bool LogFault → Type 0
+Means pi m k r (Ok true) = WholeIsSafe pi m k r
+Means pi m k r (Ok false) = BeginsWithNoPlans pi (m + k) r
+Means pi m k r (Err fault) = Unit {0}
 
 -- ---- on the way
 

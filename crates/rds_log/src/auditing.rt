@@ -1,10 +1,11 @@
 //! Whether what a station sent passes.
 ghost use Rattle.std.specs.Prelude.{◌≤◌, ◌+◌, ◌^◌};
 ghost use Rattle.rds_charset.specs.Told.{traffic};
-ghost use Rattle.rds_log.specs.Audit.{Audits, Judges};
+ghost use Rattle.rds_log.specs.Audit.{Audits, Judges, Means};
 ghost use Rattle.rds_log.specs.Reads.{MadeReads};
 
 use crate::decoding::MOST_READS;
+use crate::laws::what_an_answer_means;
 use crate::log_line::LogLine;
 use crate::source::Source;
 use crate::verdict::Verdict;
@@ -13,13 +14,12 @@ use rds_charset::{Lines, TellingRead, TellingWrite, put};
 use rds_fields::{Dwell, Late};
 use rds_output::LogFault;
 
-/// Audits a log of what a station sent, a slot a line, and writes the answer line: `yes` with the number of
-/// slots, or `no` with the first slot up to which they do not pass and the name of the fault.
+/// Audits a log of what a station sent, one slot a line, and writes the answer line: `yes` with the number of slots,
+/// or `no` with the slot that breaks a rule first and the name of the fault.
 ///
-/// A yes means that texts and names of a station that keeps them apart by the dwell and the lateness could have been
-/// sent so, and then no receiver of that dwell, whose groups come no later, ever shows a mix of them
-/// ([`what_an_answer_means`](crate::what_an_answer_means)). No read is made after the one that brought the slot that
-/// does not pass, or after a fault.
+/// After a yes no receiver of that dwell, whose groups come no later, ever shows a mix of the log's texts. After a no
+/// no station that keeps its texts and names apart by the dwell and the lateness, without a gap of as many slots, could
+/// have sent the log. No read is made after the one that brought the slot that does not pass, or after a fault.
 ///
 /// # Errors
 ///
@@ -34,6 +34,7 @@ pub fn audit<R: TellingRead, W: TellingWrite>(
     ensures audits { Audits pi (dwell + late) (2 ^ 32)
         (traffic R.remaining R.failures reader.old reader.new)
         (traffic W.contents W.failures writer.old writer.new) result }
+    ensures means { Means pi dwell late (traffic R.remaining R.failures reader.old reader.new) result }
     ensures reads { MadeReads (2 ^ 32) (R.reads reader.old) (R.reads reader.new) result }
 {
     audit_within(reader, writer, pi, dwell, late, MOST_READS)
@@ -52,8 +53,10 @@ pub fn audit_within<R: TellingRead, W: TellingWrite>(
     ensures audits { Audits pi (dwell + late) reads
         (traffic R.remaining R.failures reader.old reader.new)
         (traffic W.contents W.failures writer.old writer.new) result }
+    ensures means { Means pi dwell late (traffic R.remaining R.failures reader.old reader.new) result }
     ensures reads { MadeReads reads (R.reads reader.old) (R.reads reader.new) result }
 {
+    what_an_answer_means();
     let verdict = judge(reader, pi, dwell, late, reads)?;
     let mut line = Lines::new();
     verdict.push(&mut line);

@@ -9,11 +9,7 @@ ghost use Rattle.rds_output.specs.declared.change.TheConstants.{LINE_ROOM, SLOT_
 use rds_charset::Lines;
 use rds_receiver::View;
 
-/// Room for what stands behind the name of a part: the name of a class, and a text of 64 bytes, each
-/// of them printed as four.
-pub(crate) const CONTENT: usize = 290;
-
-/// Room for the line of a part.
+/// Room for the line of a part: its name, the name of a class, and a text of 64 bytes, each printed as four.
 pub const LINE_ROOM: usize = 344;
 
 /// Room for the lines of a slot, one for each of the five parts.
