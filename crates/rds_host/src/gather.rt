@@ -216,7 +216,7 @@ pub struct Flushing<'a, R, W> {
 }
 
 impl<'a, R, W> Flushing<'a, R, W> {
-    /// A reader with the bytes of another one.
+    /// Makes a reader with the bytes of another one.
     pub fn new(reader: R, gathered: &'a RefCell<Gathered<W>>) -> Self {
         Flushing { reader, gathered }
     }

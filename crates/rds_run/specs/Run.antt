@@ -1,9 +1,13 @@
 -- What the whole program does with its words. This is the project's own command line.
 -- r is what a call did to the reader, w what it did to the writer.
-use Rattle.std.specs.Prelude.{◌≡◌, ◌⊎◌, ◌+◌, ◌^◌, ◌++◌, []}
-use Rattle.std.specs.Prelude.{ℕ, Bool, List, codes, decimal, None, Option, Ok, Err, Result, if◌then◌else◌}
+use Rattle.std.specs.Prelude.{◌≡◌, ◌⊎◌, ◌+◌, ◌^◌, ◌≤◌, ◌++◌, []}
+use Rattle.std.specs.Prelude.{ℕ, Bool, List, codes, decimal, None, Some, Option, Ok, Err, Result, if◌then◌else◌}
+use Rattle.clap.specs.Words.{kind_of}
+use Rattle.clap.specs.declared.error.Error.{Error}
+use Rattle.clap.specs.declared.error.kind.ErrorKind.{ErrorKind}
+use Rattle.clap.specs.declared.error.kind.ErrorKind.TheVariants.{OutOfMemory}
 use Rattle.rds_charset.specs.Puts.{Puts}
-use Rattle.rds_charset.specs.Told.{PutsNothing, Traffic}
+use Rattle.rds_charset.specs.Told.{HasFailed, PutsNothing, Traffic}
 use Rattle.rds_charset.specs.declared.output.WriteFault.{WriteFault}
 use Rattle.rds_receiver.specs.Receipts.{Tuning}
 use Rattle.rds_world.specs.declared.world.Config.{Config}
@@ -16,8 +20,10 @@ use Rattle.rds_output.specs.declared.fault.LogFault.{LogFault}
 use Rattle.rds_output.specs.declared.fault.LogFault.TheVariants.{BadLine, BadRow, Read, Write, TooLong, Memory}
 use Rattle.rds_script.specs.declared.form.Form.TheVariants.{Log, Simulation}
 use Rattle.rds_witness.specs.Witness.{Witnesses}
-use Rattle.rds_words.specs.CommandLine.{AreRefused, AskFor, AskForHelp, Asked, IsPi, TakesWords, asked_in}
+use Rattle.rds_words.specs.Asks.{asked_by}
+use Rattle.rds_words.specs.CommandLine.{AreRefused, AskFor, AskForHelp, Asked, IsPi, TakesWords, asked_in, is_shown}
 use Rattle.rds_words.specs.declared.request.Programme.{Programme}
+use Rattle.rds_words.specs.declared.request.Request.{Request}
 use Rattle.rds_words.specs.declared.request.Task.{Task}
 use Rattle.rds_words.specs.declared.request.Task.TheVariants.{Audit, Decode, Encode, Simulate, Witness}
 
@@ -134,10 +140,35 @@ abbrev pub reader_before : {R : Type 0} → (R → Option (List ℕ)) → (R →
 reader_before remaining failures reader =
     record { bytes = remaining reader; failures = failures reader; ReadFailed = SomeReadFailed failures }
 
--- the engine of a task ran over a reader that was so
-abbrev pub RunsFrom : ReaderBefore → Traffic → ℕ → Task → Tuning → Type 0
-RunsFrom reader w status task t =
-    (r : Traffic) × StartsFrom r reader.bytes reader.failures × TaskRuns task t r reader.ReadFailed w status
+-- the engine of a task ran over a reader that was so, and found a failed read only if one of its reads failed
+pub record RunsFrom (reader : ReaderBefore) (w : Traffic) (status : ℕ) (task : Task) (t : Tuning) : Type 0 where
+  pub r : Traffic
+  pub starts : StartsFrom r reader.bytes reader.failures
+  pub fails : HasFailed r → reader.ReadFailed
+  pub ran : TaskRuns task t r reader.ReadFailed w status
+
+-- the status of an answer of `clap`: 1 if there was no memory, 0 for help and the version, and 2 for a refusal
+abbrev pub status_of : ErrorKind → ℕ
+status_of OutOfMemory = 1
+status_of kind = if is_shown kind then 0 else 2
+
+-- an answer of `clap` was written, or that there was no memory
+pub record TellsError (kind : ErrorKind) (w : Traffic) (status : ℕ) : Type 0 where
+  pub status_is : status ≡ status_of kind
+  pub no_memory : kind ≡ OutOfMemory → PutsLine (codes "fault memory\n") w
+
+-- the engine of a request ran, unless its programme identification is refused
+pub record AnswersRequest (asked : Asked) (Engine : Task → Tuning → Type 0) (Rests : Type 0) (w : Traffic)
+    (status : ℕ) : Type 0 where
+  pub runs : (pi : ℕ) → IsPi asked.pi pi → Engine asked.task (tuned pi asked.dwell)
+  pub fault_pi : ((pi : ℕ) → IsPi asked.pi pi → ⊥) → RefusesPi asked.task w status × Rests
+
+-- what the program does by what its words were read as: the answer of `clap`, nothing or a request. Rests holds
+-- wherever no engine ran
+abbrev pub RunsRead : Result (Option Request) Error → (Task → Tuning → Type 0) → Type 0 → Traffic → ℕ → Type 0
+RunsRead (Err error) Engine Rests w status = TellsError (kind_of error) w status × Rests
+RunsRead (Ok None) Engine Rests w status = (status ≡ 2) × PutsNothing w × Rests
+RunsRead (Ok (Some request)) Engine Rests w status = AnswersRequest (asked_by request) Engine Rests w status
 
 -- what the program does over these words: the engine of the task that they ask for runs, or the programme's number is
 -- told to be none; where they ask for nothing, ask for help, are refused or are not taken, this is its status. In each
@@ -153,3 +184,22 @@ pub record RunsWords (words : List (List ℕ)) (Engine : Task → Tuning → Typ
   pub help : AskForHelp words → (NoMemory w status ⊎ (status ≡ 0)) × Rests
   pub refused : AreRefused words → (NoMemory w status ⊎ (status ≡ 2)) × Rests
   pub not_taken : (TakesWords words → ⊥) → (NoMemory w status ⊎ ((status ≡ 0) ⊎ (status ≡ 2))) × Rests
+
+-- ---- the status alone, where what is written goes through a cell that no clause sees
+
+-- the status of a run by what its words were read as. Rests holds wherever no engine ran
+abbrev pub EndsRead : Result (Option Request) Error → Type 0 → ℕ → Type 0
+EndsRead (Err error) Rests status = (status ≡ status_of (kind_of error)) × Rests
+EndsRead (Ok None) Rests status = (status ≡ 2) × Rests
+EndsRead (Ok (Some request)) Rests status = ((pi : ℕ) → IsPi request.pi.now pi → status ≤ 1)
+    × (((pi : ℕ) → IsPi request.pi.now pi → ⊥) → (status ≡ 2) × Rests)
+
+-- the status of a run over these words, which is also 1 if there is no memory
+pub record EndsBy (words : List (List ℕ)) (status : ℕ) : Type 0 where
+  pub runs : (asked : Asked) (pi : ℕ) → AskFor words asked → IsPi asked.pi pi → status ≤ 1
+  pub fault_pi : (asked : Asked) → AskFor words asked → ((pi : ℕ) → IsPi asked.pi pi → ⊥)
+      → (status ≡ 1) ⊎ (status ≡ 2)
+  pub nothing_asked : TakesWords words → asked_in words ≡ None → (status ≡ 1) ⊎ (status ≡ 2)
+  pub help : AskForHelp words → (status ≡ 1) ⊎ (status ≡ 0)
+  pub refused : AreRefused words → (status ≡ 1) ⊎ (status ≡ 2)
+  pub not_taken : (TakesWords words → ⊥) → status ≤ 2

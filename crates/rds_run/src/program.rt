@@ -5,11 +5,10 @@ ghost use Rattle.rds_charset.specs.Told.{PutsNothing, Traffic, traffic};
 ghost use Rattle.rds_log.specs.LogWrites.{tuned};
 ghost use Rattle.rds_output.specs.ReadFailed.{SomeReadFailed};
 ghost use Rattle.clap.specs.Words.{kind_of};
-ghost use Rattle.rds_words.specs.CommandLine.{AreRefused, AskFor, AskForHelp, Asked, IsPi};
-ghost use Rattle.rds_words.specs.CommandLine.{TakesWords, asked_in, is_shown};
+ghost use Rattle.rds_words.specs.CommandLine.{IsPi};
 ghost use Rattle.rds_run.specs.Run as specs;
-ghost use Rattle.rds_run.specs.Run.{EndsWith, IsUntouched, NoMemory, PutsAfter, PutsLine};
-ghost use Rattle.rds_run.specs.Run.{RefusesPi, RunsFrom, RunsWords, TaskRuns, TellsFault, done, mark_of, reader_before};
+ghost use Rattle.rds_run.specs.Run.{EndsWith, IsUntouched, PutsAfter, PutsLine, RefusesPi, RunsFrom, RunsRead, RunsWords};
+ghost use Rattle.rds_run.specs.Run.{TaskRuns, TellsFault, done, mark_of, reader_before, status_of};
 
 use clap::Error;
 use clap::error::ErrorKind;
@@ -75,21 +74,35 @@ pub fn run_lent<R: TellingRead, W: TellingWrite>(
         (IsUntouched R.remaining R.failures R.reads reader.old reader.new)
         (traffic W.contents W.failures writer.old writer.new) result }
 {
-    match read_words(alloc, words) {
+    run_read(alloc, read_words(alloc, words), reader, writer)
+}
+
+/// Does what the words ask for, by what they were read as.
+pub(crate) fn run_read<R: TellingRead, W: TellingWrite>(
+    alloc: Global,
+    read: Result<Option<Request<'_>>, Error>,
+    reader: &mut R,
+    writer: &mut W,
+) -> u8
+    ensures { RunsRead read.entry
+        (λ task t. TaskRuns task t (traffic R.remaining R.failures reader.old reader.new)
+        (SomeReadFailed R.failures) (traffic W.contents W.failures writer.old writer.new) result)
+        (IsUntouched R.remaining R.failures R.reads reader.old reader.new)
+        (traffic W.contents W.failures writer.old writer.new) result }
+{
+    match read {
         Ok(Some(request)) => answer(alloc, request, reader, writer),
         Ok(None) => REFUSED,
         Err(error) => tell_error(&error, writer),
     }
 }
 
-/// Writes the text of `clap`, help or why the words are refused, as far as the writer takes it; where
-/// there was no memory, its fault line.
+/// Writes the text of `clap`, help or why the words are refused, as far as the writer takes it. If there was no memory,
+/// writes the fault line.
 fn tell_error<W: TellingWrite>(error: &Error, writer: &mut W) -> u8
+    ensures status { result ≡ status_of (kind_of error.now) }
     ensures memory { kind_of error.now ≡ ErrorKind.OutOfMemory
-        → NoMemory (traffic W.contents W.failures writer.old writer.new) result }
-    ensures help { is_shown (kind_of error.now) ≡ true → result ≡ 0 }
-    ensures refused { is_shown (kind_of error.now) ≡ false
-        → NoMemory (traffic W.contents W.failures writer.old writer.new) result ⊎ (result ≡ 2) }
+        → PutsLine (codes "fault memory\n") (traffic W.contents W.failures writer.old writer.new) }
 {
     if error.kind() == ErrorKind::OutOfMemory {
         tell(b"fault memory\n", writer);

@@ -22,11 +22,12 @@ returns-clause-text g c text =
     record {
       runs = λ asked pi given is. elim (did.runs asked pi (subst (λ (ws : List (List ℕ)). AskFor ws asked) (sym words) given) is) [
         | inl memory ↦ inl memory
-        | inr (r, begins, ran) ↦ inr (
-          r,
-          record { bytes_are = search rules; failures_are = search rules },
-          calm_task none_failed asked.task (tuned pi asked.dwell) r _ c.run.result ran,
-        )
+        | inr from ↦ inr (record {
+          r = from.r;
+          starts = record { bytes_are = search rules; failures_are = search rules };
+          fails = λ failed. none_failed (from.fails failed);
+          ran = calm_task none_failed asked.task (tuned pi asked.dwell) from.r _ c.run.result from.ran;
+        })
       ];
       fault_pi = λ asked given none. did.fault_pi asked (subst (λ (ws : List (List ℕ)). AskFor ws asked) (sym words) given) none;
       nothing_asked = λ takes none.

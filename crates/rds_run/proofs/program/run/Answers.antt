@@ -8,11 +8,12 @@ returns g c =
     record {
       runs = λ asked pi given is. elim (did.runs asked pi given is) [
         | inl memory ↦ inl (memory.0, tt)
-        | inr ran ↦ inr (
-          traffic g.R.Read.remaining g.R.TellingRead.failures c.args.reader c.run_lent.new.reader,
-          record { bytes_are = refl; failures_are = refl },
-          ran,
-        )
+        | inr ran ↦ inr (record {
+          r = traffic g.R.Read.remaining g.R.TellingRead.failures c.args.reader c.run_lent.new.reader;
+          starts = record { bytes_are = refl; failures_are = refl };
+          fails = λ failed. ∣ (c.args.reader, c.run_lent.new.reader, failed) ∣₁;
+          ran = ran;
+        })
       ];
       fault_pi = λ asked given none. ((did.fault_pi asked given none).0, tt);
       nothing_asked = λ takes none. ((did.nothing_asked takes none).0, tt);

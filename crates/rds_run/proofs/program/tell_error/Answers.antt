@@ -3,6 +3,3 @@ use Rattle.rds_run.proofs.program.tell_error.Goals as goal
 
 pub returns-then-eq-clause-memory : goal.returns-then-eq-clause-memory
 returns-then-eq-clause-memory g c = search rules
-
-pub returns-then-eq-clause-refused : goal.returns-then-eq-clause-refused
-returns-then-eq-clause-refused g c = search rules
