@@ -1,6 +1,6 @@
 //! `audit_within` over readers with an end and without.
 
-use crate::logs::Endless;
+use crate::logs::{Endless, LINE, ONE_BYTE};
 use crate::same::same;
 use rds_charset::Told;
 use rds_fields::{Dwell, Late};
@@ -45,14 +45,18 @@ fn audited_within(
     Ok((given, output.len()))
 }
 
-/// A log that has no end within the bound is too long, and nothing is written; a log that ends in the last read
-/// is not.
+/// A log that has no end within the bound is too long, and nothing is written, also where its one line has no end. A log
+/// that ends in the last read is not too long.
 #[test]
 fn as_many_reads_as_may_be(rt: HostRuntime) -> Result<(), Fail> {
     let too_long = (Err(LogFault::TooLong), 0);
-    for most in [0, 1, 3] {
+    for (bytes, most) in [(LINE, 0), (LINE, 1), (LINE, 3), (ONE_BYTE, 1000)] {
         let reads = Cell::new(0);
-        let given = audited_within(Endless { reads: &reads }, rt.alloc(), most)?;
+        let endless = Endless {
+            bytes,
+            reads: &reads,
+        };
+        let given = audited_within(endless, rt.alloc(), most)?;
         same(&rt, (given, reads.get()), (too_long, u64::from(most)));
     }
     same(&rt, audited_within(TAGGED, rt.alloc(), 1)?, too_long);

@@ -7,6 +7,8 @@
 #[cfg(test)]
 mod audit_engine;
 #[cfg(test)]
+mod failing_writes;
+#[cfg(test)]
 mod logs;
 #[cfg(test)]
 mod same;

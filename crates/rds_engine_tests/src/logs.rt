@@ -15,39 +15,55 @@ use std::process::Abort;
 use std::test::Fail;
 
 /// Two texts of one segment each, the second with the other flag.
-const TWO_TEXTS: &[u8] = b"C201 2140 4849 0D20\nC201 2150 594F 0D20\n";
+pub(crate) const TWO_TEXTS: &[u8] = b"C201 2140 4849 0D20\nC201 2150 594F 0D20\n";
 
 /// What is written for them.
-const TWO_LINES: &[u8] = b"0 text \"HI\"\n1 text \"YO\"\n";
+pub(crate) const TWO_LINES: &[u8] = b"0 text \"HI\"\n1 text \"YO\"\n";
 
 fn dwell() -> Result<Dwell, Fail> {
     Ok(Dwell::new(128).ok_or("dwell")?)
 }
 
-/// Gives the same line for ever, and counts the reads.
+/// Gives the same bytes for ever, and counts the reads.
 #[derive(Drop)]
 pub(crate) struct Endless<'a> {
+    pub(crate) bytes: &'a [u8],
     pub(crate) reads: &'a Cell<u64>,
 }
+
+/// A line of a log.
+pub(crate) const LINE: &[u8] = b"C201 2140 4849 0D20\n";
+
+/// A line that never ends: each read gives this byte.
+pub(crate) const ONE_BYTE: &[u8] = b"C";
 
 impl Read for Endless<'_> {
     fn read(&mut self, buf: &mut [u8]) -> io::Result<usize> {
         self.reads.set(self.reads.get().wrapping_add(1));
-        let line = b"C201 2140 4849 0D20\n";
-        let count = buf.len().min(line.len());
-        buf[..count].copy_from_slice(&line[..count]);
+        let count = buf.len().min(self.bytes.len());
+        buf[..count].copy_from_slice(&self.bytes[..count]);
         Ok(count)
     }
 }
 
-/// As many reads are made as may be, and not one more.
+/// As many reads are made as may be, and not one more. A line that never ends writes nothing.
 #[test]
 fn too_long(rt: HostRuntime) -> Result<(), Fail> {
-    for most in [0, 1, 3] {
+    let shown = b"0 text \"HI\"\n".as_slice();
+    let nothing = b"".as_slice();
+    for (bytes, most, wanted) in [
+        (LINE, 0, nothing),
+        (LINE, 1, shown),
+        (LINE, 3, shown),
+        (ONE_BYTE, 1000, nothing),
+    ] {
         let reads = Cell::new(0);
         let mut output = Vec::new(rt.alloc());
         let done = decode_within(
-            &mut Told::new(Endless { reads: &reads }),
+            &mut Told::new(Endless {
+                bytes,
+                reads: &reads,
+            }),
             &mut Told::new(&mut output),
             0xC201,
             dwell()?,
@@ -55,7 +71,6 @@ fn too_long(rt: HostRuntime) -> Result<(), Fail> {
         );
         same(&rt, done, Err(LogFault::TooLong));
         same(&rt, reads.get(), most);
-        let wanted: &[u8] = if most == 0 { b"" } else { b"0 text \"HI\"\n" };
         same(&rt, output.as_slice(), wanted);
     }
     Ok(())

@@ -1,5 +1,6 @@
-//! Scripts without an end, readers and writers that fail, and memory that is refused.
+//! Scripts without an end, readers that fail, and memory that is refused.
 
+use crate::failing_writes::Stubborn;
 use crate::same::same;
 use arrayvec::ArrayVec;
 use rds_block::Place;
@@ -15,21 +16,21 @@ use std::process::Abort;
 use std::test::Fail;
 
 /// A text that one receiver gets with a dwell of one slot, and what is simulated.
-const SIMULATED: &[u8] = b"-,,1,G\ntext,HI,1,G\n-,,0,G\n";
+pub(crate) const SIMULATED: &[u8] = b"-,,1,G\ntext,HI,1,G\n-,,0,G\n";
 
-const SIMULATED_OUTPUT: &[u8] =
+pub(crate) const SIMULATED_OUTPUT: &[u8] =
     b"1 text ok\n1 sent C201 2140 4849 0D20\n1 r0 text \"HI\"\n2 r0 text none\n";
 
 /// The same text set twice, and the log of it with a dwell of one slot.
-const ENCODED: &[u8] = b"text,HI,1,\ntext,HI,1,\n";
+pub(crate) const ENCODED: &[u8] = b"text,HI,1,\ntext,HI,1,\n";
 
-const ENCODED_LOG: &[u8] = b"# 0 text silent 1
+pub(crate) const ENCODED_LOG: &[u8] = b"# 0 text silent 1
 ---- ---- ---- ----
 # 1 text ok
 C201 2140 4849 0D20
 ";
 
-fn config(dwell: u16) -> Result<Config, Fail> {
+pub(crate) fn config(dwell: u16) -> Result<Config, Fail> {
     Ok(Config {
         head: Head {
             pi: 0xC201,
@@ -161,77 +162,6 @@ fn reader_fails(rt: HostRuntime) -> Result<(), Fail> {
     Ok(())
 }
 
-/// Takes at most so many bytes a write, and from one write on none, with an error or without.
-#[derive(Drop)]
-struct Stubborn<'a> {
-    taken: &'a mut Vec<u8>,
-    most: usize,
-    fails_at: u64,
-    with_error: bool,
-    writes: &'a Cell<u64>,
-}
-
-impl Write for Stubborn<'_> {
-    fn write(&mut self, buf: &[u8]) -> io::Result<usize> {
-        self.writes.set(self.writes.get().wrapping_add(1));
-        if self.writes.get() == self.fails_at {
-            return if self.with_error {
-                Err(io::Error::from(ErrorKind::Other))
-            } else {
-                Ok(0)
-            };
-        }
-        let count = buf.len().min(self.most);
-        self.taken.extend_from_slice(&buf[..count])?;
-        Ok(count)
-    }
-
-    fn flush(&mut self) -> io::Result<()> {
-        Ok(())
-    }
-}
-
-fn simulated_to(
-    taken: &mut Vec<u8>,
-    alloc: Global,
-    fails_at: u64,
-    with_error: bool,
-) -> Result<Result<(), LogFault>, Fail> {
-    Ok(simulate(
-        alloc,
-        Told::new(SIMULATED),
-        &mut Told::new(Stubborn {
-            taken,
-            most: 20,
-            fails_at,
-            with_error,
-            writes: &Cell::new(0),
-        }),
-        config(1)?,
-    ))
-}
-
-/// Each write fails in turn: what went out is a first part of the output.
-#[test]
-fn writer_fails(rt: HostRuntime) -> Result<(), Fail> {
-    for with_error in [true, false] {
-        let mut runs = 0;
-        for fails_at in 1..u64::MAX {
-            runs = fails_at;
-            let mut output = Vec::new(rt.alloc());
-            let done = simulated_to(&mut output, rt.alloc(), fails_at, with_error)?;
-            assert!(rt; SIMULATED_OUTPUT.starts_with(output.as_slice()));
-            if done == Ok(()) {
-                same(&rt, output.as_slice(), SIMULATED_OUTPUT);
-                break;
-            }
-            same(&rt, done, Err(LogFault::Write));
-        }
-        assert!(rt; runs > 3);
-    }
-    Ok(())
-}
-
 /// Takes up to 1,024 bytes, and asks for no memory.
 #[derive(Drop)]
 struct Page {
@@ -261,7 +191,7 @@ impl Write for Page {
 }
 
 /// A script that ends for want of memory has written a first part of its output; where there is memory, all of it.
-/// `rt try --test --fail-alloc N` refuses the request N.
+/// `tests/cases` runs the tests that call this with each request refused in turn.
 fn ends_whole_or_for_memory(
     rt: &impl Abort,
     done: Result<(), LogFault>,
