@@ -1,4 +1,4 @@
-//! An audit that is stored and restored.
+//! An audit keeps its fault, and goes on from what is stored.
 
 use crate::same::same;
 use rds_audit::{Audit, AuditFault};
@@ -31,6 +31,19 @@ fn goes_on_from_what_is_stored(rt: HostRuntime) -> Result<(), Fail> {
         text(0x2150, 0x594F),
     ] {
         same(&rt, audit.slot(sent), Err(AuditFault::EarlyFlag));
+        assert!(rt; !audit.passed());
+    }
+    Ok(())
+}
+
+/// Tags without a text come early. The fault stays, also where nothing is sent in the next slot.
+#[test]
+fn early_tag_stays(rt: HostRuntime) -> Result<(), Fail> {
+    let dwell = Dwell::new(8).ok_or("dwell")?;
+    let mut audit = Audit::new(0xC201, dwell, Late::new(0).ok_or("late")?);
+    let tags = Group::from_blocks([0xC201, 0xB148, 0x2002, 0x0000]);
+    for sent in [Some(tags), None] {
+        same(&rt, audit.slot(sent), Err(AuditFault::EarlyTag));
         assert!(rt; !audit.passed());
     }
     Ok(())

@@ -251,6 +251,27 @@ fn neighbours(alloc: Global) -> Result<Vec<SlotEvent>, Fail> {
     Ok(events)
 }
 
+/// The same slot by slot: at the ends of slots 12 and 13 the first receiver shows the second text, and the second
+/// receiver still the first one.
+#[test]
+fn neighbours_in_one_slot(rt: HostRuntime) -> Result<(), Fail> {
+    let (one, two) = (Some(b"ONE".as_slice()), Some(b"TWO".as_slice()));
+    let events = neighbours(rt.alloc())?;
+    let mut world = new_world(rt.alloc(), 2)?;
+    for (slot, event) in events.iter().enumerate() {
+        assert!(rt; play_slot(&mut world, event).is_ok());
+        let (first, second) = match slot {
+            0..=3 => (None, None),
+            4..=11 => (one, one),
+            12 | 13 => (two, one),
+            _ => (two, two),
+        };
+        assert_text(&rt, &world, 0, first)?;
+        assert_text(&rt, &world, 1, second)?;
+    }
+    Ok(())
+}
+
 /// The slots of these two neighbours in one call, up to slot 12 and up to slot 14.
 #[test]
 fn neighbours_played(rt: HostRuntime) -> Result<(), Fail> {
