@@ -219,8 +219,7 @@ fn nothing_on_air_after_a_restart(rt: HostRuntime) -> Result<(), Fail> {
     Ok(())
 }
 
-/// A world takes memory, and where it is refused says so; here it isn't. `rt try --test --fail-alloc N` refuses the
-/// request N of each test.
+/// A world takes memory, and says so if it is refused: `tests/cases` runs this test with each request refused in turn.
 #[test]
 fn refused_memory(rt: HostRuntime) -> Result<(), Fail> {
     let events = [slot_event(Command::Quiet, true, &[LOST])?];
