@@ -1,5 +1,6 @@
 """The crates that crates.txt lists, where each of them is kept, and the words by which the kit's compiler takes one."""
 import os
+import re
 import shutil
 
 ROOT = os.path.dirname(os.path.abspath(__file__))
@@ -12,6 +13,30 @@ def listed():
     with open(LIST, encoding="utf-8") as file:
         rows = [line.partition("#")[0].partition(":") for line in file]
     return {head.split()[0]: libraries.split() for head, _, libraries in rows if head.strip()}
+
+
+def layers():
+    """Returns the crates under each heading of crates.txt. A heading is a comment `# LAYER: WHAT IT IS`."""
+    found, under = {}, []
+    with open(LIST, encoding="utf-8") as file:
+        for line in file:
+            heading = re.match(r"# (\w+): ", line)
+            if heading:
+                found[heading.group(1)] = under = []
+            elif line.strip() and not line.startswith("#"):
+                under.append(line.partition(":")[0].split()[0])
+    return found
+
+
+def unnamed(name, uses):
+    """Returns the libraries that the crate lists and never names: its code has none of them before `::` or a dot."""
+    code = ""
+    for part in ("src", "specs", "proofs"):
+        for at, _, files in os.walk(os.path.join(folder(name), part)):
+            for file in files:
+                with open(os.path.join(at, file), encoding="utf-8") as source:
+                    code += re.sub("(//|--).*", "", source.read())
+    return [it for it in uses[name] if not re.search(rf"\b{it}(::|\.)", code)]
 
 
 def below(name, uses):
