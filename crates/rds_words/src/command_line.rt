@@ -1,4 +1,4 @@
-//! The words that the program takes, as a command of `clap`: what each means, and what it may be.
+//! The command line as a command of `clap`: commands, options and help texts.
 ghost use Rattle.std.specs.Prelude.{◌≡◌, IfOk, codes, false};
 ghost use Rattle.clap.specs.Words.{App, app_of, rule_of, with_subcommand};
 ghost use Rattle.clap.specs.declared.builder.command.Command.TheViews.{out-Command};
@@ -9,7 +9,7 @@ use clap::builder::ValueParser;
 use clap::{Arg, ArgAction, Command, value_parser};
 use std::alloc::{AllocError, Global};
 
-/// The option `--pi`. That its text is four digits is not for `clap` to say.
+/// Makes the option `--pi`. `clap` accepts any text; `identification_of` checks the four digits.
 fn pi<'a>(alloc: Global) -> Arg<'a>
     ensures rule { rule_of result ≡ pi_rule }
     ensures local { result.global ≡ false }
@@ -18,10 +18,10 @@ fn pi<'a>(alloc: Global) -> Arg<'a>
         .long("pi")
         .value_name("HHHH")
         .required(true)
-        .help("The programme identification of the station, four hexadecimal digits, as C201")
+        .help("PI code of the station: four hexadecimal digits, for example C201")
 }
 
-/// An option that takes a number.
+/// Makes an option that takes a number.
 fn number<'a>(
     alloc: Global,
     name: &'a str,
@@ -40,46 +40,44 @@ fn number<'a>(
         .help(help)
 }
 
-/// The option `--m`.
+/// Makes the option `--m`.
 fn dwell<'a>(alloc: Global) -> Arg<'a>
     ensures rule { rule_of result ≡ dwell_rule }
     ensures local { result.global ≡ false }
 {
     let parser = value_parser!(u16).range(1..);
-    number(alloc, "m", parser, "128", "The dwell in slots, 1 to 65535").long_help(
-        "The dwell in slots, 1 to 65535; a slot is the time of one group, some 88 ms.\n\
-         A receiver forgets a text of which it heard no segment for one dwell. A station\n\
-         keeps each text on air for at least twice the dwell, unless it restarts, and sends\n\
-         nothing for one dwell when it starts. So a receiver with the dwell of its station\n\
-         never joins parts of two texts.",
+    number(alloc, "m", parser, "128", "Dwell M in slots, 1 to 65535").long_help(
+        "Dwell M in slots, 1 to 65535. A slot is the time of one group, about 88 ms.\n\
+         A receiver drops a text if no part of it arrived for M slots. The station needs\n\
+         the same M or a larger one. Then no receiver shows a mix of two texts.",
     )
 }
 
-/// The option `--k`.
+/// Makes the option `--k`.
 fn late<'a>(alloc: Global) -> Arg<'a>
     ensures rule { rule_of result ≡ late_rule }
     ensures local { result.global ≡ false }
 {
     let parser = value_parser!(u16).range(0..1025);
-    let help = "How late a group may reach a receiver, in slots, 0 to 1024";
+    let help = "Lateness K in slots, 0 to 1024: how late a group may reach a receiver";
     number(alloc, "k", parser, "0", help).long_help(
-        "How late a group may reach a receiver, in slots, 0 to 1024: behind a buffer, a network\n\
-         or a repeater groups come late, and in their order. A station keeps its texts apart\n\
-         by the dwell and the lateness together; a receiver keeps its dwell.",
+        "Lateness K in slots, 0 to 1024: how late a group may reach a receiver, for example\n\
+         through a buffer or a network. Late groups must stay in their order. The station\n\
+         spaces its texts by M + K slots; a receiver needs M alone.",
     )
 }
 
-/// The option `--pty`.
+/// Makes the option `--pty`.
 fn pty<'a>(alloc: Global) -> Arg<'a>
     ensures rule { rule_of result ≡ pty_rule }
     ensures local { result.global ≡ false }
 {
     let parser = value_parser!(u8).range(0..32);
-    let help = "The programme type in each group, 0 to 31 (0: none, 10: pop music)";
+    let help = "Programme type (PTY) in each group, 0 to 31; for example 10 is pop music";
     number(alloc, "pty", parser, "0", help)
 }
 
-/// The flag `--tp`.
+/// Makes the flag `--tp`.
 fn tp<'a>(alloc: Global) -> Arg<'a>
     ensures rule { rule_of result ≡ tp_rule }
     ensures local { result.global ≡ false }
@@ -87,19 +85,19 @@ fn tp<'a>(alloc: Global) -> Arg<'a>
     Arg::new(alloc, "tp")
         .long("tp")
         .action(ArgAction::SetTrue)
-        .help("Sets the flag of each group that says: the programme has traffic announcements")
+        .help("Sets the TP flag in each group: the programme carries traffic announcements")
 }
 
-/// What the help of a subcommand says.
+/// The help texts of a subcommand.
 #[derive(Clone, Copy)]
 struct Page<'a> {
-    /// What the subcommand does.
+    /// One line: what the subcommand does.
     about: &'a str,
-    /// What long help ends with.
+    /// The end of `--help`.
     ending: &'a str,
 }
 
-/// A subcommand that reads a log.
+/// Makes a subcommand that reads a log.
 #[tactic(auto, unfolding(crate::specs::CommandLine::log_app))]
 fn log_reader<'a>(alloc: Global, name: &'a str, page: Page<'a>) -> Result<Command<'a>, AllocError>
     ensures app { IfOk result (λ c. app_of c ≡ log_app name.entry.now) }
@@ -112,19 +110,23 @@ fn log_reader<'a>(alloc: Global, name: &'a str, page: Page<'a>) -> Result<Comman
         .arg(dwell(alloc))
 }
 
-/// The subcommand `decode`.
+/// Makes the subcommand `decode`.
 fn decode<'a>(alloc: Global) -> Result<Command<'a>, AllocError>
     ensures app { IfOk result (λ c. app_of c ≡ log_app (codes "decode")) }
     ensures local { IfOk result (λ c. (out-Command c).has_globals ≡ false) }
 {
     let page = Page {
-        about: "Reads a log of received groups, a slot a line, and prints what a receiver shows",
-        ending: "Example:\n  rdsrt decode --pi C201 --m 64 < received.log",
+        about: "Reads a log of received groups and prints what a receiver shows",
+        ending: "Prints one line for each change of the text, the name (PTYN) or the RT+ tags.\n\
+                 A log has one line for each slot, lost slots too (---- ---- ---- ----).\n\n\
+                 Example:\n  \
+                   $ echo C201 2140 4849 0D20 | rdsrt decode --pi C201\n  \
+                   0 text \"HI\"",
     };
     log_reader(alloc, "decode", page)
 }
 
-/// A subcommand that speaks of late groups.
+/// Makes a subcommand that takes `--k`.
 #[tactic(auto, unfolding(crate::specs::CommandLine::late_app))]
 fn late_reader<'a>(alloc: Global, name: &'a str, page: Page<'a>) -> Result<Command<'a>, AllocError>
     ensures app { IfOk result (λ c. app_of c ≡ late_app name.entry.now) }
@@ -133,50 +135,66 @@ fn late_reader<'a>(alloc: Global, name: &'a str, page: Page<'a>) -> Result<Comma
     log_reader(alloc, name, page)?.arg(late(alloc))
 }
 
-/// The subcommand `audit`.
+/// Makes the subcommand `audit`.
 fn audit<'a>(alloc: Global) -> Result<Command<'a>, AllocError>
     ensures app { IfOk result (λ c. app_of c ≡ late_app (codes "audit")) }
     ensures local { IfOk result (λ c. (out-Command c).has_globals ≡ false) }
 {
     let page = Page {
-        about: "Reads a log of all groups that were sent, a slot a line, and says whether it keeps \
-                the rules",
-        ending: "It prints `yes N` with the number of slots, status 0, or `no T NAME` with the first\n\
+        about: "Reads a log of all groups that a station sent and says whether it keeps the rules",
+        ending: "Prints `yes N` with the number of slots, status 0, or `no SLOT NAME` with the first\n\
                  slot that breaks a rule and the name of the fault, status 1.\n\n\
-                 Yes: no receiver of this dwell, whose groups come no later than said, ever shows a mix\n\
-                 of two texts from this log, whatever it loses and whenever it restarts.\n\
-                 No: a rule was broken, so no plan of texts and names is lawful and without a gap. It\n\
-                 does not say that a receiver can show a mix, and a lawful log with few free slots can\n\
-                 be refused too.\n\n\
-                 Changed     within one text or name an address was sent with other characters\n\
-                 NotOneText  no text, or no name, has the segments that were sent\n\
-                 EarlyFlag   the A/B flag changed twice within the dwell and the lateness\n\
-                 EarlyTag    tags came with no text, or less than that after their text can have started\n\
-                 TagOutside  a tag ends past the end of its text\n\n\
-                 Example:\n  rdsrt encode --pi C201 --m 64 < script.csv | rdsrt audit --pi C201 --m 64",
+                 Yes: no receiver with this M shows a mix of two texts, whichever groups it loses,\n\
+                 if its groups come at most K slots late. A log without a group of this PI gets a\n\
+                 yes too: check the PI.\n\
+                 No: a rule was broken. A receiver may or may not show a mix; `witness` looks for\n\
+                 one. A station that keeps the rules can get a no if it has few free slots.\n\n\
+                 Faults, each with its cure:\n  \
+                   EarlyFlag   A text reused the A/B flag less than M + K slots after the last\n              \
+                               group of the text before the previous one. Keep each text on\n              \
+                               air for at least M + K slots, and flip the flag only for a new\n              \
+                               text.\n  \
+                   Changed     A text changed without a flip of the A/B flag. Flip the flag with\n              \
+                               every change, even of one word.\n  \
+                   NotOneText  The segments fit no text: a forbidden control character, a\n              \
+                               character other than a space after the carriage return, or a\n              \
+                               segment past it. Send printable characters, end the text with\n              \
+                               one carriage return, fill its segment with spaces, and send no\n              \
+                               segment past it.\n  \
+                   EarlyTag    RT+ tags came before any text, or less than M + K slots after\n              \
+                               their text started. Send the first tags M + K slots after the\n              \
+                               start of their text.\n  \
+                   TagOutside  An RT+ tag ends past the end of its text. Count the start from 0,\n              \
+                               send the number of characters less one as the length, and set\n              \
+                               the tags after their text.\n\
+                 Names (PTYN) have the first three faults too.\n\n\
+                 Example:\n  \
+                   $ rdsrt audit --pi C201 --m 8 < examples/flags.log\n  \
+                   no 4 EarlyFlag",
     };
     late_reader(alloc, "audit", page)
 }
 
-/// The subcommand `witness`.
+/// Makes the subcommand `witness`.
 fn witness<'a>(alloc: Global) -> Result<Command<'a>, AllocError>
     ensures app { IfOk result (λ c. app_of c ≡ log_app (codes "witness")) }
     ensures local { IfOk result (λ c. (out-Command c).has_globals ≡ false) }
 {
     let page = Page {
-        about: "Reads a log of all groups that were sent, a slot a line, and looks for slots to lose to \
-                show a mix",
-        ending: "It prints `lose A-B: ` and then a line as `decode` prints it, status 1: a receiver of this\n\
-                 dwell that loses the slots A to B of the log shows that text, name or tag in its slot,\n\
-                 and one that loses nothing shows it in no slot before it and none within the dwell\n\
-                 after it. It prints `no witness found`, status 0, where its search finds none, which\n\
-                 does not say that there is none.\n\n\
-                 Example:\n  rdsrt witness --pi C201 --m 64 < sent.log",
+        about: "Reads a log of all groups that a station sent and looks for lost slots that make a mix",
+        ending: "Prints `lose A-B: ` and a line of `decode`, status 1: a receiver with this M that loses\n\
+                 the slots A to B shows this text, name or tag in that slot. A receiver that loses\n\
+                 nothing does not show it up to M - 1 slots after that slot.\n\
+                 Prints `no witness found`, status 0, if the search finds none. There may still be\n\
+                 one.\n\n\
+                 Example:\n  \
+                   $ rdsrt witness --pi C201 --m 8 < examples/flags.log\n  \
+                   lose 2-3: 4 text \"POP  FM\"",
     };
     log_reader(alloc, "witness", page)
 }
 
-/// A subcommand with a station of its own.
+/// Makes a subcommand that has a station of its own.
 #[tactic(auto, unfolding(crate::specs::CommandLine::station_app))]
 fn station<'a>(alloc: Global, name: &'a str, page: Page<'a>) -> Result<Command<'a>, AllocError>
     ensures app { IfOk result (λ c. app_of c ≡ station_app name.entry.now) }
@@ -187,44 +205,65 @@ fn station<'a>(alloc: Global, name: &'a str, page: Page<'a>) -> Result<Command<'
         .arg(tp(alloc))
 }
 
-/// The subcommand `encode`.
+/// Makes the subcommand `encode`.
 fn encode<'a>(alloc: Global) -> Result<Command<'a>, AllocError>
     ensures app { IfOk result (λ c. app_of c ≡ station_app (codes "encode")) }
     ensures local { IfOk result (λ c. (out-Command c).has_globals ≡ false) }
 {
     let page = Page {
-        about: "Reads a script, a slot a row, and prints the log of what a station sends",
-        ending: "A row is COMMAND,ARGUMENT,FREE,RECEPTIONS, with no receptions: text,HI,1,\n\n\
-                 Example:\n  rdsrt encode --pi C201 --m 64 < script.csv | rdsrt decode --pi C201 --m 64",
+        about: "Reads a script and prints the log of the groups that a station sends",
+        ending: "A row of the script is one slot: COMMAND,ARGUMENT,FREE,RECEPTIONS. The last field is\n\
+                 empty here, for example text,HI,1, or -,,1, if nothing is set. Replies to commands\n\
+                 are comments in the log. The station is silent in the first M + K rows.\n\n\
+                 Example:\n  \
+                   $ printf -- '-,,1,\\ntext,HI,1,\\n' | rdsrt encode --pi C201 --m 1\n  \
+                   ---- ---- ---- ----\n  \
+                   # 1 text ok\n  \
+                   C201 2000 4849 0D20",
     };
     station(alloc, "encode", page)
 }
 
-/// The subcommand `sim`.
+/// Makes the subcommand `sim`.
 fn simulate<'a>(alloc: Global) -> Result<Command<'a>, AllocError>
     ensures app { IfOk result (λ c. app_of c ≡ station_app (codes "sim")) }
     ensures local { IfOk result (λ c. (out-Command c).has_globals ≡ false) }
 {
     let page = Page {
-        about: "Reads a script, a slot a row, and prints what a station sends and its receivers show",
-        ending: "A row is COMMAND,ARGUMENT,FREE,RECEPTIONS, a letter a receiver: text,HI,1,GGL\n\
-                 G it gets the group, G3 the one of three slots before, L it loses it, R it restarts.\n\n\
-                 Example:\n  rdsrt sim --pi C201 --pty 10 --m 4 < script.csv",
+        about: "Reads a script and prints what a station sends and what up to eight receivers show",
+        ending: "A row of the script is one slot: COMMAND,ARGUMENT,FREE,RECEPTIONS, for example\n\
+                 text,HI,1,GGL. RECEPTIONS has a letter for each receiver: G gets the group of this\n\
+                 slot, G3 gets the group sent 3 slots before, L loses it, R restarts. The station is\n\
+                 silent in the first M + K rows.\n\n\
+                 Example:\n  \
+                   $ printf -- '-,,1,G\\ntext,HI,1,G\\n' | rdsrt sim --pi C201 --m 1\n  \
+                   1 text ok\n  \
+                   1 sent C201 2000 4849 0D20\n  \
+                   1 r0 text \"HI\"",
     };
     station(alloc, "sim", page)
 }
 
-/// The program's own name, version and text.
+/// Makes the command `rdsrt` with its version and text.
 fn top<'a>(alloc: Global) -> Command<'a>
     ensures { app_of result ≡ top_app }
 {
     Command::new(alloc, "rdsrt")
         .version("0.1.0")
-        .about("Sends and receives RDS texts: reads standard input, writes standard output")
+        .about(
+            "Encoder, receiver and audit for RDS texts that are never a mix of two\n\
+             Each command reads standard input and writes standard output.",
+        )
+        .after_help(
+            "Example:\n  \
+               $ echo C201 2140 4849 0D20 | rdsrt decode --pi C201\n  \
+               0 text \"HI\"\n\n\
+             `man rdsrt` has the formats of logs, scripts and output.",
+        )
         .subcommand_required(true)
 }
 
-/// A command with one subcommand more.
+/// Adds a subcommand to a command.
 fn with<'a>(
     command: Command<'a>,
     subcommand: Result<Command<'a>, AllocError>,
@@ -236,7 +275,7 @@ fn with<'a>(
     command.subcommand(subcommand?)
 }
 
-/// The whole command line.
+/// Makes the whole command line.
 #[tactic(auto, unfolding(crate::specs::CommandLine::log_readers_app))]
 pub fn whole<'a>(alloc: Global) -> Result<Command<'a>, AllocError>
     ensures app { IfOk result (λ c. app_of c ≡ whole_app) }
