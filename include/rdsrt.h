@@ -1,17 +1,18 @@
-/* rdsrt.h: receivers, encoders and audits of RDS texts (IEC 62106), for C11 and C++17, 64 bits.
+/* rdsrt.h: receivers, encoders and audits of RDS texts (IEC 62106), for C11 and C++17 on 64-bit Linux (x86-64).
  *
- * FM stations send RadioText (up to 64 characters), a programme type name (8 characters) and the tags of RadioText Plus
- * in groups of four blocks of 16 bits. A SLOT is the time of one group: 104 bits at 1187.5 bit/s, some 88 ms. All times
- * of this library are counted in slots, and you count them: each slot has one call, also where nothing was received.
+ * FM stations send RadioText (up to 64 characters), a programme type name (PTYN, 8 characters; "name" below) and the
+ * tags of RadioText Plus (RT+) in groups of four blocks of 16 bits. A SLOT is the time of one group: 104 bits at 1187.5
+ * bit/s, about 88 ms. All times of this library are slots, and you count them: make one call for each slot, lost slots
+ * too.
  *
  * A receiver:
  *
  *     struct rdsrt_receiver receiver;
  *     struct rdsrt_view view;
  *     rdsrt_receiver_init(&receiver, 0xC201, 128);
- *     for (;;) {                                     // once in every 88 ms
+ *     for (;;) {                                     // every 88 ms
  *         uint16_t blocks[4];                        // without their check bits
- *         bool all = next_group(blocks);             // yours: false where a block was lost, or no group came at all
+ *         bool all = next_group(blocks);             // yours: false if a block was lost, or if no group came
  *         if (rdsrt_receiver_slot(&receiver, all ? blocks : NULL, all ? 4 : 0) == RDSRT_CHANGED) {
  *             rdsrt_receiver_view(&receiver, &view);
  *             if (view.text.is_shown) show(view.text.bytes, view.text.length);   // rdsrt_text_to_utf8 makes UTF-8
@@ -19,32 +20,33 @@
  *         }
  *     }
  *
- * The words C201 2140 4849 0D20 are such a group: programme C201, a whole text of the one segment "HI" and its end. One
- * call with them, and the view shows HI.
+ * For example, C201 2140 4849 0D20 is a group of programme C201 with the whole text "HI". After one call with it the
+ * view shows HI.
  *
- * THE DWELL. Every station and every receiver of it have one number M, the dwell, in slots; the program rdsrt takes 128,
- * some 11 s, where it is told none. The encoder here keeps each text on air for 2 M slots and is silent for M slots after
- * a start; a receiver forgets a text of which it heard no segment for M slots. If the receiver has the M of the station,
- * no text or name that it shows was joined of two, whichever groups it lost, and each was on air within the last M slots.
- * Where groups can reach a receiver up to K slots late, the station's encoder (and an audit) is made with that K as
- * `late`: then it keeps its texts apart by M + K slots. Of a station that keeps no dwell the receiver takes every group
- * too, but its texts can be joined of two, as in every other receiver: the RDS flag alone can't tell.
+ * THE DWELL. A receiver drops a text if no part of it arrived for M slots, its dwell. The program rdsrt has M = 128 by
+ * default, about 11 s. The station needs the same M or a larger one, and spaces its texts by M slots. Then no text or
+ * name that the receiver shows is a mix of two, whichever groups it lost, and each was on air within the last M slots.
+ * If groups may arrive up to K slots late, give K as `late` to the encoder (and to an audit): it spaces its texts by M
+ * + K.
+ * The encoder here is silent for M + K slots after a start, and keeps each text for 2 (M + K), so that tags fit.
+ * A receiver works with any station. If the station keeps no dwell, texts can be mixed, as in every other receiver.
  *
- * MEMORY. Each struct lies where you put it and has no pointers: copy it, move it, save it, drop it. No call allocates,
- * waits, prints, keeps a pointer or has a state of its own. Threads can call at the same time on different structs.
- * Link with -lrdsrt; it needs memcpy, memset, memmove and memcmp at most.
+ * BITS. The guarantee needs groups that are whole and unchanged. Pass no group in which your decoder corrected bits.
  *
- * YOU PROMISE of every call:
- *  - a pointer to a struct, to a count or to blocks[4] is not NULL, is aligned, and leads to the whole of it;
- *  - a pointer with a number beside it leads to as many elements; where that number is 0 it may be NULL;
- *  - what the call writes overlaps nothing else that it is given, and no other thread touches it in the meantime.
+ * MEMORY. You hold each struct. It has no pointers: copy it, move it, save it, drop it. No call allocates, waits,
+ * prints, keeps a pointer or has a state of its own. Threads may call at the same time on different structs. Link with
+ * -lrdsrt; it needs memcpy, memset, memmove and memcmp at most.
  *
- * WHAT IS PROVED of every call, whatever bytes are in the structs and arrays, and whoever wrote them: it reads and writes
- * nothing but what it is given, overflows nothing, and returns; every length and place that it answers lies in the bytes
- * beside it; the codes are those that are said here, and an error changes nothing. Of structs that were made by _init and
- * since then written by these calls alone it is proved besides that every answer is what docs/DEFINITIONS.md says of all
- * calls since the _init. Of a struct that someone else wrote, or that was changed, nothing is promised of what is shown,
- * sent or found.
+ * YOU PROMISE for every call:
+ *  - a pointer to a struct, to a count or to blocks[4] is not NULL, is aligned, and points to all of it;
+ *  - a pointer with a number beside it points to as many elements; if that number is 0, the pointer may be NULL;
+ *  - the call's output overlaps no other argument, and no other thread touches it during the call.
+ *
+ * WE PROVE for every call:
+ *  - Whatever bytes a struct or an array holds, the call is memory-safe and returns, and it returns no length or place
+ *    beyond its buffer. It returns only the codes that its comment lists. An error leaves every struct as it was.
+ *  - If _init made the struct and only these calls wrote it since, every answer is the one of docs/DEFINITIONS.md for
+ *    all calls since the _init. If anybody else wrote it, we promise nothing about texts, groups and verdicts.
  */
 #ifndef RDSRT_H
 #define RDSRT_H
@@ -56,61 +58,71 @@
 extern "C" {
 #endif
 
-/* The number of this interface. It changes with every size, place, code or call below. */
+/* The number of this interface. It changes with every size, offset, code or call below. */
 #define RDSRT_ABI 1
 
 struct rdsrt_version { uint32_t abi, major, minor, patch; };
 
-/* Of the library that is linked: its number of interface, which should be RDSRT_ABI, and its version. */
+/* Returns the version of the linked library. `abi` should be RDSRT_ABI. */
 struct rdsrt_version rdsrt_version(void);
 
-/* What calls answer. Each call lists those that it can answer; RDSRT_OK, RDSRT_CHANGED and RDSRT_SENT are no errors. */
+/* The codes that calls return. RDSRT_OK, RDSRT_CHANGED and RDSRT_SENT are not errors. */
 enum rdsrt_code {
-    RDSRT_OK = 0,                  /* done; a slot of a receiver: the view is what it was; a tick: nothing is sent */
-    RDSRT_CHANGED = 1,             /* a slot of a receiver: the view may have changed */
-    RDSRT_SENT = 1,                /* a tick: a group is sent */
-    RDSRT_BAD_ARGUMENT = 2,        /* a number is out of its range */
-    RDSRT_SILENT = 3,              /* the encoder is silent after its start, for `number` slots more */
-    RDSRT_HELD = 4,                /* the text or the name on air holds this one back, for `number` slots more */
-    RDSRT_NO_TEXT = 5,             /* no text is on air that the tags could be of */
-    RDSRT_OUT_OF_TEXT_1 = 6,       /* the first tag does not end in the text on air */
-    RDSRT_OUT_OF_TEXT_2 = 7,       /* the second tag does not end in the text on air, and the first does */
-    RDSRT_TOO_LONG = 8,            /* more than 64 bytes of a text, or 8 of a name */
-    RDSRT_BAD_BYTE = 9,            /* the byte at place `number` is the first that may not stand there */
-    RDSRT_BAD_TAGS = 10,           /* the numbers are no pair of tags */
-    RDSRT_NOT_UTF8 = 11,           /* the bytes are no UTF-8 */
-    RDSRT_BAD_ESCAPE = 12,         /* the backslash at byte *count begins no \xHH */
-    RDSRT_NO_CHARACTER = 13,       /* the character at byte *count is none of the RDS table */
-    RDSRT_NO_ROOM = 14,            /* what is to be written has more bytes than `room` */
-    /* The rule that the slots of an audit break first. */
-    RDSRT_FAULT_CHANGED = 17,      /* a segment was sent with other bytes than before, in one text */
-    RDSRT_FAULT_NOT_ONE_TEXT = 18, /* no text has all of the segments */
-    RDSRT_FAULT_EARLY_FLAG = 19,   /* a flag came back too soon */
-    RDSRT_FAULT_EARLY_TAG = 20,    /* tags came of a text that has not lasted */
-    RDSRT_FAULT_TAG_OUTSIDE = 21   /* a tag ends past its text */
+    RDSRT_OK = 0,                  /* done; receiver: the view is the same; tick: nothing to send */
+    RDSRT_CHANGED = 1,             /* receiver: the view may have changed */
+    RDSRT_SENT = 1,                /* tick: there is a group to send */
+    RDSRT_BAD_ARGUMENT = 2,        /* a number is out of range */
+    RDSRT_SILENT = 3,              /* refused: the encoder is silent after its start, for `number` more slots */
+    RDSRT_HELD = 4,                /* refused: the text or name before holds it back, for `number` more slots */
+    RDSRT_NO_TEXT = 5,             /* refused: no text is on air */
+    RDSRT_OUT_OF_TEXT_1 = 6,       /* refused: the first tag ends past the end of the text */
+    RDSRT_OUT_OF_TEXT_2 = 7,       /* refused: the second tag ends past the end of the text, and the first does not */
+    RDSRT_TOO_LONG = 8,            /* more than 64 bytes in a text, or 8 in a name */
+    RDSRT_BAD_BYTE = 9,            /* the byte at place `number` is the first invalid one */
+    RDSRT_BAD_TAGS = 10,           /* the numbers are not valid tags */
+    RDSRT_NOT_UTF8 = 11,           /* the bytes are not UTF-8 */
+    RDSRT_BAD_ESCAPE = 12,         /* the backslash at byte *count does not begin an escape \xHH */
+    RDSRT_NO_CHARACTER = 13,       /* the character at byte *count is not in the RDS table */
+    RDSRT_NO_ROOM = 14,            /* the output has more than `room` bytes */
+    /* The faults of an audit, each with its cure. Names (PTYN) have the first three faults too. */
+    /* A text changed without a flip of the A/B flag. Flip the flag with every change, even of one word. */
+    RDSRT_FAULT_CHANGED = 17,
+    /* The segments fit no text: a forbidden control character, a character other than a space after the carriage
+     * return, or a segment past it. Send printable characters, end the text with one carriage return, fill its segment
+     * with spaces, and send no segment past it. */
+    RDSRT_FAULT_NOT_ONE_TEXT = 18,
+    /* A text reused the A/B flag less than M + K slots after the last group of the text before the previous one. Keep
+     * each text on air for at least M + K slots, and flip the flag only for a new text. */
+    RDSRT_FAULT_EARLY_FLAG = 19,
+    /* RT+ tags came before any text, or less than M + K slots after their text started. Send the first tags M + K slots
+     * after the start of their text. */
+    RDSRT_FAULT_EARLY_TAG = 20,
+    /* An RT+ tag ends past the end of its text. Count the start from 0, send the number of characters less one as the
+     * length, and set the tags after their text. */
+    RDSRT_FAULT_TAG_OUTSIDE = 21
 };
 
-/* A receiver, an encoder and an audit. The numbers in them are the library's own. */
+/* A receiver, an encoder and an audit. Only the library reads and writes the numbers in them. */
 struct rdsrt_receiver { uint16_t own_[77]; };
 struct rdsrt_encoder { uint32_t own_[29]; };
 struct rdsrt_audit { uint32_t own_[52]; };
 
-/* The first `length` bytes, 0 to 64, are the text, in the RDS character table. Where is_shown is 0 there is no text; it is
- * 1 where there is one, and a text of length 0 that is shown is the empty text. */
+/* A text: the first `length` bytes, 0 to 64, in the RDS character table. is_shown is 1 if there is a text (length 0 is
+ * the empty text), else 0. */
 struct rdsrt_text { uint8_t bytes[64]; uint8_t length, is_shown; };
 
-/* Eight bytes of the same table, padded with spaces. Where is_shown is 0 there is no name; it is 1 where there is one. */
+/* A name: eight bytes of the same table, padded with spaces. is_shown is 1 if there is one, else 0. */
 struct rdsrt_name { uint8_t bytes[8]; uint8_t is_shown; };
 
-/* The item toggle and the item running bit of RadioText Plus, each 0 or 1. Where is_shown is 0 there are none. */
+/* The item toggle and item running bits of RT+, each 0 or 1. is_shown is 1 if there are any, else 0. */
 struct rdsrt_item { uint8_t is_shown, toggle, running; };
 
-/* A piece of the text: its `length` bytes from place `start` on (the first byte is place 0), and what they are, by the
- * content types of RadioText Plus: 1 title, 2 album, 3 track number, 4 artist, 5 composition, 6 movement, 7 conductor,
- * 8 composer, 9 band, 10 comment, 11 genre, up to 63. No tag: all three are 0. */
+/* A piece of the text: `length` bytes from place `start` on (the first byte is place 0), and its RT+ content type: 1
+ * title, 2 album, 3 track number, 4 artist, 5 composition, 6 movement, 7 conductor, 8 composer, 9 band, 10 comment, 11
+ * genre, up to 63. If there is no tag, all three are 0. */
 struct rdsrt_tag { uint8_t content_type, start, length; };
 
-/* All that a receiver shows. Tags lie in the text: start + length <= text.length. */
+/* Everything that a receiver shows. Tags lie in the text: start + length <= text.length. */
 struct rdsrt_view {
     struct rdsrt_text text;
     struct rdsrt_name name;
@@ -118,94 +130,97 @@ struct rdsrt_view {
     struct rdsrt_tag tag1, tag2;
 };
 
-/* What an encoder has on air. */
+/* The text and the name that an encoder has on air. */
 struct rdsrt_on_air { struct rdsrt_text text; struct rdsrt_name name; };
 
-/* A pair of tags for the text on air. toggle and running: 0, or anything else for 1. The numbers are a pair where in each
- * tag content_type, start and length are at most 63, 63 and 64 (of tag2: 32), and content_type is 0 exactly where length
- * is 0, and then start is 0 too. */
+/* Two tags for the text on air. toggle and running: 0, or any other number for 1. In each tag content_type and start
+ * are at most 63, and length at most 64 (tag2: 32). For no tag, all three are 0; else content_type and length are not
+ * 0. */
 struct rdsrt_tags { struct rdsrt_tag tag1, tag2; uint8_t toggle, running; };
 
-/* What became of a set: its code, and of RDSRT_SILENT, RDSRT_HELD and RDSRT_BAD_BYTE its number; of others that is 0. */
+/* The reply to a set. number is the one of RDSRT_SILENT, RDSRT_HELD and RDSRT_BAD_BYTE; else it is 0. */
 struct rdsrt_reply { uint32_t code, number; };
 
-/* For how many slots more sets are refused: every set (silent), a text, a name; 0 where they are not. */
+/* For how many more slots an encoder refuses every set (silent), a text, a name; 0 if it does not. */
 struct rdsrt_wait { uint32_t silent, text, name; };
 
 /* ---- Receiver ---- */
 
-/* Makes a receiver of the programme `pi` that heard nothing yet. dwell: M, 1 to 65535 slots.
- * Answers RDSRT_OK, or RDSRT_BAD_ARGUMENT where the dwell is 0. */
+/* Makes a receiver of the programme `pi` that has heard nothing yet. dwell: M, 1 to 65535 slots.
+ * Returns RDSRT_OK, or RDSRT_BAD_ARGUMENT if the dwell is 0. */
 uint32_t rdsrt_receiver_init(struct rdsrt_receiver *receiver, uint16_t pi, uint16_t dwell);
 
-/* Ends a slot, in which these four blocks were received (count 4) or nothing was (count 0, and blocks may be NULL).
- * A group with a lost block is nothing, and another programme's group counts as nothing.
- * Answers RDSRT_CHANGED where the view may have changed, RDSRT_OK where it has not, and RDSRT_BAD_ARGUMENT for every
- * other count: then no slot has ended. */
+/* Ends a slot. count is 4 if these four blocks were received, and 0 if not (blocks may be NULL). A group with a lost
+ * block is a lost slot: pass count 0. A group of another programme counts as a lost slot.
+ * Returns RDSRT_CHANGED if the view may have changed, RDSRT_OK if it did not, and RDSRT_BAD_ARGUMENT for any other
+ * count: then no slot has ended. */
 uint32_t rdsrt_receiver_slot(struct rdsrt_receiver *receiver, const uint16_t *blocks, size_t count);
 
-/* Writes what the receiver shows at the end of its last slot. All of *view is written. */
+/* Writes all of *view: the display of the receiver at the end of its last slot. */
 void rdsrt_receiver_view(const struct rdsrt_receiver *receiver, struct rdsrt_view *view);
 
 /* ---- Encoder ---- */
 
 /* Makes an encoder that (re)starts in this slot, with nothing on air. It sends nothing and refuses every set for
  * dwell + late slots. pi: the programme; tp: its flag of traffic announcements, 0 or not; pty: its programme type, 0 to
- * 31; dwell: M, 1 to 65535 slots; late: K, how many slots late a group can reach a receiver, 0 to 1024.
- * Answers RDSRT_OK, or RDSRT_BAD_ARGUMENT where a number is out of its range. */
+ * 31; dwell: M, 1 to 65535 slots; late: K, how many slots late a group may reach a receiver, 0 to 1024.
+ * Returns RDSRT_OK, or RDSRT_BAD_ARGUMENT if a number is out of range. */
 uint32_t rdsrt_encoder_init(struct rdsrt_encoder *encoder, uint16_t pi, uint8_t tp, uint8_t pty, uint16_t dwell,
                             uint16_t late);
 
-/* Puts a text of 0 to 64 bytes, or a name of 0 to 8 bytes, on air from this slot on, in place of the one before; with a
- * text go the tags of the one before. Bytes are of the RDS character table (rdsrt_text_from_utf8). Of those
- * below 0x20 a text may have 0x0A, 0x0B and 0x1F, and a name none.
- * Code RDSRT_OK; RDSRT_TOO_LONG or RDSRT_BAD_BYTE where the bytes are none that can be sent; and else RDSRT_SILENT or
- * RDSRT_HELD: try again after `number` slots. */
+/* Puts a text of 0 to 64 bytes, or a name of 0 to 8 bytes, on air from this slot on. It replaces the one before; a text
+ * also removes the tags. Bytes are in the RDS character table (rdsrt_text_from_utf8). Bytes below 0x20 are invalid,
+ * except 0x0A, 0x0B and 0x1F in a text.
+ * Codes: RDSRT_OK; RDSRT_TOO_LONG or RDSRT_BAD_BYTE if the bytes are invalid; else RDSRT_SILENT or RDSRT_HELD: try
+ * again after `number` slots. */
 struct rdsrt_reply rdsrt_encoder_set_text(struct rdsrt_encoder *encoder, const uint8_t *text, size_t length);
 struct rdsrt_reply rdsrt_encoder_set_name(struct rdsrt_encoder *encoder, const uint8_t *name, size_t length);
 
-/* Gives the text on air these tags, in place of those before. They are sent once it has been on air for M + K slots.
- * Code RDSRT_OK; RDSRT_BAD_TAGS where the numbers are no pair; and else RDSRT_SILENT, RDSRT_NO_TEXT,
- * RDSRT_OUT_OF_TEXT_1 or RDSRT_OUT_OF_TEXT_2. */
+/* Gives the text on air these tags, in place of those before. The encoder sends them once the text has been on air for
+ * M + K slots.
+ * Codes: RDSRT_OK; RDSRT_BAD_TAGS if the numbers are invalid; else RDSRT_SILENT, RDSRT_NO_TEXT, RDSRT_OUT_OF_TEXT_1 or
+ * RDSRT_OUT_OF_TEXT_2. */
 struct rdsrt_reply rdsrt_encoder_set_tags(struct rdsrt_encoder *encoder, const struct rdsrt_tags *tags);
 
-/* Ends the slot, after the sets in it. is_free: 0 where the slot belongs to other services (and then nothing is sent), or
- * not. Answers RDSRT_SENT and the four blocks of the group that is to be sent in it, or RDSRT_OK and leaves the blocks. */
+/* Ends the slot, after its sets. is_free: 0 if other services need the slot (then the encoder sends nothing), else not
+ * 0.
+ * Returns RDSRT_SENT and writes the four blocks of the group to send, or returns RDSRT_OK and leaves the blocks. */
 uint32_t rdsrt_encoder_tick(struct rdsrt_encoder *encoder, uint8_t is_free, uint16_t blocks[4]);
 
-/* Writes the text and the name on air. All of *air is written. */
+/* Writes all of *air: the text and the name on air. */
 void rdsrt_encoder_on_air(const struct rdsrt_encoder *encoder, struct rdsrt_on_air *air);
 
-/* Writes for how many slots more sets are refused, this slot included. */
+/* Writes for how many more slots the encoder refuses sets, this slot included. */
 void rdsrt_encoder_wait(const struct rdsrt_encoder *encoder, struct rdsrt_wait *wait);
 
-/* ---- Audit: does what some encoder sends keep texts and names apart? ---- */
+/* ---- Audit: does an encoder keep the rules that prevent mixes? ---- */
 
-/* Makes an audit before the first slot. dwell and late as of an encoder.
- * Answers RDSRT_OK, or RDSRT_BAD_ARGUMENT where a number is out of its range. */
+/* Makes an audit before the first slot. dwell: M, 1 to 65535 slots; late: K, 0 to 1024 slots.
+ * Returns RDSRT_OK, or RDSRT_BAD_ARGUMENT if a number is out of range. */
 uint32_t rdsrt_audit_init(struct rdsrt_audit *audit, uint16_t pi, uint16_t dwell, uint16_t late);
 
-/* Ends a slot, in which this group was sent (count 4) or nothing was (count 0, and blocks may be NULL).
- * Answers RDSRT_OK while no rule is broken; then the code of the fault (RDSRT_FAULT_..), in this and in every later slot;
- * and RDSRT_BAD_ARGUMENT for every other count: then no slot has ended. */
+/* Ends a slot. count is 4 if this group was sent, and 0 if nothing was sent (blocks may be NULL).
+ * Returns RDSRT_OK until a rule is broken, and then, in this and in every later slot, the code of that fault
+ * (RDSRT_FAULT_..). Returns RDSRT_BAD_ARGUMENT for any other count: then no slot has ended. */
 uint32_t rdsrt_audit_slot(struct rdsrt_audit *audit, const uint16_t *blocks, size_t count);
 
-/* Answers 1 while no rule is broken, and then 0. A 1 is a promise: no receiver of this dwell ever shows a text or a name
- * that was joined of two of these, whatever it loses and if groups come up to `late` slots late. */
+/* Returns 1 until a rule is broken, and then 0. 1 means that no receiver with this dwell shows a mix of two of these
+ * texts or names, whichever groups it loses, if its groups come at most `late` slots late. An audit that met no group
+ * of the programme returns 1 too. */
 uint32_t rdsrt_audit_passed(const struct rdsrt_audit *audit);
 
 /* ---- Texts as UTF-8 ---- */
 
-/* Writes a text, of up to 64 bytes of the RDS character table, as UTF-8: at most 256 bytes, with no 0 after them. A byte
- * that has no character, and the quotation mark, stand as \xHH. `room`: the bytes that are at `into`.
- * Answers RDSRT_OK, and *count is the number of bytes written; RDSRT_NO_ROOM, and *count is the room that it takes;
- * RDSRT_TOO_LONG, and *count stays. On an error nothing is written at `into`. */
+/* Writes a text, up to 64 bytes of the RDS character table, as UTF-8: at most 256 bytes, with no 0 at the end. A byte
+ * without a character, and the quotation mark, become \xHH. room: how many bytes `into` has.
+ * Returns RDSRT_OK, and *count is the number of bytes written; RDSRT_NO_ROOM, and *count is the room needed; or
+ * RDSRT_TOO_LONG, and *count is unchanged. An error writes nothing at `into`. */
 uint32_t rdsrt_text_to_utf8(const uint8_t *text, size_t length, uint8_t *into, size_t room, size_t *count);
 
-/* Reads UTF-8, in which a byte can also stand as \xHH, as bytes of the RDS character table.
- * Answers RDSRT_OK, and *count is the number of bytes written; RDSRT_BAD_ESCAPE or RDSRT_NO_CHARACTER, and *count is the
- * place in the UTF-8, in bytes, of the first piece that can't be read; RDSRT_NOT_UTF8 or RDSRT_NO_ROOM, and *count stays.
- * On an error nothing is written at `into`. */
+/* Reads UTF-8, in which \xHH may stand for a byte, as bytes of the RDS character table.
+ * Returns RDSRT_OK, and *count is the number of bytes written; RDSRT_BAD_ESCAPE or RDSRT_NO_CHARACTER, and *count is
+ * the offset in bytes of the first invalid piece; RDSRT_NOT_UTF8 or RDSRT_NO_ROOM, and *count is unchanged. An error
+ * writes nothing at `into`. */
 uint32_t rdsrt_text_from_utf8(const uint8_t *utf8, size_t length, uint8_t *into, size_t room, size_t *count);
 
 #ifdef __cplusplus
