@@ -62,8 +62,8 @@ const page = (() => {
 
   function no_engine(error) {
     $("no-engine").hidden = false;
-    $("no-engine").textContent = "This browser can’t run the program: it needs WebAssembly with a memory of 64 bits, which Chrome "
-      + `and Edge have from 133 on and Firefox from 134 on. (${error.message})`;
+    $("no-engine").textContent = "This browser cannot run the program. It needs WebAssembly with 64-bit memory: Chrome or Edge 133, "
+      + `Firefox 134, or later. (${error.message})`;
     for (const it of TABS) $(it).inert = true;
   }
 
@@ -72,7 +72,7 @@ const page = (() => {
     try {
       if (await script_tab.open_link(hash)) return "script";
     } catch {
-      $("script-saved").textContent = "The link holds no script.";
+      $("script-saved").textContent = "The link has no script.";
       return "script";
     }
     return TABS.includes(hash) ? hash : "log";

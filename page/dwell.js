@@ -1,5 +1,5 @@
 "use strict";
-/* The tab of the dwell: what M, K and the share of free slots come to in seconds. */
+/* The tab of the dwell: M, K and the share of free slots in seconds. */
 const dwell_tab = (() => {
   const { $, make } = parts;
   const LONGEST = 32, HOUR = 3600, WIDTH = 960, MOST = 65535;
@@ -10,20 +10,23 @@ const dwell_tab = (() => {
 
   function cards({ m, d, free }) {
     const each = 2 * d, full = Math.ceil(LONGEST / free), percent = `${Math.round(free * 100)} %`, often = rate(HOUR / lines.seconds(each));
-    const within = "A receiver that gets every free slot shows a text of 64 characters at the latest this long after the change";
+    const within = "A receiver that gets every free slot shows a text of 64 characters within this time";
     const shown = full <= m
       ? card(lines.time(full), `${within} (32 free slots at ${percent}).`)
-      : card("not always", `32 free slots, which the longest text may need, take ${lines.time(full)} at ${percent}: longer than the dwell.`);
-    const change = `A text or name may change this often, every 2 (M + K) = ${each.toLocaleString("en")} slots: ${often} times an hour.`;
+      : card("not always", `The longest text may need 32 free slots. At ${percent} they take ${lines.time(full)}: longer than the dwell.`);
+    const safe = `Safe spacing: a text may change every M + K = ${d.toLocaleString("en")} slots, ${rate(HOUR / lines.seconds(d))} times an hour. `
+      + "Tags may start this long after their text. A station is silent this long after a restart.";
+    const kept = `Our own encoder keeps each text this long, 2 (M + K) = ${each.toLocaleString("en")} slots, so that tags fit: `
+      + `${often} times an hour.`;
     return [
-      card(lines.time(each), change, true),
-      card(lines.time(d), "A text is on air this long before its tags may come; so long is a station silent after a restart."),
-      card(lines.time(m), "A receiver that gets nothing forgets the text and the name after this long."),
+      card(lines.time(d), safe, true),
+      card(lines.time(each), kept),
+      card(lines.time(m), "A receiver that gets nothing drops the text and the name after this long."),
       shown,
     ];
   }
 
-  /* Two texts in turn, each on air for two dwells, as a picture. */
+  /* Draws two texts in turn, each on air for 2 (M + K) slots as our own encoder keeps them. */
   function ladder(d) {
     const x = (t) => 20 + t / (4 * d) * (WIDTH - 40);
     const bar = (from, to, y, fill, said) => `<rect x="${x(from)}" y="${y}" width="${x(to) - x(from) - 2}" height="34" rx="7" fill="${fill}"/>`
@@ -38,7 +41,7 @@ const dwell_tab = (() => {
     const times = [0, 1, 2, 3, 4].map((i) => `<line x1="${x(i * d)}" x2="${x(i * d)}" y1="14" y2="152" stroke="var(--line)"/>`
       + `<text x="${x(i * d)}" y="172" fill="var(--dim)" font-size="14" text-anchor="${ends[i] ?? "middle"}">`
       + `${i ? lines.time(i * d) : "0"}</text>`);
-    const said = "Two texts in turn, each on air for two dwells: its tags come in its second, and in its first the one before may show";
+    const said = "Two texts of our own encoder, each on air for 2 (M + K): tags in the second half, the text before may show in the first";
     return `<svg viewBox="0 0 ${WIDTH} 190" role="img" aria-label="${said}">${bars.join("")}${times.join("")}</svg>`;
   }
 

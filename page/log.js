@@ -1,12 +1,12 @@
 "use strict";
-/* The tab of a log: what a receiver shows of it, what the audit says, and which slots are lost. */
+/* The tab of a log: the receiver's display, the audit's answer, and the lost slots. */
 const log_tab = (() => {
   const { $, make } = parts;
   const PI = "C201", MOST_PROGRAMMES = 12, LOST = "---- ---- ---- ----";
-  const LINE = "A line has four blocks of four hexadecimal digits, or ---- for each that was not received, with one space between "
-    + "them. What stands behind it isn't shown.";
-  const NO_RECEIVER = " that loses slots in one place and shows what nobody sent. A no says that a rule was broken, not that a mix "
-    + "can be seen.";
+  const LINE = "A slot line has four blocks with one space between them. A block has four hexadecimal digits, or ---- if it was "
+    + "not received. The page does not show the lines after it.";
+  const NO_WITNESS = ": the search found no lost slots that make a mix. There may still be some. A no says that a rule was broken.";
+  const NO_GROUP = "The log has no group of this programme, so this yes says nothing.";
   /* Milliseconds of a search between two turns of the page. */
   const AT_ONCE = 12;
   const PARTS = [["name", "name"], ["tag1", "first tag"], ["tag2", "second tag"]];
@@ -160,18 +160,21 @@ const log_tab = (() => {
   }
 
   function passed(count) {
-    const what = `All ${parts.counted(count, "slot")}: whatever a receiver of this dwell loses, it never shows a mix of two texts.`;
-    return [make("h2", { textContent: "✓ Passes the audit" }), make("p", { textContent: what })];
+    const has_groups = state.slots.some((group) => group && group[0] === state.number);
+    const kept = `All ${parts.counted(count, "slot")} keep the rules. No receiver with this M shows a mix of two texts, `
+      + "whichever groups it loses.";
+    return [make("h2", { textContent: "✓ Passes the audit" }), make("p", { textContent: has_groups ? kept : NO_GROUP })];
   }
 
   function refused(no, m, k) {
-    const slot = Number(no[1]), { name, what, should } = rules.explain(no[2], state.slots, state.number, slot, m + k);
-    const about = make("p", { className: "witness", textContent: "Looking for a receiver that pays for it …" });
+    const slot = Number(no[1]), { cause, what, should } = rules.explain(no[2], state.slots, state.number, slot, m + k);
+    const about = make("p", { className: "witness", textContent: "Looking for lost slots that make a mix …" });
     look_for_witness(about, slot, m, k);
     return [
-      make("h2", {}, "✗ ", make("code", { textContent: no[2] }), `: ${name}`),
-      make("p", {}, "First at ", go_to(slot), ` (${lines.time(slot)}). ${what ?? ""}`),
-      ...(should ? [says("What an encoder should do:", should)] : []),
+      make("h2", {}, "✗ ", make("code", { textContent: no[2] })),
+      make("p", { textContent: cause }),
+      make("p", {}, "First in ", go_to(slot), ` (${lines.time(slot)}). ${what ?? ""}`),
+      ...(should ? [says("What the encoder should do:", should)] : []),
       about,
     ];
   }
@@ -181,7 +184,7 @@ const log_tab = (() => {
     if (!line) return [make("h2", { textContent: "No verdict" }), make("p", { textContent: audit.output.trim() })];
     const number = Number(line[1]), text = state.text.split("\n")[number - 1] ?? "";
     return [
-      make("h2", { textContent: `Line ${number.toLocaleString("en")} is no line of a log` }),
+      make("h2", { textContent: `Line ${number.toLocaleString("en")} is malformed` }),
       make("p", {}, make("code", { textContent: text.length > 60 ? `${text.slice(0, 60)}…` : text || "(empty)" })),
       make("p", { textContent: LINE }),
       make("p", {}, button("Show the line", () => parts.go_to_line("log-text", number))),
@@ -213,11 +216,11 @@ const log_tab = (() => {
   function witness_words({ slot, lost, shown, upto }) {
     if (!lost || !shown.length) {
       const where = upto === null || upto === undefined ? "" : ` up to slot ${upto.toLocaleString("en")}`;
-      return [make("b", { textContent: "Receivers:" }), ` none was found${where}${NO_RECEIVER}`];
+      return [make("b", { textContent: "No witness" }), `${where}${NO_WITNESS}`];
     }
     const [first, last] = lost, slots = first === last ? `slot ${first}` : `slots ${first} to ${last}`;
     const what = make("code", { textContent: shown.join("; ") }), do_so = button(`Lose ${slots}`, () => be_witness(slot, first, last));
-    return [make("b", { textContent: "A receiver that pays for it" }), ` loses ${slots}, and then shows what nobody sent: `, what, ". ", do_so];
+    return [make("b", { textContent: "A witness:" }), ` a receiver that loses ${slots} shows a text that nobody sent: `, what, ". ", do_so];
   }
 
   /* Loses these slots alone, and goes to the one in which the mix is shown. */

@@ -37,17 +37,17 @@ const records = (() => {
   const write_row = (r) => `${field(r.command)},${field(r.argument)},${r.free},${r.receptions.join("")}\n`;
   const write = (rows) => rows.map(write_row).join("");
 
-  /* Why a record is no row, as far as it can be told from its fields alone. */
+  /* Why a row is invalid, as far as its fields alone show. */
   function why_no_row(row, receivers) {
     const { fields } = row;
     if (fields.length !== 4) return `it has ${fields.length === 1 ? "one field" : `${fields.length} fields`}, and a row has four`;
-    if (!["-", "restart", "text", "name", "tags"].includes(fields[0])) return `“${fields[0]}” is no command`;
-    if (fields[2] !== "0" && fields[2] !== "1") return "its third field is neither 0 nor 1";
+    if (!["-", "restart", "text", "name", "tags"].includes(fields[0])) return `“${fields[0]}” is not a command`;
+    if (fields[2] !== "0" && fields[2] !== "1") return "its third field is not 0 or 1";
     if (!/^(?:G\d{0,4}|L|R)*$/.test(fields[3])) return "its last field has something other than G, L and R";
     if (row.receptions.length > 8) return "it has more than eight receivers";
     if (row.receptions.length !== receivers) return `it has ${row.receptions.length} receivers, and the first row has ${receivers}`;
-    if (/\d/.test(fields[3])) return "a group comes too late, or out of its order";
-    return "its argument is none that its command can have";
+    if (/\d/.test(fields[3])) return "a group comes too late or out of order";
+    return "its argument is invalid for its command";
   }
 
   /* A script as letters of a link, and back. */

@@ -256,7 +256,7 @@ const script_tab = (() => {
     state.first_mix = at < 0 ? null : { receiver: at, slot: Math.min(...wrong[at].map((run) => run.from)) };
     const mixed = `With the flag bit alone, receivers show ${in_kinds(wrong.flat())} that nobody sent. `
       + `With the dwell ${ours === 0 ? "none does" : `${ours} do`}.`;
-    const told = all ? mixed : "No receiver shows a mix here. Lose more: a whole text and its change back.";
+    const told = all ? mixed : "No receiver shows a mix here. Lose more slots: a whole text and the next flip of the flag.";
     $("script-count").textContent = n === 0 || state.said.fault ? "" : told;
   }
 
@@ -270,7 +270,7 @@ const script_tab = (() => {
     const go = parts.make("button", { type: "button", textContent: "Show the line" });
     go.onclick = () => parts.go_to_line("script-text", bad.line);
     const why = records.why_no_row(bad, receivers());
-    root.replaceChildren(`Line ${bad.line.toLocaleString("en")} is no row of a script: ${why}. What stands behind it isn't played. `, go);
+    root.replaceChildren(`Line ${bad.line.toLocaleString("en")} is not a valid row: ${why}. The rows after it are not played. `, go);
   }
 
   // ---- a slot

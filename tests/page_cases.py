@@ -263,9 +263,10 @@ def names_and_tags(b):
 
 def the_dwell(b):
     click(b, "#tab-dwell")
-    check("how often a text may change", text_of(b, ".card strong"), "22.4 s")
+    check("how often a text may change", text_of(b, ".card strong"), "11.2 s")
+    check("and with our own encoder", text_of(b, ".card + .card strong"), "22.4 s")
     call(b, "probe.choose", "k-range", 128)
-    check("with late groups", text_of(b, ".card strong"), "44.8 s")
+    check("with late groups", text_of(b, ".card strong"), "22.4 s")
     told = b.run("[...document.querySelectorAll('[role=tab]')].map(tab => tab.ariaSelected)")
     check("the chosen tab is told", told, ["false", "false", "true"])
 
@@ -316,7 +317,7 @@ def links(b, url):
     visit(b, link)
     check("a link opens its script", (printed(b), hidden(b), len(link) < 2000), (before, ["log", "dwell"], True))
     visit(b, f"{url}#script=nonsense")
-    check("a link that holds none", text_of(b, "#script-saved"), "The link holds no script.")
+    check("a link that holds none", text_of(b, "#script-saved"), "The link has no script.")
     visit(b, f"{url}#script")
     check("a tab by its name", (text_of(b, "#script-saved"), hidden(b)), ("", ["log", "dwell"]))
     dice = random.Random(SEED)
@@ -328,23 +329,23 @@ def links(b, url):
 
 def faults(b):
     said = verdict_of(b, f"# note\n{HI}\nC201 2140 4849\n", 8)
-    check("a bad line is named", ("Line 3 is no line of a log" in said, "C201 2140 4849" in said), (True, True))
+    check("a bad line is named", ("Line 3 is malformed" in said, "C201 2140 4849" in said), (True, True))
     b.run("[...document.querySelectorAll('#verdict button')].at(-1).click()")
     check("and shown", call(b, "probe.chosen_line", "log-text"), "C201 2140 4849")
     rows = [
         ("-,,1,G\n\n-,,1\n", 3, "it has 3 fields, and a row has four"),
-        ("-,,1,G\nsing,,1,G\n", 2, "“sing” is no command"),
-        ("-,,1,G\n-,,2,G\n", 2, "its third field is neither 0 nor 1"),
+        ("-,,1,G\nsing,,1,G\n", 2, "“sing” is not a command"),
+        ("-,,1,G\n-,,2,G\n", 2, "its third field is not 0 or 1"),
         ("-,,1,G\n-,,1,X\n", 2, "its last field has something other than G, L and R"),
         ("-,,1,G\n-,,1,GG\n", 2, "it has 2 receivers, and the first row has 1"),
-        ("-,,1,G\n-,,1,G1\n", 2, "a group comes too late, or out of its order"),
-        ('-,,1,G\ntags,"1\n2",1,G\n', 2, "its argument is none that its command can have"),
-        ("text,\u2603,1,G\n", 1, "its argument is none that its command can have"),
+        ("-,,1,G\n-,,1,G1\n", 2, "a group comes too late or out of order"),
+        ('-,,1,G\ntags,"1\n2",1,G\n', 2, "its argument is invalid for its command"),
+        ("text,\u2603,1,G\n", 1, "its argument is invalid for its command"),
     ]
     for text, line, why in rows:
         open_script(b, text, m=8, k=0)
         check(f"a bad row is named: {why}", text_of(b, "#script-fault"),
-              f"Line {line} is no row of a script: {why}. What stands behind it isn't played. Show the line")
+              f"Line {line} is not a valid row: {why}. The rows after it are not played. Show the line")
     click(b, "#script-fault button")
     check("and shown", call(b, "probe.chosen_line", "script-text"), "text,\u2603,1,G")
 
@@ -354,23 +355,23 @@ def faults(b):
 
 EXPLAINED = [
     ("EarlyFlag", [GROUPS[2], GROUPS[3], "C201 2150 4E45 5753", "C201 2151 2046 4D0D", "C201 2140 504F 5020"],
-     "In slot 4 the text “POP…” opens with the flag of “JAZZ FM”, whose last group was in slot 1: 3 slots before, and 8 are wanted.",
-     "Keep each text on air for 2 (M + K) = 16 slots"),
+     "In slot 4 the text “POP…” reuses the flag of “JAZZ FM”, whose last group was in slot 1: 3 slots before, and M + K is 8.",
+     "Our own encoder keeps each text for 2 (M + K) = 16 slots"),
     ("EarlyFlag", ["C201 A140 504F 5020", "C201 A150 4A41 5A5A", "C201 A140 504F 5020"],
-     "In slot 2 the name “POP…”", "Keep each name on air"),
+     "In slot 2 the name “POP…”", "Our own encoder keeps each name"),
     ("Changed", [HI, "C201 2140 594F 0D20"],
-     "The text “HI” had “HI\\x0D ” for characters 1 to 4 (slot 0), and in slot 1 has “YO\\x0D ” there", "Turn the flag with every change"),
+     "The text “HI” had “HI\\x0D ” for characters 1 to 4 (slot 0), and in slot 1 has “YO\\x0D ” there", "Flip the flag with every change"),
     ("NotOneText", ["C201 2140 4849 0D21"],
-     "In slot 0 the segment “HI\\x0D!” (characters 1 to 4) has something other than spaces behind the carriage return.",
-     "End a text with one carriage return"),
+     "In slot 0 the segment “HI\\x0D!” (characters 1 to 4) has a character other than a space after the carriage return.",
+     "end the text with one carriage return"),
     ("NotOneText", [HI, "C201 2141 4849 4849"],
-     "stands behind the carriage return that ends the text.", "End a text with one carriage return"),
+     "is past the carriage return that ends the text.", "end the text with one carriage return"),
     ("NotOneText", ["C201 A140 0148 4949"],
-     "has a control character, and no name has one.", "Send eight printed characters"),
+     "has a control character.", "A name has eight printable characters"),
     ("EarlyTag", ["C201 B158 8012 0985"],
-     "The tags in slot 0 come before any text was sent.", "Begin with the tags of a text M + K = 8 slots"),
+     "The tags in slot 0 come before any text.", "M + K is 8 slots"),
     ("EarlyTag", [HI, "C201 2150 594F 0D20", "C201 B158 8012 0985"],
-     "come with the text “YO”, whose first group was in slot 1. It could have had tags from slot 9 on.", "Begin with the tags"),
+     "come with the text “YO”, whose first group was in slot 1. They may start in slot 9.", "Send the first tags M + K slots after"),
     ("TagOutside", [HI, *[NOTHING] * 6, HI, "C201 B158 8012 0985"],
      "A tag in slot 8 ends at character 10, and the text “HI” has 2.", "Count the start from 0"),
 ]
@@ -499,8 +500,8 @@ def no_wide_memory(b, url):
     undo = b.before_load("WebAssembly.instantiate = () => Promise.reject(new Error('no memory of 64 bits'))")
     visit(b, url)
     check("a browser without such a memory gets a sentence", text_of(b, "#no-engine"),
-          "This browser can’t run the program: it needs WebAssembly with a memory of 64 bits, which Chrome and Edge have from 133 on "
-          "and Firefox from 134 on. (no memory of 64 bits)")
+          "This browser cannot run the program. It needs WebAssembly with 64-bit memory: Chrome or Edge 133, "
+          "Firefox 134, or later. (no memory of 64 bits)")
     undo()
 
 
