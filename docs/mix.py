@@ -1,8 +1,8 @@
 #!/usr/bin/env python3
-"""Draws docs/mix.svg: receiver 1 of examples/mix.csv with the dwell, and with the A/B flag alone.
+"""Draws docs/mix.svg: receiver 1 of examples/mix.csv with the dwell, and with the flag bit alone.
 
 The bars are the output of the program: `encode` gives the log, and `decode` gives the texts of a receiver that loses the
-slots marked L. With --m 65535 the receiver never drops a text, so it has the flag alone.
+slots marked L. With --m 65535 the receiver never drops a text, so it has the flag bit alone.
 
 usage: docs/mix.py > docs/mix.svg     needs crates/rdsrt/out/rdsrt
 """
@@ -54,7 +54,7 @@ def main():
     out = [f'<svg xmlns="http://www.w3.org/2000/svg" viewBox="0 0 {WIDTH} {HEIGHT}" role="img" aria-label="Texts by slot">',
            f"  <style>{STYLE}  </style>", f'  <rect class="card" x="0.5" y="0.5" width="{WIDTH - 1}" height="{HEIGHT - 1}" rx="8"/>',
            f'  <text x="16" y="26">A car in two tunnels, M = {DWELL} slots. Red: a text that nobody sent.</text>']
-    lanes = [("on air", on_air), ("lost slots", lost), ("with the dwell", shown(heard, DWELL)), ("flag alone", shown(heard, ENDLESS))]
+    lanes = [("on air", on_air), ("lost slots", lost), ("with the dwell", shown(heard, DWELL)), ("flag bit alone", shown(heard, ENDLESS))]
     for number, (name, bars) in enumerate(lanes):
         y = TOP + number * LANE
         out += [f'  <text x="16" y="{y + 20}">{name}</text>',

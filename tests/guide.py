@@ -1,4 +1,4 @@
-"""docs/GUIDE.md beside what it rests on: its tables are what the scripts print, its commands give what it shows."""
+"""docs/GUIDE.md beside the program: its tables are those that the scripts print, and its advice works."""
 import os
 import re
 import subprocess
@@ -13,9 +13,9 @@ LOST = "---- ---- ---- ----"
 HI, YO, HA = "C201 2140 4849 0D20", "C201 2150 594F 0D20", "C201 2140 4841 0D20"
 # the tag of the two characters from 0 on, and of three
 TWO, THREE = "C201 B148 2002 0000", "C201 B148 2004 0000"
-# what the guide says that an encoder did, for a dwell of 4: the log, the answer, and the log after the change
+# each fault of docs/FORMATS.md at a dwell of 4: its cause as a log, the answer, and the log after the cure
 FAULTS = [
-    ("the flag comes back", [HI, YO, HA], "no 2 EarlyFlag", [HI, *[LOST] * 7, YO, *[LOST] * 7, HA]),
+    ("the flag comes back", [HI, YO, HA], "no 2 EarlyFlag", [*[HI] * 4, *[YO] * 4, HA]),
     ("the flag turns at each repetition", [HI, HI.replace("2140", "2150"), HI], "no 2 EarlyFlag", [HI, HI, HI]),
     ("other bytes at an address", [HI, HA], "no 1 Changed", [HI, HA.replace("2140", "2150")]),
     ("a name with other bytes", ["C201 A140 4A41 5A5A", "C201 A140 4E45 5753"], "no 1 Changed",
@@ -49,11 +49,29 @@ def tables(check, text):
         check(f"guide: the tables of {script}", printed - rows, set())
 
 
-def commands(check, text):
-    shown = [it for block in re.findall(r"```sh\n(.*?)```", text, re.S) for it in re.split(r"^\$ ", block, flags=re.M)[1:]]
-    check("guide: commands", len(shown), 2)
-    for command, _, output in (it.partition("\n") for it in shown):
-        check(f"guide: {command}", ran(command), output)
+def recording(check, text):
+    """The line that makes a log of a recording with times: one slot line or more for each group, and the lost ones."""
+    call = re.search(r"^ +(examples/slots) < spy.log > station.log$", text, re.M)[1]
+    with open(os.path.join(ROOT, "examples/accents.log"), "rb") as file:
+        recorded = file.read()
+    slots = [line for line in ran(call, recorded).splitlines() if line[:1] not in ("", "#", "%", "<")]
+    groups = [line for line in recorded.decode().splitlines() if line.startswith("F201")]
+    check("guide: a recording keeps its groups", [line for line in slots if line != LOST], groups)
+    check("guide: it is a log", ran("./rdsrt audit --pi F201", "\n".join(slots).encode()).split()[0] in ("yes", "no"), True)
+
+
+def spacing(check, text):
+    """Safety needs M + K slots for each text, and less is a fault."""
+    for kept, answer in ((128, "yes 640\n"), (127, "yes 635\n"), (126, "no 252 EarlyFlag\n")):
+        log = "".join(f"{it}\n" * kept for it in (HI, YO, HI, YO, HI))
+        check(f"guide: texts of {kept} slots at M = 128", ran("./rdsrt audit --pi C201", log.encode()), answer)
+    check("guide: both prices", ("M + K slots for each text" in text, "2 (M + K)" in text), (True, True))
+
+
+def no_group(check, text):
+    """A log with no group of the programme gets a yes, as the guide says."""
+    check("guide: no group of the programme", ran("./rdsrt audit --pi C202", f"{HI}\n".encode()), "yes 1\n")
+    check("guide: it says so", "without a group of the PI gets a yes too" in " ".join(text.split()), True)
 
 
 def other_application(check, text):
@@ -64,8 +82,10 @@ def other_application(check, text):
 
 
 def faults(check, text):
-    """Each fault, by what the guide says that the encoder did, and a yes after what it says is to be changed."""
-    named = set(re.findall(r"^\| `(\w+)` \|", text, re.M))
+    """Each fault of FORMATS by its cause, and a yes after its cure."""
+    with open(os.path.join(ROOT, "docs/FORMATS.md"), encoding="utf-8") as file:
+        section = file.read().split("### Faults of the audit\n")[1].split("\nNames (PTYN)")[0]
+    named = set(re.findall(r"^- `(\w+)`: ", section, re.M))
     check("guide: each fault is there", {answer.split()[2] for _, _, answer, _ in FAULTS}, named)
     for name, log, answer, changed in FAULTS:
         logs = ["".join(f"{it}\n" for it in lines).encode() for lines in (log, changed)]
@@ -91,5 +111,5 @@ def helps(check, text):
 
 def run(check):
     text = page()
-    for part in (tables, commands, other_application, faults, live, helps):
+    for part in (tables, recording, spacing, no_group, other_application, faults, live, helps):
         part(check, text)

@@ -1,0 +1,189 @@
+"""The pages that people meet first: commands, links, names, pictures, word counts, and the one wording of the faults."""
+import glob
+import os
+import re
+import shutil
+import subprocess
+
+ROOT = os.path.dirname(os.path.dirname(os.path.abspath(__file__)))
+PROGRAM = os.path.join(ROOT, "crates/rdsrt/out/rdsrt")
+SECONDS = 60
+MOST_WORDS = {"README.md": 850, "docs/GUIDE.md": 2000, "docs/FORMATS.md": 1500, "docs/TRUST.md": 700,
+              "CONTRIBUTING.md": 800, "CHANGELOG.md": 150}
+MANUAL, HEADER, RULES = "docs/man/rdsrt.1", "include/rdsrt.h", "page/rules.js"
+HELP = ["tests/shown/help.txt", *(f"tests/shown/help_of_{it}.txt" for it in ("decode", "audit", "witness", "encode", "sim"))]
+FAULTS = {"EarlyFlag", "Changed", "NotOneText", "EarlyTag", "TagOutside"}
+REPLIES = ("ok", "silent", "held", "notext", "outoftext")
+FAULT_LINES = ("fault line", "fault row", "fault read", "fault too long", "fault memory", "fault pi")
+# each time is in one page
+TIMES = ("6 to 11 minutes", "20 to 30 minutes")
+
+
+def text_of(path):
+    with open(os.path.join(ROOT, path), encoding="utf-8") as file:
+        return file.read()
+
+
+def all_pages():
+    """The paths of all Markdown pages."""
+    found = glob.glob(os.path.join(ROOT, "*.md")) + glob.glob(os.path.join(ROOT, "docs/*.md"))
+    return sorted(os.path.relpath(it, ROOT) for it in found)
+
+
+def manual():
+    """The man page as text: without its requests and escapes."""
+    lines = [re.sub(r"^\.[A-Za-z]{1,2} ?", "", line) for line in text_of(MANUAL).splitlines()]
+    return "\n".join(lines).replace(r"\e", "\\").replace(r"\-", "-")
+
+
+# ---- commands
+
+
+def shell_blocks(path):
+    """The blocks of shell lines: of a page those marked so, of the man page and of help the examples."""
+    if path.endswith(".md"):
+        return re.findall(r"```sh\n(.*?)```", text_of(path), re.S)
+    if path == MANUAL:
+        return manual().split("EXAMPLES\n")[1].split("\nNOTES")[0].split("\n\n")
+    return re.findall(r"^Example:\n(.*?)(?:\n\n|\Z)", text_of(path), re.M | re.S)
+
+
+def commands_in(path):
+    """Each shown command with the lines under it."""
+    for block in shell_blocks(path):
+        block = re.sub(r"^  ", "", block, flags=re.M).strip("\n") + "\n"
+        for shown in re.split(r"^\$ ", block, flags=re.M)[1:]:
+            command, _, output = shown.partition("\n")
+            yield command, output
+
+
+def commands(check):
+    """Each command of the pages, of the man page and of help prints the lines under it."""
+    environment = {**os.environ, "PATH": os.path.dirname(PROGRAM) + os.pathsep + os.environ["PATH"]}
+    played = set()
+    for path in [*MOST_WORDS, MANUAL, *HELP]:
+        shown = list(commands_in(path))
+        if path not in ("docs/TRUST.md", "CONTRIBUTING.md", "CHANGELOG.md"):
+            check(f"{path} has commands", len(shown) > 0, True)
+        for command, output in shown:
+            # ./rdsrt is the program once it is built
+            call = command.replace("./rdsrt", "rdsrt")
+            done = subprocess.run(["bash", "-c", call], cwd=ROOT, stdout=subprocess.PIPE, timeout=SECONDS, env=environment)
+            check(f"{path}: {command}", done.stdout.decode(), output)
+            if path.endswith(".md"):
+                played |= set(re.findall(r"examples/[\w.]+\.(?:csv|log)", command))
+    files = {os.path.relpath(it, ROOT) for kind in ("csv", "log") for it in glob.glob(os.path.join(ROOT, f"examples/*.{kind}"))}
+    check("a page plays each example", files - played, set())
+
+
+# ---- links and names
+
+
+def slugs(path):
+    """The anchors of a page's headings, as GitHub makes them."""
+    headings = re.findall(r"^#+ (.*)$", re.sub(r"```.*?```", "", text_of(path), flags=re.S), re.M)
+    return {re.sub(r"[^\w\- ]", "", it.lower()).replace(" ", "-") for it in headings}
+
+
+def links(check):
+    """Each relative link leads to a file, and each anchor to a heading; each section that is named is there."""
+    for path in all_pages():
+        text = re.sub(r"```.*?```", "", text_of(path), flags=re.S)
+        for target in re.findall(r"\]\(([^)\s]+)\)", text):
+            if target.startswith(("http:", "https:")):
+                continue
+            name, _, anchor = target.partition("#")
+            to = os.path.normpath(os.path.join(os.path.dirname(path), name)) if name else path
+            there = os.path.exists(os.path.join(ROOT, to))
+            check(f"{path}: link to {target}", there and (not anchor or anchor in slugs(to)), True)
+    sources = [os.path.relpath(it, ROOT) for kind in ("md", "h", "c", "js", "py", "rt", "html")
+               for it in glob.glob(os.path.join(ROOT, f"**/*.{kind}"), recursive=True) if "/out/" not in it]
+    named = r"\b(README|CONTRIBUTING|CHANGELOG|(?:docs/)?[A-Z]{5,})(?:\.md)?[)`]*, \"([A-Z][^\"\n]*)\""
+    for path in sources:
+        for page, section in re.findall(named, text_of(path)):
+            page = next((it for it in all_pages() if os.path.basename(it) == os.path.basename(page) + ".md"), None)
+            if page:
+                check(f"{path}: section {section} of {page}", section in re.findall(r"^#+ (.*)$", text_of(page), re.M), True)
+
+
+def reachable(check):
+    """README leads to each page."""
+    linked = {os.path.normpath(it.partition("#")[0]) for it in re.findall(r"\]\(([^)\s]+)\)", text_of("README.md"))}
+    check("README leads to each page", set(all_pages()) - linked - {"README.md"}, set())
+
+
+def word_counts(check):
+    for path, most in MOST_WORDS.items():
+        count = len(text_of(path).split())
+        check(f"{path} has at most {most} words", count if count > most else most, most)
+
+
+# ---- the same words
+
+
+def plain(text):
+    """The words alone, so that line ends and signs of comments, roff and code do not matter."""
+    joined = re.sub(r'"\s*\+\s*"', "", text)
+    return " ".join(re.findall(r"[A-Za-z0-9/]+|(?<=[A-Z] )\+(?= [A-Z])|(?<=RT)\+", re.sub(r"\n\s*\*? *", " ", joined)))
+
+
+def faults(check):
+    """Each fault of the audit has one wording, with cause and cure."""
+    section = text_of("docs/FORMATS.md").split("### Faults of the audit\n")[1].split("\n\nNames (PTYN)")[0]
+    wordings = dict(re.findall(r"^- `(\w+)`: (.*?)(?=\n- |\Z)", section.strip(), re.M | re.S))
+    check("FORMATS has the five faults", set(wordings), FAULTS)
+    places = {"audit --help": text_of("tests/shown/help_of_audit.txt"), MANUAL: manual(), HEADER: text_of(HEADER), RULES: text_of(RULES)}
+    for name, wording in wordings.items():
+        check(f"{name} has a cause and a cure", wording.count(".") >= 2, True)
+        for place, text in places.items():
+            check(f"{name} in {place}", plain(wording) in plain(text), True)
+
+
+def manual_is_complete(check):
+    text = manual()
+    for word in (*FAULTS, *REPLIES, "G3", "witness", *FAULT_LINES):
+        check(f"the man page has {word}", word in text, True)
+    formats = text_of("docs/FORMATS.md")
+    for word in (*REPLIES, "`G3`", *FAULT_LINES):
+        check(f"FORMATS has {word}", word in formats, True)
+
+
+def once(check):
+    """The kit's line and each time are in one page; the versions agree."""
+    texts = {path: text_of(path) for path in all_pages()}
+    lines = [(path, line) for path, text in texts.items() for line in re.findall(r"`(rattle-kit-[^`]*)`", text)]
+    check("the kit is named once", len(lines), 1)
+    if shutil.which("rt"):
+        version = subprocess.run(["rt", "version"], capture_output=True, text=True, timeout=SECONDS).stdout.strip()
+        check("the kit's line", [line for _, line in lines], [version])
+    for time in TIMES:
+        check(f"'{time}' is in one page", [sum(text.count(time) for text in texts.values())], [1])
+    version = subprocess.run([PROGRAM, "--version"], capture_output=True, text=True, timeout=SECONDS).stdout.split()[1]
+    check("CHANGELOG's newest version", re.findall(r"^## (\S+)", text_of("CHANGELOG.md"), re.M)[0], version)
+    check("the man page's version", f'"rdsrt {version}"' in text_of(MANUAL), True)
+
+
+def contracts(check):
+    """The lines of contracts that README and TRUST show are in the sources."""
+    sources = set()
+    for kind in ("src/*.rt", "specs/*.antt"):
+        for path in glob.glob(os.path.join(ROOT, "crates/*", kind)):
+            sources |= {line.strip() for line in text_of(os.path.relpath(path, ROOT)).splitlines()}
+    for path in ("README.md", "docs/TRUST.md"):
+        blocks = [it for it in re.findall(r"```text\n(.*?)```", text_of(path), re.S) if "pub record" in it]
+        check(f"{path} has a contract", len(blocks), 1)
+        shown = [line.strip() for line in blocks[0].splitlines() if line.strip()]
+        # two dots stand for the parameters
+        missing = [it for it in shown if it not in sources and not any(
+            line.startswith(it.partition(" .. ")[0] + " ") for line in sources if " .. " in it)]
+        check(f"{path}: the lines are in the sources", missing, [])
+
+
+def picture(check):
+    done = subprocess.run([os.path.join(ROOT, "docs/mix.py")], stdout=subprocess.PIPE, timeout=SECONDS)
+    check("docs/mix.svg is what docs/mix.py draws", done.stdout.decode() == text_of("docs/mix.svg"), True)
+
+
+def run(check):
+    for part in (commands, links, reachable, word_counts, faults, manual_is_complete, once, contracts, picture):
+        part(check)
