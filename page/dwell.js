@@ -16,8 +16,8 @@ const dwell_tab = (() => {
       : card("not always", `The longest text may need 32 free slots. At ${percent} they take ${lines.time(full)}: longer than the dwell.`);
     const safe = `Safe spacing: a text may change every M + K = ${d.toLocaleString("en")} slots, ${rate(HOUR / lines.seconds(d))} times an hour. `
       + "Tags may start this long after their text. A station is silent this long after a restart.";
-    const kept = `Our own encoder keeps each text this long, 2 (M + K) = ${each.toLocaleString("en")} slots, so that tags fit: `
-      + `${often} times an hour.`;
+    const kept = `Our own encoder keeps each text this long, 2 (M + K) = ${each.toLocaleString("en")} slots, so that tags fit. `
+      + `That is ${often} texts an hour.`;
     return [
       card(lines.time(d), safe, true),
       card(lines.time(each), kept),
