@@ -59,7 +59,7 @@ extern "C" {
 #endif
 
 /* The number of this interface. It changes with every size, offset, code or call below. */
-#define RDSRT_ABI 1
+#define RDSRT_ABI 2
 
 struct rdsrt_version { uint32_t abi, major, minor, patch; };
 
@@ -208,6 +208,12 @@ uint32_t rdsrt_audit_slot(struct rdsrt_audit *audit, const uint16_t *blocks, siz
  * texts or names, whichever groups it loses, if its groups come at most `late` slots late. An audit that met no group
  * of the programme returns 1 too. */
 uint32_t rdsrt_audit_passed(const struct rdsrt_audit *audit);
+
+/* Returns 1 if no rule is broken so far and the A/B flag turned with each new text, and else 0; the second call says it
+ * of names. If 1: a receiver without a dwell, which keeps its segments until the flag turns, shows no mix of these texts
+ * if it received a segment of each of them. */
+uint32_t rdsrt_audit_texts_turn_the_flag(const struct rdsrt_audit *audit);
+uint32_t rdsrt_audit_names_turn_the_flag(const struct rdsrt_audit *audit);
 
 /* ---- Texts as UTF-8 ---- */
 

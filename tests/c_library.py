@@ -20,7 +20,7 @@ WAYS = [("cc", ["-std=c11"]), ("c++", ["-std=c++17", "-x", "c++"]), ("clang", ["
 PROGRAMS = ["examples/c/decode.c", "examples/c/encode.c", "examples/c/audit.c", "examples/c/receive.c",
             "tests/c/calls.c", "tests/c/any_bytes.c", "tests/c/threads.c"]
 LIBC = {"memcpy", "memset", "memmove", "memcmp"}
-INSTALLED = {"bin/rdsrt", "include/rdsrt.h", "lib/librdsrt.a", "lib/librdsrt.so", "lib/librdsrt.so.1",
+INSTALLED = {"bin/rdsrt", "include/rdsrt.h", "lib/librdsrt.a", "lib/librdsrt.so", "lib/librdsrt.so.2",
              "lib/pkgconfig/rdsrt.pc", "share/man/man1/rdsrt.1"}
 ROWS, PIECES, ROUNDS = 100_000, 60, 3000
 DWELL, LATE = "16", "3"

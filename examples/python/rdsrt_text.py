@@ -32,7 +32,7 @@ class Version(ctypes.Structure):
 
 Receiver = ctypes.c_uint16 * 77
 Blocks = ctypes.c_uint16 * 4
-ABI, CHANGED, DWELL = 1, 1, 128
+ABI, CHANGED, DWELL = 2, 1, 128
 
 
 def library(path):

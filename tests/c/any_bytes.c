@@ -147,6 +147,8 @@ static void audit(void) {
         CHECK(code == RDSRT_OK || code == RDSRT_BAD_ARGUMENT
               || (code >= RDSRT_FAULT_CHANGED && code <= RDSRT_FAULT_TAG_OUTSIDE));
         CHECK(rdsrt_audit_passed(a) <= 1);
+        CHECK(rdsrt_audit_texts_turn_the_flag(a) <= rdsrt_audit_passed(a));
+        CHECK(rdsrt_audit_names_turn_the_flag(a) <= rdsrt_audit_passed(a));
         free(before);
         free(blocks);
     }

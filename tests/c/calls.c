@@ -117,6 +117,17 @@ static uint32_t audited(uint16_t dwell, const uint16_t *first, const uint16_t *s
     return code;
 }
 
+/* A text follows with the flag of the one before, once that has been gone for the dwell: that passes, but the flag did
+ * not turn. */
+static void flags(void) {
+    struct rdsrt_audit it;
+    CHECK(rdsrt_audit_init(&it, 0xC201, 2, 0) == RDSRT_OK);
+    CHECK(rdsrt_audit_slot(&it, hi, 4) == RDSRT_OK && rdsrt_audit_texts_turn_the_flag(&it) == 1);
+    CHECK(rdsrt_audit_slot(&it, NULL, 0) == RDSRT_OK && rdsrt_audit_slot(&it, NULL, 0) == RDSRT_OK);
+    CHECK(rdsrt_audit_slot(&it, changed_hi, 4) == RDSRT_OK && rdsrt_audit_passed(&it) == 1);
+    CHECK(rdsrt_audit_texts_turn_the_flag(&it) == 0 && rdsrt_audit_names_turn_the_flag(&it) == 1);
+}
+
 static void audit(void) {
     static const uint16_t ended[4] = {0xC201, 0x2141, 0x4142, 0x0D20};
     static const uint16_t long_tag[4] = {0xC201, 0xB158, 0x8012, 0x0000};
@@ -156,6 +167,7 @@ int main(void) {
     encoder();
     tags_set();
     audit();
+    flags();
     texts();
     puts("ok");
     return 0;

@@ -1,5 +1,5 @@
 -- The ages as reigns go on.
-use Rattle.std.proofs.Common.{◌≡◌, ◌≢◌, ◌⊎◌, ◌+◌, ◌-◌, ◌<◌, ◌≤◌, max, min, ℕ, Bool, true, false, List, [], ◌∷◌, refl, sym, ◌∙◌, inl, inr, arith}
+use Rattle.std.proofs.Common.{◌≡◌, ◌≢◌, ◌⊎◌, ◌+◌, ◌-◌, ◌<◌, ◌≤◌, max, min, not, ◌&&◌, ◌↔◌, ℕ, Bool, IsTrue, true, false, List, [], ◌∷◌, refl, sym, ◌∙◌, inl, inr, arith}
 use Rattle.std.specs.List.{AllByRecursion}
 use Rattle.std.proofs.lemmas.Bool.{cases_lt, cond_both}
 use Rattle.rds_fields.specs.Tag.{PairFields}
@@ -7,7 +7,7 @@ use Rattle.rds_receiver.specs.Receipts.{Fragment}
 use Rattle.rds_receiver.specs.Run.{is_same}
 use Rattle.rds_audit.specs.declared.ages.Ages.{Ages}
 use Rattle.rds_audit.specs.Ages.{HasLasted, HoldsAges, IsEarly, Joins, age_of_newest, aged, opened_ages}
-use Rattle.rds_audit.specs.Reigns.{Reign, opened_by, past_newest, start_after, with_fragment, with_tags}
+use Rattle.rds_audit.specs.Reigns.{AlternateFlags, Reign, opened_by, past_newest, start_after, with_fragment, with_tags}
 use Rattle.rds_safety.specs.Flags.{is_other_flag, is_same_flag, same_or_other}
 
 -- each reign ended before this slot
@@ -15,10 +15,18 @@ abbrev pub AreOver : ℕ → List Reign → Type 0
 AreOver now rs = AllByRecursion (λ (r : Reign). (r.start ≤ r.last) × (r.last < now)) rs
 
 pub ages_once_joined : (d now : ℕ) (p : Fragment) (r : Reign) (older : List Reign) (a : Ages) → HoldsAges d now (r ∷ older) a → HoldsAges d now (with_fragment now p r ∷ older) record a { since_last = 0 }
-ages_once_joined d now p r older a h = record { newest = omega arith; second = h.second; current = h.current }
+ages_once_joined d now p r older a h = record { newest = omega arith; second = h.second; current = h.current; turns = joined older h.turns }
+  where
+    joined : (rs : List Reign) → IsTrue a.turns ↔ AlternateFlags (r ∷ rs) → IsTrue a.turns ↔ AlternateFlags (with_fragment now p r ∷ rs)
+    joined [] h = h
+    joined (q ∷ rs) h = h
 
 pub ages_once_tagged : (d now : ℕ) (pair : PairFields) (r : Reign) (older : List Reign) (a : Ages) → HoldsAges d now (r ∷ older) a → HoldsAges d now (with_tags now pair r ∷ older) record a { since_last = 0 }
-ages_once_tagged d now pair r older a h = record { newest = omega arith; second = h.second; current = h.current }
+ages_once_tagged d now pair r older a h = record { newest = omega arith; second = h.second; current = h.current; turns = tagged older h.turns }
+  where
+    tagged : (rs : List Reign) → IsTrue a.turns ↔ AlternateFlags (r ∷ rs) → IsTrue a.turns ↔ AlternateFlags (with_tags now pair r ∷ rs)
+    tagged [] h = h
+    tagged (q ∷ rs) h = h
 
 -- a fragment of this flag joins the newest reign
 pub joins_near : (d now : ℕ) (flag : Bool) (r : Reign) (older : List Reign) (a : Ages) → HoldsAges d now (r ∷ older) a → Joins d flag a → (r.flag ≡ flag) × (now < r.last + d)
@@ -85,23 +93,50 @@ opened_start d now flag (r ∷ older) a pos over h = by_flag (same_or_other r.fl
         past [] over e = omega (arith, h.newest, over.0.1)
         past (q ∷ rest) over e = omega (arith, h.newest, over.0.1, over.1.0.1)
 
+-- the flag turned to a reign that is opened exactly where it is the first, or has another flag than the newest
+and_not : (x y : Bool) → ((x && not y) ≡ true) ↔ ((x ≡ true) × (y ≡ false))
+and_not true true = ((λ e. absurd (let bad : false ≡ true = e in cc)), (λ p. absurd (let bad : true ≡ false = p.1 in cc)))
+and_not true false = ((λ e. (refl, refl)), (λ p. refl))
+and_not false y = ((λ e. absurd (let bad : false ≡ true = e in cc)), (λ p. absurd (let bad : false ≡ true = p.0 in cc)))
+
+opened_turns : (d now : ℕ) (p : Fragment) (rs : List Reign) (a : Ages) → HoldsAges d now rs a → IsTrue (opened_ages d p.flag a).turns ↔ AlternateFlags (opened_by d now p rs ∷ rs)
+opened_turns d now p [] a h =
+    let had : a.turns ≡ true = h.turns.1 tt in
+    ((λ _. tt), (λ _. (and_not a.turns (a.is_open && is_same p.flag a.flag)).1 (had, rw h.current refl)))
+opened_turns d now p (r ∷ older) a h =
+    let test : ((a.turns && not (a.is_open && is_same p.flag a.flag)) ≡ true) ↔ ((a.turns ≡ true) × ((a.is_open && is_same p.flag a.flag) ≡ false)) =
+    and_not a.turns (a.is_open && is_same p.flag a.flag) in
+    ((λ e. (other (test.0 e).1, h.turns.0 (test.0 e).0)), (λ g. test.1 (h.turns.1 g.1, differs g.0)))
+  where
+    other : (a.is_open && is_same p.flag a.flag) ≡ false → r.flag ≢ p.flag
+    other none same =
+        let yes : is_same p.flag a.flag ≡ true = is_same_flag p.flag a.flag (sym (h.current.1 ∙ same)) in
+        let bad : true ≡ false = rw (h.current.0, yes) at none in
+        cc
+
+    differs : r.flag ≢ p.flag → (a.is_open && is_same p.flag a.flag) ≡ false
+    differs ne = rw (h.current.0, is_other_flag p.flag a.flag (λ e. ne (sym h.current.1 ∙ sym e))) refl
+
 pub ages_once_opened : (d now : ℕ) (p : Fragment) (rs : List Reign) (a : Ages) → 0 < d → AreOver now rs → HoldsAges d now rs a → HoldsAges d now (opened_by d now p rs ∷ rs) record (opened_ages d p.flag a) { since_last = 0 }
 ages_once_opened d now p rs a pos over h = record {
   newest = omega arith;
   second = h.newest;
   current = (refl, refl, opened_start d now p.flag rs a pos over h);
+  turns = opened_turns d now p rs a h;
 }
 
 -- one slot older
 pub ages_later : (d now : ℕ) (rs : List Reign) (a : Ages) → AreOver (now + 1) rs → HoldsAges d now rs a → HoldsAges d (now + 1) rs (aged d a)
-ages_later d now [] a over h = record { newest = omega (arith, h.newest); second = omega (arith, h.second); current = h.current }
+ages_later d now [] a over h = record { newest = omega (arith, h.newest); second = omega (arith, h.second); current = h.current; turns = h.turns }
 ages_later d now (r ∷ []) a over h = record {
   newest = omega (arith, h.newest, over.0.1);
   second = omega (arith, h.second);
   current = (h.current.0, h.current.1, omega (arith, h.current.2, over.0));
+  turns = h.turns;
 }
 ages_later d now (r ∷ q ∷ older) a over h = record {
   newest = omega (arith, h.newest, over.0.1);
   second = omega (arith, h.second, over.1.0.1);
   current = (h.current.0, h.current.1, omega (arith, h.current.2, over.0));
+  turns = h.turns;
 }

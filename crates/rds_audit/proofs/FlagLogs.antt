@@ -16,8 +16,8 @@ use Rattle.rds_safety.specs.Late.{Input}
 use Rattle.rds_safety.specs.Lawful.{Kind, names, texts}
 use Rattle.rds_safety.specs.Laws.{PlanLaws}
 use Rattle.rds_safety.specs.Marks.{Mark, Nothing, Sends, Tagged, marks, name_mark, text_mark}
-use Rattle.rds_audit.specs.FlagLaws.{AlternateFlags, HasNoPause, HearsEachReign, IsOfEachTwo, IsSafeByFlag, IsSoonAfter}
-use Rattle.rds_audit.specs.Reigns.{Reign, after_fragment, after_tags, joins, reigns}
+use Rattle.rds_audit.specs.FlagLaws.{HasNoPause, HearsEachReign, IsSafeByFlag, IsSoonAfter}
+use Rattle.rds_audit.specs.Reigns.{AlternateFlags, IsOfEachTwo, Reign, after_fragment, after_tags, joins, reigns}
 use Rattle.rds_audit.specs.Rules.{CanBeBroadcast, LogPasses}
 use Rattle.rds_audit.proofs.Planning.{has_plan_of_reigns, plan_from}
 

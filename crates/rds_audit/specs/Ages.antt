@@ -1,10 +1,10 @@
 -- The ages of reigns, in slots (this project's own rule), as they go on. An age says how long ago a reign
 -- started or had its last slot; it stops at a limit.
-use Rattle.std.specs.Prelude.{◌≡◌, ◌≢◌, ◌≤◌, ◌+◌, ◌-◌, ◌*◌, ◌<◌, [], ◌∷◌}
-use Rattle.std.specs.Prelude.{ℕ, Bool, true, false, List, min, if◌then◌else◌}
+use Rattle.std.specs.Prelude.{◌≡◌, ◌≢◌, ◌≤◌, ◌+◌, ◌-◌, ◌*◌, ◌<◌, ◌&&◌, ◌↔◌, [], ◌∷◌}
+use Rattle.std.specs.Prelude.{ℕ, Bool, true, false, IsTrue, List, min, not, if◌then◌else◌}
 use Rattle.rds_receiver.specs.Run.{is_same}
 use Rattle.rds_audit.specs.declared.ages.Ages.{Ages}
-use Rattle.rds_audit.specs.Reigns.{Reign}
+use Rattle.rds_audit.specs.Reigns.{AlternateFlags, Reign}
 
 -- a fragment with this flag joins the current reign
 abbrev pub Joins : ℕ → Bool → Ages → Type 0
@@ -26,6 +26,7 @@ opened_ages d flag a = record {
   since_last = a.since_last;
   since_before = a.since_last;
   since_start = if is_same flag a.flag then a.since_last - d else min (a.since_before - d) (a.since_last - 1);
+  turns = a.turns && not (a.is_open && is_same flag a.flag);
 }
 
 -- the ages one slot later
@@ -36,6 +37,7 @@ aged d a = record {
   since_last = min (a.since_last + 1) (2 * d);
   since_before = min (a.since_before + 1) (2 * d);
   since_start = min (a.since_start + 1) d;
+  turns = a.turns;
 }
 
 -- how many slots before this one the newest reign had its last, up to 2 * d; where there is none, the log
@@ -54,8 +56,9 @@ abbrev pub HasCurrent : ℕ → ℕ → List Reign → Ages → Type 0
 HasCurrent d slot [] a = a.is_open ≡ false
 HasCurrent d slot (r ∷ older) a = (a.is_open ≡ true) × (a.flag ≡ r.flag) × (a.since_start ≡ min (slot - r.start) d)
 
--- these are the ages of the reigns, in this slot
+-- these are the ages of the reigns, in this slot, and whether the flag turned from each of them to the next
 pub record HoldsAges (d slot : ℕ) (rs : List Reign) (a : Ages) : Type 0 where
   pub newest : a.since_last ≡ age_of_newest d slot rs
   pub second : a.since_before ≡ age_of_second d slot rs
   pub current : HasCurrent d slot rs a
+  pub turns : IsTrue a.turns ↔ AlternateFlags rs

@@ -103,10 +103,17 @@ content_code =
 
 abbrev pub ages_code : Coded Ages
 ages_code =
-    code_by ((Bool × Bool) × (ℕ × (ℕ × ℕ)))
-    (coded× (coded× coded_bool coded_bool) (coded× coded_ℕ (coded× coded_ℕ coded_ℕ)))
-    (λ a. ((a.is_open, a.flag), (a.since_last, (a.since_before, a.since_start))))
-    (λ p. record { is_open = p.0.0; flag = p.0.1; since_last = p.1.0; since_before = p.1.1.0; since_start = p.1.1.1 })
+    code_by ((Bool × (Bool × Bool)) × (ℕ × (ℕ × ℕ)))
+    (coded× (coded× coded_bool (coded× coded_bool coded_bool)) (coded× coded_ℕ (coded× coded_ℕ coded_ℕ)))
+    (λ a. ((a.is_open, (a.flag, a.turns)), (a.since_last, (a.since_before, a.since_start))))
+    (λ p. record {
+      is_open = p.0.0;
+      flag = p.0.1.0;
+      turns = p.0.1.1;
+      since_last = p.1.0;
+      since_before = p.1.1.0;
+      since_start = p.1.1.1;
+    })
     (λ _. refl)
 
 abbrev pub reigns_code : Coded ReignsState

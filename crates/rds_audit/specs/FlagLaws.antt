@@ -1,6 +1,6 @@
 -- What a log that passes promises to receivers with the flag bit alone (this project's own rule). Lists have the newest
 -- first.
-use Rattle.std.specs.Prelude.{◌≢◌, ◌+◌, ◌<◌, ◌≤◌, ◌⊎◌, ℕ, List, [], ◌∷◌, Option, IfSome, length}
+use Rattle.std.specs.Prelude.{◌+◌, ◌<◌, ◌≤◌, ◌⊎◌, ℕ, List, [], ◌∷◌, Option, IfSome, length}
 use Rattle.rds_fields.specs.declared.message.Message.{Message}
 use Rattle.rds_receiver.specs.Receipts.{Fragment, name_fragment, text_fragment}
 use Rattle.rds_safety.specs.FlagAlone.{HearsOneBetween, HearsTextBeforeTags, IsHeardFrom, ListensByFlag, run_by_flag}
@@ -10,18 +10,8 @@ use Rattle.rds_safety.specs.Marks.{Mark, Nothing, Sends, Tagged, marks, name_mar
 use Rattle.rds_safety.specs.Plans.{AreLawful, Plans}
 use Rattle.rds_safety.specs.Safe.{Listener, ShowsNoTags}
 use Rattle.rds_audit.specs.Dense.{AreDense}
-use Rattle.rds_audit.specs.Reigns.{Reign, reigns}
+use Rattle.rds_audit.specs.Reigns.{AlternateFlags, IsOfEachTwo, Reign, reigns}
 use Rattle.rds_audit.specs.Rules.{LogPasses}
-
--- this is so of each reign and the next one
-abbrev pub IsOfEachTwo : (Reign → Reign → Type 0) → List Reign → Type 0
-IsOfEachTwo IsSo [] = Unit {0}
-IsOfEachTwo IsSo (r ∷ []) = Unit {0}
-IsOfEachTwo IsSo (next ∷ r ∷ older) = IsSo r next × IsOfEachTwo IsSo (r ∷ older)
-
--- the flag turns from each reign to the next one
-abbrev pub AlternateFlags : List Reign → Type 0
-AlternateFlags rs = IsOfEachTwo (λ r next. r.flag ≢ next.flag) rs
 
 -- of each reign that another one follows by slot `now` a segment was heard, where one had been heard before it
 abbrev pub HearsEachReign : (Message → Option Fragment) → ℕ → Input → List Reign → Type 0
@@ -60,6 +50,28 @@ pub record IsSafeByFlag (d : ℕ) (log : List (Option Message)) : Type 0 where
   pub tags : AlternateFlags (reigns d (marks text_mark log)) → (now : ℕ) (r : Listener) → ListensByFlag now log r
       → HearsEachReign text_fragment now r.input (reigns d (marks text_mark log)) → HearsTextBeforeTags plans.text r.input
       → ShowsNoTags r.view ⊎ ShowsEmptyText r.view ⊎ ShowsTagsOfText d plans.text (marks text_mark log) r.view
+
+-- some plans of the log are lawful and dense, and a receiver with the flag bit alone that heard a segment of each reign
+-- of texts shows the texts and tags that they have
+pub record TextsAreSafeByFlag (d : ℕ) (log : List (Option Message)) : Type 0 where
+  pub plans : Plans
+  pub lawful : AreLawful d plans log
+  pub dense : AreDense d plans log
+  pub texts : (now : ℕ) (r : Listener) → ListensByFlag now log r
+      → HearsEachReign text_fragment now r.input (reigns d (marks text_mark log))
+      → IfSome r.view.text (IsOfItsSource plans.text r.input (run_by_flag text_fragment r.input))
+  pub tags : (now : ℕ) (r : Listener) → ListensByFlag now log r
+      → HearsEachReign text_fragment now r.input (reigns d (marks text_mark log)) → HearsTextBeforeTags plans.text r.input
+      → ShowsNoTags r.view ⊎ ShowsEmptyText r.view ⊎ ShowsTagsOfText d plans.text (marks text_mark log) r.view
+
+-- so is it of names
+pub record NamesAreSafeByFlag (d : ℕ) (log : List (Option Message)) : Type 0 where
+  pub plans : Plans
+  pub lawful : AreLawful d plans log
+  pub dense : AreDense d plans log
+  pub names : (now : ℕ) (r : Listener) → ListensByFlag now log r
+      → HearsEachReign name_fragment now r.input (reigns d (marks name_mark log))
+      → IfSome r.view.name (IsOfItsSource plans.name r.input (run_by_flag name_fragment r.input))
 
 -- a log that passes is so
 abbrev pub WhatPassesIsSafeByTheFlag : Type 0

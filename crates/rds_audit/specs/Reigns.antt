@@ -1,7 +1,7 @@
 -- The reigns of a log (this project's own rule): what can be told of its broadcasts from what a service was
 -- sent. A fragment joins the current reign where it has its flag and comes less than d slots after its last slot;
 -- every other fragment opens a reign. Tags lengthen the current reign. Lists have the newest first.
-use Rattle.std.specs.Prelude.{◌+◌, ◌&&◌, ℕ, Bool, List, [], ◌∷◌, length, nat_lt, max, if◌then◌else◌}
+use Rattle.std.specs.Prelude.{◌≢◌, ◌+◌, ◌&&◌, ℕ, Bool, List, [], ◌∷◌, length, nat_lt, max, if◌then◌else◌}
 use Rattle.rds_fields.specs.Tag.{PairFields}
 use Rattle.rds_receiver.specs.Receipts.{Fragment}
 use Rattle.rds_receiver.specs.Run.{is_same}
@@ -92,3 +92,15 @@ after_mark d slot (Tagged pair) rs = after_tags slot pair rs
 abbrev pub reigns : ℕ → List Mark → List Reign
 reigns d [] = []
 reigns d (mark ∷ before) = after_mark d (length before) mark (reigns d before)
+
+-- ---- the flags of reigns
+
+-- this holds of each reign and the next one
+abbrev pub IsOfEachTwo : (Reign → Reign → Type 0) → List Reign → Type 0
+IsOfEachTwo IsSo [] = Unit {0}
+IsOfEachTwo IsSo (r ∷ []) = Unit {0}
+IsOfEachTwo IsSo (next ∷ r ∷ older) = IsSo r next × IsOfEachTwo IsSo (r ∷ older)
+
+-- the flag turns from each reign to the next one
+abbrev pub AlternateFlags : List Reign → Type 0
+AlternateFlags rs = IsOfEachTwo (λ r next. r.flag ≢ next.flag) rs

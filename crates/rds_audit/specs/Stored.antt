@@ -20,6 +20,7 @@ ages_stored s = record {
   since_last = s.since_last;
   since_before = s.since_before;
   since_start = s.since_start;
+  turns = is_set s.turns;
 }
 
 abbrev pub content_stored : StoredReigns → ContentState

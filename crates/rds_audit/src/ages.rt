@@ -15,6 +15,8 @@ pub(crate) struct Ages {
     pub(crate) since_last: u32,
     pub(crate) since_before: u32,
     pub(crate) since_start: u32,
+    /// Whether the flag turned from each reign to the next.
+    pub(crate) turns: bool,
 }
 
 impl Ages {
@@ -26,6 +28,7 @@ impl Ages {
           since_last = distance;
           since_before = distance;
           since_start = 0;
+          turns = true;
         } }
     {
         Ages {
@@ -34,6 +37,7 @@ impl Ages {
             since_last: distance.get(),
             since_before: distance.get(),
             since_start: 0,
+            turns: true,
         }
     }
 
@@ -62,6 +66,7 @@ impl Ages {
             past_before.min(self.since_last.saturating_sub(1))
         };
         self.since_before = self.since_last;
+        self.turns = self.turns && !(self.is_open && flag == self.flag);
         self.is_open = true;
         self.flag = flag;
         Ok(())

@@ -7,13 +7,18 @@ ghost use Rattle.rds_audit.specs.declared.audit_fault.AuditFault.{AuditFault};
 ghost use Rattle.rds_audit.specs.AuditLaws.{IsSafeLog};
 ghost use Rattle.rds_audit.specs.AuditStandsAt.{AuditStandsAt, HoldsLog, HoldsSlot, WhereTheAuditStands};
 ghost use Rattle.rds_audit.specs.Dense.{HasPlans};
+ghost use Rattle.rds_audit.specs.FlagLaws.{NamesAreSafeByFlag, TextsAreSafeByFlag};
+ghost use Rattle.rds_audit.specs.Reigns.{AlternateFlags, reigns};
 ghost use Rattle.rds_audit.specs.Rules.{BreaksFirst, IsFaultOf, LogPasses};
 ghost use Rattle.rds_audit.specs.Stored.{IsStored, audit_stored};
+ghost use Rattle.rds_safety.specs.Marks.{marks, name_mark, text_mark};
 
 use crate::audited::{Names, Texts};
 use crate::reigns::Reigns;
 use crate::stored::StoredAudit;
-use crate::{AuditFault, one_fault, passes_by_plans, what_passes_is_safe};
+use crate::{
+    AuditFault, one_fault, passes_by_plans, what_passes_is_safe, what_passes_is_safe_by_the_flag,
+};
 use rds_block::Group;
 use rds_encoder::Distance;
 use rds_fields::{Dwell, Late, Message};
@@ -137,6 +142,32 @@ impl Audit {
         passes_by_plans();
         what_passes_is_safe();
         self.fault.is_none()
+    }
+
+    /// Returns whether the log passes so far and turned the A/B flag with each new text. A receiver of such a log that
+    /// has no dwell, and heard a segment of each text, shows no mix.
+    pub fn texts_turn_the_flag(&self) -> bool
+        ensures turns { WhereTheAuditStands self.now (λ d heard. IsTrue result
+            ↔ (LogPasses d heard × AlternateFlags (reigns d (marks text_mark heard)))) }
+        ensures safe { WhereTheAuditStands self.now
+            (λ d heard. IsTrue result → TextsAreSafeByFlag d heard) }
+    {
+        // the law by which `safe` holds
+        what_passes_is_safe_by_the_flag();
+        self.passed() && self.text.turns()
+    }
+
+    /// Returns whether the log passes so far and turned the A/B flag with each new name. A receiver of such a log that
+    /// has no dwell, and heard a segment of each name, shows no mix.
+    pub fn names_turn_the_flag(&self) -> bool
+        ensures turns { WhereTheAuditStands self.now (λ d heard. IsTrue result
+            ↔ (LogPasses d heard × AlternateFlags (reigns d (marks name_mark heard)))) }
+        ensures safe { WhereTheAuditStands self.now
+            (λ d heard. IsTrue result → NamesAreSafeByFlag d heard) }
+    {
+        // the law by which `safe` holds
+        what_passes_is_safe_by_the_flag();
+        self.passed() && self.name.turns()
     }
 
     /// Takes what was sent in this slot.

@@ -85,6 +85,7 @@ impl<S: Audited> Content<S> {
             least: self.lengths.least,
             most: self.lengths.most,
             tags_end: self.tags_end,
+            turns: u8::from(ages.turns),
         }
     }
 

@@ -56,6 +56,7 @@ impl<S: Audited> Reigns<S> {
                 since_last: stored.since_last,
                 since_before: stored.since_before,
                 since_start: stored.since_start,
+                turns: stored.turns != 0,
             },
             content: Content::restore(stored),
         }
@@ -111,6 +112,13 @@ impl<S: Audited> Reigns<S> {
         self.content.take_tags(pair)?;
         ages.renew();
         Ok(())
+    }
+
+    /// Whether the flag turned from each reign to the next.
+    pub(crate) fn turns(&self) -> bool
+        ensures { result ≡ self.now.ages.turns }
+    {
+        self.ages.turns
     }
 
     /// One slot older.

@@ -27,6 +27,8 @@ pub struct StoredReigns {
     pub most: u8,
     /// Where the last of its tags ends, in bytes.
     pub tags_end: u8,
+    /// Whether the flag turned from each reign to the next.
+    pub turns: u8,
 }
 
 /// All that an audit holds.

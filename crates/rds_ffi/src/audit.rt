@@ -3,10 +3,13 @@ ghost use Rattle.std.specs.Prelude.{◌≡◌, ◌≢◌, ◌+◌, ◌<◌, ◌�
 ghost use Rattle.rds_block.specs.declared.group.Group.{Group};
 ghost use Rattle.rds_audit.specs.AuditLaws.{IsSafeLog};
 ghost use Rattle.rds_audit.specs.Dense.{HasPlans};
+ghost use Rattle.rds_audit.specs.FlagLaws.{NamesAreSafeByFlag, TextsAreSafeByFlag};
+ghost use Rattle.rds_audit.specs.Reigns.{AlternateFlags, reigns};
 ghost use Rattle.rds_audit.specs.Rules.{LogPasses};
 ghost use Rattle.rds_ffi.specs.AuditLies.{AuditLies, IsAnswer, Tells, WhereItHeard, WhereItLies, fault_in};
 ghost use Rattle.rds_ffi.specs.Codes.{RDSRT_BAD_ARGUMENT, RDSRT_OK, code_of};
 ghost use Rattle.rds_ffi.specs.Slots.{Bring, IsCount};
+ghost use Rattle.rds_safety.specs.Marks.{marks, name_mark, text_mark};
 
 use crate::codes;
 use crate::slots::brought;
@@ -69,6 +72,28 @@ pub extern "C" fn rdsrt_audit_passed(audit: &StoredAudit) -> u32
         → result ≡ 1 → IsSafeLog m k heard) }
 {
     u32::from(Audit::restore(audit).passed())
+}
+
+/// Returns 1 if the log passes so far and turned the A/B flag with each new text, and else 0.
+#[unsafe(no_mangle)]
+pub extern "C" fn rdsrt_audit_texts_turn_the_flag(audit: &StoredAudit) -> u32
+    ensures few { result ≤ 1 }
+    ensures turns { WhereItHeard audit.now (λ d heard. result ≡ 1
+        ↔ (LogPasses d heard × AlternateFlags (reigns d (marks text_mark heard)))) }
+    ensures safe { WhereItHeard audit.now (λ d heard. result ≡ 1 → TextsAreSafeByFlag d heard) }
+{
+    u32::from(Audit::restore(audit).texts_turn_the_flag())
+}
+
+/// Returns 1 if the log passes so far and turned the A/B flag with each new name, and else 0.
+#[unsafe(no_mangle)]
+pub extern "C" fn rdsrt_audit_names_turn_the_flag(audit: &StoredAudit) -> u32
+    ensures few { result ≤ 1 }
+    ensures turns { WhereItHeard audit.now (λ d heard. result ≡ 1
+        ↔ (LogPasses d heard × AlternateFlags (reigns d (marks name_mark heard)))) }
+    ensures safe { WhereItHeard audit.now (λ d heard. result ≡ 1 → NamesAreSafeByFlag d heard) }
+{
+    u32::from(Audit::restore(audit).names_turn_the_flag())
 }
 
 /// The code of what was found.

@@ -1,7 +1,7 @@
 //! The codes that calls answer. Contracts say them by the names that C has for them, in `specs/Codes`.
 
 /// The number of this interface: it changes with every size, place, code or call of the C header.
-pub(crate) const ABI: u32 = 1;
+pub(crate) const ABI: u32 = 2;
 
 /// Done. Of a receiver's slot: the view is what it was. Of a tick: nothing is sent.
 pub(crate) const DONE: u32 = 0;

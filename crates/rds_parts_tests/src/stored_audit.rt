@@ -48,3 +48,26 @@ fn early_tag_stays(rt: HostRuntime) -> Result<(), Fail> {
     }
     Ok(())
 }
+
+/// A text that follows with the same flag passes if the first has been gone for the dwell, but then the flag did not
+/// turn. A fault ends both answers.
+#[test]
+fn flag_that_does_not_turn(rt: HostRuntime) -> Result<(), Fail> {
+    let dwell = Dwell::new(2).ok_or("dwell")?;
+    let mut audit = Audit::new(0xC201, dwell, Late::new(0).ok_or("late")?);
+    for (sent, fault, texts, names) in [
+        (text(0x2140, 0x4849), Ok(()), true, true),
+        (text(0x2150, 0x594F), Ok(()), true, true),
+        (None, Ok(()), true, true),
+        (None, Ok(()), true, true),
+        (text(0x2150, 0x4849), Ok(()), false, true),
+        (text(0x2150, 0x594F), Err(AuditFault::Changed), false, false),
+    ] {
+        same(&rt, audit.slot(sent), fault);
+        audit = Audit::restore(&audit.store());
+        same(&rt, audit.passed(), fault.is_ok());
+        same(&rt, audit.texts_turn_the_flag(), texts);
+        same(&rt, audit.names_turn_the_flag(), names);
+    }
+    Ok(())
+}

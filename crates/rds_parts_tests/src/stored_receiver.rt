@@ -28,11 +28,11 @@ fn rests_until_something_is_given_up(rt: HostRuntime) -> Result<(), Fail> {
     receiver.slot(Some(group));
     let other_group = Group::from_blocks([0xC201, 0x2140, 0x484F, 0x0D20]);
     let mut stored = receiver.store();
-    let segment = stored.rest(Some(Message::of(&other_group)));
-    let again = stored.rest(Some(Message::of(&group)));
-    let nothing = stored.rest(None);
-    let other = stored.rest(Some(Message::Other));
-    let given_up = stored.rest(None);
+    let segment = stored.rest(&Some(Message::of(&other_group)));
+    let again = stored.rest(&Some(Message::of(&group)));
+    let nothing = stored.rest(&None);
+    let other = stored.rest(&Some(Message::Other));
+    let given_up = stored.rest(&None);
     let answers = (segment, again, nothing, other, given_up);
     same(&rt, answers, (false, true, true, true, false));
     same(&rt, stored.text.age, 2);

@@ -1,0 +1,18 @@
+use Rattle.std.proofs.Common.{◌↔◌, ◌∙◌, IsTrue, sym}
+use Rattle.rds_audit.specs.FlagLaws.{NamesAreSafeByFlag}
+use Rattle.rds_audit.specs.Reigns.{AlternateFlags, reigns}
+use Rattle.rds_audit.specs.Rules.{LogPasses}
+use Rattle.rds_safety.specs.Marks.{marks, name_mark}
+use Rattle.rds_ffi.proofs.Audits.{lying}
+use Rattle.rds_ffi.proofs.Bits.{one, set}
+use Rattle.rds_ffi.proofs.audit.rdsrt_audit_names_turn_the_flag.Goals as goal
+
+pub returns-clause-turns : goal.returns-clause-turns
+returns-clause-turns c pi d log lies =
+    let is = lying _ _ (λ d heard. IsTrue c.names_turn_the_flag.result ↔ (LogPasses d heard × AlternateFlags (reigns d (marks name_mark heard)))) c.restore.ensures.same c.names_turn_the_flag.ensures.turns pi d log lies in
+    ((λ e. is.0 (set _ (sym c.from.ensures ∙ e))), (λ h. c.from.ensures ∙ one _ (is.1 h)))
+
+pub returns-clause-safe : goal.returns-clause-safe
+returns-clause-safe c pi d log lies e =
+    lying _ _ (λ d heard. IsTrue c.names_turn_the_flag.result → NamesAreSafeByFlag d heard) c.restore.ensures.same c.names_turn_the_flag.ensures.safe pi d log lies
+    (set _ (sym c.from.ensures ∙ e))
