@@ -13,7 +13,7 @@ use Rattle.rds_audit.specs.Dense.{AreDense}
 use Rattle.rds_audit.specs.Reigns.{AlternateFlags, IsOfEachTwo, Reign, reigns}
 use Rattle.rds_audit.specs.Rules.{LogPasses}
 
--- of each reign that another one follows by slot `now` a segment was heard, where one had been heard before it
+-- once the receiver heard a segment, it heard one of each later reign that another one follows by slot `now`
 abbrev pub HearsEachReign : (Message → Option Fragment) → ℕ → Input → List Reign → Type 0
 HearsEachReign pick now input rs =
     IsOfEachTwo (λ r next. (t s : ℕ) → IsHeardFrom pick input t s → s < r.start → next.start ≤ now
@@ -31,12 +31,12 @@ HasNoPause d (Nothing ∷ before) = HasNoPause d before
 HasNoPause d (Sends p ∷ before) = IsSoonAfter d (length before) (reigns d before) × HasNoPause d before
 HasNoPause d (Tagged pair ∷ before) = HasNoPause d before
 
--- then the flag turns from each reign to the next one
+-- without a pause the flag turns from each reign to the next one
 abbrev pub WithoutPauseFlagsAlternate : Type 0
 WithoutPauseFlagsAlternate = (d : ℕ) (sent : List Mark) → HasNoPause d sent → AlternateFlags (reigns d sent)
 
--- some plans of the log are lawful and dense, and where the flag turns from each reign to the next one a receiver with
--- the flag bit alone that heard a segment of each reign shows what they have
+-- some plans of the log are lawful and dense, and if the flag turns from each reign to the next one, a receiver with the
+-- flag bit alone that heard a segment of each reign shows what these plans have
 pub record IsSafeByFlag (d : ℕ) (log : List (Option Message)) : Type 0 where
   pub plans : Plans
   pub lawful : AreLawful d plans log
@@ -52,7 +52,7 @@ pub record IsSafeByFlag (d : ℕ) (log : List (Option Message)) : Type 0 where
       → ShowsNoTags r.view ⊎ ShowsEmptyText r.view ⊎ ShowsTagsOfText d plans.text (marks text_mark log) r.view
 
 -- some plans of the log are lawful and dense, and a receiver with the flag bit alone that heard a segment of each reign
--- of texts shows the texts and tags that they have
+-- of texts shows the texts and tags of these plans
 pub record TextsAreSafeByFlag (d : ℕ) (log : List (Option Message)) : Type 0 where
   pub plans : Plans
   pub lawful : AreLawful d plans log
@@ -64,7 +64,7 @@ pub record TextsAreSafeByFlag (d : ℕ) (log : List (Option Message)) : Type 0 w
       → HearsEachReign text_fragment now r.input (reigns d (marks text_mark log)) → HearsTextBeforeTags plans.text r.input
       → ShowsNoTags r.view ⊎ ShowsEmptyText r.view ⊎ ShowsTagsOfText d plans.text (marks text_mark log) r.view
 
--- so is it of names
+-- the same of names
 pub record NamesAreSafeByFlag (d : ℕ) (log : List (Option Message)) : Type 0 where
   pub plans : Plans
   pub lawful : AreLawful d plans log
@@ -73,6 +73,6 @@ pub record NamesAreSafeByFlag (d : ℕ) (log : List (Option Message)) : Type 0 w
       → HearsEachReign name_fragment now r.input (reigns d (marks name_mark log))
       → IfSome r.view.name (IsOfItsSource plans.name r.input (run_by_flag name_fragment r.input))
 
--- a log that passes is so
+-- this holds of each log that passes
 abbrev pub WhatPassesIsSafeByTheFlag : Type 0
 WhatPassesIsSafeByTheFlag = (d : ℕ) (log : List (Option Message)) → 0 < d → LogPasses d log → IsSafeByFlag d log

@@ -38,8 +38,8 @@ pub fn one_fault()
     passes_by_plans();
 }
 
-/// Where the flag turns from each reign of a log that passes to the next one, as it does where no d slots pass without a
-/// segment, receivers with the flag bit alone that hear a segment of each reign show nothing but what the plans have.
+/// If a log passes and its flag turns from each reign to the next, a receiver with the flag bit alone that hears a segment
+/// of each reign shows only what the plans have. The flag always turns so if no d slots pass without a segment or tags.
 pub fn what_passes_is_safe_by_the_flag()
     ensures safe { WhatPassesIsSafeByTheFlag }
     ensures without_pause { WithoutPauseFlagsAlternate }

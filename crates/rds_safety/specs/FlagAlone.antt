@@ -1,6 +1,6 @@
--- Receivers with the flag bit alone (IEC 62106's A/B flag), as they are on the road: they have no dwell. One begins
--- anew where a segment comes with the other flag, and never forgets. What is asked of a station and of the reception
--- so that it mixes nothing is this project's own rule. Lists have the newest first.
+-- Receivers that go by the A/B flag of IEC 62106 alone, like the radios on the road: they have no dwell. Such a receiver
+-- starts again when a segment comes with the other flag, and never forgets. What the station and the reception need so
+-- that it shows no mix is this project's own rule. Lists have the newest first.
 use Rattle.std.specs.Prelude.{◌≡◌, ◌≢◌, ◌+◌, ◌<◌, ◌≤◌, ◌⊎◌, ℕ, Bool, true, false, List, [], ◌∷◌, Option, Some, if◌then◌else◌}
 use Rattle.rds_fields.specs.declared.message.Message.{Message}
 use Rattle.rds_fields.specs.declared.message.Message.TheVariants.{Tags}
@@ -17,17 +17,17 @@ use Rattle.rds_safety.specs.Safe.{Listener}
 
 -- ---- what such a receiver shows
 
--- what stands before a segment with flag f
+-- the segments that join a newer one with flag f
 abbrev pub flag_run_before : Bool → List Segment → List Segment
 flag_run_before f [] = []
 flag_run_before f (g ∷ older) = if is_same f g.fragment.flag then g ∷ flag_run_before f older else []
 
--- the longest last part of the segments in which all have one flag
+-- the longest last part of the segments that has one flag
 abbrev pub flag_run : List Segment → List Segment
 flag_run [] = []
 flag_run (g ∷ older) = g ∷ flag_run_before g.fragment.flag older
 
--- the run of what was picked, by the flag alone
+-- the run of texts, or of names, by the flag alone
 abbrev pub run_by_flag : (Message → Option Fragment) → Input → List Segment
 run_by_flag pick input = flag_run (segments pick input.first input.heard)
 
@@ -35,7 +35,7 @@ run_by_flag pick input = flag_run (segments pick input.first input.heard)
 abbrev pub pair_by_flag : Input → Option PairFields
 pair_by_flag input = pair_from input.first (begins_in (run_by_flag text_fragment input)) input.heard
 
--- what these runs make whole, and the tags beside it
+-- the view: what these runs make whole, and the tags beside it
 pub record ShowsByFlag (input : Input) (view : ShownView) : Type 0 where
   pub text : IsShown IsWholeText (cells_of (run_by_flag text_fragment input)) view.text
   pub name : IsShown IsWholeName (cells_of (run_by_flag name_fragment input)) view.name
@@ -43,7 +43,7 @@ pub record ShowsByFlag (input : Input) (view : ShownView) : Type 0 where
   pub one : view.one ≡ tag_of One view.text (pair_by_flag input)
   pub two : view.two ≡ tag_of Two view.text (pair_by_flag input)
 
--- the receiver heard the log in order, by any clock, up to the station's slot `now`, and shows what that makes
+-- the receiver heard the log in order, by any clock, up to the station's slot `now`, and shows the view of that
 pub record ListensByFlag (now : ℕ) (log : List (Option Message)) (r : Listener) : Type 0 where
   pub order : IsHeardInOrder log r.input
   pub past : (t s : ℕ) → CameFrom r.input t s → s ≤ now
@@ -51,19 +51,19 @@ pub record ListensByFlag (now : ℕ) (log : List (Option Message)) (r : Listener
 
 -- ---- what is asked of the station
 
--- where segments of a broadcast are joined to those of another one no harm is done: that has the same bytes, or it is
--- the empty text, which its one segment makes whole whatever stands behind it
+-- joining segments of broadcast a to those of b does no harm: both have the same bytes, or b is the empty text, whose one
+-- segment is whole whatever segments follow it
 abbrev pub IsHarmless : Broadcast → Broadcast → Type 0
 IsHarmless a b = (a.bytes ≡ b.bytes) ⊎ (b.bytes ≡ [])
 
--- each broadcast has another flag than the one before it, or its bytes, or is the empty text
+-- each broadcast has another flag than the one before it, or the same bytes, or is the empty text
 abbrev pub TurnsTheFlag : List Broadcast → Type 0
 TurnsTheFlag plan =
     (k : ℕ) (a b : Broadcast) → HasNumber plan k a → HasNumber plan (k + 1) b → (a.flag ≢ b.flag) ⊎ IsHarmless a b
 
 -- ---- what is asked of the reception
 
--- a segment that was sent in slot s was heard in slot t of the receiver
+-- the receiver heard in its slot t a segment that was sent in slot s
 pub record IsHeardFrom (pick : Message → Option Fragment) (input : Input) (t s : ℕ) : Type 0 where
   pub message : Message
   pub fragment : Fragment
@@ -71,7 +71,7 @@ pub record IsHeardFrom (pick : Message → Option Fragment) (input : Input) (t s
   pub picked : pick message ≡ Some fragment
   pub from : CameFrom input t s
 
--- a segment was heard that was sent from slot `from` on and before slot `before`
+-- the receiver heard a segment that was sent from slot `from` on and before slot `before`
 pub record HearsOneBetween (pick : Message → Option Fragment) (input : Input) (from before : ℕ) : Type 0 where
   pub slot : ℕ
   pub origin : ℕ
@@ -79,33 +79,33 @@ pub record HearsOneBetween (pick : Message → Option Fragment) (input : Input) 
   pub since : from ≤ origin
   pub until : origin < before
 
--- of each broadcast that another one followed by slot `now` a segment was heard, where one had been heard before it
--- began; before the empty text a broadcast may be missed
+-- once the receiver heard a segment, it heard one of each later broadcast that another one followed by slot `now`; it may
+-- miss a broadcast before the empty text
 abbrev pub HearsEach : (Message → Option Fragment) → List Broadcast → ℕ → Input → Type 0
 HearsEach pick plan now input =
     (k : ℕ) (b next : Broadcast) (t r : ℕ) → HasNumber plan k b → HasNumber plan (k + 1) next → next.bytes ≢ []
     → IsHeardFrom pick input t r → r < b.start → next.start ≤ now → HearsOneBetween pick input b.start (b.end + 1)
 
--- tags are heard only after a segment of their broadcast, where one had been heard before it began
+-- once the receiver heard a segment, it heard one of each later broadcast before the tags of that broadcast
 abbrev pub HearsTextBeforeTags : List Broadcast → Input → Type 0
 HearsTextBeforeTags plan input =
     (t s u r k : ℕ) (pair : PairFields) (b : Broadcast) → HasEntry input.first input.heard t (Some (Tags pair))
     → CameFrom input t s → HasNumber plan k b → Covers b s → IsHeardFrom text_fragment input u r → r < b.start
     → HearsOneBetween text_fragment input b.start s
 
--- in slots: from a segment that was heard on, one was heard of each n slots in a row of one broadcast, up to slot `now`
+-- in slots: once the receiver heard a segment, it heard one in each n slots in a row of one broadcast, up to slot `now`
 abbrev pub HearsOneIn : ℕ → (Message → Option Fragment) → List Broadcast → ℕ → Input → Type 0
 HearsOneIn n pick plan now input =
     (k s t r : ℕ) (b : Broadcast) → HasNumber plan k b → b.start ≤ s → s + n ≤ b.end + 1 → s + n ≤ now
     → IsHeardFrom pick input t r → r < s → HearsOneBetween pick input s (s + n)
 
--- and each broadcast lasts for n slots, where another one follows that is not the empty text
+-- each broadcast lasts for n slots or more if another one follows that is not the empty text
 abbrev pub EachLasts : ℕ → List Broadcast → Type 0
 EachLasts n plan =
     (k : ℕ) (b next : Broadcast) → HasNumber plan k b → HasNumber plan (k + 1) next → next.bytes ≢ []
     → b.start + n ≤ b.end + 1
 
--- in slots that came: a segment was sent from slot `from` on and before slot `before`
+-- in slots sent: a segment was sent from slot `from` on and before slot `before`
 pub record SendsOneBetween (pick : Message → Option Fragment) (log : List (Option Message)) (from before : ℕ) : Type 0 where
   pub slot : ℕ
   pub message : Message
@@ -115,27 +115,27 @@ pub record SendsOneBetween (pick : Message → Option Fragment) (log : List (Opt
   pub since : from ≤ slot
   pub until : slot < before
 
--- of each r slots in a row of one broadcast one sent a segment
+-- in each r slots in a row of one broadcast a segment was sent
 abbrev pub SendsOneIn : ℕ → (Message → Option Fragment) → List Broadcast → List (Option Message) → Type 0
 SendsOneIn r pick plan log =
     (k u : ℕ) (b : Broadcast) → HasNumber plan k b → b.start ≤ u → u + r ≤ b.end + 1
     → SendsOneBetween pick log u (u + r)
 
--- of these slots r in a row came, whatever was sent in them
+-- the receiver got r of these slots in a row, whatever was sent in them
 pub record GetsInARow (r : ℕ) (input : Input) (from before : ℕ) : Type 0 where
   pub first : ℕ
   pub since : from ≤ first
   pub until : first + r ≤ before
   pub each : (s : ℕ) → first ≤ s → s < first + r → (t : ℕ) × CameFrom input t s
 
--- and from a segment that was heard on, r in a row came of each n slots in a row of one broadcast, up to slot `now`
+-- once the receiver heard a segment, it got r slots in a row of each n slots in a row of one broadcast, up to slot `now`
 abbrev pub GetsSome : ℕ → ℕ → (Message → Option Fragment) → List Broadcast → ℕ → Input → Type 0
 GetsSome r n pick plan now input =
     (k s t q : ℕ) (b : Broadcast) → HasNumber plan k b → b.start ≤ s → s + n ≤ b.end + 1 → s + n ≤ now
     → IsHeardFrom pick input t q → q < s → GetsInARow r input s (s + n)
 
--- in slots that were lost: `got` tells which came. From a segment that was heard on, up to slot `now`, at most so many
--- are lost in a row, and where one came after one that was lost, r came in a row
+-- in slots lost, where `got` says which slots came: once the receiver heard a segment, it lost at most so many slots in a
+-- row, and got r slots in a row after each loss, up to slot `now`
 pub record LosesInARow (most r : ℕ) (pick : Message → Option Fragment) (now : ℕ) (input : Input)
     (got : ℕ → Bool) : Type 0 where
   pub came : (s : ℕ) → got s ≡ true → (t : ℕ) × CameFrom input t s

@@ -1,4 +1,4 @@
--- What receivers with the flag bit alone are promised (this project's own rule). Lists have the newest first.
+-- The promises to receivers with the flag bit alone (this project's own rule). Lists have the newest first.
 use Rattle.std.specs.Prelude.{◌≡◌, ◌+◌, ◌*◌, ◌≤◌, ◌⊎◌, ◌↔◌, ℕ, Bool, List, [], Option, Some, None, IfSome}
 use Rattle.std.specs.List.{AllByRecursion}
 use Rattle.rds_fields.specs.declared.message.Message.{Message}
@@ -73,7 +73,7 @@ NamesByFlagAreOfTheirSource =
     → HearsEach name_fragment plan now r.input
     → IfSome r.view.name (IsOfItsSource plan r.input (run_by_flag name_fragment r.input))
 
--- and nothing else is held of a text, so that one which is shown in part is no mix either
+-- the receiver holds segments of no other text, so a text that it shows in part is no mix either
 abbrev pub TextsByFlagAreHeldAlone : Type 0
 TextsByFlagAreHeldAlone =
     (d now : ℕ) (plan : List Broadcast) (log : List (Option Message)) (r : Listener)
@@ -89,14 +89,13 @@ TagsByFlagAreOfTheirText =
     → HearsEach text_fragment plan now r.input → HearsTextBeforeTags plan r.input
     → ShowsNoTags r.view ⊎ ShowsEmptyText r.view ⊎ ShowsTagsOfText d plan (marks text_mark log) r.view
 
--- the source of a run is the newest broadcast that began by slot `now`, or the one before that; but the empty text may
--- have come since
+-- the source of a run is the newest broadcast that began by slot `now`, or the one before it, or the empty text came since
 abbrev pub HasNewSource : List Broadcast → ℕ → Input → List Segment → Type 0
 HasNewSource plan now input the_run =
     (k l : ℕ) (a b : Broadcast) → IsSource plan input the_run k a → HasNumber plan l b → b.start ≤ now
     → (l ≤ k + 1) ⊎ (b.bytes ≡ [])
 
--- so it is of a receiver that heard a segment of each broadcast of texts
+-- this holds of a receiver that heard a segment of each broadcast of texts
 abbrev pub TextsByFlagAreNew : Type 0
 TextsByFlagAreNew =
     (d now : ℕ) (plan : List Broadcast) (log : List (Option Message)) (r : Listener)
@@ -110,7 +109,7 @@ NamesByFlagAreNew =
     → IsLawful d names plan (marks name_mark log) → ListensByFlag now log r → HearsEach name_fragment plan now r.input
     → HasNewSource plan now r.input (run_by_flag name_fragment r.input)
 
--- so it is of each receiver with a dwell, whatever it hears
+-- this holds of each receiver with a dwell, whatever it hears
 abbrev pub TextsWithADwellAreNew : Type 0
 TextsWithADwellAreNew =
     (d m now : ℕ) (plan : List Broadcast) (log : List (Option Message)) (r : Listener)
@@ -129,27 +128,27 @@ HaveNearSourcesByFlag plan x x_run y y_run =
     (k l : ℕ) (a b : Broadcast) → IsSource plan x x_run k a → IsSource plan y y_run l b
     → ((l ≤ k + 1) ⊎ (b.bytes ≡ [])) × ((k ≤ l + 1) ⊎ (a.bytes ≡ []))
 
--- so are those of two such receivers, with a dwell or without
+-- this holds of any two receivers whose sources are so new, with a dwell or without
 abbrev pub NewSourcesAreNear : Type 0
 NewSourcesAreNear =
     (now : ℕ) (plan : List Broadcast) (x y : Input) (x_run y_run : List Segment)
     → ((t s : ℕ) → CameFrom x t s → s ≤ now) → ((t s : ℕ) → CameFrom y t s → s ≤ now)
     → HasNewSource plan now x x_run → HasNewSource plan now y y_run → HaveNearSourcesByFlag plan x x_run y y_run
 
--- who hears a segment of each n slots in a row of a broadcast hears one of each broadcast that lasts so long
+-- a receiver that hears a segment in each n slots in a row of a broadcast hears each broadcast that lasts so long
 abbrev pub WhoHearsOneInHearsEach : Type 0
 WhoHearsOneInHearsEach =
     (d n now : ℕ) (pick : Message → Option Fragment) (plan : List Broadcast) (input : Input)
     → IsSpaced d plan → EachLasts n plan → HearsOneIn n pick plan now input → HearsEach pick plan now input
 
--- and who hears one of each d slots in a row of a broadcast hears no tags before their text
+-- a receiver that hears one in each d slots in a row of a broadcast hears no tags before their text
 abbrev pub WhoHearsOneInHearsTextBeforeTags : Type 0
 WhoHearsOneInHearsTextBeforeTags =
     (d now : ℕ) (plan : List Broadcast) (log : List (Option Message)) (r : Listener)
     → IsLawful d texts plan (marks text_mark log) → ListensByFlag now log r
     → HearsOneIn d text_fragment plan now r.input → HearsTextBeforeTags plan r.input
 
--- who gets r slots in a row of each n, where one of each r sends a segment, hears a segment of each n
+-- if a segment is sent in each r slots in a row, a receiver that gets r slots in a row of each n hears one in each n
 abbrev pub WhoGetsSomeHearsOneIn : Type 0
 WhoGetsSomeHearsOneIn =
     (r n now : ℕ) (pick : Message → Option Fragment) (plan : List Broadcast) (log : List (Option Message))
@@ -157,7 +156,7 @@ WhoGetsSomeHearsOneIn =
     → IsHeardInOrder log input → SendsOneIn r pick plan log → GetsSome r n pick plan now input
     → HearsOneIn n pick plan now input
 
--- and who loses at most so many in a row gets r in a row of each n, where n is one less than these and 2 r or more
+-- a receiver that loses at most `most` slots in a row gets r in a row of each n, if most + 2 r is at most n + 1
 abbrev pub WhoLosesFewGetsSome : Type 0
 WhoLosesFewGetsSome =
     (most r n now : ℕ) (pick : Message → Option Fragment) (plan : List Broadcast) (input : Input) (got : ℕ → Bool)

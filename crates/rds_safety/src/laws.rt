@@ -95,8 +95,8 @@ pub fn each_bound_is_needed()
     ensures past { OneSlotAheadIsUnsafe }
 {}
 
-/// A receiver with the flag bit alone, which never forgets, mixes nothing as long as it hears a segment of each
-/// broadcast that passes, where the flag turns with each one, or the bytes stay, or the empty text comes.
+/// A receiver with the flag bit alone shows no mix if it hears a segment of each broadcast, and each broadcast turns the
+/// flag, keeps the bytes or is the empty text.
 pub fn safe_by_the_flag()
     ensures texts { TextsByFlagAreOfTheirSource }
     ensures names { NamesByFlagAreOfTheirSource }
@@ -112,8 +112,8 @@ pub fn safe_by_the_flag()
     numbers_name_broadcasts();
 }
 
-/// In slots: where each broadcast lasts for n slots, it is enough to hear a segment of each n slots in a row, and for
-/// tags of each d.
+/// In slots: if each broadcast lasts for n slots, it is enough to hear a segment in each n slots in a row, and for tags in
+/// each d.
 pub fn often_is_enough()
     ensures each { WhoHearsOneInHearsEach }
     ensures tags { WhoHearsOneInHearsTextBeforeTags }
@@ -123,14 +123,14 @@ pub fn often_is_enough()
     plan_laws();
 }
 
-/// A receiver with the flag bit alone is one whose dwell is longer than all that it heard.
+/// A receiver with the flag bit alone shows what a receiver shows whose dwell is longer than all that it heard.
 pub fn the_flag_alone_is_a_long_dwell()
     ensures { TheFlagAloneIsALongDwell }
 {}
 
-/// What is asked for receivers with the flag bit alone is needed: where the flag does not turn, or a segment is heard of
-/// each n + 1 slots in a row alone and a text lasts for n, one shows a text which no broadcast has; where one is heard of
-/// each d + 1, one shows tags of another text.
+/// Each premise on receivers with the flag bit alone is needed. If the flag does not turn, or if each text lasts for n
+/// slots and the receiver hears a segment only in each n + 1, it can show a text of no broadcast. If it hears one only in
+/// each d + 1, it can show tags of another text.
 pub fn the_flag_asks_no_less()
     ensures turns { OneFlagTwiceMixes }
     ensures often { OneSlotMoreMixesByFlag }

@@ -1,6 +1,6 @@
 -- What a station promises to receivers with the flag bit alone (this project's own rule). Its flag turns with each text
--- that it accepts, and begins at 0 again after a restart, whatever it was: there the empty text has to come first.
--- Lists have the newest first.
+-- that it accepts. After a restart the flag starts at 0 again, so the empty text has to come first. Lists have the newest
+-- first.
 use Rattle.std.specs.Prelude.{◌≡◌, ◌+◌, ◌-◌, ◌*◌, ◌<◌, ◌≤◌, ◌⊎◌}
 use Rattle.std.specs.Prelude.{ℕ, Bool, true, List, [], ◌∷◌, Some, None, IfSome, is_ok, length}
 use Rattle.rds_encoder.specs.Entries.{Move, Begin, Set, End, name_moves, slot_of, text_moves}
@@ -26,7 +26,7 @@ abbrev pub IsHarmlessAfter : List Broadcast → List ℕ → Type 0
 IsHarmlessAfter [] x = Unit {0}
 IsHarmlessAfter (newest ∷ older) x = (newest.bytes ≡ x) ⊎ (x ≡ [])
 
--- whatever was accepted first after a restart is so after what was planned before it
+-- IsAfter holds of each text that was accepted first after a restart, and of what was planned before that restart
 abbrev pub IsFirstAfterRestart : (List Broadcast → List ℕ → Type 0) → ℕ → List Move → Type 0
 IsFirstAfterRestart IsAfter d [] = Unit {0}
 IsFirstAfterRestart IsAfter d (Begin ∷ before) = IsFirstAfterRestart IsAfter d before
@@ -42,23 +42,23 @@ HasNoRestart (Begin ∷ before) = ⊥
 HasNoRestart (Set x ∷ before) = HasNoRestart before
 HasNoRestart (End free ∷ before) = HasNoRestart before
 
--- where there was none nothing is asked
+-- a station that never restarts needs no empty text
 abbrev pub InOneLifeNothingIsAsked : Type 0
 InOneLifeNothingIsAsked = (d : ℕ) (moves : List Move) → HasNoRestart moves → IsFirstAfterRestart IsEmptyAfter d moves
 
--- the flag turns with each broadcast, where the first one after each restart harms nothing
+-- the flag turns with each broadcast, if the first one after each restart does no harm
 abbrev pub TheStationTurnsTheFlag : Type 0
 TheStationTurnsTheFlag =
     (d end : ℕ) (moves : List Move) → IsFirstAfterRestart IsHarmlessAfter d moves → TurnsTheFlag (plan_of d end moves)
 
--- and each that another one follows, other than the empty text, lasts for two dwells
+-- each broadcast lasts for two dwells if another one follows that is not the empty text
 abbrev pub TheStationKeepsEach : Type 0
 TheStationKeepsEach =
     (d end : ℕ) (moves : List Move) → IsFirstAfterRestart IsEmptyAfter d moves
     → EachLasts (2 * d) (plan_of d end moves)
 
--- So a receiver with the flag bit alone that hears a segment of texts of each two dwells in a row shows the text of the
--- broadcast in which the last one was sent
+-- so a receiver with the flag bit alone that hears a segment in each two dwells of a text shows the text of the broadcast
+-- in which the last segment was sent
 abbrev pub TextsOfAStationAreOfTheirSource : Type 0
 TextsOfAStationAreOfTheirSource =
     (d now : ℕ) (events : List Event) (r : Listener) → 0 < d → SetValues events
@@ -66,7 +66,7 @@ TextsOfAStationAreOfTheirSource =
     → HearsOneIn (2 * d) text_fragment (plans_of d events).text now r.input
     → IfSome r.view.text (IsOfItsSource (plans_of d events).text r.input (run_by_flag text_fragment r.input))
 
--- so it is of names, of which none is empty
+-- this holds of names too, but no name is empty: so the station must not have restarted between two of them
 abbrev pub NamesOfAStationAreOfTheirSource : Type 0
 NamesOfAStationAreOfTheirSource =
     (d now : ℕ) (events : List Event) (r : Listener) → 0 < d → SetValues events
@@ -74,7 +74,7 @@ NamesOfAStationAreOfTheirSource =
     → HearsOneIn (2 * d) name_fragment (plans_of d events).name now r.input
     → IfSome r.view.name (IsOfItsSource (plans_of d events).name r.input (run_by_flag name_fragment r.input))
 
--- and where it hears one of each dwell, the tags that it shows are those of the text that it shows
+-- if it hears a segment in each dwell of a text, the tags that it shows are those of the text that it shows
 abbrev pub TagsOfAStationAreOfTheirText : Type 0
 TagsOfAStationAreOfTheirText =
     (d now : ℕ) (events : List Event) (r : Listener) → 0 < d → SetValues events
@@ -83,7 +83,7 @@ TagsOfAStationAreOfTheirText =
     → ShowsNoTags r.view ⊎ ShowsEmptyText r.view
     ⊎ ShowsTagsOfText d (plans_of d events).text (marks text_mark (log d events)) r.view
 
--- a receiver that hears a segment of each two dwells in a row shows the text that is on air, or the one before it
+-- a receiver that hears a segment in each two dwells of a text shows the text on air, or the one before it
 abbrev pub TextsOfAStationAreNew : Type 0
 TextsOfAStationAreNew =
     (d now : ℕ) (events : List Event) (r : Listener) → 0 < d → SetValues events
@@ -91,7 +91,7 @@ TextsOfAStationAreNew =
     → HearsOneIn (2 * d) text_fragment (plans_of d events).text now r.input
     → HasNewSource (plans_of d events).text now r.input (run_by_flag text_fragment r.input)
 
--- so it is of names
+-- this holds of names
 abbrev pub NamesOfAStationAreNew : Type 0
 NamesOfAStationAreNew =
     (d now : ℕ) (events : List Event) (r : Listener) → 0 < d → SetValues events
@@ -99,12 +99,12 @@ NamesOfAStationAreNew =
     → HearsOneIn (2 * d) name_fragment (plans_of d events).name now r.input
     → HasNewSource (plans_of d events).name now r.input (run_by_flag name_fragment r.input)
 
--- the slot was lent to the text services
+-- the slot was free for the text services
 abbrev pub IsFreeIn : List Event → ℕ → Type 0
 IsFreeIn [] slot = ⊥
 IsFreeIn (newest ∷ before) slot = ((slot ≡ length before) × (newest.free ≡ true)) ⊎ IsFreeIn before slot
 
--- two slots from slot `from` on and before slot `before` were
+-- two slots from slot `from` on and before slot `before` were free
 pub record LendsTwoBetween (events : List Event) (from before : ℕ) : Type 0 where
   pub one : ℕ
   pub two : ℕ
@@ -114,19 +114,19 @@ pub record LendsTwoBetween (events : List Event) (from before : ℕ) : Type 0 wh
   pub later : one < two
   pub until : two < before
 
--- two of each r slots in a row of one broadcast were
+-- two of each r slots in a row of one broadcast were free
 abbrev pub LendsTwoIn : ℕ → List Broadcast → List Event → Type 0
 LendsTwoIn r plan events =
     (k u : ℕ) (b : Broadcast) → HasNumber plan k b → b.start ≤ u → u + r ≤ b.end + 1
     → LendsTwoBetween events u (u + r)
 
--- then one of each r slots in a row of a text sends a segment of it
+-- then each r slots in a row of a text have a segment of it
 abbrev pub TheStationSendsOneIn : Type 0
 TheStationSendsOneIn =
     (d r : ℕ) (events : List Event) → 0 < d → LendsTwoIn r (plans_of d events).text events
     → SendsOneIn r text_fragment (plans_of d events).text (log d events)
 
--- so it is enough for a radio to get r slots in a row of each two dwells, whatever is sent in them
+-- so it is enough that a radio gets r slots in a row of each two dwells, whatever is sent in them
 abbrev pub WhoGetsSomeShowsTextsOfTheirSource : Type 0
 WhoGetsSomeShowsTextsOfTheirSource =
     (d r now : ℕ) (events : List Event) (l : Listener) → 0 < d → SetValues events
@@ -135,7 +135,7 @@ WhoGetsSomeShowsTextsOfTheirSource =
     → GetsSome r (2 * d) text_fragment (plans_of d events).text now l.input
     → IfSome l.view.text (IsOfItsSource (plans_of d events).text l.input (run_by_flag text_fragment l.input))
 
--- and to lose no more than 2 d - 2 r + 1 slots in a row, and get r in a row between
+-- it is enough that it loses at most 2 d - 2 r + 1 slots in a row and gets r slots in a row between two losses
 abbrev pub WhoLosesFewShowsTextsOfTheirSource : Type 0
 WhoLosesFewShowsTextsOfTheirSource =
     (d r most now : ℕ) (events : List Event) (l : Listener) (got : ℕ → Bool) → 0 < d → SetValues events
@@ -144,7 +144,7 @@ WhoLosesFewShowsTextsOfTheirSource =
     → LosesInARow most r text_fragment now l.input got
     → IfSome l.view.text (IsOfItsSource (plans_of d events).text l.input (run_by_flag text_fragment l.input))
 
--- slots of a station of dwell d, and a receiver with the flag bit alone that got each of them in its own slot and shows a
+-- there are slots of a station of dwell d, and a receiver with the flag bit alone that got each of them on time and shows a
 -- text that nobody set
 pub record MixesAStation (d : ℕ) : Type 0 where
   pub events : List Event
@@ -157,6 +157,6 @@ pub record MixesAStation (d : ℕ) : Type 0 where
   pub shown : receiver.view.text ≡ Some mix
   pub of_none : (k : ℕ) (b : Broadcast) → HasNumber (plans_of d events).text k b → b.bytes ≡ mix → ⊥
 
--- where another text than the empty one comes first after a restart there is such a receiver
+-- if another text than the empty one comes first after a restart there is such a receiver
 abbrev pub ARestartMixes : Type 0
 ARestartMixes = MixesAStation 1

@@ -48,16 +48,16 @@ pub fn on_air_is_delivered()
     on_air_is_sent_whole();
 }
 
-/// The flag turns with each text or name that an encoder accepts, and each stays for two dwells, but across a restart:
-/// there the empty text has to come first, or for the flag alone the bytes that were on air before.
+/// An encoder turns the flag with each text or name that it accepts, and keeps each for two dwells. After a restart this
+/// needs the empty text first; for the flag alone the bytes that were on air before will do.
 pub fn the_station_turns_the_flag()
     ensures turns { TheStationTurnsTheFlag }
     ensures keeps { TheStationKeepsEach }
     ensures one_life { InOneLifeNothingIsAsked }
 {}
 
-/// A receiver with the flag bit alone shows no text or name that was not set, as long as it hears a segment of each two
-/// dwells in a row, and no tags but those of its text, as long as it hears one of each dwell.
+/// A receiver with the flag bit alone shows only texts and names that the station set, if it hears a segment in each two
+/// dwells of a text, and only tags of the text shown, if it hears one in each dwell.
 pub fn a_station_is_safe_by_the_flag()
     ensures texts { TextsOfAStationAreOfTheirSource }
     ensures names { NamesOfAStationAreOfTheirSource }
@@ -70,8 +70,8 @@ pub fn a_station_is_safe_by_the_flag()
     often_is_enough();
 }
 
-/// Of two slots of a text that are lent one after the other one sends a segment of it; so a receiver with the flag bit
-/// alone mixes nothing as long as it gets some slots in a row of each two dwells, of which two were lent, or loses few.
+/// Of two free slots of a text, one after the other, one sends a segment. So a receiver with the flag bit alone shows no mix
+/// if it gets enough slots in a row of each two dwells, or loses few enough in a row.
 pub fn two_slots_are_enough()
     ensures sends { TheStationSendsOneIn }
     ensures texts { WhoGetsSomeShowsTextsOfTheirSource }
@@ -84,8 +84,8 @@ pub fn two_slots_are_enough()
     a_station_is_safe_by_the_flag();
 }
 
-/// Where another text than the empty one comes first after a restart, a receiver with the flag bit alone can show a text
-/// that nobody set, though it loses nothing.
+/// If another text than the empty one comes first after a restart, a receiver with the flag bit alone can show a text that
+/// nobody set, although it loses nothing.
 pub fn a_restart_mixes()
     ensures { ARestartMixes }
 {}
