@@ -1,0 +1,74 @@
+//! A log is kept whole, and a burst of lost slots is found in it.
+
+use crate::logs::{Endless, LINE};
+use crate::same::same;
+use rds_charset::Told;
+use rds_fields::Dwell;
+use rds_log::{gather, gather_within};
+use rds_output::LogFault;
+use rds_witness::witness;
+use std::alloc::Global;
+use std::cell::Cell;
+use std::io::Read;
+use std::test::Fail;
+
+/// Three texts of two segments, one after the other. The third has the flag of the first.
+const THREE_TEXTS: &[u8] = b"C201 2140 4142 4344
+C201 2141 4546 0D20
+C201 2150 4748 494A
+C201 2151 4B4C 0D20
+C201 2140 4D4E 4F50
+C201 2141 5152 0D20
+";
+
+/// The answer to the log for receivers of so many slots, and what is written.
+fn looked_for(
+    reader: impl Read + Drop,
+    alloc: Global,
+    dwell: u16,
+) -> Result<(Result<bool, LogFault>, Vec<u8>), Fail> {
+    let mut output = Vec::new(alloc);
+    let found = witness(
+        alloc,
+        &mut Told::new(reader),
+        &mut Told::new(&mut output),
+        0xC201,
+        Dwell::new(dwell).ok_or("dwell")?,
+    );
+    Ok((found, output))
+}
+
+/// A receiver that loses the second text joins the first one to the third. With a dwell of one slot nothing is joined.
+#[test]
+fn burst_that_joins_two_texts(rt: HostRuntime) -> Result<(), Fail> {
+    let (found, written) = looked_for(THREE_TEXTS, rt.alloc(), 8)?;
+    same(&rt, found, Ok(true));
+    same(&rt, written.as_slice(), b"lose 2-3: 4 text \"MNOPEF\"\n");
+    let (found, written) = looked_for(THREE_TEXTS, rt.alloc(), 1)?;
+    same(&rt, found, Ok(false));
+    same(&rt, written.as_slice(), b"no witness found\n");
+    Ok(())
+}
+
+/// The slots of a log, with the missing ones. A bad line ends it, and so does the bound of reads.
+#[test]
+fn all_slots_are_kept(rt: HostRuntime) -> Result<(), Fail> {
+    let log = b"C201 2140 4849 0D20\n---- ---- ---- ----\n".as_slice();
+    match gather(rt.alloc(), &mut Told::new(log)) {
+        Ok(slots) => {
+            let came = slots.iter().filter(|slot| slot.is_some()).count();
+            same(&rt, (slots.len(), came), (2, 1));
+        }
+        Err(fault) => same(&rt, Err(fault), Ok(())),
+    }
+    let bad = gather(rt.alloc(), &mut Told::new(b"\nx\n".as_slice()));
+    same(&rt, bad.map(|slots| slots.len()), Err(LogFault::BadLine(2)));
+    let reads = Cell::new(0);
+    let endless = Endless {
+        bytes: LINE,
+        reads: &reads,
+    };
+    let long = gather_within(rt.alloc(), &mut Told::new(endless), 3);
+    same(&rt, long.map(|slots| slots.len()), Err(LogFault::TooLong));
+    Ok(())
+}
