@@ -2,3 +2,4 @@ pub mod Slots
 pub mod Mixes
 pub mod Logs
 pub mod Parts
+pub mod PartSteps

@@ -2,6 +2,8 @@
 pub mod Lost
 pub mod Mix
 pub mod Lent
+-- When what one receiver shows another one shows too.
+pub mod Part
 -- The lines that are written, and the promise of the call.
 pub mod Lines
 pub mod Witness

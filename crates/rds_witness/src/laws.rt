@@ -1,13 +1,16 @@
 //! What holds of all witnesses.
-ghost use Rattle.std.specs.Prelude.{◌≡◌, ℕ, List, None, Option, Some, length, reverse};
+ghost use Rattle.std.specs.Prelude.{◌≡◌, ◌<◌, ◌∷◌, ℕ, List, None, Option, Some, length, reverse};
 ghost use Rattle.rds_block.specs.declared.group.Group.{Group};
 ghost use Rattle.rds_log.specs.LogWrites.{AreViews};
 ghost use Rattle.rds_output.specs.Output.{changes_of};
-ghost use Rattle.rds_receiver.specs.Receipts.{Tuning};
-ghost use Rattle.rds_receiver.specs.Shown.{ShownView};
+ghost use Rattle.rds_fields.specs.declared.message.Message.{Message};
+ghost use Rattle.rds_receiver.specs.Receipts.{Fragment, Tuning, name_fragment, text_fragment};
+ghost use Rattle.rds_receiver.specs.Run.{run_at};
+ghost use Rattle.rds_receiver.specs.Shown.{IsNameShown, IsTextShown, ShownView};
 ghost use Rattle.rds_witness.specs.Lines.{shown_line};
 ghost use Rattle.rds_witness.specs.Lost.{got};
 ghost use Rattle.rds_witness.specs.Mix.{IsMix, Thing};
+ghost use Rattle.rds_witness.specs.Part.{IsPart};
 ghost use Rattle.rds_witness.specs.Prints.{HasPart};
 ghost use Rattle.rds_witness.specs.declared.burst.Burst.{Burst};
 
@@ -18,4 +21,19 @@ pub fn what_a_mix_means()
         (views : List ShownView) → IsMix t log burst slot thing
         → AreViews t (got (Some burst) log (length log)) views → HasPart (shown_line slot thing) (changes_of views) }
     ensures whole { (log : List (Option Group)) → got None log (length log) ≡ reverse log }
+{}
+
+/// A receiver whose run is a part of another one's shows no text or name that the other one does not show, and its run
+/// stays a part, whatever both hear in the next slot.
+pub fn a_part_shows_no_more()
+    ensures stays { (pick : Message → Option Fragment) (m : ℕ) (x : Option Message)
+        (one other : List (Option Message)) → 0 < m → length one ≡ length other
+        → IsPart (run_at pick m 0 one) (run_at pick m 0 other)
+        → IsPart (run_at pick m 0 (x ∷ one)) (run_at pick m 0 (x ∷ other)) }
+    ensures texts { (m : ℕ) (one other : List (Option Message)) (x : List ℕ)
+        → IsPart (run_at text_fragment m 0 one) (run_at text_fragment m 0 other)
+        → IsTextShown m 0 one (Some x) → IsTextShown m 0 other (Some x) }
+    ensures names { (m : ℕ) (one other : List (Option Message)) (x : List ℕ)
+        → IsPart (run_at name_fragment m 0 one) (run_at name_fragment m 0 other)
+        → IsNameShown m 0 one (Some x) → IsNameShown m 0 other (Some x) }
 {}

@@ -18,5 +18,5 @@ mod thing;
 mod witnessing;
 
 pub use burst::Burst;
-pub use laws::what_a_mix_means;
+pub use laws::{a_part_shows_no_more, what_a_mix_means};
 pub use witnessing::witness;
