@@ -3,3 +3,8 @@ pub mod Mixes
 pub mod Logs
 pub mod Parts
 pub mod PartSteps
+pub mod Stored
+pub mod HeldParts
+pub mod Kept
+pub mod Losses
+pub mod Rulings

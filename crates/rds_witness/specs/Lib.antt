@@ -4,6 +4,8 @@ pub mod Mix
 pub mod Lent
 -- When what one receiver shows another one shows too.
 pub mod Part
+pub mod Covered
+pub mod Search
 -- The lines that are written, and the promise of the call.
 pub mod Lines
 pub mod Witness

@@ -7,6 +7,7 @@ use Rattle.rds_fields.specs.declared.pair.Which.TheVariants.{One, Two}
 use Rattle.rds_receiver.specs.Receipts.{Tuning}
 use Rattle.rds_output.specs.Output.{line_of, slot_stamp, tag_content, text_content}
 use Rattle.rds_witness.specs.Mix.{IsMix, Name, Tag, Text, Thing}
+use Rattle.rds_witness.specs.Search.{NoMixes}
 use Rattle.rds_witness.specs.declared.burst.Burst.{Burst}
 
 abbrev pub tag_name : Which → List ℕ
@@ -53,8 +54,10 @@ no_witness = codes "no witness found\n"
 abbrev pub no_witness_up_to : ℕ → List ℕ
 no_witness_up_to slot = codes "no witness found up to slot " ++ decimal slot ++ codes "\n"
 
--- the answer to a log: lines of mixes, one at least, or that none was found
+-- the answer to a log: lines of mixes, one at least; or that none was found, only if no burst makes a mix of a text or a
+-- name; or up to which slot none was found
 abbrev pub IsAnswer : Tuning → List (Option Group) → Bool → List ℕ → Type 0
 IsAnswer t log true written =
     (burst : Burst) × (slot : ℕ) × AreMixLines t log burst slot written × (written ≢ [])
-IsAnswer t log false written = (written ≡ no_witness) ⊎ ((slot : ℕ) × (written ≡ no_witness_up_to slot))
+IsAnswer t log false written =
+    ((written ≡ no_witness) × NoMixes t log) ⊎ ((slot : ℕ) × (written ≡ no_witness_up_to slot))

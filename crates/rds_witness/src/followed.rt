@@ -1,9 +1,10 @@
 //! Receivers that lost a burst and hear again.
 
 use crate::burst::Burst;
+use crate::covering::is_part;
 use crate::first_shown::FirstShown;
 use crate::number::{number_of_content, number_of_pair, number_of_state};
-use crate::services::{Service, is_part};
+use crate::services::Service;
 use rds_fields::{Dwell, Message};
 use rds_receiver::{Receiver, StoredReceiver};
 use std::alloc::{AllocError, Global};

@@ -6,14 +6,18 @@
 
 mod burst;
 mod checking;
+mod covering;
 mod first_shown;
 mod followed;
 mod laws;
 mod mix_lines;
+mod no_mixes;
 mod number;
 mod place;
 mod search;
+mod seen;
 mod services;
+mod sweep;
 mod thing;
 mod witnessing;
 

@@ -1,12 +1,8 @@
 //! The two services of a receiver, which hear different groups and know nothing of one another.
 
-use crate::number::{is_held, word_of};
 use rds_block::Group;
 use rds_fields::{Message, RTPLUS_AID, RTPLUS_CODE};
 use rds_receiver::{StoredReceiver, StoredSegments, heard};
-
-/// How many segments may be held.
-const SEGMENTS: usize = 16;
 
 /// Texts with their tags, or names.
 #[derive(Clone, Copy, PartialEq, Eq)]
@@ -37,20 +33,4 @@ impl Service {
             Service::Names => receiver.name,
         }
     }
-}
-
-/// Whether the one holds a part of what the other holds, heard no later.
-pub(crate) fn is_part(one: &StoredSegments, other: &StoredSegments) -> bool {
-    if one.mask == 0 {
-        return true;
-    }
-    if one.flag != other.flag || one.age < other.age || one.mask & !other.mask != 0 {
-        return false;
-    }
-    for address in 0..SEGMENTS {
-        if is_held(one, address) && word_of(one, address) != word_of(other, address) {
-            return false;
-        }
-    }
-    true
 }

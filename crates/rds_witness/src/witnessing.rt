@@ -6,11 +6,13 @@ ghost use Rattle.rds_charset.specs.Told.{traffic};
 ghost use Rattle.rds_log.specs.LogWrites.{tuned};
 ghost use Rattle.rds_log.specs.Reads.{MadeReads};
 ghost use Rattle.rds_witness.specs.Lines.{IsAnswer, no_witness_up_to};
+ghost use Rattle.rds_witness.specs.Search.{IsSure};
 ghost use Rattle.rds_witness.specs.Witness.{Answers, Witnesses};
 
 use crate::mix_lines::{ROOM, push_mixes};
+use crate::no_mixes::find_surely;
 use crate::place::Place;
-use crate::search::{Found, find};
+use crate::search::Found;
 use rds_block::Group;
 use rds_charset::{Lines, TellingRead, TellingWrite, WriteFault, put};
 use rds_fields::Dwell;
@@ -20,7 +22,8 @@ use std::alloc::Global;
 
 /// Reads a log of all groups that were sent, a slot a line, and looks for a burst of lost slots after which a receiver
 /// shows a mix. Writes the line of each mix of one slot, behind the slots that are lost: true. Or it writes that no
-/// witness was found: false; that there is none is not said.
+/// witness was found: false. Then no burst makes a receiver show a mix of a text or a name, unless the line tells up to
+/// which slot none was found.
 ///
 /// # Errors
 ///
@@ -37,7 +40,7 @@ pub fn witness<R: TellingRead, W: TellingWrite>(
     ensures reads { MadeReads (2 ^ 32) (R.reads reader.old) (R.reads reader.new) result }
 {
     let log = gather(alloc, reader)?;
-    let Ok(found) = find(alloc, log.as_slice(), pi, dwell) else {
+    let Ok(found) = find_surely(alloc, log.as_slice(), pi, dwell) else {
         return Err(LogFault::Memory);
     };
     let found = answer(log.as_slice(), pi, dwell, found, writer)?;
@@ -52,7 +55,8 @@ fn answer<W: TellingWrite>(
     found: Found,
     writer: &mut W,
 ) -> Result<bool, WriteFault>
-    ensures { Answers (tuned pi dwell) log.now (traffic W.contents W.failures writer.old writer.new) result }
+    ensures { IsSure (tuned pi dwell) log.now found
+        → Answers (tuned pi dwell) log.now (traffic W.contents W.failures writer.old writer.new) result }
 {
     let mut lines = Lines::new();
     let is_found = push_answer(log, pi, dwell, found, &mut lines);
@@ -69,7 +73,7 @@ fn push_answer(
     lines: &mut Lines<ROOM>,
 ) -> bool
     requires { lines.old ≡ [] }
-    ensures { IsAnswer (tuned pi dwell) log.now result lines.new }
+    ensures { IsSure (tuned pi dwell) log.now found → IsAnswer (tuned pi dwell) log.now result lines.new }
 {
     match found {
         Found::Candidate(found) => {

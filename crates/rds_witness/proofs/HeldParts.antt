@@ -1,0 +1,80 @@
+-- When what a stored receiver holds is a part of what another one holds, its runs are parts of the other's.
+use Rattle.std.proofs.Common.{◌≡◌, ◌⊎◌, ◌≤◌, ◌∷◌, [], ◌∙◌, ℕ, true, List, Option, Some, ap, arith, cond, inl, inr, length, nat_eq, refl, subst, sym}
+use Rattle.std.specs.FinMap.{empty, get, get-empty, get-insert}
+use Rattle.std.specs.Cmp.{unsigned_tied}
+use Rattle.std.specs.Ordering.{nat_cmp}
+use Rattle.std.proofs.lemmas.Bool.Decides.{nat_tests}
+use Rattle.std.proofs.lemmas.Cmp.{nat_cmp_total}
+use Rattle.rds_assembly.specs.Held.{held_cells}
+use Rattle.rds_assembly.proofs.HeldLemmas.{nothing_held}
+use Rattle.rds_block.specs.declared.group.Group.{Group}
+use Rattle.rds_fields.specs.Stored.{is_set}
+use Rattle.rds_fields.specs.declared.message.Message.{Message}
+use Rattle.rds_receiver.specs.Receipts.{AreHeard, Fragment, Segment, segments}
+use Rattle.rds_receiver.specs.Run.{cells_of, run, run_at}
+use Rattle.rds_receiver.specs.StandsAt.{HoldsRun, newest_slot}
+use Rattle.rds_receiver.specs.Stored.{segments_stored}
+use Rattle.rds_receiver.specs.declared.stored.StoredSegments.{StoredSegments}
+use Rattle.rds_receiver.proofs.Runs.{run_at_newest}
+use Rattle.rds_witness.specs.Part.{HasCells, IsPart}
+
+-- what `is_part` finds
+pub record HoldsPart (one other : StoredSegments) : Type 0 where
+  pub cells : HasCells (held_cells one.mask one.bytes) (held_cells other.mask other.bytes)
+  pub newer : (one.mask ≡ 0) ⊎ ((is_set one.flag ≡ is_set other.flag) × (other.age ≤ one.age))
+
+newest_cell : (g : Segment) (older : List Segment) → get (cells_of (g ∷ older)) g.fragment.address ≡ Some g.fragment.bytes
+newest_cell g older =
+    let a = g.fragment.address in
+    let same : nat_eq a a ≡ true = grind (arith, nat_tests) in
+    get-insert nat_cmp_total (cells_of older) a g.fragment.bytes a
+    ∙ ap (λ is. cond is (Some g.fragment.bytes) (get (cells_of older) a)) (unsigned_tied a a ∙ same)
+
+pub held_part : (m t : ℕ) (r s : List Segment) (one other : StoredSegments) → HoldsPart one other → HoldsRun m t r (segments_stored one) → HoldsRun m t s (segments_stored other) → IsPart r s
+held_part m t [] s one other part mine theirs = tt
+held_part m t (g ∷ older) s one other part mine theirs = by_newer part.newer
+  where
+    has : HasCells (cells_of (g ∷ older)) (cells_of s)
+    has = subst (λ cells. HasCells cells (cells_of s)) mine.cells (subst (HasCells (held_cells one.mask one.bytes)) theirs.cells part.cells)
+
+    there : (s : List Segment) → HoldsRun m t s (segments_stored other) → HasCells (cells_of (g ∷ older)) (cells_of s) → is_set one.flag ≡ is_set other.flag → other.age ≤ one.age → IsPart (g ∷ older) s
+    there [] theirs has same newer =
+        let held = has g.fragment.address g.fragment.bytes (newest_cell g older) in
+        let none = get-empty {X = List ℕ} nat_cmp g.fragment.address in
+        absurd (cc)
+    there (h ∷ rest) theirs has same newer =
+        (sym mine.flag ∙ same ∙ theirs.flag, omega (arith, mine.age, theirs.age, newer), has)
+
+    by_newer : (one.mask ≡ 0) ⊎ ((is_set one.flag ≡ is_set other.flag) × (other.age ≤ one.age)) → IsPart (g ∷ older) s
+    by_newer (inl none) =
+        let nothing : held_cells one.mask one.bytes ≡ empty = ap (λ mask. held_cells mask one.bytes) none ∙ nothing_held one.bytes in
+        let held = newest_cell g older in
+        let cells = mine.cells in
+        let empty_here = get-empty {X = List ℕ} nat_cmp g.fragment.address in
+        absurd (cc)
+    by_newer (inr (same, newer)) = there s theirs has same newer
+
+same_newest : (first : ℕ) (h k : List (Option Message)) → length h ≡ length k → newest_slot first h ≡ newest_slot first k
+same_newest first [] [] long = refl
+same_newest first [] (y ∷ k) long = absurd (omega (arith, long))
+same_newest first (x ∷ h) [] long = absurd (omega (arith, long))
+same_newest first (x ∷ h) (y ∷ k) long = omega (arith, long)
+
+pub heard_long : (pi : ℕ) (input : List (Option Group)) (h : List (Option Message)) → AreHeard pi input h → length input ≡ length h
+heard_long pi [] [] are = refl
+heard_long pi [] (x ∷ h) are = absurd are
+heard_long pi (slot ∷ input) [] are = absurd are
+heard_long pi (slot ∷ input) (x ∷ h) are = let rest = heard_long pi input h are.1 in omega (arith, rest)
+
+pub heard_part : (pick : Message → Option Fragment) (pi m : ℕ) (one other : StoredSegments) (input more : List (Option Group)) (h k : List (Option Message)) → HoldsPart one other → AreHeard pi input h → AreHeard pi more k → length input ≡ length more
+    → HoldsRun m (newest_slot 0 h) (run m (newest_slot 0 h) (segments pick 0 h)) (segments_stored one)
+    → HoldsRun m (newest_slot 0 k) (run m (newest_slot 0 k) (segments pick 0 k)) (segments_stored other) → IsPart (run_at pick m 0 h) (run_at pick m 0 k)
+heard_part pick pi m one other input more h k part mine theirs long holds other_holds =
+    let long_one : length input ≡ length h = heard_long pi input h mine in
+    let long_other : length more ≡ length k = heard_long pi more k theirs in
+    let at : newest_slot 0 h ≡ newest_slot 0 k = same_newest 0 h k (omega (arith, long, long_one, long_other)) in
+    let moved : HoldsRun m (newest_slot 0 h) (run_at pick m 0 k) (segments_stored other) =
+    subst (λ (t : ℕ). HoldsRun m t (run_at pick m 0 k) (segments_stored other)) (sym at)
+    (subst (λ (r : List Segment). HoldsRun m (newest_slot 0 k) r (segments_stored other)) (run_at_newest pick m 0 k) other_holds) in
+    held_part m (newest_slot 0 h) (run_at pick m 0 h) (run_at pick m 0 k) one other part
+    (subst (λ (r : List Segment). HoldsRun m (newest_slot 0 h) r (segments_stored one)) (run_at_newest pick m 0 h) holds) moved

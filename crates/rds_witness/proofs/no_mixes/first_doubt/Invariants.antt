@@ -1,0 +1,9 @@
+use Rattle.rds_log.specs.LogWrites.{tuned}
+use Rattle.rds_witness.specs.Search.{NoMixesIn, StandsAfter}
+use Rattle.rds_witness.proofs.no_mixes.first_doubt.Given as goal
+
+abbrev pub invariant-loop-slot : goal.invariant-loop-slot
+invariant-loop-slot l = record {
+  stands : StandsAfter (tuned l.fn.pi l.fn.dwell) l.log l.slot l.sweep;
+  none : NoMixesIn (tuned l.fn.pi l.fn.dwell) l.log l.slot;
+}

@@ -1,0 +1,57 @@
+-- Stored receivers that hold all that another receiver holds, so that it shows nothing that they do not show (this
+-- project's own).
+use Rattle.std.specs.Prelude.{◌≡◌, ◌∷◌, ◌+◌, ℕ, All, List, Option, length}
+use Rattle.std.specs.List.{Contains}
+use Rattle.rds_block.specs.declared.group.Group.{Group}
+use Rattle.rds_fields.specs.declared.message.Message.{Message}
+use Rattle.rds_receiver.specs.Receipts.{AreHeard, Fragment, Tuning, name_fragment, text_fragment}
+use Rattle.rds_receiver.specs.Run.{run_at}
+use Rattle.rds_receiver.specs.StandsAt.{StandsAt}
+use Rattle.rds_receiver.specs.Stored.{IsStored, receiver_stored}
+use Rattle.rds_receiver.specs.declared.stored.StoredReceiver.{StoredReceiver}
+use Rattle.rds_witness.specs.Part.{IsPart}
+
+-- the run of one service after an input is a part of its run after another input
+abbrev pub IsRunPart : (Message → Option Fragment) → Tuning → List (Option Group) → List (Option Group) → Type 0
+IsRunPart pick t one other =
+    (h k : List (Option Message)) → AreHeard t.programme one h → AreHeard t.programme other k
+    → IsPart (run_at pick t.dwell t.first h) (run_at pick t.dwell t.first k)
+
+-- the inputs have as many slots, and the runs after the one are parts of the runs after the other
+pub record IsInputPart (t : Tuning) (one other : List (Option Group)) : Type 0 where
+  pub long : length one ≡ length other
+  pub texts : IsRunPart text_fragment t one other
+  pub names : IsRunPart name_fragment t one other
+
+-- the stored receiver stands at the end of an input of n slots
+pub record IsAt (t : Tuning) (n : ℕ) (s : StoredReceiver) : Type 0 where
+  pub input : List (Option Group)
+  pub long : length input ≡ n
+  pub stands : StandsAt t (receiver_stored s) input
+  pub stored : IsStored s
+
+-- the stored receiver stands at the end of an input of which this one is a part
+pub record Covers (t : Tuning) (input : List (Option Group)) (s : StoredReceiver) : Type 0 where
+  pub other : List (Option Group)
+  pub stands : StandsAt t (receiver_stored s) other
+  pub stored : IsStored s
+  pub part : IsInputPart t input other
+
+-- one of the stored receivers does
+pub record IsCovered (t : Tuning) (set : List StoredReceiver) (input : List (Option Group)) : Type 0 where
+  pub by : StoredReceiver
+  pub is_there : Contains set by
+  pub covers : Covers t input by
+
+-- after a receiver was offered to the kept ones, they cover the inputs of n slots that it covers, and all that they covered
+pub record Keeps (t : Tuning) (n : ℕ) (offered : StoredReceiver) (old new : List StoredReceiver) : Type 0 where
+  pub at : All (IsAt t n) new
+  pub stays : (input : List (Option Group)) → IsCovered t old input → IsCovered t new input
+  pub more : (input : List (Option Group)) → length input ≡ n → Covers t input offered → IsCovered t new input
+
+-- after receivers took a slot and were offered to the kept ones
+pub record KeepsNext (t : Tuning) (n : ℕ) (group : Option Group) (offered old new : List StoredReceiver) : Type 0 where
+  pub at : All (IsAt t (n + 1)) new
+  pub stays : (input : List (Option Group)) → IsCovered t old input → IsCovered t new input
+  pub more : (input : List (Option Group)) → length input ≡ n → IsCovered t offered input
+      → IsCovered t new (group ∷ input)
