@@ -22,6 +22,16 @@ SCRIPTS = [
     ("Groups that come late", "late.csv", {"m": 4, "k": 2, "pty": "10"}),
     ("A song with its tags", "chanson.csv", {"m": 8, "k": 0, "pty": "10"}),
 ]
+# After the first restart a text comes first, after the second the empty one: the commands by their slots.
+RESTARTS = {8: "text,Road A1: closed", 26: "restart,", 34: "text,Road B7: open", 52: "restart,", 60: "text,",
+            76: "text,Road C3: closed"}
+RESTARTS_SLOTS = 90
+
+
+def restarts():
+    """The script of these commands with one receiver, which loses nothing."""
+    text = "".join(f"{RESTARTS.get(slot, '-,')},1,G\n" for slot in range(RESTARTS_SLOTS))
+    return {"name": "Two restarts of the encoder", "text": text, "m": 8, "k": 0, "pty": "10"}
 
 
 def shown(folder, rows):
@@ -41,7 +51,8 @@ def main():
     with open(module, "rb") as file:
         packed = gzip.compress(file.read(), 9, mtime=0)
     write(out, "engine.js", "RDSRT_ENGINE", base64.b64encode(packed).decode())
-    write(out, "examples.js", "RDSRT_EXAMPLES", {"log": list(shown(examples, LOGS)), "script": list(shown(examples, SCRIPTS))})
+    scripts = [*shown(examples, SCRIPTS), restarts()]
+    write(out, "examples.js", "RDSRT_EXAMPLES", {"log": list(shown(examples, LOGS)), "script": scripts})
 
 
 if __name__ == "__main__":

@@ -1,6 +1,7 @@
 "use strict";
 /* What logs, scripts and the program's lines say, for drawing: docs/FORMATS.md has their forms. */
 const lines = (() => {
+  const LOST = "---- ---- ---- ----";
   const SLOT = 104 / 1187.5, BLOCK = "(?:[0-9A-Fa-f]{4}|----)";
   const SKIPPED = /^(?:\r?$|[<#%])/, SLOT_LINE = new RegExp(`^${BLOCK}(?: ${BLOCK}){3}(?:\r?$| )`);
   const SHOWN = /^(?:none$|"|[01] [01]$|\S+ ")/;
@@ -12,20 +13,21 @@ const lines = (() => {
     return s < 3600 ? `${Math.floor(s / 60)} min ${Math.round(s % 60)} s` : `${(s / 3600).toFixed(1)} h`;
   }
 
-  /* The slots of a log up to the first line that is none: four words, or null where nothing was received; the number of
-     each one's line; and of the line that is none. */
+  /* The slots of a log up to the first malformed line: four words, or null if nothing was received; the blocks of each one's
+     line and its number; and the number of the malformed line. */
   function slots_of(log) {
-    const slots = [], at = [];
+    const slots = [], logged = [], at = [];
     const all = log.split("\n");
     for (let i = 0; i < all.length; i++) {
       const line = all[i];
       if (SKIPPED.test(line)) continue;
-      if (!SLOT_LINE.test(line)) return { slots, at, bad: i };
+      if (!SLOT_LINE.test(line)) return { slots, logged, at, bad: i };
       const blocks = line.slice(0, 19);
       slots.push(blocks.includes("-") ? null : blocks.split(" ").map((word) => parseInt(word, 16)));
+      logged.push(blocks);
       at.push(i);
     }
-    return { slots, at, bad: null };
+    return { slots, logged, at, bad: null };
   }
 
   /* What each part showed, as runs [from, to) with a value; null where nothing was shown. */
@@ -46,7 +48,18 @@ const lines = (() => {
         const mid = (low + high) >> 1;
         if (runs[mid].from <= slot) low = mid + 1; else high = mid;
       }
-      return low ? runs[low - 1] : null;
+      return low && slot < runs[low - 1].to ? runs[low - 1] : null;
+    }
+
+    /* Shows nothing of these parts from the slot on. */
+    clear(slot, ...parts) {
+      const all = parts.length ? parts : Object.keys(this.parts);
+      for (const part of all) if ((this.at(part, slot)?.value ?? null) !== null) this.change(part, slot, null);
+    }
+
+    /* Shows from the slot on what the other view shows from its start on. */
+    take(view, slot) {
+      for (const [part, runs] of Object.entries(view.parts)) for (const run of runs) this.change(part, slot + run.from, run.value);
     }
 
     finish(slots) {
@@ -63,15 +76,18 @@ const lines = (() => {
     return { kind: rest.slice(0, cut), text: rest.slice(cut + 2, -1) };
   }
 
-  /* What the lines of `decode` and of `sim` say; the last line where it is a fault. */
+  /* What the lines of `decode` and of `sim` say: views, groups as words and as lines, replies, and a last line that is a
+     fault. */
   function read(output, count) {
-    const said = { views: [], sent: [], replies: [], fault: null };
+    const said = { views: [], sent: [], logged: [], replies: [], fault: null };
     for (const line of output.split("\n")) {
       const m = /^(\d+) (?:r(\d) )?(\w+) ?(.*)$/.exec(line);
       if (!m) { if (line) said.fault = line; continue; }
       const slot = Number(m[1]), [, , receiver, what, rest] = m;
-      if (what === "sent") said.sent[slot] = rest.split(" ").map((word) => parseInt(word, 16));
-      else if (receiver === undefined && !SHOWN.test(rest)) said.replies.push({ slot, what, reply: rest });
+      if (what === "sent") {
+        said.logged[slot] = rest;
+        said.sent[slot] = rest.split(" ").map((word) => parseInt(word, 16));
+      } else if (receiver === undefined && !SHOWN.test(rest)) said.replies.push({ slot, what, reply: rest });
       else (said.views[Number(receiver ?? 0)] ??= new View()).change(what, slot, value_of(what, rest));
     }
     for (const view of said.views) view?.finish(count);
@@ -113,5 +129,5 @@ const lines = (() => {
   const bytes_of = (group) => [group[2] >> 8, group[2] & 255, group[3] >> 8, group[3] & 255];
 
   const CODES = { NOTHING, TEXT, NAME, TAGS, OTHER };
-  return { ...CODES, View, bytes_of, class_of, code_of, codes_of, printed, read, seconds, slots_of, tags_of, time };
+  return { ...CODES, LOST, View, bytes_of, class_of, code_of, codes_of, printed, read, seconds, slots_of, tags_of, time };
 })();

@@ -2,7 +2,7 @@
 /* The tab of a log: the receiver's display, the audit's answer, and the lost slots. */
 const log_tab = (() => {
   const { $, make } = parts;
-  const PI = "C201", MOST_PROGRAMMES = 12, LOST = "---- ---- ---- ----";
+  const PI = "C201", MOST_PROGRAMMES = 12;
   const LINE = "A slot line has four blocks with one space between them. A block has four hexadecimal digits, or ---- if it was "
     + "not received. The page does not show the lines after it.";
   const NO_WITNESS = ": the search found no lost slots that make a mix. There may still be some. A no says that a rule was broken.";
@@ -12,8 +12,8 @@ const log_tab = (() => {
   const PARTS = [["name", "name"], ["tag1", "first tag"], ["tag2", "second tag"]];
   const KINDS = ["nothing", "text", "name", "tags", "other"];
   const state = {
-    text: "", lost: new Set(), slots: [], at: [], heard: [], view: new lines.View(), naive: new lines.View(), mixed: () => false,
-    turn: 0, witness: null,
+    text: "", lost: new Set(), slots: [], logged: [], at: [], heard: [], view: new lines.View(), alone: new lines.View(),
+    mixed: () => false, turn: 0, witness: null,
   };
   const timeline = new Timeline($("log-time"), {
     label: "Slot of the log",
@@ -62,34 +62,37 @@ const log_tab = (() => {
   function received() {
     if (!state.lost.size) return state.text;
     const all = state.text.split("\n");
-    for (const slot of state.lost) if (state.at[slot] !== undefined) all[state.at[slot]] = LOST;
+    for (const slot of state.lost) if (state.at[slot] !== undefined) all[state.at[slot]] = lines.LOST;
     return all.join("\n");
   }
 
   function look({ fit }) {
     if (!$("log-form").checkValidity()) return;
     const pi = $("log-pi").value, m = $("log-m").value, k = $("log-k").value, number = parseInt(pi, 16);
-    const { slots, at, bad } = lines.slots_of(state.text), count = slots.length;
-    Object.assign(state, { slots, at, number, heard: slots.map((group, i) => state.lost.has(i) ? null : group) });
+    const { slots, logged, at, bad } = lines.slots_of(state.text), count = slots.length;
+    const heard = slots.map((group, slot) => state.lost.has(slot) ? null : group);
+    Object.assign(state, { slots, logged, at, number, heard });
     const words = ["decode", "--pi", pi, "--m", m], audit_words = ["audit", "--pi", pi, "--m", m, "--k", k];
     const decode = rdsrt.run(words, received()), audit = rdsrt.run(audit_words, state.text);
     state.view = lines.read(decode.output, count).views[0] ?? new lines.View();
-    state.naive = naive.receive(state.heard, number, count);
-    state.mixed = mixed_by(words, number, count);
+    state.alone = flag_alone.receive(pi, logged.map((line, slot) => state.lost.has(slot) ? lines.LOST : line));
+    state.mixed = mixed_by(words, pi, count);
     state.result = { decode, audit };
     const no = /^no (\d+) (\w+)/.exec(audit.output);
     timeline.title = `rdsrt ${words.join(" ")}`;
     timeline.show(lanes(no, count), count, { fit });
     show_verdict({ audit, no, m: Number(m), k: Number(k), bad });
     $("log-unlose").hidden = !state.lost.size;
+    $("log-limit").textContent = flag_alone.limit(count);
+    $("log-limit").hidden = !flag_alone.limit(count);
     tell_lines([["log", words, decode], ["audit", audit_words, audit]]);
   }
 
   /* Nobody sent what neither receiver shows that loses nothing. */
-  function mixed_by(words, number, count) {
+  function mixed_by(words, pi, count) {
     if (!state.lost.size) return () => false;
     const whole = lines.read(rdsrt.run(words, state.text).output, count).views[0];
-    const sent = parts.all_shown(whole, naive.receive(state.slots, number, count));
+    const sent = parts.all_shown(whole, flag_alone.receive(pi, state.logged));
     return (part, value) => !sent.has(parts.key_of(part, value));
   }
 
@@ -127,7 +130,7 @@ const log_tab = (() => {
   }
 
   function lanes(no, count) {
-    const tint = parts.tinter(), { view, naive: other, mixed } = state, codes = lines.codes_of(state.heard, count, state.number);
+    const tint = parts.tinter(), { view, alone: other, mixed } = state, codes = lines.codes_of(state.heard, count, state.number);
     const bars = (it, part) => parts.bars(it, part, tint, mixed);
     const lane = (name, short, runs, more) => ({ name, short, kind: "bars", runs, gap: 3, ...more });
     const all = [
@@ -228,6 +231,7 @@ const log_tab = (() => {
     state.lost = new Set(Array.from({ length: last - first + 1 }, (_, i) => first + i));
     look({ fit: false });
     timeline.move(slot);
+    const simple = { led: led(other, ""), bad: is_mix(other), none: flag_alone.none_at(slot) };
     timeline.canvas.focus();
   }
 
@@ -235,14 +239,14 @@ const log_tab = (() => {
 
   function show_slot(slot) {
     const group = state.slots[slot], sent = group ? `${KINDS[lines.code_of(group, state.number)]} group` : "nothing received";
-    const what = state.lost.has(slot) ? "lost" : sent, run = state.view.at("text", slot), other = state.naive.at("text", slot);
+    const what = state.lost.has(slot) ? "lost" : sent, run = state.view.at("text", slot), other = state.alone.at("text", slot);
     const none = run && run.value === null && run.from > 0 ? why_gone("text", run.from) : "no text";
     const is_mix = (it) => !!it && it.value !== null && state.mixed("text", it.value);
     const led = (it, or) => is_mix(it) ? "nobody sent this" : or;
     parts.radio($("log-radio"), "The receiver, with the dwell", state.view, slot, { led: led(run, what), bad: is_mix(run), none });
-    parts.radio($("log-naive"), "Flag bit alone (the page's own)", state.naive, slot, { led: led(other, ""), bad: is_mix(other) });
-    const words = (view, it) => parts.in_words(view, slot) + (is_mix(it) ? ", which nobody sent" : "");
-    return `${what}. The receiver shows ${words(state.view, run)}. With the flag bit alone: ${words(state.naive, other)}.`;
+    parts.radio($("log-alone"), "Flag bit alone: decode --m 65535", state.alone, slot, simple);
+    const words = (view, it, none) => parts.in_words(view, slot, none) + (is_mix(it) ? ", which nobody sent" : "");
+    return `${what}. The receiver shows ${words(state.view, run)}. With the flag bit alone: ${words(state.alone, other, simple.none)}.`;
   }
 
   function begin() {

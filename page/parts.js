@@ -36,9 +36,9 @@ const parts = (() => {
   }
 
   /* What a display shows, in words. */
-  function in_words(view, slot) {
+  function in_words(view, slot, none = "no text") {
     const at = (part) => view?.at(part, slot)?.value ?? null, text = at("text"), name = at("name");
-    const all = [text === null ? "no text" : `“${text}”`, ...(name === null ? [] : [`name ${name.trim()}`])];
+    const all = [text === null ? none : `“${text}”`, ...(name === null ? [] : [`name ${name.trim()}`])];
     return [...all, ...[at("tag1"), at("tag2")].filter((tag) => tag !== null).map(said_of)].join(", ");
   }
 

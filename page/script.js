@@ -5,7 +5,7 @@ const script_tab = (() => {
   const COMMANDS = ["-", "text", "name", "tags", "restart"], PI = "C201";
   const HINTS = { text: "the text", name: "the name", tags: "1 1 4 0 3 1 7 7" };
   const state = {
-    rows: [], chosen: 0, pty: "10", air: new lines.View(), said: { views: [], sent: [] }, naives: [], heard: [], replies: new Map(),
+    rows: [], chosen: 0, pty: "10", air: new lines.View(), said: { views: [], sent: [] }, alone: [], heard: [], replies: new Map(),
     spans: new Map(), mixed: () => false,
   };
   const timeline = new Timeline($("script-time"), {
@@ -127,7 +127,7 @@ const script_tab = (() => {
     const sent = parts.all_shown(state.air);
     state.mixed = (part, value) => !sent.has(parts.key_of(part, value));
     state.spans = spans(state.air.parts.text);
-    hear(count);
+    hear();
     timeline.chosen = receivers() ? state.chosen : null;
     timeline.title = `rdsrt ${words.join(" ")}`;
     timeline.show(lanes(broadcast.marks, count, tint), count, { fit });
@@ -154,17 +154,16 @@ const script_tab = (() => {
   /* What is on air, by the replies and the rows: the program doesn't print it. And the marks of what was commanded. */
   function on_air(replies, count, tint) {
     const air = new lines.View(), marks = [];
-    const clear = (slot, ...all) => { for (const part of all) if (air.at(part, slot)?.value) air.change(part, slot, null); };
     const set_tags = (slot, tags) => tags.forEach((tag, i) => air.change(`tag${i + 1}`, slot, tag));
     for (const { slot, what, reply } of replies) {
       const { argument = "" } = state.rows[slot] ?? {}, is_done = what === "restart" || reply === "ok";
       if (!is_done) { marks.push(parts.mark(slot, `${what} ${reply}`, true)); continue; }
       if (what === "restart" || what === "tags") marks.push(parts.mark(slot, what));
-      if (what === "restart") clear(slot, "text", "name", "tag1", "tag2");
+      if (what === "restart") air.clear(slot);
       else if (what === "tags") set_tags(slot, pieces_of(argument, air.at("text", slot)?.value ?? ""));
       else {
         const value = printed_form(what === "name" ? as_name(argument) : argument);
-        if (what === "text") { clear(slot, "tag1", "tag2"); tint(value); }
+        if (what === "text") { air.clear(slot, "tag1", "tag2"); tint(value); }
         air.change(what, slot, value);
       }
     }
@@ -182,14 +181,22 @@ const script_tab = (() => {
     return all;
   }
 
-  /* What each receiver got, and what one with the flag bit alone makes of it. */
-  function hear(count) {
-    const n = receivers(), { said } = state;
-    state.heard = Array.from({ length: n }, (_, i) => state.rows.map((row, s) => {
-      const letter = row.receptions[i];
-      return letter?.[0] === "G" ? said.sent[letter.length > 1 ? s - Number(letter.slice(1)) : s] ?? null : null;
-    }));
-    state.naives = state.heard.map((heard) => naive.receive(heard, parseInt(PI, 16), count));
+  /* The slot whose group a receiver gets in this slot, late or not; -1 if it gets none. */
+  function source_of(letter, slot) {
+    if (letter?.[0] !== "G") return -1;
+    return letter.length > 1 ? slot - Number(letter.slice(1)) : slot;
+  }
+
+  /* The slots in which a receiver restarts. */
+  const restarts_of = (i) => [...state.rows.keys()].filter((slot) => state.rows[slot].receptions[i] === "R");
+
+  /* What each receiver got, and what one with the flag bit alone shows of it. */
+  function hear() {
+    const { said, rows } = state, sources_of = (i) => rows.map((row, slot) => source_of(row.receptions[i], slot));
+    const all = Array.from({ length: receivers() }, (_, i) => sources_of(i));
+    state.heard = all.map((sources) => sources.map((slot) => said.sent[slot] ?? null));
+    const got = all.map((sources) => sources.map((slot) => said.logged[slot] ?? lines.LOST));
+    state.alone = got.map((each, i) => flag_alone.receive(PI, each, restarts_of(i)));
   }
 
   function codes_heard(i, count) {
@@ -232,7 +239,7 @@ const script_tab = (() => {
       if (parts.shows_tags(view)) add("  its tags", "  tags", parts.tag_bars(view, tint, state.mixed));
     };
     add_view("with the dwell", "dwell", state.said.views[i], (runs) => runs);
-    add_view("flag bit alone", "flag bit", state.naives[i], aged);
+    add_view("flag bit alone", "flag bit", state.alone[i], aged);
     return all;
   }
 
@@ -251,13 +258,13 @@ const script_tab = (() => {
   }
 
   function tell_mixes() {
-    const n = receivers(), wrong = state.naives.map(mixes_of), ours = state.said.views.slice(0, n).flatMap(mixes_of).length;
+    const n = receivers(), wrong = state.alone.map(mixes_of), ours = state.said.views.slice(0, n).flatMap(mixes_of).length;
     const all = wrong.flat().length, at = wrong.findIndex((it) => it.length);
     state.first_mix = at < 0 ? null : { receiver: at, slot: Math.min(...wrong[at].map((run) => run.from)) };
     const mixed = `With the flag bit alone, receivers show ${in_kinds(wrong.flat())} that nobody sent. `
       + `With the dwell ${ours === 0 ? "none does" : `${ours} do`}.`;
     const told = all ? mixed : "No receiver shows a mix here. Lose more slots: a whole text and the next flip of the flag.";
-    $("script-count").textContent = n === 0 || state.said.fault ? "" : told;
+    $("script-count").textContent = n === 0 || state.said.fault ? "" : `${told} ${flag_alone.limit(state.rows.length)}`.trim();
   }
 
   /* A fault of the script, by the line of the text that was played. */
@@ -289,16 +296,18 @@ const script_tab = (() => {
   function show_slot(slot) {
     const i = state.chosen, row = state.rows[slot], n = receivers(), reply = state.replies.get(slot);
     const got = does(row?.receptions[i] ?? "", slot);
-    const view = state.said.views[i], run = view?.at("text", slot), simple = state.naives[i], other = simple?.at("text", slot);
+    const view = state.said.views[i], run = view?.at("text", slot), simple = state.alone[i], other = simple?.at("text", slot);
     const mix = !!other && other.value !== null && state.mixed("text", other.value), old = !!other && is_old(other.value, slot);
     const none = run ? parts.why_gone("text", state.heard[i]?.[run.from], parseInt(PI, 16)) : "no text";
     const sent = state.said.sent[slot] ? "sends" : "", stale = old ? "long over" : "";
     const named = (what) => n ? `Receiver ${i}, ${what}` : "No receiver";
     parts.radio($("script-air"), "On air", state.air, slot, { led: reply ? `${reply.what} ${reply.reply}` : sent, none: "silence" });
     parts.radio($("script-radio"), named("with the dwell"), view, slot, { led: got, none });
-    parts.radio($("script-naive"), named("flag bit alone"), simple, slot, { led: mix ? "nobody sent this" : stale, bad: mix });
+    const led = mix ? "nobody sent this" : stale, nothing = flag_alone.none_at(slot);
+    parts.radio($("script-alone"), named("flag bit alone"), simple, slot, { led, bad: mix, none: nothing });
     show_command(slot, row);
-    const air = `On air ${parts.in_words(state.air, slot)}.`, its = `${parts.in_words(simple, slot)}${mix ? ", which nobody sent" : ""}`;
+    const air = `On air ${parts.in_words(state.air, slot)}.`;
+    const its = `${parts.in_words(simple, slot, nothing)}${mix ? ", which nobody sent" : ""}`;
     return n ? `${air} Receiver ${i} ${got}: ${parts.in_words(view, slot)}. With the flag bit alone: ${its}.` : air;
   }
 

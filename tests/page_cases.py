@@ -219,7 +219,7 @@ def printed(b):
 
 def the_first_script(b):
     click(b, "#tab-script")
-    both = shown(b, "script-naive"), shown(b, "script-radio")
+    both = shown(b, "script-alone"), shown(b, "script-radio")
     check("one with the flag bit alone shows a mix", both, ("A1: closed today", "— no text —"))
     check("the mix is counted", text_of(b, "#script-count"),
           "With the flag bit alone, receivers show a text that nobody sent. With the dwell none does.")
@@ -256,9 +256,52 @@ def names_and_tags(b):
     open_script(b, "".join(f"{line}GG\n" for line in example("chanson.csv").decode().splitlines()), m=8, k=0)
     names = b.run("script_tab.timeline.lanes.map(lane => lane.name.trim())")
     check("names and tags have lanes", (names.count("its name"), names.count("its tags")), (5, 5))
-    last = b.run("[...script_tab.state.naives, ...script_tab.state.said.views].map(view => view.parts.tag1.at(-1).value.text)")
+    last = b.run("[...script_tab.state.alone, ...script_tab.state.said.views].map(view => view.parts.tag1.at(-1).value.text)")
     check("tags of both kinds of receivers", last, ["Édith Piaf"] * 4)
     check("nothing is taken for a mix", "No receiver shows a mix" in text_of(b, "#script-count"), True)
+
+def runs_of(b, view, part="text"):
+    """The slots from which a view shows something else of a part, with what it shows."""
+    return b.run(f"{view}.parts.{part}.map(run => [run.from, run.value])")
+
+
+def flag_bit_alone(b):
+    """The receiver with the flag bit alone is the program's own, with the longest dwell."""
+    for number, name in enumerate(("flags.log", "accents.log")):
+        call(b, "probe.choose", "log-example", number)
+        click(b, "#log-unlose")
+        words = ["decode", "--pi", of(b, "#log-pi", "value"), "--m", "65535"]
+        told = re.findall(r'^(\d+) text (?:"(.*)"|none)$', program(words, example(name))[1], re.M)
+        wanted = [[int(slot), text or None] for slot, text in told]
+        check(f"the flag bit alone over {name}", (runs_of(b, "log_tab.state.alone"), len(wanted) > 0), (wanted, True))
+    open_script(b, "".join(f"text,HI,1,{letter}\n" for letter in "GGRGLR"), m=1, k=0)
+    check("it restarts with its receiver", runs_of(b, "script_tab.state.alone[0]"), [[1, "HI"], [2, None], [3, "HI"], [5, None]])
+    call(b, "page.tab", "log")
+    many = f"{HI}\n" + f"{NOTHING}\n" * 65_535
+    for text, ends, told in ((many[:-20], 65_535, ""),
+                             (many, 65_535, "The flag bit alone is shown for the first 65,535 slots only.")):
+        call(b, "log_tab.open", text, {"pi": "C201", "m": 8})
+        got = b.run("log_tab.state.alone.parts.text.map(run => [run.from, run.to])"), text_of(b, "#log-limit")
+        check(f"its end over {text.count(chr(10))} slots", got, ([[0, ends]], told))
+    b.run("log_tab.timeline.move(65535)")
+    check("it is not shown behind that", shown(b, "log-alone"), "— not shown here —")
+    check("nor told", "With the flag bit alone: not shown here" in of(b, "#log-time canvas", "ariaValueText"), True)
+
+
+def restarts(b):
+    """After a restart of the encoder the flag begins at 0 again: the empty text has to come first."""
+    rows = b.run("RDSRT_EXAMPLES.script.at(-1).text").splitlines()
+    with_it, without = rows[:26] + rows[52:], rows[:52]
+    for name, script, mixes in (("without the empty text", without, ["Road B7: closed", "Road B7: opesed"]),
+                                ("with the empty text", with_it, [])):
+        open_script(b, "".join(f"{row}\n" for row in script), m=8, k=0)
+        all_shown = [text for _, text in runs_of(b, "script_tab.state.alone[0]") if text is not None]
+        told = ("With the flag bit alone, receivers show 2 texts that nobody sent. With the dwell none does." if mixes
+                else "No receiver shows a mix here. Lose more slots: a whole text and the next flip of the flag.")
+        check(f"restart {name}: mixes", [it for it in all_shown if f"text,{it}" not in "\n".join(script)], mixes)
+        check(f"restart {name}: texts", len(all_shown) - len(mixes), 2 if mixes else 3)
+        check(f"restart {name}: count", text_of(b, "#script-count"), told)
+
 
 
 def the_dwell(b):
@@ -513,8 +556,9 @@ def nothing_fetched(b, folder):
     check("and these are in its folder", (sorted(here - set(os.listdir(folder))), len(here) > 10), ([], True))
 
 
-PARTS = (the_first_log, the_first_script, names_and_tags, the_dwell, files, faults, explained, witnesses, keyboard, screen_reader,
-         contrast_and_width, same_lines_of_examples, same_help_and_refusals, same_lines_by_chance, large)
+PARTS = (the_first_log, the_first_script, names_and_tags, flag_bit_alone, restarts, the_dwell, files, faults, explained,
+         witnesses, keyboard, screen_reader, contrast_and_width, same_lines_of_examples, same_help_and_refusals,
+         same_lines_by_chance, large)
 
 
 def main():
