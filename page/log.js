@@ -7,8 +7,8 @@ const log_tab = (() => {
     + "not received. The page does not show the lines after it.";
   const NO_WITNESS = ": the search found no lost slots that make a mix. There may still be some. A no says that a rule was broken.";
   const NO_GROUP = "The log has no group of this programme, so this yes says nothing.";
-  /* Milliseconds of a search between two turns of the page. */
-  const AT_ONCE = 12;
+  /* Milliseconds that the page has to draw the answer before a witness is looked for. */
+  const DRAWN = 30;
   const PARTS = [["name", "name"], ["tag1", "first tag"], ["tag2", "second tag"]];
   const KINDS = ["nothing", "text", "name", "tags", "other"];
   const state = {
@@ -172,7 +172,7 @@ const log_tab = (() => {
   function refused(no, m, k) {
     const slot = Number(no[1]), { cause, what, should } = rules.explain(no[2], state.slots, state.number, slot, m + k);
     const about = make("p", { className: "witness", textContent: "Looking for lost slots that make a mix …" });
-    look_for_witness(about, slot, m, k);
+    look_for_witness(about, slot, m);
     return [
       make("h2", {}, "✗ ", make("code", { textContent: no[2] })),
       make("p", { textContent: cause }),
@@ -194,26 +194,15 @@ const log_tab = (() => {
     ];
   }
 
-  /* Gives way to the page where a piece of work has taken its time, and stops where the log was changed meanwhile. */
-  function give_way(turn) {
-    let since = -Infinity;
-    return () => performance.now() - since < AT_ONCE ? undefined : new Promise((go, stop) => setTimeout(() => {
-      since = performance.now();
-      if (state.turn === turn) go(); else stop(new Error("the log was changed"));
-    }));
-  }
-
-  async function look_for_witness(about, no, m, k) {
-    const turn = state.turn, way = give_way(turn), text = state.text.split("\n");
+  /* Looks for a witness after a no in this slot, unless the log was changed meanwhile. */
+  function look_for_witness(about, no, m) {
+    const turn = state.turn;
     state.witness = null;
-    try {
-      await way();
-      const logged = state.at.map((line) => text[line].slice(0, 19));
-      const found = await witness.find({ groups: state.slots, logged, pi: state.number, m, k, no }, way);
-      await way();
-      state.witness = found;
-      about.replaceChildren(...witness_words(found));
-    } catch (e) { if (state.turn === turn) throw e; }
+    setTimeout(() => {
+      if (state.turn !== turn) return;
+      state.witness = witness.find({ logged: state.logged, pi: parts.hex(state.number), m, no });
+      about.replaceChildren(...witness_words(state.witness));
+    }, DRAWN);
   }
 
   function witness_words({ slot, lost, shown, upto }) {
@@ -231,7 +220,6 @@ const log_tab = (() => {
     state.lost = new Set(Array.from({ length: last - first + 1 }, (_, i) => first + i));
     look({ fit: false });
     timeline.move(slot);
-    const simple = { led: led(other, ""), bad: is_mix(other), none: flag_alone.none_at(slot) };
     timeline.canvas.focus();
   }
 
@@ -243,6 +231,7 @@ const log_tab = (() => {
     const none = run && run.value === null && run.from > 0 ? why_gone("text", run.from) : "no text";
     const is_mix = (it) => !!it && it.value !== null && state.mixed("text", it.value);
     const led = (it, or) => is_mix(it) ? "nobody sent this" : or;
+    const simple = { led: led(other, ""), bad: is_mix(other), none: flag_alone.none_at(slot) };
     parts.radio($("log-radio"), "The receiver, with the dwell", state.view, slot, { led: led(run, what), bad: is_mix(run), none });
     parts.radio($("log-alone"), "Flag bit alone: decode --m 65535", state.alone, slot, simple);
     const words = (view, it, none) => parts.in_words(view, slot, none) + (is_mix(it) ? ", which nobody sent" : "");

@@ -21,7 +21,6 @@ import browser
 
 ROOT = os.path.dirname(os.path.dirname(os.path.abspath(__file__)))
 PROGRAM = os.path.join(ROOT, "crates/rdsrt/out/rdsrt")
-WITNESS = os.path.join(ROOT, "examples/witness")
 EXAMPLES = os.path.join(ROOT, "examples")
 SEED = 20261123
 SECONDS = 60
@@ -260,6 +259,7 @@ def names_and_tags(b):
     check("tags of both kinds of receivers", last, ["Édith Piaf"] * 4)
     check("nothing is taken for a mix", "No receiver shows a mix" in text_of(b, "#script-count"), True)
 
+
 def runs_of(b, view, part="text"):
     """The slots from which a view shows something else of a part, with what it shows."""
     return b.run(f"{view}.parts.{part}.map(run => [run.from, run.value])")
@@ -301,7 +301,6 @@ def restarts(b):
         check(f"restart {name}: mixes", [it for it in all_shown if f"text,{it}" not in "\n".join(script)], mixes)
         check(f"restart {name}: texts", len(all_shown) - len(mixes), 2 if mixes else 3)
         check(f"restart {name}: count", text_of(b, "#script-count"), told)
-
 
 
 def the_dwell(b):
@@ -428,23 +427,25 @@ def explained(b):
 
 
 def witnesses(b):
-    """Receivers that pay for a no: the page beside examples/witness, on logs by chance."""
+    """Receivers that pay for a no: the page beside `rdsrt witness`, on logs by chance, and far behind the no."""
     dice, found = random.Random(SEED), 0
     groups = GROUPS[:8] + ["C201 2150 4E45 5753", "C201 2151 2046 4D0D", "C201 A150 4A41 5A5A", "C201 A151 2046 4D20"]
     for number in range(40):
         m, log = dice.choice([2, 4, 8]), "".join(f"{dice.choice(groups)}\n" for _ in range(dice.randrange(4, 60)))
-        done = subprocess.run([sys.executable, "-B", WITNESS, "--pi", "C201", "--m", str(m)], input=log, text=True,
-                              stdout=subprocess.PIPE, timeout=SECONDS, env={**os.environ, "RDSRT": PROGRAM})
-        answer, *told = done.stdout.splitlines()
-        said = verdict_of(b, log, m)
-        if answer.startswith("yes"):
+        options, said = ["--pi", "C201", "--m", str(m)], verdict_of(b, log, m)
+        if program(["audit", *options], log.encode())[0] == 0:
             check(f"log {number} passes", "✓ Passes the audit" in said, True)
             continue
+        told = program(["witness", *options], log.encode())[1].splitlines()
         its = b.run("log_tab.state.witness")
         slots = its["lost"] and "-".join(map(str, sorted(set(its["lost"]))))
         check(f"witness of log {number}, M {m}", [f"lose {slots}: {line}" for line in its["shown"]] or ["no witness found"], told)
         found += bool(its["shown"])
     check("witnesses were found", found > 5, True)
+    # one text of one segment, whose flag turns each time, makes no mix
+    harmless = "".join(f"C201 21{flag}0 4849 0D20\n" for flag in (4, 5, 4)) + f"{NOTHING}\n" * 60
+    said = verdict_of(b, harmless + example("flags.log").decode(), 8)
+    check("a witness far behind the no", 'loses slots 65 to 66 shows a text that nobody sent: 67 text "POP  FM"' in said, True)
 
 
 # ---- by key, to be heard, to be read
