@@ -98,7 +98,8 @@ def live(check, text):
     call = re.search(r"^    (examples/station .*) \| modulator$", text, re.M)[1]
     log = ran(call.replace("now.txt", "--at-once --slots 400 <(echo HI)")).splitlines()
     slots = [line for line in log if line[0] != "#"]
-    check("guide: rows of a station", (len(slots), [line for line in log if line[0] == "#"]), (400, ["# 128 text ok"]))
+    told = [line for line in log if line[0] == "#"]
+    check("guide: rows of a station", (len(slots), told), (400, ["# 128 text ok", "# 384 text ok"]))
     check("guide: its first group", [at for at, line in enumerate(slots) if line[0] != "-"][0], 128)
 
 

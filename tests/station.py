@@ -1,7 +1,9 @@
-"""Cases of examples/station: its rows are taken by `rdsrt encode`, and no text of it is refused.
+"""Cases of examples/station: `rdsrt encode` takes its rows and refuses no text, and a restart shows no mix to old radios.
 
-The expected rows follow from the rules: nothing for the first M + K slots, and 2 (M + K) slots at least between texts.
+The expected rows follow from the rules: nothing for the first M + K slots, then the empty text, and 2 (M + K) slots at
+least between texts.
 """
+import concurrent.futures
 import os
 import random
 import subprocess
@@ -13,6 +15,7 @@ PROGRAM = os.path.join(ROOT, "crates/rdsrt/out/rdsrt")
 STATION = os.path.join(ROOT, "examples/station")
 SECONDS = 60
 SLOT = 104 / 1187.5
+LOST = "---- ---- ---- ----"
 
 
 def rows_of(text, *words):
@@ -30,7 +33,7 @@ def encoded(rows, dwell):
 
 
 def at_once(check):
-    trial = ["--at-once", "--slots", "5", "--m", "2", "--k", "1", "--one-in", "2"]
+    trial = ["--no-empty-first", "--at-once", "--slots", "5", "--m", "2", "--k", "1", "--one-in", "2"]
     empty = ["-,,1,\n", "-,,0,\n", "-,,1,\n", "-,,0,\n", "-,,1,\n"]
     for text, field in (("HI", "HI"), ('Édith Piaf, "Milord"\nmore\n', 'Édith Piaf, ""Milord""'), ("x" * 64, "x" * 64),
                         (r"a\x0Ab\xFF", r"a\x0Ab\xFF"), ("24 €\r\n", "24 €")):
@@ -43,6 +46,9 @@ def at_once(check):
     for text, told in refused:
         check(f"station: {text[:20]!r}", rows_of(text, *trial), (0, "".join(empty), f"station: FILE: {told}\n"))
     check("station: no text", rows_of(b"\n", *trial), (0, "".join(empty), ""))
+    wanted = ["-,,1,\n", 'text,"",1,\n', "-,,1,\n", 'text,"HI",1,\n', "-,,1,\n"]
+    told = rows_of(b"HI", "--at-once", "--slots", "5", "--m", "1", "--one-in", "1")
+    check("station: the empty text first", told, (0, "".join(wanted), ""))
     for words in ([], ["--m", "0", "file"], ["--k", "1025", "file"], ["--one-in", "0", "file"]):
         check(f"station: refused {words}", subprocess.run([STATION, *words], capture_output=True).returncode, 2)
 
@@ -58,34 +64,79 @@ def each_byte(check):
             file.truncate()
             file.write(text.encode())
             file.flush()
-            words = [STATION, "--at-once", "--slots", "2", "--m", "1", file.name]
+            words = [STATION, "--no-empty-first", "--at-once", "--slots", "2", "--m", "1", file.name]
             rows = subprocess.run(words, capture_output=True, timeout=SECONDS).stdout.decode()
             plain = f'-,,1,\ntext,"{text.replace(chr(34), chr(34) * 2)}",0,\n'
             check(f"station: {text!r} beside encode", rows == plain, encoded(plain, 1).returncode == 0)
 
 
-def live(check):
-    """A row in each slot's time, and a text that changes while it runs: all are accepted, the newest counts."""
+def fed(words, texts):
+    """Status and rows of a station of 40 slots whose file gets these texts, each after so many rows."""
     with tempfile.TemporaryDirectory() as folder:
-        path = os.path.join(folder, "now.txt")
-        words = [STATION, "--m", "4", "--one-in", "1", "--slots", "40", path]
-        begins, rows = time.monotonic(), []
-        with subprocess.Popen(words, stdout=subprocess.PIPE, text=True, bufsize=1) as station:
+        path, rows = os.path.join(folder, "now.txt"), []
+        call = [STATION, *words, "--one-in", "1", "--slots", "40", path]
+        with subprocess.Popen(call, stdout=subprocess.PIPE, text=True, bufsize=1) as station:
             for row in station.stdout:
                 rows.append(row)
-                text = {2: "ONE", 6: "TWO", 8: "THREE"}.get(len(rows))
-                if text:
+                if len(rows) in texts:
                     with open(path + ".new", "w", encoding="utf-8") as file:
-                        file.write(text)
+                        file.write(texts[len(rows)])
                     os.replace(path + ".new", path)
-        took = time.monotonic() - begins
-        check("station: status", station.returncode, 0)
-        check("station: 40 rows take 39 slots at least", took >= 39 * SLOT, True)
-        told = [line for line in encoded("".join(rows), 4).stdout.decode().splitlines() if line[0] == "#"]
-        check("station: texts on air", (told, [row for row in rows if "text" in row]),
-              (["# 4 text ok", "# 12 text ok"], ['text,"ONE",1,\n', 'text,"THREE",1,\n']))
+        return station.returncode, rows
+
+
+def live(check):
+    """A row in each slot's time, and a text that changes while it runs: all are accepted, the newest counts."""
+    begins = time.monotonic()
+    status, rows = fed(["--m", "4"], {2: "ONE", 14: "TWO", 16: "THREE"})
+    took = time.monotonic() - begins
+    check("station: status", status, 0)
+    check("station: 40 rows take 39 slots at least", took >= 39 * SLOT, True)
+    told = [line for line in encoded("".join(rows), 4).stdout.decode().splitlines() if line[0] == "#"]
+    check("station: texts on air", (told, [row for row in rows if "text" in row]),
+          (["# 4 text ok", "# 12 text ok", "# 20 text ok"], ['text,"",1,\n', 'text,"ONE",1,\n', 'text,"THREE",1,\n']))
+
+
+# ---- restarts
+
+
+# of each start of the station the texts that its file gets, each after so many rows
+LIVES = [{1: "NIGHT TRAIN"}, {1: "JAZZ AT EIGHT", 15: "NEWS AT TEN"}, {1: "WEATHER REPORT"}]
+
+
+def joined(option):
+    """The slots of a station with this option that is started once for each of LIVES, and the last text flag of each."""
+    with concurrent.futures.ThreadPoolExecutor() as pool:
+        lives = list(pool.map(lambda texts: fed(["--m", "4", option], texts)[1], LIVES))
+    logs = [[line for line in encoded("".join(rows), 4).stdout.decode().splitlines() if line[0] != "#"] for rows in lives]
+    flags = [[int(line[7], 16) & 1 for line in log if line[5] == "2"] for log in logs]
+    return [line for log in logs for line in log], [(each[0], each[-1]) for each in flags]
+
+
+def mixes(slots):
+    """What a radio with the flag bit alone shows of these slots that no station set."""
+    given = "".join(f"{line}\n" for line in slots).encode()
+    words = [PROGRAM, "decode", "--pi", "C201", "--m", "65535"]
+    shown = subprocess.run(words, input=given, stdout=subprocess.PIPE, timeout=SECONDS).stdout.decode()
+    texts = [line.split(" ", 2)[2].strip('"') for line in shown.splitlines() if " text \"" in line]
+    return [it for it in texts if it and it not in [text for life in LIVES for text in life.values()]], len(texts)
+
+
+def restarts(check):
+    """A radio with the flag bit alone shows no mix of a station that is restarted, and some without the empty text."""
+    slots, flags = joined("--empty-first")
+    check("station: the flags meet at a restart", flags, [(0, 1), (0, 0), (0, 1)])
+    wrong, count = mixes(slots)
+    check("station: restarts", (wrong, count), ([], 7))
+    # each two slots have a segment, so a radio that loses five of seven slots hears one in each 2 (M + K) = 8
+    for phase in range(7):
+        wrong, _ = mixes([line if (at + phase) % 7 < 2 else LOST for at, line in enumerate(slots)])
+        check(f"station: restarts, losses {phase}", wrong, [])
+    slots, flags = joined("--no-empty-first")
+    check("station: without the empty text the flags meet", flags, [(0, 0), (0, 1), (0, 0)])
+    check("station: and texts are mixed", len(mixes(slots)[0]) > 0, True)
 
 
 def run(check):
-    for part in (at_once, each_byte, live):
+    for part in (at_once, each_byte, live, restarts):
         part(check)
