@@ -105,7 +105,7 @@ def live(check, text):
 
 def helps(check, text):
     """Each program says with --help what it takes; those of GNU Radio are asked in radio.py."""
-    for name in ("many-logs", "slots", "station", "witness"):
+    for name in ("many-logs", "slots", "station"):
         done = subprocess.run([os.path.join(ROOT, "examples", name), "--help"], capture_output=True, timeout=SECONDS)
         check(f"guide: {name} --help", (done.returncode, name.encode() in done.stdout, done.stderr), (0, True, b""))
 

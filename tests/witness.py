@@ -1,24 +1,20 @@
-"""Cases of examples/witness: beside a plain slow search on short logs by chance, and on worked logs.
+"""Cases of `rdsrt witness`: beside a plain slow search on short logs by chance, and on worked logs.
 
 The plain receiver here goes by the definitions over its whole input (the run is the longest last part of the segments
-with one flag and gaps below the dwell) and keeps no state; the plain search tries every burst of lost slots. What is
-printed is looked up in what `decode` prints for both logs.
+with one flag and gaps below the dwell) and keeps no state; the plain search tries every burst of lost slots. Each line
+that is printed is looked up in what `decode` prints for the log without the slots and for the whole log.
 """
-import importlib.machinery
-import importlib.util
 import os
 import random
 import re
 import subprocess
-import tempfile
 
 ROOT = os.path.dirname(os.path.dirname(os.path.abspath(__file__)))
 PROGRAM = os.path.join(ROOT, "crates/rdsrt/out/rdsrt")
-WITNESS = os.path.join(ROOT, "examples/witness")
 FLAGS = os.path.join(ROOT, "examples/flags.log")
 LOST = "---- ---- ---- ----"
 ANNOUNCED = "C201 3156 0000 4BD7"
-SECONDS = 100
+LOGS, SECONDS = 3000, 100
 
 
 def run_of(heard, dwell, slot):
@@ -57,7 +53,7 @@ def pieces(text, bits):
 def views(slots, dwell):
     """For each slot what is shown at its end, as a set of things, and the things that pairs of the run before would
     have shown too. RadioText Plus is announced in the first slot of such a log or nowhere, and never taken back."""
-    texts, names, tags, announced, shown, wide = [], [], [], False, [], []
+    texts, names, tags, announced = [], [], [], False
     for slot, line in enumerate(slots):
         if line != LOST:
             second, data = int(line[5:9], 16), bytes.fromhex(line[10:])
@@ -75,24 +71,24 @@ def views(slots, dwell):
         things = {("text", text), ("name", name)} - {("text", None), ("name", None)}
         pair = tags_of(tags, run, announced, slot)
         held = pieces(text, pair) if text is not None and pair is not None else set()
-        shown.append(things | held)
         own = [bits for at, bits in tags if run and at > run[-1][0]]
-        wide.append(things | {it for bits in own for it in (pieces(text, bits) if text is not None else ())})
-    return shown, wide
+        wide = {it for bits in own for it in (pieces(text, bits) if text is not None else ())}
+        yield things | held, things | wide
 
 
-def first_mix(slots, dwell, begins):
+def first_mix(slots, dwell):
     """The first slot in which some receiver that lost a burst shows a mix; None where none does."""
-    _, wide = views(slots, dwell)
+    wide = [things for _, things in views(slots, dwell)]
+    known = [set().union(*wide[:slot + dwell]) for slot in range(len(slots))]
     best = None
-    for first in range(begins, len(slots)):
+    for first in range(len(slots)):
         for last in range(first, len(slots)):
-            shown, _ = views(slots[:first] + [LOST] * (last - first + 1) + slots[last + 1:], dwell)
-            for slot, things in enumerate(shown):
-                if best is not None and slot >= best:
-                    break
-                if things - set().union(*wide[:slot + dwell]):
+            received = slots[:first] + [LOST] * (last - first + 1) + slots[last + 1:]
+            # what comes behind the best slot is not asked
+            for slot, (things, _) in enumerate(views(received[:best], dwell)):
+                if things - known[slot]:
                     best = slot
+                    break
     return best
 
 
@@ -122,119 +118,75 @@ def random_log(rng):
 
 
 def ran(words, given):
-    environment = {**os.environ, "RDSRT": PROGRAM}
-    done = subprocess.run(words, input=given, capture_output=True, timeout=SECONDS, env=environment)
-    return done.returncode, done.stdout.decode(), done.stderr.decode()
+    done = subprocess.run([PROGRAM, *words], input=given, stdout=subprocess.PIPE, timeout=SECONDS)
+    return done.returncode, done.stdout.decode()
 
 
 def logged(slots):
     return "".join(f"{it}\n" for it in slots).encode()
 
 
+def witness(slots, dwell):
+    """Status and lines of the command."""
+    status, output = ran(["witness", "--pi", "C201", "--m", str(dwell)], logged(slots))
+    return status, output.splitlines()
+
+
 def decoded(slots, dwell):
-    return ran([PROGRAM, "decode", "--pi", "C201", "--m", str(dwell)], logged(slots))[1].splitlines()
+    return ran(["decode", "--pi", "C201", "--m", str(dwell)], logged(slots))[1].splitlines()
+
+
+def thing_of(line):
+    """What a line of `decode` shows, without its slot; a tag without its place."""
+    return re.sub("^tag[12]", "tag", line.partition(" ")[2])
 
 
 def confirm(check, name, slots, dwell, told):
-    """What is told is what `decode` prints without the slots, and nothing like it with them."""
-    found = re.fullmatch(r"lose (\d+)(?:-(\d+))?: ((\d+) (.*))", told)
-    first, last, slot = int(found[1]), int(found[2] or found[1]), int(found[4])
+    """Checks that `decode` prints the line without the lost slots, and that it shows the same thing nowhere in the whole log
+    up to M - 1 slots later. Returns the slot of the mix."""
+    found = re.fullmatch(r"lose (\d+)(?:-(\d+))?: ((\d+) .*)", told)
+    first, last, line, slot = int(found[1]), int(found[2] or found[1]), found[3], int(found[4])
     emptied = [LOST if first <= at <= last else it for at, it in enumerate(slots)]
-    check(f"{name}: without the slots", found[3] in decoded(emptied, dwell), True)
-    check(f"{name}: with them", [it for it in decoded(slots[:slot + dwell], dwell) if it.endswith(found[5])], [])
+    check(f"{name}: {told}: without the slots", line in decoded(emptied, dwell), True)
+    known = {thing_of(it) for it in decoded(slots[:slot + dwell], dwell)}
+    check(f"{name}: {told}: with them", thing_of(line) in known, False)
     return slot
 
 
-def search_beside(check):
-    """On logs by chance the search finds a mix exactly where the plain one finds one, in the same slot."""
-    loader = importlib.machinery.SourceFileLoader("witness_program", WITNESS)
-    program = importlib.util.module_from_spec(importlib.util.spec_from_loader(loader.name, loader))
-    loader.exec_module(program)
-    rng, counts = random.Random(20261124), {True: 0, False: 0}
-    for number in range(700):
-        dwell, slots = rng.choice((2, 3, 4, 6)), random_log(rng)
-        texts, names = program.events_of([it.encode() for it in slots], b"C201")
-        receivers = program.Receiver(dwell, 16, program.whole_text), program.Receiver(dwell, 2, program.whole_name)
-        searches = [program.Search(*it, 100_000) for it in zip(receivers, (texts, names))]
-        found = [search.found(0, len(slots)) for search in searches]
-        best = first_mix(slots, dwell, 0)
-        check(f"witness: search of log {number}, dwell {dwell}", min((it[0] for it in found if it), default=None), best)
-        counts[best is not None] += 1
-    check("witness: logs with a mix and without", min(counts.values()) > 50, True)
-
-
 def by_chance(check):
-    """The program over such logs: the answer of the audit, and of a no what `decode` shows."""
-    rng, noes = random.Random(20261125), 0
-    for number in range(60):
-        dwell, slots = rng.choice((3, 4, 6)), random_log(rng)
-        status, output, told = ran([WITNESS, "--pi", "C201", "--m", str(dwell)], logged(slots))
-        answer, *lines = output.splitlines()
-        name = f"witness: log {number}, dwell {dwell}"
-        audit = ran([PROGRAM, "audit", "--pi", "C201", "--m", str(dwell)], logged(slots))
-        check(f"{name}: the audit", (status, answer + "\n", told), (*audit[:2], ""))
-        best = first_mix(slots, dwell, 0)
-        if answer.startswith("yes"):
-            # what passes is safe
-            check(f"{name}: a yes", (best, lines), (None, []))
-            continue
-        got = {confirm(check, name, slots, dwell, it) for it in lines if it != "no witness found"}
-        check(f"{name}: first mix", got, set() if best is None else {best})
-        noes += bool(got)
-    check("witness: noes with a mix", noes > 2, True)
-
-
-def by_command(check):
-    """The command over such logs: a mix exactly where the plain search finds one, in the same slot."""
+    """On logs by chance: a mix exactly where the plain search finds one, in the same slot."""
     rng, found = random.Random(20261126), 0
-    for number in range(300):
+    for number in range(LOGS):
         dwell, slots = rng.choice((2, 3, 4, 6)), random_log(rng)
-        status, output, told = ran([PROGRAM, "witness", "--pi", "C201", "--m", str(dwell)], logged(slots))
-        name, lines, best = f"rdsrt witness: log {number}, dwell {dwell}", output.splitlines(), first_mix(slots, dwell, 0)
+        status, lines = witness(slots, dwell)
+        name, best = f"witness: log {number}, dwell {dwell}", first_mix(slots, dwell)
         got = {confirm(check, name, slots, dwell, it) for it in lines if it != "no witness found"}
-        check(f"{name}: first mix", (status, got, told), (0, set(), "") if best is None else (1, {best}, ""))
+        check(f"{name}: first mix", (status, got), (0, set()) if best is None else (1, {best}))
         found += bool(got)
-    check("rdsrt witness: logs with a mix", found > 20, True)
-    with open(FLAGS, "rb") as file:
-        log = file.read()
-    wanted = (1, 'lose 2-3: 4 text "POP  FM"\n', "")
-    check("rdsrt witness: flags.log", ran([PROGRAM, "witness", "--pi", "C201", "--m", "8"], log), wanted)
-    check("rdsrt witness: a bad line", ran([PROGRAM, "witness", "--pi", "C201"], log + b"x\n"), (1, "fault line 7\n", ""))
+    check("witness: logs with a mix, and without", LOGS // 15 < found < LOGS - LOGS // 15, True)
 
 
 def worked(check):
-    """The log of README, a long lawful log with one fault in its depth, faults of the log and refused words."""
+    """The log of README, a fault in the depth of a long lawful log, and a no that no receiver pays for."""
     with open(FLAGS, encoding="ascii") as file:
-        slots = file.read().splitlines()
-    status, output, _ = ran([WITNESS, "--pi", "C201", "--m", "8", FLAGS], b"")
-    check("witness: flags.log", (status, output), (1, 'no 4 EarlyFlag\nlose 2-3: 4 text "POP  FM"\n'))
-    confirm(check, "witness: flags.log", slots, 8, output.splitlines()[1])
+        flags = file.read().splitlines()
+    check("witness: flags.log", witness(flags, 8), (1, ['lose 2-3: 4 text "POP  FM"']))
+    confirm(check, "witness: flags.log", flags, 8, 'lose 2-3: 4 text "POP  FM"')
+    bad_line = ran(["witness", "--pi", "C201"], logged([*flags, "x"]))
+    check("witness: a bad line", bad_line, (1, "fault line 7\n"))
     rows = [f"text,{'NEWS AT TEN' if at % 32 else 'JAZZ AND SOUL'},1,\n" if at % 16 == 0 else "-,,1,\n" for at in range(20_000)]
-    _, log, _ = ran([PROGRAM, "encode", "--pi", "C201", "--m", "8"], "".join(rows).encode())
-    lawful = [it for it in log.splitlines() if it[0] != "#"] + [LOST] * 16
-    with tempfile.NamedTemporaryFile() as file:
-        file.write(logged(lawful + slots))
-        file.flush()
-        status, output, _ = ran([WITNESS, "--pi", "c201", "--m", "8", file.name], b"")
-    lines = output.splitlines()
-    check("witness: in the depth of a log", (status, re.sub(r"\d+", "N", lines[0])), (1, "no N EarlyFlag"))
-    check("witness: there is one", len(lines), 2)
-    confirm(check, "witness: in the depth of a log", lawful + slots, 8, lines[1])
-    # a first no without a mix: one text of one segment, with a flag that turns each time
-    harmless = [line(2, at % 2, 0, b"HI\r ") for at in range(3)] + [LOST] * 60 + slots
-    status, output, told = ran([WITNESS, "--pi", "C201", "--m", "8"], logged(harmless) + b"x\n")
-    wanted = 'no 2 EarlyFlag\nlose 65-66: 67 text "POP  FM"\n'
-    note = "witness: line 70 is no line of a log: nothing behind it was looked at\n"
-    check("witness: behind the first no", (status, output, told), (1, wanted, note))
-    check("witness: a lawful log", ran([WITNESS, "--pi", "C201", "--m", "8"], logged(lawful)), (0, "yes 20016\n", ""))
-    check("witness: a bad line", ran([WITNESS, "--pi", "C201"], b"x\n"), (2, "", "witness: fault line 1\n"))
-    for words in ([], ["--pi", "C20"], ["--pi", "C201", "--m", "0"], ["--pi", "C201", "--k", "1025"]):
-        check(f"witness: refused {words}", ran([WITNESS, *words], b"")[:2], (2, ""))
-    check("witness: no such log", ran([WITNESS, "--pi", "C201", "/nowhere"], b"")[:2], (2, ""))
+    log = ran(["encode", "--pi", "C201", "--m", "8"], "".join(rows).encode())[1].splitlines()
+    lawful = [it for it in log if it[0] != "#"] + [LOST] * 16
+    check("witness: a lawful log", witness(lawful, 8), (0, ["no witness found"]))
+    status, lines = witness(lawful + flags, 8)
+    check("witness: in the depth of a log", (status, len(lines)), (1, 1))
+    confirm(check, "witness: in the depth of a log", lawful + flags, 8, lines[0])
+    # one text of one segment, with a flag that turns each time
+    harmless = [line(2, at % 2, 0, b"HI\r ") for at in range(3)] + [LOST] * 60
+    check("witness: a no that no receiver pays for", witness(harmless, 8), (0, ["no witness found"]))
+    check("witness: the first behind it", witness(harmless + flags, 8), (1, ['lose 65-66: 67 text "POP  FM"']))
 
 
 def run(check):
-    search_beside(check)
     by_chance(check)
-    by_command(check)
     worked(check)
