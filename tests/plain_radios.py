@@ -1,0 +1,289 @@
+"""Radios with the flag bit alone, looked up: radios by chance beside a diary of all that was on air.
+
+Such a radio keeps segments, and tags for them, until a segment with the other flag comes. It never forgets. `encode` sends
+the logs. A radio loses slots, restarts, gets groups late and counts slots wrong. What it shows is compared in two ways:
+
+- with `decode --m 65535` over what it got. The law the_flag_alone_is_a_long_dwell says that both show the same.
+- with the diary. In each slot in which the premise of a promise holds, the promise holds too. Where the premise fails,
+  some radios break the promise: so the look can find a breach.
+
+The promises, where d is M + K:
+
+- text: the text shown is that of the broadcast in which the last segment heard was sent. Premise: of each 2 d slots in a
+  row of a text the radio heard a segment, and after each restart of the encoder the empty text came first.
+- tag: each tag shown was sent for the text shown. Premise: that of text, and of each d slots in a row of a text the radio
+  heard a segment.
+- behind: the broadcast of the text shown is the newest one or the one before, or the empty text came since. Premise: that
+  of text, up to the present slot.
+- name: the same as text. Premise: the radio heard a segment of each name, and each name has another flag than the one
+  before, or the same characters.
+"""
+import collections
+import math
+import random
+
+import outputs
+import plain_worlds
+import random_scripts
+import witness
+
+WORLDS, RADIOS, SLOTS = 400, 5, 96
+LONG_DWELL = "65535"
+LOST = "---- ---- ---- ----"
+PROMISES = ("text", "tag", "behind", "name")
+# what a radio gets in a slot that brings it no group
+NOTHING, RESTART = "nothing", "restart"
+
+
+# ---- the station
+
+
+class Broadcast:
+    """A text or a name on air: its characters, its first and its last slot, its flag, and the tags that were sent for it."""
+
+    def __init__(self, value, start, number):
+        self.value, self.start, self.end, self.flag, self.pieces = value, start, SLOTS, number % 2, set()
+        # whether a restart came before it, and no broadcast since
+        self.is_first = number == 0 and start > 0
+
+
+def commands(rng, spacing, empty_first, same_name_first):
+    """What a station is told in each slot. After a restart the first text that is accepted is the empty one if
+    `empty_first`, and the first name the one before if `same_name_first`."""
+    silent, name, fresh = spacing, None, set()
+    for slot in range(SLOTS):
+        kind = rng.choices(("restart", "text", "name", "tags", "-"), weights=(2, 34, 12, 24, 24))[0]
+        tags = " ".join(str(it) for tag in rng.choices(plain_worlds.TAGS, k=2) for it in tag)
+        given = {"text": rng.choice(plain_worlds.TEXTS), "name": rng.choice(plain_worlds.NAMES), "tags": f"1 1 {tags}"}
+        is_first = kind in fresh and slot >= silent
+        if kind == "restart":
+            silent, fresh = slot + spacing, {"text", "name"}
+        elif kind == "text" and is_first and empty_first:
+            given["text"] = ""
+        elif kind == "name":
+            if is_first and same_name_first and name:
+                given["name"] = name
+            name = given["name"]
+        if is_first:
+            fresh.discard(kind)
+        yield random_scripts.Row(kind, given.get(kind, ""), "1" if rng.random() < 7 / 8 else "0", "")
+
+
+def diary(rows, accepted):
+    """The broadcasts of texts and of names, oldest first."""
+    found, on_air, counts = {"text": [], "name": []}, {}, collections.Counter()
+    for slot, row in enumerate(rows):
+        kind = row.command
+        if kind == "restart":
+            for it in on_air.values():
+                it.end = slot - 1
+            on_air, counts = {}, collections.Counter()
+        elif slot in accepted and kind == "tags":
+            on_air["text"].pieces |= plain_worlds.pieces(row.argument, on_air["text"].value)
+        elif slot in accepted:
+            if kind in on_air:
+                on_air[kind].end = slot - 1
+            on_air[kind] = Broadcast(row.argument, slot, counts[kind])
+            counts[kind] += 1
+            found[kind].append(on_air[kind])
+    return found["text"], found["name"]
+
+
+def sent(rng, ran, dwell, late):
+    """The slots that an encoder sends, and the broadcasts of texts and of names."""
+    rows = list(commands(rng, dwell + late, rng.random() < 3 / 4, rng.random() < 3 / 4))
+    output = ran(["encode", "--pi", "C201", "--m", str(dwell), "--k", str(late)], plain_worlds.script(rows))[1]
+    replies, groups, _, slots = outputs.parts_of(output, True)
+    return [groups.get(slot, LOST) for slot in range(slots)], diary(rows, plain_worlds.accepted_in(replies))
+
+
+# ---- what a radio gets, and what it shows
+
+
+def receptions(rng, may_lose):
+    """For each slot the slot whose group a radio gets, NOTHING or RESTART. It gets no group twice and none out of order."""
+    lossy, late = (rng.choice((0.05, 0.2, 0.4)), rng.choice((0, 0, 2, 6))) if may_lose else (0, 0)
+    last, fading = -1, 0
+    for slot in range(SLOTS):
+        fading = fading - 1 if fading else rng.randrange(16) if rng.random() < lossy / 8 else 0
+        draw = rng.random()
+        if may_lose and draw < 1 / 128:
+            yield RESTART
+        elif fading or draw < lossy or last == slot:
+            yield NOTHING
+        else:
+            last = rng.randrange(max(last + 1, slot - late), slot + 1)
+            yield last
+
+
+def lives(rng, got):
+    """The slots that a radio counts, in a list for each of its lives: the station's slot, and the slot whose group it gets
+    or None. It may count a slot three times, and a slot without a group not at all."""
+    miscounts, life = rng.choice((0, 0.2)), []
+    for slot, source in enumerate(got):
+        if source == RESTART:
+            yield life
+            life = []
+        is_group, is_miscounted = source not in (NOTHING, RESTART), rng.random() < miscounts
+        if is_miscounted and is_group:
+            life += [(slot, None)] * rng.randrange(3)
+        if is_group or not is_miscounted:
+            life.append((slot, source if is_group else None))
+    yield life
+
+
+class Radio:
+    """A radio with the flag bit alone. It goes by the definitions over all that it has heard, and keeps no state."""
+
+    def __init__(self):
+        self.texts, self.names, self.tags, self.knows_tags, self.count = [], [], [], False, 0
+
+    def hear(self, line):
+        self.count += 1
+        second, data = int(line[5:9], 16), bytes.fromhex(line[10:])
+        number, low = second >> 12, second & 0x1F
+        if number == 2:
+            self.texts.append((self.count, low >> 4, low & 15, data))
+        elif number == 10:
+            self.names.append((self.count, low >> 4, low & 1, data))
+        elif number == 3:
+            self.knows_tags = True
+        elif self.knows_tags and self.texts:
+            self.tags.append((self.count, low << 32 | int.from_bytes(data, "big")))
+
+    def view(self):
+        """What it shows, as part and value."""
+        run = witness.run_of(self.texts, math.inf, self.count)
+        text, name = witness.value_of(run, False), witness.value_of(witness.run_of(self.names, math.inf, self.count), True)
+        shown = {part: value.decode() for part, value in (("text", text), ("name", name)) if value is not None}
+        pair = next((bits for at, bits in reversed(self.tags) if run and at > run[-1][0]), None)
+        return {**shown, **pieces(text.decode(), pair)} if text is not None and pair is not None else shown
+
+
+def pieces(text, pair):
+    """What the tags of a pair show of a text, as part and value."""
+    tags = (pair >> 29 & 63, pair >> 23 & 63, pair >> 17 & 63), (pair >> 11 & 63, pair >> 5 & 63, pair & 31)
+    return {part: f'{plain_worlds.CLASSES[kind]} "{text[start:start + extra + 1]}"'
+            for part, (kind, start, extra) in zip(("tag1", "tag2"), tags) if kind and start + extra < len(text)}
+
+
+def decoded(ran, log):
+    """What `decode` shows in each slot of the log with a dwell as long as any log here; items are left out."""
+    given = "".join(f"{line}\n" for line in log).encode()
+    output = ran(["decode", "--pi", "C201", "--m", LONG_DWELL], given)[1].decode()
+    return [{part: value for part, value in view.items() if part != "item"}
+            for view in plain_worlds.shown(output.splitlines(), len(log))]
+
+
+# ---- the premises, of what was heard up to a slot
+
+
+def hears_one_in(count, broadcasts, heard, now):
+    """Whether a segment was heard of each so many slots in a row of a broadcast, up to now, once one was heard at all."""
+    for it in broadcasts if heard else ():
+        missed = 0
+        for slot in range(max(it.start, min(heard) + 1), min(it.end, now) + 1):
+            missed = 0 if slot in heard else missed + 1
+            if missed == count:
+                return False
+    return True
+
+
+def hears_each(broadcasts, heard, now):
+    """Whether a segment was heard of each broadcast that another has followed, once one was heard at all."""
+    for it, after in zip(broadcasts, broadcasts[1:]):
+        is_asked = after.start <= now and heard and min(heard) < it.start
+        if is_asked and not any(it.start <= slot <= it.end for slot in heard):
+            return False
+    return True
+
+
+def is_emptied(texts, now):
+    """Whether the empty text came first after each restart."""
+    return all(it.value == "" for it in texts[1:] if it.is_first and it.start <= now)
+
+
+def turns(names, now):
+    """Whether each name has another flag than the one before, or the same characters."""
+    pairs = [(one, two) for one, two in zip(names, names[1:]) if two.start <= now]
+    return all(one.flag != two.flag or one.value == two.value for one, two in pairs)
+
+
+# ---- the promises
+
+
+def on_air_in(broadcasts, slot):
+    """The number of the broadcast that was on air in the slot."""
+    return next(number for number, it in enumerate(broadcasts) if it.start <= slot <= it.end)
+
+
+class Judge:
+    """Looks at what one radio shows in each slot, by the broadcasts and by the slots in which what it heard was sent."""
+
+    def __init__(self, texts, names, spacing):
+        self.texts, self.names, self.spacing = texts, names, spacing
+        self.heard = {"2": [], "A": [], "B": []}
+
+    def hear(self, line, sent_in):
+        self.heard.get(line[5], []).append(sent_in)
+
+    def is_heard(self, count, now):
+        return hears_one_in(count, self.texts, self.heard["2"], now) and is_emptied(self.texts, now)
+
+    def of_text(self, view, slot):
+        """Each promise on texts and tags that speaks of the view: its name, and whether premise and promise hold."""
+        if "text" not in view:
+            return
+        last, tagged = self.heard["2"][-1], self.heard["B"][-1:]
+        source, newest = on_air_in(self.texts, last), sum(it.start <= slot for it in self.texts) - 1
+        premise = self.is_heard(2 * self.spacing, last)
+        yield "text", premise, view["text"] == self.texts[source].value
+        tags = {view[part] for part in ("tag1", "tag2") if part in view}
+        if tags:
+            often = hears_one_in(self.spacing, self.texts, self.heard["2"], max(last, *tagged))
+            sent_for = set().union(*(it.pieces for it in self.texts if it.value == view["text"]))
+            yield "tag", premise and often, tags <= sent_for
+        since = [it.value for it in self.texts[source + 1:newest + 1]]
+        yield "behind", self.is_heard(2 * self.spacing, slot), len(since) <= 1 or "" in since
+
+    def of_name(self, view):
+        """The same of names."""
+        if "name" in view:
+            last = self.heard["A"][-1]
+            premise = hears_each(self.names, self.heard["A"], last) and turns(self.names, last)
+            yield "name", premise, view["name"] == self.names[on_air_in(self.names, last)].value
+
+
+def played(life, slots, judge):
+    """What a radio shows in each slot of its life, what was judged of it, and the log of what it got."""
+    radio, views, judgements, log = Radio(), [], [], []
+    for slot, source in life:
+        log.append(LOST if source is None else slots[source])
+        if log[-1] != LOST:
+            radio.hear(log[-1])
+            judge.hear(log[-1], source)
+        views.append(radio.view())
+        judgements += [(*it, slot, views[-1]) for it in (*judge.of_text(views[-1], slot), *judge.of_name(views[-1]))]
+    return views, judgements, log
+
+
+def cases(check, ran):
+    """2,000 radios: each keeps the promises whose premises hold, and some break those whose premises fail."""
+    seen, mixed_alone = collections.Counter(), 0
+    for seed in range(WORLDS):
+        rng = random.Random(seed)
+        dwell, late = rng.choice((3, 4, 5)), rng.choice((0, 0, 1, 2))
+        slots, broadcasts = sent(rng, ran, dwell, late)
+        for number in range(RADIOS):
+            name, breaches = f"radio {number} of world {seed}, M {dwell}, K {late}", []
+            for life in lives(rng, receptions(rng, number > 0)):
+                views, judgements, log = played(life, slots, Judge(*broadcasts, dwell + late))
+                check(f"{name}: as decode --m {LONG_DWELL}", views == decoded(ran, log), True)
+                breaches += [it for it in judgements if it[1] and not it[2]]
+                seen.update(it[:3] for it in judgements)
+                mixed_alone += number == 0 and any(it[0] == "text" and not it[2] for it in judgements)
+            check(f"{name}: breaches", breaches[:3], [])
+    for promise in PROMISES:
+        check(f"radios: {promise}: the premise holds often", seen[promise, True, True] > 1000, True)
+        check(f"radios: {promise}: some break it without the premise", seen[promise, False, False] > 20, True)
+    check("radios: some mix that lose nothing, after a restart without the empty text", mixed_alone > 5, True)
