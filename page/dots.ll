@@ -1,4 +1,4 @@
-; Two vector instructions of x86-64 in plain code. The proved code calls them where it reads a line's digits.
+; Plain code for two vector instructions that WebAssembly does not have. The proved code reads the digits of a line by them.
 
 ; Multiplies unsigned bytes by signed bytes, and adds each two neighbours as words that stop at their bounds.
 define internal <8 x i16> @dot_bytes(<16 x i8> %a, <16 x i8> %b) {
