@@ -5,7 +5,9 @@ const log_tab = (() => {
   const PI = "C201", MOST_PROGRAMMES = 12;
   const LINE = "A slot line has four blocks with one space between them. A block has four hexadecimal digits, or ---- if it was "
     + "not received. The page does not show the lines after it.";
-  const NO_WITNESS = ": the search found no lost slots that make a mix. There may still be some. A no says that a rule was broken.";
+  const NO_WITNESS = ": no burst of lost slots makes a mix of a text or a name. A tag or two bursts may still make one. "
+    + "A no says that a rule was broken.";
+  const STOPPED = ": the search stopped there. There may be a mix. A no says that a rule was broken.";
   const NO_GROUP = "The log has no group of this programme, so this yes says nothing.";
   /* Milliseconds that the page has to draw the answer before a witness is looked for. */
   const DRAWN = 30;
@@ -207,8 +209,9 @@ const log_tab = (() => {
 
   function witness_words({ slot, lost, shown, upto }) {
     if (!lost || !shown.length) {
-      const where = upto === null || upto === undefined ? "" : ` up to slot ${upto.toLocaleString("en")}`;
-      return [make("b", { textContent: "No witness" }), `${where}${NO_WITNESS}`];
+      const is_done = upto === null || upto === undefined;
+      const words = is_done ? NO_WITNESS : ` up to slot ${upto.toLocaleString("en")}${STOPPED}`;
+      return [make("b", { textContent: "No witness" }), words];
     }
     const [first, last] = lost, slots = first === last ? `slot ${first}` : `slots ${first} to ${last}`;
     const what = make("code", { textContent: shown.join("; ") }), do_so = button(`Lose ${slots}`, () => be_witness(slot, first, last));

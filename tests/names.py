@@ -39,7 +39,9 @@ EXCEPTIONS = {
     # an example of an edit's name, and of receptions
     "crates/NAME/must-fail/what_is_wrong.edit", "G0", "G2L", "G007",
     # placeholders for a word or a number of the output
-    "CLASS", "WHAT", "rI",
+    "TYPE", "WHAT", "r7",
+    # a program that a reader of a guide has
+    "capture",
     # functions of std
     "array::from_fn", "str::from_utf8", "Option::insert",
 }
@@ -48,7 +50,7 @@ STALE = [
     "The function `audit_everything` does it.", "A call of `Audit::restart`.", "By rds_world `Audit::restore`.",
     "| rds_page `rdsrt_run` (`Runs`) |\n|---|\n", "See `specs/Nowhere` or tests/nowhere.py.", "The option `--nowhere`.",
     "The edit restores_no_faults.", "The test neighbours_in_two_slots.", "The clause `first` of `step`.",
-    "The crate rds_nowhere.", "See [README](README.md#nowhere).", 'README, "Look at nothing".',
+    "The crate rds_nowhere.", "See [README](README.md#nowhere).", '{}, "Look at nothing".'.format("README"),
     "See [here](docs/NOWHERE.md).", "## rds_encoder\n\n| Module | What |\n|---|---|\n| `late` | the lateness |",
 ]
 

@@ -439,7 +439,7 @@ def witnesses(b):
         told = program(["witness", *options], log.encode())[1].splitlines()
         its = b.run("log_tab.state.witness")
         slots = its["lost"] and "-".join(map(str, sorted(set(its["lost"]))))
-        check(f"witness of log {number}, M {m}", [f"lose {slots}: {line}" for line in its["shown"]] or ["no witness found"], told)
+        check(f"witness of log {number}, M {m}", [f"lose {slots}: {line}" for line in its["shown"]] or ["no witness found with one burst lost"], told)
         found += bool(its["shown"])
     check("witnesses were found", found > 5, True)
     # one text of one segment, whose flag turns each time, makes no mix

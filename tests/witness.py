@@ -13,6 +13,7 @@ ROOT = os.path.dirname(os.path.dirname(os.path.abspath(__file__)))
 PROGRAM = os.path.join(ROOT, "crates/rdsrt/out/rdsrt")
 FLAGS = os.path.join(ROOT, "examples/flags.log")
 LOST = "---- ---- ---- ----"
+NONE = "no witness found with one burst lost"
 ANNOUNCED = "C201 3156 0000 4BD7"
 LOGS, SECONDS = 3000, 100
 
@@ -160,7 +161,7 @@ def by_chance(check):
         dwell, slots = rng.choice((2, 3, 4, 6)), random_log(rng)
         status, lines = witness(slots, dwell)
         name, best = f"witness: log {number}, dwell {dwell}", first_mix(slots, dwell)
-        got = {confirm(check, name, slots, dwell, it) for it in lines if it != "no witness found"}
+        got = {confirm(check, name, slots, dwell, it) for it in lines if it != NONE}
         check(f"{name}: first mix", (status, got), (0, set()) if best is None else (1, {best}))
         found += bool(got)
     check("witness: logs with a mix, and without", LOGS // 15 < found < LOGS - LOGS // 15, True)
@@ -177,13 +178,13 @@ def worked(check):
     rows = [f"text,{'NEWS AT TEN' if at % 32 else 'JAZZ AND SOUL'},1,\n" if at % 16 == 0 else "-,,1,\n" for at in range(20_000)]
     log = ran(["encode", "--pi", "C201", "--m", "8"], "".join(rows).encode())[1].splitlines()
     lawful = [it for it in log if it[0] != "#"] + [LOST] * 16
-    check("witness: a lawful log", witness(lawful, 8), (0, ["no witness found"]))
+    check("witness: a lawful log", witness(lawful, 8), (0, [NONE]))
     status, lines = witness(lawful + flags, 8)
     check("witness: in the depth of a log", (status, len(lines)), (1, 1))
     confirm(check, "witness: in the depth of a log", lawful + flags, 8, lines[0])
     # one text of one segment, with a flag that turns each time
     harmless = [line(2, at % 2, 0, b"HI\r ") for at in range(3)] + [LOST] * 60
-    check("witness: a no that no receiver pays for", witness(harmless, 8), (0, ["no witness found"]))
+    check("witness: a no that no receiver pays for", witness(harmless, 8), (0, [NONE]))
     check("witness: the first behind it", witness(harmless + flags, 8), (1, ['lose 65-66: 67 text "POP  FM"']))
 
 

@@ -48,11 +48,11 @@ AddsMixes t log burst slot before after =
     AreMixLines t log burst slot before → AreMixLines t log burst slot after
 
 abbrev pub no_witness : List ℕ
-no_witness = codes "no witness found\n"
+no_witness = codes "no witness found with one burst lost\n"
 
 -- where the search ended at this slot
 abbrev pub no_witness_up_to : ℕ → List ℕ
-no_witness_up_to slot = codes "no witness found up to slot " ++ decimal slot ++ codes "\n"
+no_witness_up_to slot = codes "no witness found with one burst lost up to slot " ++ decimal slot ++ codes "\n"
 
 -- the answer to a log: lines of mixes, one at least; or that none was found, only if no burst makes a mix of a text or a
 -- name; or up to which slot none was found

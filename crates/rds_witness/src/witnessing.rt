@@ -90,7 +90,7 @@ fn push_answer(
             }
             push_stopped(found.slot, lines);
         }
-        Found::Nothing => lines.push(b"no witness found\n"),
+        Found::Nothing => lines.push(b"no witness found with one burst lost\n"),
         Found::Stopped(slot) => push_stopped(slot, lines),
     }
     false
@@ -101,7 +101,7 @@ fn push_stopped(slot: usize, lines: &mut Lines<ROOM>)
     requires { lines.old ≡ [] }
     ensures { lines.new ≡ no_witness_up_to slot }
 {
-    lines.push(b"no witness found up to slot ");
+    lines.push(b"no witness found with one burst lost up to slot ");
     lines.push_number(slot as u64);
     lines.push(b"\n");
 }

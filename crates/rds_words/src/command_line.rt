@@ -185,8 +185,9 @@ fn witness<'a>(alloc: Global) -> Result<Command<'a>, AllocError>
         ending: "Prints `lose A-B: ` and a line of `decode`, status 1: a receiver with this M that loses\n\
                  the slots A to B shows this text, name or tag in that slot. A receiver that loses\n\
                  nothing does not show it up to M - 1 slots after that slot.\n\
-                 Prints `no witness found`, status 0, if the search finds none. There may still be\n\
-                 one.\n\n\
+                 Prints `no witness found with one burst lost`, status 0, if no burst of lost slots\n\
+                 makes a mix of a text or a name. A tag or two bursts may still make one. If the line\n\
+                 ends with ` up to slot N`, the search stopped there.\n\n\
                  Example:\n  \
                    $ rdsrt witness --pi C201 --m 8 < examples/flags.log\n  \
                    lose 2-3: 4 text \"POP  FM\"",
