@@ -11,10 +11,12 @@
 //! ```
 #![tactic(auto)]
 
+mod blocks;
 mod group;
 mod laws;
 mod place;
 
+pub use blocks::Blocks;
 pub use group::Group;
 pub use laws::words_are_one_to_one;
 pub use place::Place;

@@ -13,6 +13,7 @@
 
 mod dwell;
 mod head;
+mod kinds;
 mod late;
 mod laws;
 mod message;
@@ -23,6 +24,7 @@ mod tag;
 
 pub use dwell::Dwell;
 pub use head::Head;
+pub use kinds::{Announced, Characters};
 pub use late::Late;
 pub use laws::{one_group, one_message};
 pub use message::Message;

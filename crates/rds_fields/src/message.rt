@@ -8,16 +8,16 @@ use crate::{Head, TagPair};
 use rds_block::{Group, Place};
 
 /// The number of the groups that carry RadioText.
-const RADIOTEXT: u8 = 2;
+pub(crate) const RADIOTEXT: u8 = 2;
 
 /// The number of the groups that announce an application.
-const ANNOUNCEMENT: u8 = 3;
+pub(crate) const ANNOUNCEMENT: u8 = 3;
 
 /// The number of the groups that carry the name of the programme type.
-const TYPE_NAME: u8 = 10;
+pub(crate) const TYPE_NAME: u8 = 10;
 
 /// The number of the groups that carry tags of RadioText Plus.
-const RADIOTEXT_PLUS: u8 = 11;
+pub(crate) const RADIOTEXT_PLUS: u8 = 11;
 
 /// What a group says (IEC 62106, groups 2A, 3A and 10A; IEC 62106-6, RadioText Plus on 11A).
 #[derive(Clone, Copy, Debug, PartialEq, Eq)]
@@ -143,7 +143,7 @@ fn blocks_of(bytes: [u8; 4]) -> (u16, u16)
 }
 
 /// The four bytes of two words, high byte first.
-fn bytes_of(c: u16, d: u16) -> [u8; 4]
+pub(crate) fn bytes_of(c: u16, d: u16) -> [u8; 4]
     ensures { Carries c d result }
 {
     [

@@ -118,7 +118,7 @@ impl TagPair {
     }
 
     /// The pair that 37 bits spell.
-    fn from_bits(bits: u64) -> TagPair
+    pub(crate) fn from_bits(bits: u64) -> TagPair
         requires { bits < 2 ^ 37 }
         ensures { (s : Sent) × SpellsPair result bits s }
     {

@@ -1,0 +1,110 @@
+//! A group by its four blocks.
+ghost use Rattle.std.specs.Prelude.{◌≡◌, ◌+◌, ◌*◌, ◌^◌, ◌<◌};
+ghost use Rattle.std.specs.Int.{from_bool};
+
+use crate::Group;
+use std::marker::Model;
+
+/// A group as it is received: its four blocks in one number, block 1 in the highest bits. Callers see the group.
+///
+/// What is asked of it is read by a shift where it is asked, so that no field is packed to hand the group on.
+#[derive(Clone, Copy)]
+pub struct Blocks {
+    bits: u64,
+}
+
+impl Model for Blocks {
+    ghost use Rattle.rds_block.specs.declared.group.Group.{Group};
+    ghost use Rattle.rds_block.specs.Bits.{bits_again, bits_of, group_in};
+
+    ghost Value = { Group };
+
+    ghost view = { λ b. group_in b.bits };
+
+    ghost inverse = { λ g. record { bits = bits_of g } };
+
+    ghost inverse_ok = { λ b h i. record { bits = bits_again b.bits i } };
+}
+
+impl Blocks {
+    ghost use Rattle.rds_block.specs.Words.{AreWordsOf};
+
+    /// The group that the four words carry.
+    #[inline(always)]
+    pub fn new(words: [u16; 4]) -> Blocks
+        ensures words { AreWordsOf words result }
+    {
+        let [pi, second, c, d] = words;
+        Blocks {
+            bits: u64::from(pi) << 48 | u64::from(second) << 32 | u64::from(c) << 16 | u64::from(d),
+        }
+    }
+
+    /// The group, by its fields.
+    pub fn group(self) -> Group
+        ensures same { result ≡ self }
+    {
+        let second = (self.bits >> 32 & 0xFFFF) as u16;
+        Group::from_blocks([self.pi(), second, self.c(), self.d()])
+    }
+
+    /// The programme identification.
+    #[inline(always)]
+    pub fn pi(self) -> u16
+        ensures { result ≡ self.pi }
+    {
+        (self.bits >> 48) as u16
+    }
+
+    /// The group type: twice its number, and one more for version B.
+    #[inline(always)]
+    pub fn kind(self) -> u8
+        ensures { result ≡ 2 * self.number + from_bool self.version }
+    {
+        (self.bits >> 43 & 0x1F) as u8
+    }
+
+    /// The five low bits of block 2.
+    #[inline(always)]
+    pub fn low(self) -> u8
+        ensures value { result ≡ self.low }
+        ensures below { result < 32 }
+    {
+        (self.bits >> 32 & 0x1F) as u8
+    }
+
+    /// Block 3.
+    #[inline(always)]
+    pub fn c(self) -> u16
+        ensures { result ≡ self.c }
+    {
+        (self.bits >> 16 & 0xFFFF) as u16
+    }
+
+    /// Block 4.
+    #[inline(always)]
+    pub fn d(self) -> u16
+        ensures { result ≡ self.d }
+    {
+        (self.bits & 0xFFFF) as u16
+    }
+
+    /// The five low bits of block 2 with the blocks 3 and 4 behind them.
+    #[inline(always)]
+    pub fn content(self) -> u64
+        ensures value { result ≡ 2 ^ 32 * self.low + 2 ^ 16 * self.c + self.d }
+        ensures third { self.c < 2 ^ 16 }
+        ensures fourth { self.d < 2 ^ 16 }
+    {
+        self.bits & 0x1F_FFFF_FFFF
+    }
+}
+
+impl Group {
+    /// The group by its blocks.
+    pub fn blocks(&self) -> Blocks
+        ensures { result ≡ self.now }
+    {
+        Blocks::new(self.to_blocks())
+    }
+}
