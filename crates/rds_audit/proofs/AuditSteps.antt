@@ -1,16 +1,17 @@
 -- How an audit goes on from log to log.
-use Rattle.std.proofs.Common.{◌≡◌, ◌∷◌, ℕ, List, Option, Some, None, refl, sym, ◌∙◌, subst, inl, inr}
-use Rattle.std.specs.Prelude.{MatchOption}
+use Rattle.std.proofs.Common.{◌≡◌, ◌∷◌, ℕ, List, Option, Some, None, Ok, Err, refl, sym, ◌∙◌, subst, inl, inr}
+use Rattle.std.specs.Prelude.{IfErr, IfOk, MatchOption, Result}
 use Rattle.rds_block.specs.declared.group.Group.{Group}
 use Rattle.rds_fields.specs.declared.message.Message.{Message}
+use Rattle.rds_fields.specs.Tag.{PairFields}
 use Rattle.rds_receiver.specs.Receipts.{Hears}
 use Rattle.rds_audit.specs.declared.audit_fault.AuditFault.{AuditFault}
 use Rattle.rds_audit.specs.Ages.{aged}
-use Rattle.rds_audit.specs.AuditStandsAt.{AuditStandsAt, HoldsLog, HoldsMarks, HoldsSlot}
+use Rattle.rds_audit.specs.AuditStandsAt.{AuditStandsAt, HoldsLog, HoldsMarks, HoldsNewest, HoldsSlot, Judges}
 use Rattle.rds_audit.specs.AuditState.{AuditState, ReignsState}
-use Rattle.rds_audit.specs.Lengths.{name_gauge, text_gauge}
-use Rattle.rds_safety.specs.Marks.{marks, name_mark, text_mark}
-use Rattle.rds_audit.specs.Rules.{BreaksFirst, IsFaultOf, LogPasses}
+use Rattle.rds_audit.specs.Lengths.{Gauge, name_gauge, text_gauge}
+use Rattle.rds_safety.specs.Marks.{IsMarkIn, Mark, Nothing, Tagged, marks, name_mark, text_mark}
+use Rattle.rds_audit.specs.Rules.{BreaksFirst, IsAfterFragment, IsBrokenBy, IsFaultOf, LogPasses}
 use Rattle.rds_audit.proofs.ReignSteps.{slot_ended}
 
 pub log_passes : (d : ℕ) (heard : List (Option Message)) (a : AuditState) → HoldsLog d heard a → LogPasses d heard
@@ -68,4 +69,52 @@ pub ended : (d : ℕ) (heard : List (Option Message)) (message : Option Message)
 ended d heard message a after e f h = record {
   text = subst (λ (st : ReignsState). HoldsMarks text_gauge d (marks text_mark (message ∷ heard)) st) (sym e) (slot_ended text_gauge d (text_mark message) (marks text_mark heard) a.text h.text);
   name = subst (λ (st : ReignsState). HoldsMarks name_gauge d (marks name_mark (message ∷ heard)) st) (sym f) (slot_ended name_gauge d (name_mark message) (marks name_mark heard) a.name h.name);
+}
+
+-- nothing of a service was sent in a slot
+nothing_sent : (g : Gauge) (d : ℕ) (sent : List Mark) (st : ReignsState) → HoldsMarks g d sent st → HoldsNewest g d Nothing sent st
+nothing_sent g d sent st h = record {
+  ages = h.ages;
+  content = h.content;
+  passes = record { reigns = h.passes.reigns; tagged = tagged };
+}
+  where
+    tagged : (t : ℕ) (pair : PairFields) → IsMarkIn (Nothing ∷ sent) t (Tagged pair) → IsAfterFragment (Nothing ∷ sent) t
+    tagged t pair (inl s) = absurd (let none = s.1 in cc)
+    tagged t pair (inr s) =
+        let a = h.passes.tagged t pair s in
+        record { slot = a.slot; fragment = a.fragment; is_sent = inr a.is_sent; before = a.before }
+
+-- what the reigns of a service answer to a mark
+pub record Answers (g : Gauge) (d : ℕ) (mark : Mark) (before after : ReignsState) (result : Result (Unit {0}) AuditFault) : Type 0 where
+  pub holds : (sent : List Mark) → HoldsMarks g d sent before → IfOk result (λ _. HoldsNewest g d mark sent after)
+  pub breaks : (sent : List Mark) → HoldsMarks g d sent before → IfErr result (λ fault. IsBrokenBy d g.kind mark sent fault)
+
+-- a message of the texts alone, and one of the names alone
+pub texts_judge : (r : Result (Unit {0}) AuditFault) (a after : AuditState) (message : Option Message) → name_mark message ≡ Nothing → after.name ≡ a.name
+    → Answers text_gauge a.distance (text_mark message) a.text after.text r → Judges a after message r
+texts_judge (Ok done) a after message silent same answers = record {
+  holds = λ heard h. record {
+    text = answers.holds (marks text_mark heard) h.text;
+    name = rw (silent, same) (nothing_sent name_gauge a.distance (marks name_mark heard) a.name h.name);
+  };
+  breaks = λ heard h. tt;
+}
+texts_judge (Err fault) a after message silent same answers = record {
+  holds = λ heard h. tt;
+  breaks = λ heard h. inl (answers.breaks (marks text_mark heard) h.text);
+}
+
+pub names_judge : (r : Result (Unit {0}) AuditFault) (a after : AuditState) (message : Option Message) → text_mark message ≡ Nothing → after.text ≡ a.text
+    → Answers name_gauge a.distance (name_mark message) a.name after.name r → Judges a after message r
+names_judge (Ok done) a after message silent same answers = record {
+  holds = λ heard h. record {
+    text = rw (silent, same) (nothing_sent text_gauge a.distance (marks text_mark heard) a.text h.text);
+    name = answers.holds (marks name_mark heard) h.name;
+  };
+  breaks = λ heard h. tt;
+}
+names_judge (Err fault) a after message silent same answers = record {
+  holds = λ heard h. tt;
+  breaks = λ heard h. inr (answers.breaks (marks name_mark heard) h.name);
 }

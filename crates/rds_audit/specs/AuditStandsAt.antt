@@ -1,14 +1,15 @@
 -- What an audit holds after a log. Lists have the newest first.
-use Rattle.std.specs.Prelude.{◌≡◌, ◌<◌, ℕ, List, [], ◌∷◌, Option, MatchOption, length}
+use Rattle.std.specs.Prelude.{◌≡◌, ◌<◌, ℕ, List, [], ◌∷◌, Option, Result, IfErr, IfOk, MatchOption, length}
 use Rattle.rds_block.specs.declared.group.Group.{Group}
 use Rattle.rds_fields.specs.declared.message.Message.{Message}
 use Rattle.rds_receiver.specs.Receipts.{AreHeard, Fragment}
+use Rattle.rds_audit.specs.declared.audit_fault.AuditFault.{AuditFault}
 use Rattle.rds_audit.specs.Ages.{HoldsAges}
 use Rattle.rds_audit.specs.AuditState.{AuditState, ContentState, ReignsState, cell_at}
 use Rattle.rds_audit.specs.Lengths.{Gauge, lengths_of, name_gauge, sent_last, tags_end, text_gauge}
 use Rattle.rds_safety.specs.Marks.{Mark, marks, name_mark, text_mark}
 use Rattle.rds_audit.specs.Reigns.{Reign, SentTags, reigns}
-use Rattle.rds_audit.specs.Rules.{IsFaultOf, Passes}
+use Rattle.rds_audit.specs.Rules.{BreaksFirst, IsFaultOf, Passes}
 
 -- the fragments of the newest reign
 abbrev pub fragments_of : List Reign → List Fragment
@@ -64,3 +65,10 @@ pub record AuditStandsAt (pi d : ℕ) (a : AuditState) (log : List (Option Group
 -- wherever the audit stands, this holds of its number of slots and of what was heard
 abbrev pub WhereTheAuditStands : AuditState → (ℕ → List (Option Message) → Type 0) → Type 0
 WhereTheAuditStands a Holds = (pi d : ℕ) (log : List (Option Group)) (s : AuditStandsAt pi d a log) → Holds d s.heard
+
+-- an audit that held a log took this in its next slot: it holds that slot, or the slot breaks the rule of the fault
+pub record Judges (a after : AuditState) (message : Option Message) (result : Result (Unit {0}) AuditFault) : Type 0 where
+  pub holds : (heard : List (Option Message)) → HoldsLog a.distance heard a
+      → IfOk result (λ _. HoldsSlot a.distance message heard after)
+  pub breaks : (heard : List (Option Message)) → HoldsLog a.distance heard a
+      → IfErr result (λ fault. BreaksFirst a.distance message heard fault)

@@ -3,13 +3,15 @@ ghost use Rattle.std.specs.Prelude.{◌≡◌, ◌+◌, ◌<◌, ◌≤◌, ◌�
 ghost use Rattle.std.specs.Prelude.{ℕ, List, Option, Some, None, Ok, Err, IsErr, IsTrue, IfOk, IfErr, MatchResult};
 ghost use Rattle.rds_block.specs.declared.group.Group.{Group};
 ghost use Rattle.rds_fields.specs.declared.message.Message.{Message};
+ghost use Rattle.rds_fields.specs.Spells.{Spells};
+ghost use Rattle.rds_receiver.specs.Receipts.{Hears};
 ghost use Rattle.rds_audit.specs.declared.audit_fault.AuditFault.{AuditFault};
 ghost use Rattle.rds_audit.specs.AuditLaws.{IsSafeLog};
-ghost use Rattle.rds_audit.specs.AuditStandsAt.{AuditStandsAt, HoldsLog, HoldsSlot, WhereTheAuditStands};
+ghost use Rattle.rds_audit.specs.AuditStandsAt.{AuditStandsAt, HoldsLog, HoldsSlot, Judges, WhereTheAuditStands};
 ghost use Rattle.rds_audit.specs.Dense.{HasPlans};
 ghost use Rattle.rds_audit.specs.FlagLaws.{NamesAreSafeByFlag, TextsAreSafeByFlag};
 ghost use Rattle.rds_audit.specs.Reigns.{AlternateFlags, reigns};
-ghost use Rattle.rds_audit.specs.Rules.{BreaksFirst, IsFaultOf, LogPasses};
+ghost use Rattle.rds_audit.specs.Rules.{IsFaultOf, LogPasses};
 ghost use Rattle.rds_audit.specs.Stored.{IsStored, audit_stored};
 ghost use Rattle.rds_safety.specs.Marks.{marks, name_mark, text_mark};
 
@@ -19,7 +21,7 @@ use crate::stored::StoredAudit;
 use crate::{
     AuditFault, one_fault, passes_by_plans, what_passes_is_safe, what_passes_is_safe_by_the_flag,
 };
-use rds_block::Group;
+use rds_block::{Blocks, Group};
 use rds_encoder::Distance;
 use rds_fields::{Dwell, Late, Message};
 use rds_receiver::heard;
@@ -116,11 +118,31 @@ impl Audit {
         ensures again { (fault : AuditFault) → self.old.fault ≡ Some fault
             → (result ≡ Err fault) × (self.new ≡ self.old) }
     {
-        let message = heard(self.pi, group);
+        match group {
+            Some(group) => self.slot_blocks(Some(group.blocks())),
+            None => self.slot_blocks(None),
+        }
+    }
+
+    /// [`slot`](Self::slot) of a group by its blocks: what it says is taken where it is read, with no message put
+    /// together.
+    #[inline(always)]
+    pub fn slot_blocks(&mut self, group: Option<Blocks>) -> Result<(), AuditFault>
+        ensures stands { (pi d : ℕ) (log : List (Option Group))
+            → AuditStandsAt pi d self.old log → AuditStandsAt pi d self.new (group ∷ log) }
+        ensures fault { MatchResult result
+            (λ _. self.new.fault ≡ None) (λ fault. self.new.fault ≡ Some fault) }
+        ensures which { WhereTheAuditStands self.new (λ d heard.
+            MatchResult result (λ _. LogPasses d heard) (λ fault. IsFaultOf d heard fault)) }
+        ensures again { (fault : AuditFault) → self.old.fault ≡ Some fault
+            → (result ≡ Err fault) × (self.new ≡ self.old) }
+    {
         if let Some(known) = self.fault {
+            // it names what is heard of the slot, which the log goes on with; nothing of it is kept
+            heard(self.pi, group_of(group));
             return Err(known);
         }
-        if let Err(fault) = self.take_slot(message) {
+        if let Err(fault) = self.take_slot(group) {
             self.fault = Some(fault);
             return Err(fault);
         }
@@ -171,46 +193,46 @@ impl Audit {
     }
 
     /// Takes what was sent in this slot.
-    fn take_slot(&mut self, message: Option<Message>) -> Result<(), AuditFault>
+    #[inline(always)]
+    fn take_slot(&mut self, group: Option<Blocks>) -> Result<(), AuditFault>
         ensures programme { self.new.programme ≡ self.old.programme }
         ensures distance { self.new.distance ≡ self.old.distance }
         ensures fault { self.new.fault ≡ self.old.fault }
-        ensures holds { (heard : List (Option Message)) → HoldsLog self.old.distance heard self.old
-            → IfOk result (λ _. HoldsSlot self.old.distance message heard self.new) }
-        ensures breaks { (heard : List (Option Message)) → HoldsLog self.old.distance heard self.old
-            → IfErr result (λ fault. BreaksFirst self.old.distance message heard fault) }
+        ensures takes { (message : Option Message) × Hears self.old.programme group message
+            × Judges self.old self.new message result }
     {
-        match message {
-            Some(message) => self.hear(message),
-            None => Ok(()),
+        let Some(group) = group else {
+            return Ok(());
+        };
+        if group.pi() != self.pi {
+            return Ok(());
         }
+        self.hear(group)
     }
 
-    /// Takes a message that was sent in this slot.
-    fn hear(&mut self, message: Message) -> Result<(), AuditFault>
+    /// Takes a group of the programme that was sent in this slot.
+    #[inline(always)]
+    fn hear(&mut self, group: Blocks) -> Result<(), AuditFault>
         ensures programme { self.new.programme ≡ self.old.programme }
         ensures distance { self.new.distance ≡ self.old.distance }
         ensures fault { self.new.fault ≡ self.old.fault }
-        ensures holds { (heard : List (Option Message)) → HoldsLog self.old.distance heard self.old
-            → IfOk result (λ _. HoldsSlot self.old.distance (Some message) heard self.new) }
-        ensures breaks { (heard : List (Option Message)) → HoldsLog self.old.distance heard self.old
-            → IfErr result (λ fault. BreaksFirst self.old.distance (Some message) heard fault) }
+        ensures takes { (message : Message) × Spells message group
+            × Judges self.old self.new (Some message) result }
     {
         let distance = self.distance;
-        match message {
-            Message::Text {
-                flag,
-                address,
-                bytes,
-            } => self.text.take(distance, flag, address.get(), bytes),
-            Message::Name {
-                flag,
-                address,
-                bytes,
-            } => self.name.take(distance, flag, address.get(), bytes),
-            Message::Tags(pair) => self.text.take_tags(distance, pair),
-            Message::Announce { .. } | Message::Other => Ok(()),
+        if let Some(it) = Message::text_in(group) {
+            return self.text.take(distance, it.flag, it.address, it.bytes);
         }
+        if let Some(it) = Message::name_in(group) {
+            return self.name.take(distance, it.flag, it.address, it.bytes);
+        }
+        if let Some(pair) = Message::tags_in(group) {
+            return self.text.take_tags(distance, pair);
+        }
+        if let Some(_) = Message::announced_in(group) {
+            return Ok(());
+        }
+        Ok(())
     }
 
     /// The slot ends.
@@ -226,4 +248,11 @@ impl Audit {
         self.text.grow_older(distance);
         self.name.grow_older(distance);
     }
+}
+
+/// What came in a slot, by its fields.
+fn group_of(group: Option<Blocks>) -> Option<Group>
+    ensures { result ≡ group }
+{
+    Some(group?.group())
 }
