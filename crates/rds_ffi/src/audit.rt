@@ -57,7 +57,7 @@ pub extern "C" fn rdsrt_audit_slot(audit: &mut StoredAudit, blocks: &[u16]) -> u
         return codes::BAD_ARGUMENT;
     };
     let mut inner = Audit::restore(audit);
-    let found = inner.slot(slot);
+    let found = inner.slot_blocks(slot);
     *audit = inner.store();
     told(found)
 }

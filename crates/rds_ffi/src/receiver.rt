@@ -2,7 +2,7 @@
 ghost use Rattle.std.specs.Prelude.{◌≡◌, ◌≢◌, ◌<◌, ◌≤◌, ◌↔◌, ◌⊎◌, ℕ, IsFalse, IsTrue, List, [], ◌∷◌, Option};
 ghost use Rattle.rds_block.specs.declared.group.Group.{Group};
 ghost use Rattle.rds_fields.specs.declared.message.Message.{Message};
-ghost use Rattle.rds_receiver.specs.Receipts.{AreHeard, Hears};
+ghost use Rattle.rds_receiver.specs.Receipts.{AreHeard};
 ghost use Rattle.rds_receiver.specs.Shown.{IsView, ShownView};
 ghost use Rattle.rds_receiver.specs.Tags.{pair_held};
 ghost use Rattle.rds_ffi.specs.Codes.{RDSRT_BAD_ARGUMENT, RDSRT_CHANGED, RDSRT_OK};
@@ -13,8 +13,9 @@ ghost use Rattle.rds_ffi.specs.Viewed.{AreTagsOf, IsPlainView, viewed};
 use crate::codes;
 use crate::slots::brought;
 use crate::view::{RdsrtView, seen};
-use rds_fields::{Dwell, Message};
-use rds_receiver::{Receiver, StoredReceiver, heard};
+use rds_block::Blocks;
+use rds_fields::Dwell;
+use rds_receiver::{Receiver, StoredReceiver};
 
 /// Makes a receiver of this programme that heard nothing yet; the dwell is in slots.
 ///
@@ -55,25 +56,24 @@ pub extern "C" fn rdsrt_receiver_slot(receiver: &mut StoredReceiver, blocks: &[u
     let Ok(slot) = brought(blocks) else {
         return codes::BAD_ARGUMENT;
     };
-    let message = heard(receiver.programme, slot);
-    if receiver.rest(&message) {
+    // a copy by a name of its own: what is passed on may not have been lent
+    let given = slot;
+    if receiver.rest(given) {
         return codes::DONE;
     }
-    go_on(receiver, message)
+    go_on(receiver, slot)
 }
 
 /// Handles a slot by a receiver that is made for it. It is never inlined, so that a slot that rests pays nothing for it.
 #[inline(never)]
-fn go_on(receiver: &mut StoredReceiver, message: Option<Message>) -> u32
+fn go_on(receiver: &mut StoredReceiver, slot: Option<Blocks>) -> u32
     ensures few { (result ≡ RDSRT_OK) ⊎ (result ≡ RDSRT_CHANGED) }
-    ensures stands { WhereItLies receiver.old (λ t input. (slot : Option Group)
-        → Hears t.programme slot message → ReceiverLies t receiver.new (slot ∷ input)) }
-    ensures same { result ≡ RDSRT_OK → (view : ShownView) → WhereItLies receiver.old (λ t input.
-        (slot : Option Group) → Hears t.programme slot message
-        → IsView t input view → IsView t (slot ∷ input) view) }
+    ensures stands { WhereItLies receiver.old (λ t input. ReceiverLies t receiver.new (slot ∷ input)) }
+    ensures same { result ≡ RDSRT_OK → (view : ShownView) → WhereItLies receiver.old
+        (λ t input. IsView t input view → IsView t (slot ∷ input) view) }
 {
     let mut inner = Receiver::restore(receiver);
-    let changed = inner.slot_message(message);
+    let changed = inner.slot_blocks(slot);
     *receiver = inner.store();
     told(changed)
 }

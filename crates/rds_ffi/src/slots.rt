@@ -2,14 +2,14 @@
 ghost use Rattle.std.specs.Prelude.{◌↔◌, IfOk, IsOk};
 ghost use Rattle.rds_ffi.specs.Slots.{Bring, IsCount};
 
-use rds_block::Group;
+use rds_block::Blocks;
 
 /// The blocks of a slot are neither none nor four.
 #[derive(Clone, Copy)]
 pub(crate) struct BadCount;
 
 /// What the blocks bring.
-pub(crate) fn brought(blocks: &[u16]) -> Result<Option<Group>, BadCount>
+pub(crate) fn brought(blocks: &[u16]) -> Result<Option<Blocks>, BadCount>
     ensures count { IsOk result ↔ IsCount blocks.now }
     ensures value { IfOk result (Bring blocks.now) }
 {
@@ -20,5 +20,5 @@ pub(crate) fn brought(blocks: &[u16]) -> Result<Option<Group>, BadCount>
         return Err(BadCount);
     }
     let four = [blocks[0], blocks[1], blocks[2], blocks[3]];
-    Ok(Some(Group::from_blocks(four)))
+    Ok(Some(Blocks::new(four)))
 }

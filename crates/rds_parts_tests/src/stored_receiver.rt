@@ -2,7 +2,7 @@
 
 use crate::same::same;
 use rds_block::Group;
-use rds_fields::{Dwell, Message, StoredPair};
+use rds_fields::{Dwell, StoredPair};
 use rds_receiver::{Receiver, StoredReceiver, StoredSegments};
 use std::test::Fail;
 
@@ -27,12 +27,13 @@ fn rests_until_something_is_given_up(rt: HostRuntime) -> Result<(), Fail> {
     let group = Group::from_blocks([0xC201, 0x2140, 0x4849, 0x0D20]);
     receiver.slot(Some(group));
     let other_group = Group::from_blocks([0xC201, 0x2140, 0x484F, 0x0D20]);
+    let clock = Group::from_blocks([0xC201, 0x4141, 0xD5A2, 0x0000]);
     let mut stored = receiver.store();
-    let segment = stored.rest(&Some(Message::of(&other_group)));
-    let again = stored.rest(&Some(Message::of(&group)));
-    let nothing = stored.rest(&None);
-    let other = stored.rest(&Some(Message::Other));
-    let given_up = stored.rest(&None);
+    let segment = stored.rest(Some(other_group.blocks()));
+    let again = stored.rest(Some(group.blocks()));
+    let nothing = stored.rest(None);
+    let other = stored.rest(Some(clock.blocks()));
+    let given_up = stored.rest(None);
     let answers = (segment, again, nothing, other, given_up);
     same(&rt, answers, (false, true, true, true, false));
     same(&rt, stored.text.age, 2);

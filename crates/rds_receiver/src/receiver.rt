@@ -4,6 +4,7 @@ ghost use Rattle.std.specs.Prelude.{ℕ, Bool, List, Option, Some, None, IsFalse
 ghost use Rattle.std.specs.Option.{option_copied};
 ghost use Rattle.rds_block.specs.declared.group.Group.{Group};
 ghost use Rattle.rds_fields.specs.declared.message.Message.{Message};
+ghost use Rattle.rds_fields.specs.Spells.{Spells};
 ghost use Rattle.rds_receiver.specs.Lent.{tag_lent, view_lent};
 ghost use Rattle.rds_receiver.specs.Receipts.{Hears};
 ghost use Rattle.rds_receiver.specs.Shown.{IsItemShown, IsNameShown, IsTagShown, IsTextShown, IsView, ShownView};
@@ -17,7 +18,7 @@ use crate::View;
 use crate::held::Held;
 use crate::stored::StoredReceiver;
 use rds_assembly::{RadioText, TypeName};
-use rds_block::Group;
+use rds_block::{Blocks, Group};
 use rds_fields::{Dwell, Message, RTPLUS_AID, RTPLUS_CODE, StoredPair, TagPair, Which};
 use std::marker::Model;
 
@@ -109,20 +110,35 @@ impl Receiver {
         }
     }
 
-    /// Handles what one slot brought: a group, or nothing. Each slot has one call, of this or of `slot_message`.
-    /// False where the view is what it was in the slot before.
-    #[inline(always)]
+    /// Handles what one slot brought: a group, or nothing. Each slot has one call, of this, of `slot_blocks` or of
+    /// `slot_message`. False where the view is what it was in the slot before.
     pub fn slot(&mut self, group: Option<Group>) -> bool
         ensures stands { WhereItStands self.old (λ t input. StandsAt t self.new (group ∷ input)) }
         ensures same { IsFalse result → (view : ShownView)
             → WhereItStands self.old (λ t input. IsView t input view → IsView t (group ∷ input) view) }
     {
-        // the group is read after the ages grew, so that what is heard is taken where it is read
+        match group {
+            Some(group) => self.slot_blocks(Some(group.blocks())),
+            None => self.slot_blocks(None),
+        }
+    }
+
+    /// [`slot`](Self::slot) of a group by its blocks: what it says is taken where it is read, with no message put
+    /// together.
+    #[inline(always)]
+    pub fn slot_blocks(&mut self, group: Option<Blocks>) -> bool
+        ensures stands { WhereItStands self.old (λ t input. StandsAt t self.new (group ∷ input)) }
+        ensures same { IsFalse result → (view : ShownView)
+            → WhereItStands self.old (λ t input. IsView t input view → IsView t (group ∷ input) view) }
+    {
         let aged = self.grow_older();
-        let Some(message) = heard(self.pi, group) else {
+        let Some(group) = group else {
             return aged;
         };
-        let is_new = self.hear(message);
+        if group.pi() != self.pi {
+            return aged;
+        }
+        let is_new = self.hear_blocks(group);
         is_new || aged
     }
 
@@ -248,6 +264,28 @@ impl Receiver {
             Message::Tags(pair) => self.hear_tags(pair),
             Message::Other => false,
         }
+    }
+
+    /// Handles a group of the programme. False where all that is shown stays.
+    #[inline(always)]
+    fn hear_blocks(&mut self, group: Blocks) -> bool
+        ensures programme { self.new.programme ≡ self.old.programme }
+        ensures holds { (message : Message) × Spells message group × HearsMore self.old self.new message }
+        ensures same { IsFalse result → ShowsAlike self.old self.new }
+    {
+        if let Some(it) = Message::text_in(group) {
+            return self.hear_text(it.flag, it.address, it.bytes);
+        }
+        if let Some(it) = Message::name_in(group) {
+            return self.name.take(it.flag, it.address, it.bytes);
+        }
+        if let Some(it) = Message::announced_in(group) {
+            return self.hear_announcement(it.code, it.aid);
+        }
+        if let Some(pair) = Message::tags_in(group) {
+            return self.hear_tags(pair);
+        }
+        false
     }
 
     /// Takes a segment of a text; the tags of a text with the other flag are dropped.

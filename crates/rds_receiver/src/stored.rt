@@ -1,12 +1,12 @@
 //! All that a receiver holds, as plain numbers, which another program can hold.
 ghost use Rattle.std.specs.Prelude.{◌≡◌, ◌+◌, ◌<◌, ◌≤◌, ◌∷◌, ◌↔◌, ℕ, IsFalse, IsTrue, List, None, Option, Some, length};
-ghost use Rattle.rds_block.specs.declared.group.Group.{Group};
 ghost use Rattle.rds_fields.specs.declared.message.Message.{Message};
-ghost use Rattle.rds_receiver.specs.Receipts.{Hears};
+ghost use Rattle.rds_fields.specs.Spells.{Spells};
 ghost use Rattle.rds_receiver.specs.Shown.{IsView, ShownView};
 ghost use Rattle.rds_receiver.specs.StandsAt.{GoesOn, HoldsAlready, HoldsAt, ShowsAlike, StandsAt, WhereItStands, newest_slot};
 ghost use Rattle.rds_receiver.specs.Stored.{IsStored, receiver_stored, segments_stored};
 
+use rds_block::Blocks;
 use rds_fields::{Message, StoredPair};
 
 /// The segments of one service that are held: segment a stands at the places 4 * a to 4 * a + 3 of the bytes, and
@@ -64,36 +64,49 @@ pub struct StoredReceiver {
 }
 
 impl StoredReceiver {
-    /// Takes a slot that leaves nothing but the ages to change, without a receiver that is made for it: nothing is
-    /// heard in it, or a segment that is held, or no text, name, tags or announcement, and nothing is given up. False,
-    /// and no change, in any other slot.
-    pub fn rest(&mut self, message: &Option<Message>) -> bool
-        ensures stands { IsTrue result → WhereItStands (receiver_stored self.old) (λ t input.
-            (group : Option Group) → Hears t.programme group message.now
-            → StandsAt t (receiver_stored self.new) (group ∷ input)) }
+    /// Takes a slot that leaves nothing but the ages to change, without a receiver that is made for it: no group of the
+    /// programme came in it, or a segment that is held, or no text, name, tags or announcement, and nothing is given
+    /// up. False, and no change, in any other slot.
+    pub fn rest(&mut self, group: Option<Blocks>) -> bool
+        ensures stands { IsTrue result → WhereItStands (receiver_stored self.old)
+            (λ t input. StandsAt t (receiver_stored self.new) (group ∷ input)) }
         ensures same { IsTrue result → (view : ShownView) → WhereItStands (receiver_stored self.old)
-            (λ t input. (group : Option Group) → Hears t.programme group message.now
-            → IsView t input view → IsView t (group ∷ input) view) }
+            (λ t input. IsView t input view → IsView t (group ∷ input) view) }
         ensures good { IsStored self.old → IsStored self.new }
         ensures kept { IsFalse result → self.new ≡ self.old }
     {
-        let Some(message) = message else {
+        let Some(group) = group else {
             return self.grow_older();
         };
-        match message {
-            Message::Text {
-                flag,
-                address,
-                bytes,
-            } => self.rest_text(*flag, address.get(), *bytes),
-            Message::Name {
-                flag,
-                address,
-                bytes,
-            } => self.rest_name(*flag, address.get(), *bytes),
-            Message::Other => self.grow_older(),
-            Message::Announce { .. } | Message::Tags(_) => false,
+        if group.pi() != self.programme {
+            return self.grow_older();
         }
+        self.rest_group(group)
+    }
+
+    /// [`rest`](Self::rest) in a slot in which a group of the programme came.
+    #[inline(always)]
+    fn rest_group(&mut self, group: Blocks) -> bool
+        ensures programme { self.new.programme ≡ self.old.programme }
+        ensures holds { IsTrue result → (message : Message) × Spells message group
+            × GoesOn (receiver_stored self.old) (receiver_stored self.new) (Some message) }
+        ensures same { IsTrue result → ShowsAlike (receiver_stored self.old) (receiver_stored self.new) }
+        ensures good { IsStored self.old → IsStored self.new }
+        ensures kept { IsFalse result → self.new ≡ self.old }
+    {
+        if let Some(it) = Message::text_in(group) {
+            return self.rest_text(it.flag, it.address, it.bytes);
+        }
+        if let Some(it) = Message::name_in(group) {
+            return self.rest_name(it.flag, it.address, it.bytes);
+        }
+        if let Some(_) = Message::announced_in(group) {
+            return false;
+        }
+        if let Some(_) = Message::tags_in(group) {
+            return false;
+        }
+        self.grow_older()
     }
 
     /// One slot older, in which a segment of a text came that is held; else false, and no change.

@@ -7,13 +7,13 @@ pub returns-clause-stands : goal.returns-clause-stands
 returns-clause-stands c good pi d log s = (
   c.in-Ok.slot,
   c.in-Ok.ensures.value,
-  back pi d _ _ _ c.store.ensures.same c.store.ensures.good (c.slot-found.ensures.stands pi d log (there pi d _ log _ c.restore-inner.ensures.same s)),
+  back pi d _ _ _ c.store.ensures.same c.store.ensures.good (c.slot_blocks-found.ensures.stands pi d log (there pi d _ log _ c.restore-inner.ensures.same s)),
 )
 
 pub returns-clause-which : goal.returns-clause-which
 returns-clause-which c good =
     lying _ _ (Tells c.told.result) (λ _. sym c.store.ensures.same)
-    (λ pi d log s. tells c.told.result d s.heard c.slot-found.result c.told.ensures.told (c.slot-found.ensures.which pi d log s))
+    (λ pi d log s. tells c.told.result d s.heard c.slot_blocks-found.result c.told.ensures.told (c.slot_blocks-found.ensures.which pi d log s))
 
 pub returns-clause-codes : goal.returns-clause-codes
-returns-clause-codes c good = (fault_in c.slot-found.result, c.told.ensures.told)
+returns-clause-codes c good = (fault_in c.slot_blocks-found.result, c.told.ensures.told)

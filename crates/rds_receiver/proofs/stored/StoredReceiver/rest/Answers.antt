@@ -1,41 +1,34 @@
-use Rattle.std.proofs.Common.{None, Some}
-use Rattle.rds_fields.specs.declared.message.Message.TheVariants.{Name, Other, Text}
+use Rattle.std.proofs.Common.{◌≡◌, ◌≢◌, None, inr, refl, arith}
 use Rattle.rds_receiver.proofs.Alike.{view_stays}
-use Rattle.rds_receiver.proofs.Steps.{nothing_heard, other_heard, slot_stands}
+use Rattle.rds_receiver.proofs.Steps.{group_goes_on, nothing_heard, slot_stands}
 use Rattle.rds_receiver.proofs.stored.StoredReceiver.rest.Goals as goal
 
 pub returns-in_default-clause-stands : goal.returns-in_default-clause-stands
-returns-in_default-clause-stands c done t input st group hears =
-    slot_stands t _ _ input group None st (rw c.in_default.is at hears) c.grow_older.ensures.programme
+returns-in_default-clause-stands c done t input st =
+    slot_stands t _ _ input c.args.group None st (rw c.in_default.is refl) c.grow_older.ensures.programme
     (nothing_heard t.dwell t.first _ st.heard (c.grow_older.ensures.holds done t.dwell t.first st.heard st.holds))
 
 pub returns-in_default-clause-same : goal.returns-in_default-clause-same
-returns-in_default-clause-same c done view t input st group hears shown =
-    view_stays t _ _ input _ view st (returns-in_default-clause-stands c done t input st group hears) (c.grow_older.ensures.same done) shown
+returns-in_default-clause-same c done view t input st shown =
+    view_stays t _ _ input _ view st (returns-in_default-clause-stands c done t input st) (c.grow_older.ensures.same done) shown
 
-pub returns-in-Other-clause-stands : goal.returns-in-Other-clause-stands
-returns-in-Other-clause-stands c done t input st group hears =
-    slot_stands t _ _ input group (Some Other) st (rw (c.in-Some.is, c.in-Other.is) at hears) c.grow_older-in-Other.ensures.programme
-    (other_heard t.dwell t.first _ st.heard (c.grow_older-in-Other.ensures.holds done t.dwell t.first st.heard st.holds))
+pub returns-then-pi-self-clause-stands : goal.returns-then-pi-self-clause-stands
+returns-then-pi-self-clause-stands c done t input st =
+    let tuned = st.tuned in
+    let other : c.in-Some.group.pi ≢ t.programme = λ e. absurd (grind (arith, tuned)) in
+    slot_stands t _ _ input c.args.group None st (rw c.in-Some.is (inr (other, refl))) c.grow_older-then-pi-self.ensures.programme
+    (nothing_heard t.dwell t.first _ st.heard (c.grow_older-then-pi-self.ensures.holds done t.dwell t.first st.heard st.holds))
 
-pub returns-in-Other-clause-same : goal.returns-in-Other-clause-same
-returns-in-Other-clause-same c done view t input st group hears shown =
-    view_stays t _ _ input _ view st (returns-in-Other-clause-stands c done t input st group hears) (c.grow_older-in-Other.ensures.same done) shown
+pub returns-then-pi-self-clause-same : goal.returns-then-pi-self-clause-same
+returns-then-pi-self-clause-same c done view t input st shown =
+    view_stays t _ _ input _ view st (returns-then-pi-self-clause-stands c done t input st) (c.grow_older-then-pi-self.ensures.same done) shown
 
-pub returns-in-Text-clause-stands : goal.returns-in-Text-clause-stands
-returns-in-Text-clause-stands c done t input st group hears =
-    slot_stands t _ _ input group (Some (Text c.in-Text.flag c.in-Text.address c.in-Text.bytes)) st (rw (c.in-Some.is, c.in-Text.is) at hears) c.rest_text.ensures.programme
-    (rw c.get.ensures.value at (c.rest_text.ensures.holds done t.dwell t.first st.heard st.holds))
+pub returns-clause-stands : goal.returns-clause-stands
+returns-clause-stands c done t input st =
+    let tuned = st.tuned in
+    let own : c.in-Some.group.pi ≡ t.programme = grind (arith, tuned) in
+    rw c.in-Some.is (group_goes_on t _ _ input c.in-Some.group st own c.rest_group.ensures.programme (c.rest_group.ensures.holds done))
 
-pub returns-in-Text-clause-same : goal.returns-in-Text-clause-same
-returns-in-Text-clause-same c done view t input st group hears shown =
-    view_stays t _ _ input _ view st (returns-in-Text-clause-stands c done t input st group hears) (c.rest_text.ensures.same done) shown
-
-pub returns-in-Name-clause-stands : goal.returns-in-Name-clause-stands
-returns-in-Name-clause-stands c done t input st group hears =
-    slot_stands t _ _ input group (Some (Name c.in-Name.flag c.in-Name.address c.in-Name.bytes)) st (rw (c.in-Some.is, c.in-Name.is) at hears) c.rest_name.ensures.programme
-    (rw c.get-in-Name.ensures.value at (c.rest_name.ensures.holds done t.dwell t.first st.heard st.holds))
-
-pub returns-in-Name-clause-same : goal.returns-in-Name-clause-same
-returns-in-Name-clause-same c done view t input st group hears shown =
-    view_stays t _ _ input _ view st (returns-in-Name-clause-stands c done t input st group hears) (c.rest_name.ensures.same done) shown
+pub returns-clause-same : goal.returns-clause-same
+returns-clause-same c done view t input st shown =
+    view_stays t _ _ input _ view st (returns-clause-stands c done t input st) (c.rest_group.ensures.same done) shown
