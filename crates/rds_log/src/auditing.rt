@@ -85,7 +85,7 @@ fn judge<R: TellingRead>(
         let LogLine::Slot(group) = line else {
             continue;
         };
-        if let Err(fault) = audit.slot(group) {
+        if let Err(fault) = audit.slot_blocks(group) {
             return Ok(Verdict::No(slots, fault));
         }
         slots += 1;

@@ -1,5 +1,5 @@
 //! All slots of a log, kept.
-ghost use Rattle.std.specs.Prelude.{◌≤◌, ◌^◌, IfErr, IfOk};
+ghost use Rattle.std.specs.Prelude.{◌≡◌, ◌≤◌, ◌^◌, IfErr, IfOk};
 ghost use Rattle.rds_charset.specs.Told.{traffic};
 ghost use Rattle.rds_log.specs.Gather.{GathersAll, GathersNone};
 ghost use Rattle.rds_log.specs.Reads.{MadeReads};
@@ -7,7 +7,7 @@ ghost use Rattle.rds_log.specs.Reads.{MadeReads};
 use crate::decoding::MOST_READS;
 use crate::log_line::LogLine;
 use crate::source::Source;
-use rds_block::Group;
+use rds_block::{Blocks, Group};
 use rds_charset::TellingRead;
 use rds_output::LogFault;
 use std::alloc::Global;
@@ -46,9 +46,16 @@ pub fn gather_within<R: TellingRead>(
         let LogLine::Slot(group) = line else {
             continue;
         };
-        if slots.push(group).is_err() {
+        if slots.push(by_fields(group)).is_err() {
             return Err(LogFault::Memory);
         }
     }
     Ok(slots)
+}
+
+/// What came in a slot, by its fields.
+fn by_fields(group: Option<Blocks>) -> Option<Group>
+    ensures { result ≡ group }
+{
+    Some(group?.group())
 }

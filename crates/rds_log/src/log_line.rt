@@ -7,7 +7,7 @@ ghost use Rattle.rds_log.specs.LogLines.{content_length};
 ghost use Rattle.rds_log.specs.LineSays.{Carry, HasDashes, IsBad, IsBlock, IsLaidOut};
 ghost use Rattle.rds_log.specs.LineSays.{IsSkipped, LineSays, SaysSlot, block_word};
 
-use rds_block::Group;
+use rds_block::Blocks;
 use rds_charset::{four_words, word_at};
 
 /// How many bytes the four blocks of a slot line and the spaces between them take.
@@ -23,7 +23,7 @@ pub(crate) enum LogLine {
     /// The line is no slot.
     Skip,
     /// The line is a slot with this group, or with none received.
-    Slot(Option<Group>),
+    Slot(Option<Blocks>),
 }
 
 /// A block of a slot line.
@@ -61,7 +61,7 @@ pub(crate) fn said_by(line: &[u8]) -> Option<LogLine>
 
 /// The group of a line with four words, as most lines are.
 #[inline(always)]
-fn group_of(line: &[u8]) -> Option<Group>
+fn group_of(line: &[u8]) -> Option<Blocks>
     ensures { IfSome result (λ group. LineSays line.now (LogLine.Slot (Some group))) }
 {
     let length = content_length(line);
@@ -69,7 +69,7 @@ fn group_of(line: &[u8]) -> Option<Group>
         return None;
     }
     let words = four_words(line)?;
-    Some(Group::from_blocks(words))
+    Some(Blocks::new(words))
 }
 
 /// What any line says. It stands apart so that most lines pay nothing for it.
@@ -122,7 +122,7 @@ fn is_laid_out(line: &[u8], length: usize) -> bool
 }
 
 /// What the four blocks of the line carry; `None` where one of them is no block.
-fn slot_of_blocks(line: &[u8]) -> Option<Option<Group>>
+fn slot_of_blocks(line: &[u8]) -> Option<Option<Blocks>>
     requires { 19 ≤ length line.now }
     ensures some { IfSome result (SaysSlot line.now) }
     ensures none { IfNone result ((slot : Option Group) → SaysSlot line.now slot → ⊥) }
@@ -139,11 +139,11 @@ fn slot_of_blocks(line: &[u8]) -> Option<Option<Group>>
 
 /// The group that the blocks carry; `None` where one of them is missing.
 #[inline(always)]
-fn carried(first: Block, second: Block, third: Block, fourth: Block) -> Option<Group>
+fn carried(first: Block, second: Block, third: Block, fourth: Block) -> Option<Blocks>
     ensures { Carry first second third fourth result }
 {
     let blocks = [first.word()?, second.word()?, third.word()?, fourth.word()?];
-    Some(Group::from_blocks(blocks))
+    Some(Blocks::new(blocks))
 }
 
 /// The block from the place on; `None` where there is none.

@@ -3,7 +3,7 @@ ghost use Rattle.std.specs.Prelude.{◌≡◌, ◌≤◌, ◌<◌, ◌+◌, ◌-
 ghost use Rattle.rds_block.specs.declared.group.Group.{Group};
 ghost use Rattle.rds_output.specs.declared.change.TheConstants.{SLOT_ROOM};
 
-use rds_block::Group;
+use rds_block::Blocks;
 use rds_charset::Lines;
 use rds_fields::Dwell;
 use rds_output::{KeptView, Stamp, show};
@@ -35,14 +35,14 @@ impl ViewLines {
 
     /// Handles what one slot brought, and appends the line of each changed part.
     #[inline(always)]
-    pub(crate) fn slot<const N: usize>(&mut self, group: Option<Group>, lines: &mut Lines<N>)
+    pub(crate) fn slot<const N: usize>(&mut self, group: Option<Blocks>, lines: &mut Lines<N>)
         requires slots { self.old.slot < 2 ^ 64 - 1 }
         requires room { length lines.old + SLOT_ROOM ≤ N }
         ensures count { self.new.slot ≡ self.old.slot + 1 }
         ensures room { length lines.new ≤ length lines.old + SLOT_ROOM }
         ensures change { GivesChange self.old self.new group lines.old lines.new }
     {
-        if !self.receiver.slot(group) {
+        if !self.receiver.slot_blocks(group) {
             self.slot += 1;
             return;
         }

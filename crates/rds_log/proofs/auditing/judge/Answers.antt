@@ -16,8 +16,8 @@ returns-in-Err-clause-judges g c =
     let (lines, stands, audited) = c.loop-line.invariant.stands in
     let some : c.in_ok-next.field-0 ≡ true = search rules in
     let (line, says, further) = rw (some, c.in-Slot.is) at (c.in_ok-next.ensures.gives _ _ lines stands) in
-    let after = c.slot.ensures.stands c.args.pi (c.args.dwell + c.args.late) audited.slots audited.audit in
-    stops_at_slot c.args.pi (c.args.dwell + c.args.late) c.args.reads c.next.new.self c.loop-line.audit c.slot.new.self c.loop-line.slots
+    let after = c.slot_blocks.ensures.stands c.args.pi (c.args.dwell + c.args.late) audited.slots audited.audit in
+    stops_at_slot c.args.pi (c.args.dwell + c.args.late) c.args.reads c.next.new.self c.loop-line.audit c.slot_blocks.new.self c.loop-line.slots
     (state_of g.R.Read.remaining g.R.TellingRead.failures g.R.TellingRead.reads c.args.reader.now) (state_of g.R.Read.remaining g.R.TellingRead.failures g.R.TellingRead.reads c.next.new.reader)
     lines line c.in-Slot.group c.in-Err.fault says audited after (c.in-Err.ensures.which _ _ _ after) further
 
@@ -28,13 +28,13 @@ loop-line-preserved g c =
     let (line, says, further) = rw (some, c.in-Slot.is) at (c.in_ok-next.ensures.gives _ _ lines stands) in
     let less = c.in_ok-next.ensures.budget some in
     let before = c.loop-line.invariant.slots in
-    let after = c.slot.ensures.stands c.args.pi (c.args.dwell + c.args.late) audited.slots audited.audit in
+    let after = c.slot_blocks.ensures.stands c.args.pi (c.args.dwell + c.args.late) audited.slots audited.audit in
     record {
       slots = omega (arith, before, less);
       stands = (
         line ∷ lines,
         further,
-        audits_slot c.args.pi (c.args.dwell + c.args.late) c.loop-line.audit c.slot.new.self c.loop-line.slots lines line c.in-Slot.group says audited after c.in_default-slot.ensures.fault,
+        audits_slot c.args.pi (c.args.dwell + c.args.late) c.loop-line.audit c.slot_blocks.new.self c.loop-line.slots lines line c.in-Slot.group says audited after c.in_default-slot_blocks.ensures.fault,
       );
     }
 

@@ -25,6 +25,6 @@ returns c =
         second = c.in_ok-words.ensures.second;
         third = c.in_ok-words.ensures.third;
         fourth = c.in_ok-words.ensures.fourth;
-        carried = (c.from_blocks.result, subst (λ (xs : List ℕ). AreWordsOf xs c.from_blocks.result) (four_of ws c.in_ok-words.ensures.four) c.from_blocks.ensures.words, refl);
+        carried = (c.new.result, subst (λ (xs : List ℕ). AreWordsOf xs c.new.result) (four_of ws c.in_ok-words.ensures.four) c.new.ensures.words, refl);
       },
     )
