@@ -5,18 +5,6 @@ ghost use Rattle.rds_encoder.specs.Round.{IsTurn, turn_in};
 use crate::turn::Turn;
 use std::marker::Model;
 
-/// The turns of a round, in order (this project's own schedule).
-const ROUND: [Turn; 8] = [
-    Turn::Text,
-    Turn::Name(0),
-    Turn::Text,
-    Turn::Name(1),
-    Turn::Text,
-    Turn::Announcement,
-    Turn::Text,
-    Turn::Tags,
-];
-
 /// The place in the round of the turn that is next.
 #[derive(Drop)]
 pub(crate) struct Round {
@@ -60,12 +48,18 @@ impl Round {
         self.place
     }
 
-    /// The turn that is next.
+    /// The turn that is next (this project's own schedule).
     pub(crate) fn turn(&self) -> Turn
         ensures value { result ≡ turn_in self.now }
         ensures own { IsTurn result }
     {
-        ROUND[usize::from(self.place)]
+        match self.place {
+            0 | 2 | 4 | 6 => Turn::Text,
+            1 => Turn::Name(0),
+            3 => Turn::Name(1),
+            5 => Turn::Announcement,
+            _ => Turn::Tags,
+        }
     }
 
     /// Goes on to the turn after it; after the last comes the first.
