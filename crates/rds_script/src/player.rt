@@ -6,11 +6,12 @@ ghost use Rattle.rds_script.specs.declared.row.RowRefused.TheVariants as refused
 ghost use Rattle.rds_script.specs.declared.watched.Watched.{Watched};
 
 use crate::form::Form;
-use crate::row::{RowRefused, event_of};
+use crate::row::{RowRefused, read_event};
 use crate::watched::{RowLines, Watched};
+use arrayvec::ArrayVec;
 use csv::ByteRecord;
 use rds_charset::text_is_read_one_way;
-use rds_world::Config;
+use rds_world::{Command, Config, SlotEvent};
 use std::alloc::Global;
 
 /// Plays the rows of a script, and gives the lines of each slot. The first row fixes the number of receivers.
@@ -53,9 +54,14 @@ impl Player {
     {
         // the law by which a record says one event
         text_is_read_one_way();
-        let Some(event) = event_of(row) else {
-            return Err(RowRefused::NoRow);
+        let mut event = SlotEvent {
+            command: Command::Quiet,
+            free: false,
+            receptions: ArrayVec::new(),
         };
+        if !read_event(row, &mut event) {
+            return Err(RowRefused::NoRow);
+        }
         let receivers = event.receptions.len();
         if !self.form.allows(receivers) {
             return Err(RowRefused::NoRow);

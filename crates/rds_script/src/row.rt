@@ -1,6 +1,6 @@
 //! The event that a row of a script says.
 ghost use Rattle.std.specs.Prelude.{◌≡◌, ◌≢◌, ◌<◌, ◌≤◌, [], ◌∷◌};
-ghost use Rattle.std.specs.Prelude.{ℕ, Bool, List, IfNone, IfSome, IsUtf8, length, slice_index};
+ghost use Rattle.std.specs.Prelude.{ℕ, Bool, List, IfNone, IfSome, IsFalse, IsTrue, IsUtf8, length, slice_index};
 ghost use Rattle.std.specs.Char.{IsAsciiDigit, IsNotAsciiDigit};
 ghost use Rattle.std.specs.Int.{from_bool};
 ghost use Rattle.std.specs.Str.Parse.{AllDigits};
@@ -47,18 +47,22 @@ pub(crate) enum RowRefused {
     Memory,
 }
 
-/// What happens in the slot of a row; `None` for a record that is no row.
-pub(crate) fn event_of(row: &ByteRecord) -> Option<SlotEvent>
-    ensures some { IfSome result (λ e. SaysEvent (fields_of row.now) e) }
-    ensures none { IfNone result ((e : Event) → length e.receptions ≤ MOST_RECEIVERS
-        → SaysEvent (fields_of row.now) e → ⊥) }
+/// Reads what happens in the slot of a row into the event, where it lies and is not copied. False for a record that is
+/// no row, of which the event may have a part.
+pub(crate) fn read_event(row: &ByteRecord, event: &mut SlotEvent) -> bool
+    ensures some { IsTrue result → SaysEvent (fields_of row.now) event.new }
+    ensures none { IsFalse result → (e : Event) → length e.receptions ≤ MOST_RECEIVERS
+        → SaysEvent (fields_of row.now) e → ⊥ }
 {
-    let fields = four_fields(row)?;
-    Some(SlotEvent {
-        command: command_of(fields.word, fields.argument)?,
-        free: free_of(fields.free)?,
-        receptions: receptions_of(fields.receptions)?,
-    })
+    let Some(fields) = four_fields(row) else {
+        return false;
+    };
+    let Some(free) = free_of(fields.free) else {
+        return false;
+    };
+    event.free = free;
+    read_command(fields.word, fields.argument, &mut event.command)
+        && read_receptions(fields.receptions, &mut event.receptions)
 }
 
 /// The fields of a row.
@@ -85,6 +89,25 @@ fn four_fields(row: &ByteRecord) -> Option<Fields<'_>>
         free: row.get(2)?,
         receptions: row.get(3)?,
     })
+}
+
+/// Reads the command of a word and its argument. Most rows have none, and pay for none.
+#[inline(always)]
+fn read_command(word: &[u8], argument: &[u8], command: &mut Command) -> bool
+    ensures text { IsTrue result → IsUtf8 argument.now }
+    ensures some { IsTrue result → SaysCommand word.now argument.now command.new }
+    ensures none { IsFalse result → (other : Command) → IsUtf8 argument.now
+        → SaysCommand word.now argument.now other → ⊥ }
+{
+    if word == b"-".as_slice() && argument.is_empty() {
+        *command = Command::Quiet;
+        return true;
+    }
+    let Some(told) = command_of(word, argument) else {
+        return false;
+    };
+    *command = told;
+    true
 }
 
 /// The command of a word and its argument.
@@ -241,20 +264,25 @@ fn free_of(field: &[u8]) -> Option<bool>
     }
 }
 
-/// What each receiver gets; `None` also for more than eight receivers.
-fn receptions_of(field: &[u8]) -> Option<ArrayVec<Reception, MOST_RECEIVERS>>
-    ensures some { IfSome result (λ receptions. AreReceptions field.now receptions.items) }
-    ensures none { IfNone result ((receptions : List Reception) → length receptions ≤ MOST_RECEIVERS
-        → AreReceptions field.now receptions → ⊥) }
+/// Reads what each receiver gets; false also for more than eight receivers.
+fn read_receptions(field: &[u8], receptions: &mut ArrayVec<Reception, MOST_RECEIVERS>) -> bool
+    ensures some { IsTrue result → AreReceptions field.now receptions.new.items }
+    ensures none { IsFalse result → (others : List Reception) → length others ≤ MOST_RECEIVERS
+        → AreReceptions field.now others → ⊥ }
 {
-    let mut receptions = ArrayVec::new();
+    receptions.clear();
     let mut rest = field;
     while let Some((letter, after)) = rest.split_first() {
         let (digits, others) = after.split_at(digits_in_front(after));
-        receptions.try_push(reception_of(*letter, digits)?).ok()?;
+        let Some(reception) = reception_of(*letter, digits) else {
+            return false;
+        };
+        if receptions.try_push(reception).is_err() {
+            return false;
+        }
         rest = others;
     }
-    Some(receptions)
+    true
 }
 
 /// How many decimal digits the text begins with.

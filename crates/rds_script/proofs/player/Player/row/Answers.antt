@@ -11,8 +11,8 @@ use Rattle.rds_script.proofs.player.Player.row.Goals as goal
 
 pub returns-then-not-allows-clause-refused : goal.returns-then-not-allows-clause-refused
 returns-then-not-allows-clause-refused c played s =
-    let asked : c.len-receivers.result ≡ length c.in-Some.event.receptions = search rules in
-    names_receivers played.config.late played.form (fields_of c.args.row.now) played.records c.in-Some.event c.in-Some.ensures.some (λ allowed.
+    let asked : c.len-receivers.result ≡ length c.read_event.new.event.receptions = search rules in
+    names_receivers played.config.late played.form (fields_of c.args.row.now) played.records c.read_event.new.event (c.read_event.ensures.some c.if-not-read_event.false) (λ allowed.
     let here : IsAllowed c.args.self.now.form c.len-receivers.result = rw (s.form_is, asked) allowed in
     let yes_allowed = c.allows.ensures.1 here in
     let no = c.if-not-allows.true in
@@ -29,27 +29,27 @@ returns-in_err-begin-clause-refused c played s =
 pub returns-clause-stands : goal.returns-clause-stands
 returns-clause-stands c played s =
     let (w, same, begun) = c.in_ok-begin.ensures.begins in
-    let found = sym (ap (λ (p : Player). p.watched) same) ∙ c.in-Some-watched.is in
-    let is : w ≡ c.in-Some-watched.watched = (cc) in
+    let found = sym (ap (λ (p : Player). p.watched) same) ∙ c.in-Some.is in
+    let is : w ≡ c.in-Some.watched = (cc) in
     let form = ap (λ (p : Player). p.form) same in
     let slot = ap (λ (p : Player). p.slot) same in
     let allowed : IsAllowed c.args.self.now.form c.len-receivers.result = search rules in
     let r = subst (IsReady played s.events s.outcomes c.len-receivers.result) is
     (is_ready c.args.self.now.watched w played c.len-receivers.result s.events s.outcomes s.allowed (rw s.form_is at allowed) s.rows s.are s.watched (rw s.config_is at begun)) in
-    plays_on c.play.result c.args.self.now _ played s r.receivers (views_kept c.in-Some-watched.watched) c.play.new.self (fields_of c.args.row.now) c.in-Some.event c.play.new.lines form (ap (λ (p : Player). p.config) same) (ap (λ n. n + 1) slot) refl
-    r.allowed r.rows c.in-Some.ensures.some r.same (c.play.ensures.taken played.config r.receivers s.events r.stands) (c.play.ensures.stands played.config r.receivers s.events r.stands)
+    plays_on c.play.result c.args.self.now _ played s r.receivers (views_kept c.in-Some.watched) c.play.new.self (fields_of c.args.row.now) c.read_event.new.event c.play.new.lines form (ap (λ (p : Player). p.config) same) (ap (λ n. n + 1) slot) refl
+    r.allowed r.rows (c.read_event.ensures.some c.if-not-read_event.false) r.same (c.play.ensures.taken played.config r.receivers s.events r.stands) (c.play.ensures.stands played.config r.receivers s.events r.stands)
     (rw (form, s.form_is, slot) at (c.play.ensures.outcome played.config r.receivers s.events r.stands))
 
 pub returns-clause-refused : goal.returns-clause-refused
 returns-clause-refused c played s =
     let (w, same, begun) = c.in_ok-begin.ensures.begins in
-    let found = sym (ap (λ (p : Player). p.watched) same) ∙ c.in-Some-watched.is in
-    let is : w ≡ c.in-Some-watched.watched = (cc) in
+    let found = sym (ap (λ (p : Player). p.watched) same) ∙ c.in-Some.is in
+    let is : w ≡ c.in-Some.watched = (cc) in
     let allowed : IsAllowed c.args.self.now.form c.len-receivers.result = search rules in
-    let asked : c.len-receivers.result ≡ length c.in-Some.event.receptions = search rules in
+    let asked : c.len-receivers.result ≡ length c.read_event.new.event.receptions = search rules in
     let r = subst (IsReady played s.events s.outcomes c.len-receivers.result) is
     (is_ready c.args.self.now.watched w played c.len-receivers.result s.events s.outcomes s.allowed (rw s.form_is at allowed) s.rows s.are s.watched (rw s.config_is at begun)) in
-    refused_on c.play.result c.text_is_read_one_way.ensures played r.receivers (fields_of c.args.row.now) c.in-Some.event s.events r.rows c.in-Some.ensures.some (subst (λ (n : ℕ). (0 < length played.records) ⊎ (r.receivers ≡ n)) asked r.how) (c.play.ensures.refused played.config r.receivers s.events r.stands)
+    refused_on c.play.result c.text_is_read_one_way.ensures played r.receivers (fields_of c.args.row.now) c.read_event.new.event s.events r.rows (c.read_event.ensures.some c.if-not-read_event.false) (subst (λ (n : ℕ). (0 < length played.records) ⊎ (r.receivers ≡ n)) asked r.how) (c.play.ensures.refused played.config r.receivers s.events r.stands)
 
 pub returns-then-not-allows-clause-slot : goal.returns-then-not-allows-clause-slot
 returns-then-not-allows-clause-slot c = tt

@@ -1,6 +1,6 @@
 use Rattle.std.proofs.Common.{length}
 use Rattle.rds_script.proofs.Receptions.{ReadSoFar}
-use Rattle.rds_script.proofs.row.receptions_of.Given as goal
+use Rattle.rds_script.proofs.row.read_receptions.Given as goal
 
 abbrev pub invariant-loop-letter : goal.invariant-loop-letter
 invariant-loop-letter l = ReadSoFar l.field l.receptions.items l.rest

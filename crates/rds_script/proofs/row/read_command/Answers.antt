@@ -1,0 +1,10 @@
+use Rattle.std.proofs.Common.{◌≡◌, ℕ, List, [], ◌∷◌, arith, length, refl, rules}
+use Rattle.std.proofs.lemmas.Grind.{common_steps}
+use Rattle.rds_script.proofs.row.read_command.Goals as goal
+
+empty : (text : List ℕ) → length text ≡ 0 → text ≡ []
+empty [] e = refl
+empty (byte ∷ text) e = absurd (omega arith)
+
+pub returns-then-is_empty-clause-some : goal.returns-then-is_empty-clause-some
+returns-then-is_empty-clause-some c _ = (search rules, empty c.args.argument.now (grind (arith, common_steps)))
