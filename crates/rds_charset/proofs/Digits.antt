@@ -16,13 +16,6 @@ marked_or_not byte = by (nat_lt (digit_value byte) 16) refl
     by true e = inl (grind (arith, nat_tests), rw e refl)
     by false e = inr (grind (arith, nat_tests), rw e refl)
 
-pub at_most : (byte : ℕ) → marked_value byte ≤ 65536
-at_most byte = by (marked_or_not byte)
-  where
-    by : Cases byte → marked_value byte ≤ 65536
-    by (inl a) = omega (arith, a.0, a.1)
-    by (inr a) = omega (arith, a.1)
-
 -- the sum of the four values, each times its power
 abbrev pub spelled : List ℕ → ℕ → ℕ
 spelled text at =

@@ -5,3 +5,4 @@ pub mod DigitLanes
 pub mod Outcomes
 pub mod Symbols
 pub mod PrintedText
+pub mod SpreadDigits

@@ -1,16 +1,11 @@
 -- Hexadecimal digits of either case, and the word that four of them spell.
-use Rattle.std.specs.Prelude.{◌≡◌, ◌<◌, ◌+◌, ◌*◌, ◌/◌, ◌%◌, ℕ, List, [], ◌∷◌, if◌then◌else◌, map, nat_lt, slice_index}
+use Rattle.std.specs.Prelude.{◌≡◌, ◌<◌, ◌+◌, ◌*◌, ◌/◌, ◌%◌, ℕ, List, [], ◌∷◌, if◌then◌else◌, nat_lt, slice_index}
 use Rattle.std.specs.Char.{digit_value}
-use Rattle.std.specs.List.{range_with_len}
 use Rattle.rds_charset.specs.Printed.{upper_digit}
 
 -- the value of a byte as a hexadecimal digit, and more than any word where it is none
 abbrev pub marked_value : ℕ → ℕ
 marked_value byte = if nat_lt (digit_value byte) 16 then digit_value byte else 65536
-
--- those of all bytes
-abbrev pub marked_values : List ℕ
-marked_values = map marked_value (range_with_len 0 256)
 
 -- four hexadecimal digits stand from the place on, and spell the word
 pub record HasWord (text : List ℕ) (at w : ℕ) : Type 0 where

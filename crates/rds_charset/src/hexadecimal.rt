@@ -1,32 +1,11 @@
 //! Words of four hexadecimal digits.
-ghost use Rattle.std.specs.Prelude.{◌≡◌, ◌<◌, ◌≤◌, ◌+◌, ℕ, length, slice_index, IfSome, IfNone};
-ghost use Rattle.rds_charset.specs.Digits.{HasWord, marked_value, marked_values, word_digits};
+ghost use Rattle.std.specs.Prelude.{◌≡◌, ◌<◌, ◌≤◌, ◌+◌, ◌++◌, ℕ, length, slice_index, IfSome, IfNone};
+ghost use Rattle.rds_charset.specs.Digits.{HasWord, marked_value, word_digits};
 
-use crate::printing::upper_digit;
 use std::simd::prelude::*;
 
 /// More than any word: the value of a byte that is no hexadecimal digit.
 const NONE: u32 = 65536;
-
-/// The value of each byte as a hexadecimal digit of either case, or `NONE`.
-static DIGIT_VALUES: [u32; 256] = [
-    NONE, NONE, NONE, NONE, NONE, NONE, NONE, NONE, NONE, NONE, NONE, NONE, NONE, NONE, NONE, NONE,
-    NONE, NONE, NONE, NONE, NONE, NONE, NONE, NONE, NONE, NONE, NONE, NONE, NONE, NONE, NONE, NONE,
-    NONE, NONE, NONE, NONE, NONE, NONE, NONE, NONE, NONE, NONE, NONE, NONE, NONE, NONE, NONE, NONE,
-    0, 1, 2, 3, 4, 5, 6, 7, 8, 9, NONE, NONE, NONE, NONE, NONE, NONE, NONE, 10, 11, 12, 13, 14, 15,
-    NONE, NONE, NONE, NONE, NONE, NONE, NONE, NONE, NONE, NONE, NONE, NONE, NONE, NONE, NONE, NONE,
-    NONE, NONE, NONE, NONE, NONE, NONE, NONE, NONE, NONE, NONE, 10, 11, 12, 13, 14, 15, NONE, NONE,
-    NONE, NONE, NONE, NONE, NONE, NONE, NONE, NONE, NONE, NONE, NONE, NONE, NONE, NONE, NONE, NONE,
-    NONE, NONE, NONE, NONE, NONE, NONE, NONE, NONE, NONE, NONE, NONE, NONE, NONE, NONE, NONE, NONE,
-    NONE, NONE, NONE, NONE, NONE, NONE, NONE, NONE, NONE, NONE, NONE, NONE, NONE, NONE, NONE, NONE,
-    NONE, NONE, NONE, NONE, NONE, NONE, NONE, NONE, NONE, NONE, NONE, NONE, NONE, NONE, NONE, NONE,
-    NONE, NONE, NONE, NONE, NONE, NONE, NONE, NONE, NONE, NONE, NONE, NONE, NONE, NONE, NONE, NONE,
-    NONE, NONE, NONE, NONE, NONE, NONE, NONE, NONE, NONE, NONE, NONE, NONE, NONE, NONE, NONE, NONE,
-    NONE, NONE, NONE, NONE, NONE, NONE, NONE, NONE, NONE, NONE, NONE, NONE, NONE, NONE, NONE, NONE,
-    NONE, NONE, NONE, NONE, NONE, NONE, NONE, NONE, NONE, NONE, NONE, NONE, NONE, NONE, NONE, NONE,
-    NONE, NONE, NONE, NONE, NONE, NONE, NONE, NONE, NONE, NONE, NONE, NONE, NONE, NONE, NONE, NONE,
-    NONE, NONE, NONE, NONE, NONE, NONE, NONE,
-];
 
 /// What the first two digits of a word count in its high byte.
 const HIGH: [u8; 16] = [16, 1, 0, 0, 16, 1, 0, 0, 16, 1, 0, 0, 16, 1, 0, 0];
@@ -94,31 +73,35 @@ fn reading_at(text: &[u8], place: usize) -> u32
     first * 4096 + second * 256 + third * 16 + fourth
 }
 
-/// The value of the byte as a digit.
-#[inline(always)]
+/// The value of the byte as a digit of either case, or `NONE`.
 fn value_of(byte: u8) -> u32
     ensures value { result ≡ marked_value byte }
     ensures small { result ≤ 65536 }
 {
-    values()[usize::from(byte)]
+    char::from(byte).to_digit(16).unwrap_or(NONE)
 }
 
-/// The table, as its definition has it.
-fn values() -> &'static [u32]
-    ensures table { result.now ≡ marked_values }
-    ensures each_byte { length result.now ≡ 256 }
+/// The digits of four words, one word's after the other's, with A to F for 10 to 15. All sixteen are made at once, each
+/// in a lane.
+#[inline(always)]
+pub fn digits_of_four(words: [u16; 4]) -> [u8; 16]
+    ensures { result ≡ word_digits (slice_index words 0) ++ word_digits (slice_index words 1)
+        ++ word_digits (slice_index words 2) ++ word_digits (slice_index words 3) }
 {
-    &DIGIT_VALUES
-}
-
-/// The four digits of a word, with A to F for 10 to 15.
-pub fn digits_of(word: u16) -> [u8; 4]
-    ensures { result ≡ word_digits word }
-{
-    [
-        upper_digit((word / 4096) as u8),
-        upper_digit((word / 256 % 16) as u8),
-        upper_digit((word / 16 % 16) as u8),
-        upper_digit((word % 16) as u8),
-    ]
+    let [first, second, third, fourth] = words;
+    let words = u32x4::from_array([
+        u32::from(first),
+        u32::from(second),
+        u32::from(third),
+        u32::from(fourth),
+    ]);
+    let low = u32x4::splat(15);
+    let spread = (words >> u32x4::splat(12))
+        + (words >> u32x4::splat(8) & low) * u32x4::splat(0x100)
+        + (words >> u32x4::splat(4) & low) * u32x4::splat(0x1_0000)
+        + (words & low) * u32x4::splat(0x100_0000);
+    let values = spread.to_le_bytes();
+    let letters = values.simd_gt(u8x16::splat(9));
+    let digits = values + u8x16::splat(b'0');
+    letters.select(digits + u8x16::splat(7), digits).to_array()
 }

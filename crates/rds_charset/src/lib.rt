@@ -19,7 +19,7 @@ mod reading;
 mod table;
 mod told;
 
-pub use hexadecimal::{digits_of, four_words, word_at};
+pub use hexadecimal::{digits_of_four, four_words, word_at};
 pub use laws::{printed_is_read_back, printed_is_text, printed_takes_four, text_is_read_one_way};
 pub use lines::Lines;
 pub use output::{WriteFault, put};

@@ -2,7 +2,7 @@
 
 use crate::same::same;
 use rds_charset::{
-    Lines, TellingRead, TellingWrite, TextFault, Told, WriteFault, digits_of, four_words,
+    Lines, TellingRead, TellingWrite, TextFault, Told, WriteFault, digits_of_four, four_words,
     read_text, word_at, write_text,
 };
 use std::alloc::Global;
@@ -222,18 +222,18 @@ fn idle_writer_is_a_fault(rt: HostRuntime) {
     }
 }
 
-/// A line in bounded room: a hexadecimal word, a number and a text in its printed form; and words that are read.
+/// A line in bounded room: hexadecimal words, a number and a text in its printed form; and words that are read.
 #[test]
 fn words_of_a_line(rt: HostRuntime) {
     let mut line: Lines<64> = Lines::new();
-    line.push(&digits_of(0xC201));
+    line.push(&digits_of_four([0xC201, 0x2140, 0x9AF0, 0x000F]));
     line.push(b" ");
     line.push_number(2140);
     line.push(b" ");
     line.push_text(&[0x48, 0x22]);
-    same(&rt, line.bytes(), b"C201 2140 H\\x22".as_slice());
-    assert!(rt; line.has_room(49));
-    assert!(rt; !line.has_room(50));
+    same(&rt, line.bytes(), b"C20121409AF0000F 2140 H\\x22".as_slice());
+    assert!(rt; line.has_room(37));
+    assert!(rt; !line.has_room(38));
     line.clear();
     same(&rt, line.bytes(), b"".as_slice());
     same(&rt, word_at(b"c20g C201", 5), Some(0xC201));

@@ -8,7 +8,7 @@ ghost use Rattle.rds_script.specs.declared.answer_lines.TheConstants.{ANSWER_ROO
 
 use crate::form::Form;
 use rds_block::Group;
-use rds_charset::{Lines, digits_of};
+use rds_charset::{Lines, digits_of_four};
 use rds_encoder::Refusal;
 use rds_fields::Which;
 use rds_output::Stamp;
@@ -184,13 +184,9 @@ fn push_blocks<const N: usize>(group: &Group, lines: &mut Lines<N>)
     ensures blocks { lines.new ≡ lines.old ++ block_digits group.now }
     ensures room { length lines.new ≡ length lines.old + 19 }
 {
-    let [first, second, third, fourth] = group.to_blocks();
-    let pi = digits_of(first);
-    let kind = digits_of(second);
-    let c = digits_of(third);
-    let d = digits_of(fourth);
+    let d = digits_of_four(group.to_blocks());
     lines.push(&[
-        pi[0], pi[1], pi[2], pi[3], b' ', kind[0], kind[1], kind[2], kind[3], b' ', c[0], c[1],
-        c[2], c[3], b' ', d[0], d[1], d[2], d[3],
+        d[0], d[1], d[2], d[3], b' ', d[4], d[5], d[6], d[7], b' ', d[8], d[9], d[10], d[11], b' ',
+        d[12], d[13], d[14], d[15],
     ]);
 }
