@@ -1,16 +1,16 @@
 -- What a receiver holds goes on as it handles a slot.
-use Rattle.std.proofs.Common.{◌≡◌, ◌≢◌, ◌⊎◌, ◌+◌, ◌<◌, ℕ, Bool, true, List, ◌∷◌, Option, Some, None, length, refl, sym, ap, ◌∙◌, subst, inl, inr, arith}
+use Rattle.std.proofs.Common.{◌≡◌, ◌≢◌, ◌⊎◌, ◌+◌, ◌<◌, ℕ, Bool, true, false, List, ◌∷◌, Option, Some, None, length, refl, sym, ap, ◌∙◌, subst, inl, inr, arith}
 use Rattle.std.specs.FinMap.{empty, insert}
 use Rattle.rds_block.specs.declared.group.Group.{Group}
 use Rattle.rds_fields.specs.declared.message.Message.{Message}
-use Rattle.rds_fields.specs.declared.message.Message.TheVariants.{Name, Other, Tags, Text}
+use Rattle.rds_fields.specs.declared.message.Message.TheVariants.{Announce, Name, Other, Tags, Text}
 use Rattle.rds_fields.specs.Spells.{Spells}
 use Rattle.rds_fields.specs.Tag.{PairFields}
 use Rattle.rds_receiver.specs.Receipts.{Hears, Fragment, Segment, Tuning, name_fragment, segments, text_fragment}
 use Rattle.rds_receiver.specs.Run.{begins_in, run, run_before}
 use Rattle.rds_receiver.specs.StandsAt.{GoesOn, HasFlag, HoldsAlready, HoldsAt, HoldsRun, StandsAt}
 use Rattle.rds_receiver.specs.State.{HeldSegments, ReceiverState}
-use Rattle.rds_receiver.specs.Tags.{pair_from}
+use Rattle.rds_receiver.specs.Tags.{or_before, pair_from, says_of_rtplus, unless_contrary}
 use Rattle.rds_receiver.proofs.Runs.{before_other, before_same, equal_or_not, held_taken, run_recent}
 use Rattle.rds_receiver.proofs.Pairs.{none_since, pair_goes_on, pair_of_name, pair_of_none, pair_of_other, tags_taken}
 
@@ -149,3 +149,30 @@ pub group_goes_on : (t : Tuning) (r after : ReceiverState) (input : List (Option
     → StandsAt t after (Some g ∷ input)
 group_goes_on t r after input g st own programme (message, spelled, on) =
     slot_stands t r after input (Some g) (Some message) st (inl (own, spelled)) programme (on t.dwell t.first st.heard st.holds)
+
+-- an announcement that says what is known, or nothing
+pub announcement_heard : (m first : ℕ) (r : ReceiverState) (heard : List (Option Message)) (code bits aid : ℕ)
+    → (says_of_rtplus code aid ≡ Some false → ⊥) → (says_of_rtplus code aid ≡ Some true → r.is_known ≡ true)
+    → HoldsAt m (first + length heard) first r heard → HoldsAt m (first + length heard) first r (Some (Announce code bits aid) ∷ heard)
+announcement_heard m first r heard code bits aid fits known st = record {
+  dwell = st.dwell;
+  lasts = st.lasts;
+  text = st.text;
+  name = st.name;
+  pair = st.pair ∙ pair_stays (begins_in (run m (first + length heard) (segments text_fragment first heard)));
+  known = known_stays (says_of_rtplus code aid) fits known ∙ ap (or_before (says_of_rtplus code aid)) st.known;
+}
+  where
+    stays : (says : Option Bool) (pair : Option PairFields) → (says ≡ Some false → ⊥) → pair ≡ unless_contrary says pair
+    stays None pair fits = refl
+    stays (Some true) pair fits = refl
+    stays (Some false) pair fits = absurd (fits refl)
+
+    pair_stays : (since : Option ℕ) → pair_from first since heard ≡ pair_from first since (Some (Announce code bits aid) ∷ heard)
+    pair_stays None = refl
+    pair_stays (Some since) = stays (says_of_rtplus code aid) (pair_from first (Some since) heard) fits
+
+    known_stays : (says : Option Bool) → (says ≡ Some false → ⊥) → (says ≡ Some true → r.is_known ≡ true) → r.is_known ≡ or_before says r.is_known
+    known_stays None fits known = refl
+    known_stays (Some true) fits known = known refl
+    known_stays (Some false) fits known = absurd (fits refl)

@@ -1,13 +1,15 @@
 //! All that a receiver holds, as plain numbers, which another program can hold.
-ghost use Rattle.std.specs.Prelude.{◌≡◌, ◌+◌, ◌<◌, ◌≤◌, ◌∷◌, ◌↔◌, ℕ, IsFalse, IsTrue, List, None, Option, Some, length};
+ghost use Rattle.std.specs.Prelude.{◌≡◌, ◌≢◌, ◌+◌, ◌<◌, ◌≤◌, ◌∷◌, ◌↔◌, ℕ, IsFalse, IsTrue, List, None, Option, Some, false, length, true};
 ghost use Rattle.rds_fields.specs.declared.message.Message.{Message};
 ghost use Rattle.rds_fields.specs.Spells.{Spells};
 ghost use Rattle.rds_receiver.specs.Shown.{IsView, ShownView};
 ghost use Rattle.rds_receiver.specs.StandsAt.{GoesOn, HoldsAlready, HoldsAt, ShowsAlike, StandsAt, WhereItStands, newest_slot};
+ghost use Rattle.rds_fields.specs.Stored.{is_set};
+ghost use Rattle.rds_receiver.specs.Tags.{says_of_rtplus};
 ghost use Rattle.rds_receiver.specs.Stored.{IsStored, receiver_stored, segments_stored};
 
 use rds_block::Blocks;
-use rds_fields::{Message, StoredPair};
+use rds_fields::{Message, RTPLUS_AID, RTPLUS_CODE, StoredPair};
 
 /// The segments of one service that are held: segment a stands at the places 4 * a to 4 * a + 3 of the bytes, and
 /// is held where bit a of the mask is 1. The flag is 0, or any other number.
@@ -65,8 +67,8 @@ pub struct StoredReceiver {
 
 impl StoredReceiver {
     /// Takes a slot that leaves nothing but the ages to change, without a receiver that is made for it: no group of the
-    /// programme came in it, or a segment that is held, or no text, name, tags or announcement, and nothing is given
-    /// up. False, and no change, in any other slot.
+    /// programme came in it, or a segment that is held, an announcement of what is known, or no text, name, tags or
+    /// announcement, and nothing is given up. False, and no change, in any other slot.
     pub fn rest(&mut self, group: Option<Blocks>) -> bool
         ensures stands { IsTrue result → WhereItStands (receiver_stored self.old)
             (λ t input. StandsAt t (receiver_stored self.new) (group ∷ input)) }
@@ -100,8 +102,8 @@ impl StoredReceiver {
         if let Some(it) = Message::name_in(group) {
             return self.rest_name(it.flag, it.address, it.bytes);
         }
-        if let Some(_) = Message::announced_in(group) {
-            return false;
+        if let Some(it) = Message::announced_in(group) {
+            return self.rest_announced(it.code, it.aid);
         }
         if let Some(_) = Message::tags_in(group) {
             return false;
@@ -147,6 +149,34 @@ impl StoredReceiver {
         }
         self.name.age = 0;
         true
+    }
+
+    /// One slot older, in which an announcement came that says what is known of RadioText Plus, or nothing; else false,
+    /// and no change.
+    fn rest_announced(&mut self, code: u8, aid: u16) -> bool
+        ensures programme { self.new.programme ≡ self.old.programme }
+        ensures holds { IsTrue result → (bits : ℕ) → GoesOn (receiver_stored self.old) (receiver_stored self.new)
+            (Some (Message.Announce code bits aid)) }
+        ensures same { IsTrue result → ShowsAlike (receiver_stored self.old) (receiver_stored self.new) }
+        ensures good { IsStored self.old → IsStored self.new }
+        ensures kept { IsFalse result → self.new ≡ self.old }
+    {
+        if !self.knows(code, aid) {
+            return false;
+        }
+        self.grow_older()
+    }
+
+    /// Whether an announcement says what is known of RadioText Plus, or nothing.
+    fn knows(&self, code: u8, aid: u16) -> bool
+        ensures contrary { IsTrue result → says_of_rtplus code aid ≢ Some false }
+        ensures known { IsTrue result → says_of_rtplus code aid ≡ Some true → is_set self.now.is_known ≡ true }
+    {
+        let fits_aid = aid == RTPLUS_AID;
+        if code == RTPLUS_CODE {
+            return fits_aid && self.is_known != 0;
+        }
+        !fits_aid
     }
 
     /// One slot older, where nothing is given up by it; else false, and no change.

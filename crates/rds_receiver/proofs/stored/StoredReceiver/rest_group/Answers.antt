@@ -1,4 +1,4 @@
-use Rattle.rds_fields.specs.declared.message.Message.TheVariants.{Name, Other, Text}
+use Rattle.rds_fields.specs.declared.message.Message.TheVariants.{Announce, Name, Other, Text}
 use Rattle.rds_receiver.proofs.Steps.{other_heard}
 use Rattle.rds_receiver.proofs.stored.StoredReceiver.rest_group.Goals as goal
 
@@ -11,6 +11,11 @@ pub returns-in-Some-name_in-clause-holds : goal.returns-in-Some-name_in-clause-h
 returns-in-Some-name_in-clause-holds c done =
     let it = c.in-Some-name_in.it in
     (Name it.flag it.address it.bytes, c.in-Some-name_in.ensures.spelled, c.rest_name.ensures.holds done)
+
+pub returns-in-Some-announced_in-clause-holds : goal.returns-in-Some-announced_in-clause-holds
+returns-in-Some-announced_in-clause-holds c done =
+    let it = c.in-Some-announced_in.it in
+    (Announce it.code c.args.group.c it.aid, c.in-Some-announced_in.ensures.spelled, c.rest_announced.ensures.holds done c.args.group.c)
 
 pub returns-clause-holds : goal.returns-clause-holds
 returns-clause-holds c done = (
