@@ -10,6 +10,7 @@ ghost use Rattle.rds_fields.specs.Tag.{IsPair, PairFields};
 ghost use Rattle.rds_assembly.specs.Value.{IsText};
 ghost use Rattle.rds_world.specs.Event.{Event};
 ghost use Rattle.rds_world.specs.declared.event.Command.{Command};
+ghost use Rattle.rds_world.specs.declared.event.Command.TheVariants as commands;
 ghost use Rattle.rds_world.specs.declared.event.Reception.{Reception};
 ghost use Rattle.rds_world.specs.declared.event.TheConstants.{MOST_RECEIVERS};
 ghost use Rattle.rds_script.specs.declared.row.Verb.{Verb};
@@ -47,9 +48,11 @@ pub(crate) enum RowRefused {
     Memory,
 }
 
-/// Reads what happens in the slot of a row into the event, where it lies and is not copied. False for a record that is
-/// no row, of which the event may have a part.
+/// Reads what happens in the slot of a row into an event with nothing in it, where it lies and is not copied. False for a
+/// record that is no row, of which the event may have a part.
 pub(crate) fn read_event(row: &ByteRecord, event: &mut SlotEvent) -> bool
+    requires quiet { event.old.command ≡ commands.Quiet }
+    requires empty { event.old.receptions ≡ [] }
     ensures some { IsTrue result → SaysEvent (fields_of row.now) event.new }
     ensures none { IsFalse result → (e : Event) → length e.receptions ≤ MOST_RECEIVERS
         → SaysEvent (fields_of row.now) e → ⊥ }
@@ -91,16 +94,16 @@ fn four_fields(row: &ByteRecord) -> Option<Fields<'_>>
     })
 }
 
-/// Reads the command of a word and its argument. Most rows have none, and pay for none.
+/// Reads the command of a word and its argument where none stands. Most rows have none, and pay for none.
 #[inline(always)]
 fn read_command(word: &[u8], argument: &[u8], command: &mut Command) -> bool
+    requires { command.old ≡ commands.Quiet }
     ensures text { IsTrue result → IsUtf8 argument.now }
     ensures some { IsTrue result → SaysCommand word.now argument.now command.new }
     ensures none { IsFalse result → (other : Command) → IsUtf8 argument.now
         → SaysCommand word.now argument.now other → ⊥ }
 {
     if word == b"-".as_slice() && argument.is_empty() {
-        *command = Command::Quiet;
         return true;
     }
     let Some(told) = command_of(word, argument) else {
@@ -264,13 +267,13 @@ fn free_of(field: &[u8]) -> Option<bool>
     }
 }
 
-/// Reads what each receiver gets; false also for more than eight receivers.
+/// Reads what each receiver gets where nothing stands; false also for more than eight receivers.
 fn read_receptions(field: &[u8], receptions: &mut ArrayVec<Reception, MOST_RECEIVERS>) -> bool
+    requires { receptions.old.items ≡ [] }
     ensures some { IsTrue result → AreReceptions field.now receptions.new.items }
     ensures none { IsFalse result → (others : List Reception) → length others ≤ MOST_RECEIVERS
         → AreReceptions field.now others → ⊥ }
 {
-    receptions.clear();
     let mut rest = field;
     while let Some((letter, after)) = rest.split_first() {
         let (digits, others) = after.split_at(digits_in_front(after));

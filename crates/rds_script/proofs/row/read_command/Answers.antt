@@ -7,4 +7,7 @@ empty [] e = refl
 empty (byte ∷ text) e = absurd (omega arith)
 
 pub returns-then-is_empty-clause-some : goal.returns-then-is_empty-clause-some
-returns-then-is_empty-clause-some c _ = (search rules, empty c.args.argument.now (grind (arith, common_steps)))
+returns-then-is_empty-clause-some c _ =
+    let word : c.args.word.now ≡ 45 ∷ [] = search rules in
+    let argument : c.args.argument.now ≡ [] = empty c.args.argument.now (grind (arith, common_steps)) in
+    rw c.requires (word, argument)

@@ -9,22 +9,31 @@ use Rattle.rds_audit.proofs.audit.Audit.hear.Goals as goal
 
 pub returns-in-Some-clause-takes : goal.returns-in-Some-clause-takes
 returns-in-Some-clause-takes c =
-    let message = Text c.in-Some.it.flag c.in-Some.it.address c.in-Some.it.bytes in
-    (message, c.in-Some.ensures.spelled, subst (λ (a : AuditState). Judges a (the_view (record c.self.inside { text = c.take.new.self })) (Some message) c.take.result) c.self.view_is
-    (texts_judge c.take.result (the_view c.self.inside) (the_view (record c.self.inside { text = c.take.new.self })) (Some message) refl refl record { holds = c.take.ensures.holds; breaks = c.take.ensures.fault }))
+    let message = Text c.in-Some.it.flag c.in-Some.it.address c.in-Some.it.bytes in (
+      message,
+      c.in-Some.ensures.spelled,
+      subst (λ (a : AuditState). Judges a (the_view (record c.self.inside { text = c.take.new.self })) (Some message) c.take.result) c.self.view_is
+          (texts_judge c.take.result (the_view c.self.inside) (the_view (record c.self.inside { text = c.take.new.self })) (Some message) refl refl record { holds = c.take.ensures.holds; breaks = c.take.ensures.fault }),
+    )
 
 pub returns-in-Some-name_in-clause-takes : goal.returns-in-Some-name_in-clause-takes
 returns-in-Some-name_in-clause-takes c =
     let it = c.in-Some-name_in.it in
-    let message = Name it.flag it.address it.bytes in
-    (message, c.in-Some-name_in.ensures.spelled, subst (λ (a : AuditState). Judges a (the_view (record c.self.inside { name = c.take-in-Some-name_in.new.self })) (Some message) c.take-in-Some-name_in.result) c.self.view_is
-    (names_judge c.take-in-Some-name_in.result (the_view c.self.inside) (the_view (record c.self.inside { name = c.take-in-Some-name_in.new.self })) (Some message) refl refl record { holds = c.take-in-Some-name_in.ensures.holds; breaks = c.take-in-Some-name_in.ensures.fault }))
+    let message = Name it.flag it.address it.bytes in (
+      message,
+      c.in-Some-name_in.ensures.spelled,
+      subst (λ (a : AuditState). Judges a (the_view (record c.self.inside { name = c.take-in-Some-name_in.new.self })) (Some message) c.take-in-Some-name_in.result) c.self.view_is
+          (names_judge c.take-in-Some-name_in.result (the_view c.self.inside) (the_view (record c.self.inside { name = c.take-in-Some-name_in.new.self })) (Some message) refl refl record { holds = c.take-in-Some-name_in.ensures.holds; breaks = c.take-in-Some-name_in.ensures.fault }),
+    )
 
 pub returns-in-Some-tags_in-clause-takes : goal.returns-in-Some-tags_in-clause-takes
 returns-in-Some-tags_in-clause-takes c =
-    let message = Tags c.in-Some-tags_in.pair in
-    (message, c.in-Some-tags_in.ensures.spelled, subst (λ (a : AuditState). Judges a (the_view (record c.self.inside { text = c.take_tags.new.self })) (Some message) c.take_tags.result) c.self.view_is
-    (texts_judge c.take_tags.result (the_view c.self.inside) (the_view (record c.self.inside { text = c.take_tags.new.self })) (Some message) refl refl record { holds = c.take_tags.ensures.holds; breaks = c.take_tags.ensures.fault }))
+    let message = Tags c.in-Some-tags_in.pair in (
+      message,
+      c.in-Some-tags_in.ensures.spelled,
+      subst (λ (a : AuditState). Judges a (the_view (record c.self.inside { text = c.take_tags.new.self })) (Some message) c.take_tags.result) c.self.view_is
+          (texts_judge c.take_tags.result (the_view c.self.inside) (the_view (record c.self.inside { text = c.take_tags.new.self })) (Some message) refl refl record { holds = c.take_tags.ensures.holds; breaks = c.take_tags.ensures.fault }),
+    )
 
 pub returns-in-Some-announced_in-clause-takes : goal.returns-in-Some-announced_in-clause-takes
 returns-in-Some-announced_in-clause-takes c =
