@@ -1,5 +1,5 @@
 //! One line of a log, and what it says.
-ghost use Rattle.std.specs.Prelude.{◌≡◌, ◌<◌, ◌≤◌, ◌+◌, ◌↔◌, ℕ, Option, Some, length, slice_index, IsTrue, IfSome, IfNone};
+ghost use Rattle.std.specs.Prelude.{◌≡◌, ◌<◌, ◌≤◌, ◌+◌, ◌↔◌, ℕ, None, Option, Some, length, slice_index, IsTrue, IfSome, IfNone};
 ghost use Rattle.rds_block.specs.declared.group.Group.{Group};
 ghost use Rattle.rds_log.specs.declared.log_line.Block.{Block};
 ghost use Rattle.rds_log.specs.declared.log_line.LogLine.{LogLine};
@@ -79,6 +79,9 @@ fn said_otherwise(line: &[u8]) -> Option<LogLine>
     ensures none { IfNone result (IsBad line.now) }
 {
     let length = content_length(line);
+    if is_laid_out(line, length) && has_no_word(line) {
+        return Some(LogLine::Slot(None));
+    }
     if is_skipped(line, length) {
         return Some(LogLine::Skip);
     }
@@ -87,6 +90,15 @@ fn said_otherwise(line: &[u8]) -> Option<LogLine>
     }
     let slot = slot_of_blocks(line)?;
     Some(LogLine::Slot(slot))
+}
+
+/// Whether all four blocks of the line are missing.
+#[inline(always)]
+fn has_no_word(line: &[u8]) -> bool
+    requires { 19 ≤ length line.now }
+    ensures { IsTrue result → SaysSlot line.now None }
+{
+    is_missing(line, 0) && is_missing(line, 5) && is_missing(line, 10) && is_missing(line, 15)
 }
 
 /// How many bytes the line has without one carriage return at its end.
@@ -121,15 +133,14 @@ fn is_laid_out(line: &[u8], length: usize) -> bool
         && (length == BLOCKS || line[BLOCKS] == b' ')
 }
 
-/// What the four blocks of the line carry; `None` where one of them is no block.
+/// What the four blocks of the line carry; `None` where one of them is no block. It stands apart so that a line with no
+/// word pays nothing for it.
+#[inline(never)]
 fn slot_of_blocks(line: &[u8]) -> Option<Option<Blocks>>
     requires { 19 ≤ length line.now }
     ensures some { IfSome result (SaysSlot line.now) }
     ensures none { IfNone result ((slot : Option Group) → SaysSlot line.now slot → ⊥) }
 {
-    if is_missing(line, 0) && is_missing(line, 5) && is_missing(line, 10) && is_missing(line, 15) {
-        return Some(None);
-    }
     let first = block_at(line, 0)?;
     let second = block_at(line, 5)?;
     let third = block_at(line, 10)?;
