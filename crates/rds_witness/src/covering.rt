@@ -13,7 +13,7 @@ ghost use Rattle.rds_witness.specs.Covered.{IsAt, IsInputPart, Keeps, KeepsNext}
 ghost use Rattle.rds_witness.specs.Part.{HasCells};
 
 use rds_block::Group;
-use rds_receiver::{Receiver, StoredReceiver, StoredSegments, heard};
+use rds_receiver::{Receiver, StoredReceiver, StoredSegments};
 use std::alloc::AllocError;
 
 /// How many segments may be held.
@@ -97,13 +97,16 @@ pub(crate) fn after_slot(stored: &StoredReceiver, group: Option<Group>) -> Store
         (λ t input. StandsAt t (receiver_stored result) (group ∷ input)) }
     ensures good { IsStored stored.now → IsStored result }
 {
-    let message = heard(stored.programme, group);
+    let blocks = match &group {
+        Some(group) => Some(group.blocks()),
+        None => None,
+    };
     let mut rested = *stored;
-    if rested.rest(&message) {
+    if rested.rest(blocks) {
         return rested;
     }
     let mut receiver = Receiver::restore(stored);
-    receiver.slot_message(message);
+    receiver.slot_blocks(blocks);
     receiver.store()
 }
 
