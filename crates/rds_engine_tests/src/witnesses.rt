@@ -46,7 +46,11 @@ fn burst_that_joins_two_texts(rt: HostRuntime) -> Result<(), Fail> {
     same(&rt, written.as_slice(), b"lose 2-3: 4 text \"MNOPEF\"\n");
     let (found, written) = looked_for(THREE_TEXTS, rt.alloc(), 1)?;
     same(&rt, found, Ok(false));
-    same(&rt, written.as_slice(), b"no witness found with one burst lost\n");
+    same(
+        &rt,
+        written.as_slice(),
+        b"no witness found with one burst lost\n",
+    );
     Ok(())
 }
 

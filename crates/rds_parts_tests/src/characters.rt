@@ -231,7 +231,11 @@ fn words_of_a_line(rt: HostRuntime) {
     line.push_number(2140);
     line.push(b" ");
     line.push_text(&[0x48, 0x22]);
-    same(&rt, line.bytes(), b"C20121409AF0000F 2140 H\\x22".as_slice());
+    same(
+        &rt,
+        line.bytes(),
+        b"C20121409AF0000F 2140 H\\x22".as_slice(),
+    );
     assert!(rt; line.has_room(37));
     assert!(rt; !line.has_room(38));
     line.clear();
