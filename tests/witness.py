@@ -173,6 +173,11 @@ def worked(check):
         flags = file.read().splitlines()
     check("witness: flags.log", witness(flags, 8), (1, ['lose 2-3: 4 text "POP  FM"']))
     confirm(check, "witness: flags.log", flags, 8, 'lose 2-3: 4 text "POP  FM"')
+    # with M = 1 no two segments are joined; the longest dwell joins those that M = 8 joins here
+    check("witness: M = 1", witness(flags, 1), (0, [NONE]))
+    check("witness: M = 65535", witness(flags, 65535), (1, ['lose 2-3: 4 text "POP  FM"']))
+    confirm(check, "witness: M = 65535", flags, 65535, 'lose 2-3: 4 text "POP  FM"')
+    check("witness: another programme", ran(["witness", "--pi", "C202"], logged(flags)), (0, f"{NONE}\n"))
     bad_line = ran(["witness", "--pi", "C201"], logged([*flags, "x"]))
     check("witness: a bad line", bad_line, (1, "fault line 7\n"))
     rows = [f"text,{'NEWS AT TEN' if at % 32 else 'JAZZ AND SOUL'},1,\n" if at % 16 == 0 else "-,,1,\n" for at in range(20_000)]
