@@ -154,9 +154,24 @@ def confirm(check, name, slots, dwell, told):
     return slot
 
 
+def moved(lines, times):
+    """The lines of the command if each slot has another number: so many times the one that it had."""
+    return [re.sub(r"\b\d+(?=[-:]| (?:text|name|tag[12]) )", lambda it: str(int(it[0]) * times), it, count=3) for it in lines]
+
+
+def elsewhere(check, name, slots, dwell, answer, rng):
+    """Checks that the answer is the same for another programme, and for longer slots and dwells."""
+    pi, times = f"{rng.randrange(65536):04X}", rng.choice((2, 40, 1000, 10_000))
+    others = [it if it == LOST else pi + it[4:] for it in slots]
+    status, output = ran(["witness", "--pi", pi, "--m", str(dwell)], logged(others))
+    check(f"{name}: programme {pi}", (status, output.splitlines()), answer)
+    longer = [it for line in slots for it in [line] + [LOST] * (times - 1)]
+    check(f"{name}: {times} times as long", witness(longer, dwell * times), (answer[0], moved(answer[1], times)))
+
+
 def by_chance(check):
     """On logs by chance: a mix exactly where the plain search finds one, in the same slot."""
-    rng, found = random.Random(20261126), 0
+    rng, elsewhere_rng, found = random.Random(20261126), random.Random(51), 0
     for number in range(LOGS):
         dwell, slots = rng.choice((2, 3, 4, 6)), random_log(rng)
         status, lines = witness(slots, dwell)
@@ -164,6 +179,8 @@ def by_chance(check):
         got = {confirm(check, name, slots, dwell, it) for it in lines if it != NONE}
         check(f"{name}: first mix", (status, got), (0, set()) if best is None else (1, {best}))
         found += bool(got)
+        if number % 10 == 0:
+            elsewhere(check, name, slots, dwell, (status, lines), elsewhere_rng)
     check("witness: logs with a mix, and without", LOGS // 15 < found < LOGS - LOGS // 15, True)
 
 
