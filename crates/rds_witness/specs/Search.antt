@@ -79,7 +79,7 @@ ShowNoOthers t log n receivers = All (λ s. ShowsNoOther t log n (receiver_store
 abbrev pub IsNow : Tuning → List (Option Group) → Now → Type 0
 IsNow t log now = StandsAt t now.whole.now (got None log (now.slot + 1)) × (now.slot < now.slots)
 
--- if nothing is found there is nothing to be found
+-- nothing is found only if no burst makes a receiver show a mix of a text or a name
 abbrev pub IsSure : Tuning → List (Option Group) → Found → Type 0
 IsSure t log Nothing = NoMixes t log
 IsSure t log (Candidate found) = Unit {0}

@@ -1,4 +1,4 @@
-//! Receivers that hold all that others hold, so that nothing is shown by those that these do not show.
+//! Keeps a receiver only if no other one that is kept holds all that it holds.
 ghost use Rattle.std.specs.Prelude.{◌≡◌, ◌≤◌, ◌<◌, ◌⊎◌, ◌↔◌, ◌∷◌, ◌+◌, All, IsTrue, List, OnOk, Option, Some, length, slice_index_or, ℕ};
 ghost use Rattle.std.specs.FinMap.{get};
 ghost use Rattle.rds_assembly.specs.Body.{segment_of};
@@ -19,7 +19,7 @@ use std::alloc::AllocError;
 /// How many segments may be held.
 const SEGMENTS: u8 = 16;
 
-/// Whether the second one holds the same bytes at the address, or the first one holds nothing there.
+/// Whether the first one holds nothing at the address, or the second one holds the same bytes there.
 fn has_segment(one: &StoredSegments, other: &StoredSegments, address: u8) -> bool
     requires { address < 16 }
     ensures { IsTrue result → (b : List ℕ) → get (held_cells one.now.mask one.now.bytes) address ≡ Some b

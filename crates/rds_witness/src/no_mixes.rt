@@ -20,7 +20,7 @@ use std::alloc::{AllocError, Global};
 /// How many times receivers are compared at most.
 const MOST_COMPARISONS: u64 = 500_000_000;
 
-/// The first mix that may be one; nothing only where no burst makes a receiver show a mix of a text or a name.
+/// Finds what may be a mix. `Nothing` means that no burst makes a receiver show a mix of a text or a name.
 pub(crate) fn find_surely(
     alloc: Global,
     log: &[Option<Group>],
@@ -67,7 +67,7 @@ fn first_doubt(
     Ok(None)
 }
 
-/// Whether the texts and names that the receivers show are shown in some of the first slots.
+/// Whether one that loses nothing shows the texts and names of these receivers in some of the first slots.
 fn has_all_of(all: &AllSeen, now: Now<'_>, receivers: &[StoredReceiver]) -> bool
     ensures { IsTrue result → (t : Tuning) (n : ℕ) (log : List (Option Group)) → All (IsAt t n) receivers.now
         → AreSeen t log all.now → IsNow t log now.entry → ShowNoOthers t log now.entry.slots receivers.now }

@@ -1,4 +1,4 @@
-//! What a receiver shows that loses nothing.
+//! What a receiver that loses nothing shows, and when first.
 ghost use Rattle.std.specs.Prelude.{◌≡◌, ◌+◌, ◌<◌, IfOk, IsTrue, List, None, OnOk, Option, length, slice_index_or};
 ghost use Rattle.rds_block.specs.declared.group.Group.{Group};
 ghost use Rattle.rds_log.specs.LogWrites.{tuned};
@@ -24,7 +24,7 @@ const TEXT: u8 = 0;
 
 const NAME: u8 = 64;
 
-/// A receiver that shows something in a slot.
+/// A receiver behind a slot.
 #[derive(Clone, Copy)]
 pub(crate) struct Seen {
     pub(crate) slot: usize,
@@ -92,7 +92,7 @@ impl AllSeen {
         Ok(())
     }
 
-    /// Whether the receiver shows a text or a name for the first time. This will be found at the place.
+    /// Whether the receiver shows a text or a name for the first time. It is then looked for at this place.
     fn is_new(&mut self, receiver: &Receiver, place: usize) -> Result<bool, AllocError>
         ensures { self.new.seen ≡ self.old.seen }
     {
@@ -117,7 +117,7 @@ impl AllSeen {
         Ok(true)
     }
 
-    /// Whether the thing, a text or a name, is shown now or in one of the first slots.
+    /// Whether a receiver that loses nothing shows the text or the name now, or in another one of the first slots.
     fn has(&self, now: Now<'_>, thing: Thing<'_>, number: u64) -> bool
         ensures { IsTrue result → (t : Tuning) (log : List (Option Group)) → AreSeen t log self.now
             → IsNow t log now.entry → IsShownBefore t log now.entry.slots (thing_lent thing.entry) }
@@ -155,7 +155,7 @@ impl AllSeen {
         }
     }
 
-    /// Whether the text and the name that a receiver shows are shown in some of the first slots.
+    /// Whether one that loses nothing shows the text and the name of this receiver in some of the first slots.
     pub(crate) fn has_all(&self, now: Now<'_>, receiver: &StoredReceiver) -> bool
         ensures { IsTrue result → IsStored receiver.now → (t : Tuning) (log : List (Option Group))
             → AreSeen t log self.now → IsNow t log now.entry

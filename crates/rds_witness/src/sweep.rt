@@ -1,4 +1,4 @@
-//! A search of all bursts at once, with a few receivers that hold all that any other one holds.
+//! A search of all bursts at once, by a few receivers that hold all that any receiver with one burst holds.
 ghost use Rattle.std.specs.Prelude.{◌≡◌, ◌+◌, ℕ, IfOk, List, None, OnOk, Option};
 ghost use Rattle.rds_block.specs.declared.group.Group.{Group};
 ghost use Rattle.rds_log.specs.LogWrites.{tuned};
