@@ -12,7 +12,7 @@ ghost use Rattle.rds_log.specs.LogWrites.{tuned};
 ghost use Rattle.rds_witness.specs.Covered.{IsAt, IsInputPart, Keeps, KeepsNext};
 ghost use Rattle.rds_witness.specs.Part.{HasCells};
 
-use rds_block::Group;
+use rds_block::{Blocks, Group};
 use rds_receiver::{Receiver, StoredReceiver, StoredSegments};
 use std::alloc::AllocError;
 
@@ -91,18 +91,24 @@ pub(crate) fn is_receiver_part(one: &StoredReceiver, other: &StoredReceiver) -> 
     is_part(&one.text, &other.text) && is_part(&one.name, &other.name)
 }
 
+/// What came in a slot, by its blocks.
+fn blocks_of(group: Option<Group>) -> Option<Blocks>
+    ensures { result ≡ group }
+{
+    Some(group?.blocks())
+}
+
 /// The receiver one slot later.
 pub(crate) fn after_slot(stored: &StoredReceiver, group: Option<Group>) -> StoredReceiver
     ensures stands { IsStored stored.now → WhereItStands (receiver_stored stored.now)
         (λ t input. StandsAt t (receiver_stored result) (group ∷ input)) }
     ensures good { IsStored stored.now → IsStored result }
 {
-    let blocks = match &group {
-        Some(group) => Some(group.blocks()),
-        None => None,
-    };
+    let blocks = blocks_of(group);
+    // a copy by a name of its own: what is passed on may not have been lent
+    let given = blocks;
     let mut rested = *stored;
-    if rested.rest(blocks) {
+    if rested.rest(given) {
         return rested;
     }
     let mut receiver = Receiver::restore(stored);
