@@ -1,5 +1,5 @@
 //! The receivers' part of a slot.
-ghost use Rattle.std.specs.Prelude.{◌≡◌, ◌≤◌, ℕ, List, Option, IsTrue, false, length, slice_index_or, true};
+ghost use Rattle.std.specs.Prelude.{◌≡◌, ◌≤◌, ℕ, List, None, Option, IsTrue, false, length, slice_index_or, true};
 ghost use Rattle.std.specs.List.{AllByRecursion};
 ghost use Rattle.rds_fields.specs.declared.message.Message.{Message};
 ghost use Rattle.rds_world.specs.declared.event.Reception.TheVariants.{Lost};
@@ -12,6 +12,7 @@ ghost use Rattle.rds_world.specs.StandsAt.{StaysShown, WhereTheyListen, all_rece
 
 use crate::recent::Recent;
 use crate::{Config, MOST_RECEIVERS, Reception};
+use rds_fields::Message;
 use rds_receiver::Receiver;
 
 /// Eight receivers that heard nothing yet.
@@ -50,16 +51,24 @@ pub(crate) fn hand_out(
         (λ slot sent inputs. (i : ℕ) → slice_index_or result i false ≡ true
         → StaysShown config.now (inputs i) (all_received receptions.now slot sent inputs i)) }
 {
+    let newest = recent.back(0);
     let mut stays = [false; MOST_RECEIVERS];
     for i in 0..receivers.len() {
-        stays[i] = receive(&mut receivers[i], config, receptions[i], recent);
+        stays[i] = receive(&mut receivers[i], config, receptions[i], recent, &newest);
     }
     stays
 }
 
 /// Gives a receiver what it gets of a slot up to which this was sent. True where it shows what it showed
 /// before.
-fn receive(receiver: &mut Receiver, config: &Config, reception: Reception, recent: &Recent) -> bool
+fn receive(
+    receiver: &mut Receiver,
+    config: &Config,
+    reception: Reception,
+    recent: &Recent,
+    newest: &Option<Message>,
+) -> bool
+    requires { newest.now ≡ slice_index_or recent.now.items 0 None }
     ensures heard { (slot : ℕ) (sent : List (Option Message)) (input : Input) (last : Option ℕ)
         → AreLastSent config.now sent recent.now.items
         → IsDue config.now.late slot last reception
@@ -72,7 +81,7 @@ fn receive(receiver: &mut Receiver, config: &Config, reception: Reception, recen
         → StaysShown config.now input (received reception slot sent input) }
 {
     match reception {
-        Reception::Got(back) => !receiver.slot_message(recent.back(back)),
+        Reception::Got(back) => !receiver.slot_message(recent.back_from(newest, back)),
         Reception::Lost => !receiver.slot_message(None),
         Reception::Restart => {
             *receiver = Receiver::new(config.head.pi, config.dwell);

@@ -43,6 +43,19 @@ impl Recent {
         self.messages.push_front(message);
     }
 
+    /// What was sent so many slots before the newest one, in which this was sent. Most groups come in their own slot, so
+    /// that the ring is read once for all receivers.
+    pub(crate) fn back_from(&self, newest: &Option<Message>, slots: u16) -> Option<Message>
+        requires { newest.now ≡ slice_index_or self.now.items 0 None }
+        ensures { result ≡ slice_index_or self.now.items slots None }
+    {
+        if slots == 0 {
+            *newest
+        } else {
+            self.back(slots)
+        }
+    }
+
     /// What was sent so many slots before the newest.
     pub(crate) fn back(&self, slots: u16) -> Option<Message>
         ensures { result ≡ slice_index_or self.now.items slots None }

@@ -11,7 +11,7 @@ returns-in-Got-clause-heard c slot sent input last kept due has =
     let back = c.in-Got.back in
     let is_due = subst (λ (r : Reception). IsDue c.args.config.now.late slot last r) c.in-Got.is due in
     let (same, (group, hears)) = kept back is_due.soon in
-    let handed : c.back.result ≡ sent_back back sent = c.back.ensures ∙ same in
+    let handed : c.back_from.result ≡ sent_back back sent = c.back_from.ensures ∙ same in
     rw c.in-Got.is (hears_more config input _ _ group (sent_back back sent) (Some (slot - back)) hears (rw handed at c.slot_message.ensures.stands) has)
 
 pub returns-in-Lost-clause-heard : goal.returns-in-Lost-clause-heard
@@ -26,7 +26,7 @@ returns-in-Got-clause-stays c slot sent input last kept due has stays =
     let back = c.in-Got.back in
     let is_due = subst (λ (r : Reception). IsDue c.args.config.now.late slot last r) c.in-Got.is due in
     let (same, (group, hears)) = kept back is_due.soon in
-    let handed : c.back.result ≡ sent_back back sent = c.back.ensures ∙ same in
+    let handed : c.back_from.result ≡ sent_back back sent = c.back_from.ensures ∙ same in
     let calm : c.slot_message.result ≡ false = search rules in
     rw c.in-Got.is (stays_shown config input _ group (sent_back back sent) (Some (slot - back)) hears (rw handed at (c.slot_message.ensures.same calm)) has)
 
