@@ -1,7 +1,8 @@
 //! Witnesses of what a broken rule costs: slots of a log that a receiver has to lose to show what nobody sent.
 //!
-//! [`witness`] looks for them with no promise, and what it finds it checks by receivers of its own: what it writes is
-//! so by the definitions of `decode` (`IsMix`).
+//! [`witness`] looks for them twice. The first search promises nothing, and receivers of their own check what it finds: so
+//! what is written is a mix by the definitions of `decode` (`IsMix`). If it finds nothing, a second search rules out every
+//! burst (`NoMixes`).
 #![tactic(auto)]
 
 mod burst;
