@@ -4,5 +4,6 @@ pub mod Digits
 pub mod DigitLanes
 pub mod Outcomes
 pub mod Symbols
+pub mod Stopping
 pub mod PrintedText
 pub mod SpreadDigits

@@ -3,6 +3,7 @@ pub mod Laws
 pub mod Printed
 pub mod Digits
 pub mod ReadAs
+pub mod Stops
 pub mod Stretches
 pub mod Table
 pub mod Told

@@ -24,5 +24,5 @@ pub use laws::{printed_is_read_back, printed_is_text, printed_takes_four, text_i
 pub use lines::Lines;
 pub use output::{WriteFault, put};
 pub use printing::{push_text, write_text};
-pub use reading::{TextFault, read_text};
+pub use reading::{Stop, TextFault, measure_text, read_text};
 pub use told::{TellingRead, TellingWrite, Told};

@@ -7,6 +7,8 @@ ghost use Rattle.rds_charset.specs.Faults.{StopsBy};
 ghost use Rattle.rds_charset.specs.ReadAs.{Begins, BeginsDigit, BeginsNoDigit, BeginsNoSymbol};
 ghost use Rattle.rds_charset.specs.ReadAs.{HasBadEscape, HasNoRoom, HasUnknownCharacter};
 ghost use Rattle.rds_charset.specs.ReadAs.{IsReadAs, StopsAt};
+ghost use Rattle.rds_charset.specs.Stops.{IsStop};
+ghost use Rattle.std.specs.Str.{chars};
 
 use crate::table::byte_of;
 use thiserror::Error;
@@ -55,6 +57,45 @@ pub fn read_text(text: &str, into: &mut [u8]) -> Result<usize, TextFault>
         return Err(TextFault::NoRoom);
     }
     Ok(fill(text, into))
+}
+
+/// The first character of a text that can't be read.
+#[derive(Clone, Copy, Debug, PartialEq, Eq)]
+pub struct Stop {
+    /// Its place, counted in characters from 1.
+    pub place: usize,
+    /// The character: a backslash that begins no escape, or one that isn't in the table.
+    pub character: char,
+}
+
+/// Counts the bytes that a text is read as, however many they are.
+///
+/// # Errors
+///
+/// The first character that can't be read, if there is one.
+pub fn measure_text(text: &str) -> Result<usize, Stop>
+    ensures ok { IfOk result
+        (λ count. (bytes : List ℕ) × IsReadAs text.now bytes × (length bytes ≡ count)) }
+    ensures err { IfErr result (IsStop text.now) }
+{
+    let mut rest = text;
+    let mut count = 0;
+    while let Some((character, _)) = first_character(rest) {
+        let Some((_, after)) = first_symbol(rest) else {
+            let place = count_characters(text) - count_characters(rest) + 1;
+            return Err(Stop { place, character });
+        };
+        count += 1;
+        rest = after;
+    }
+    Ok(count)
+}
+
+/// How many characters the text has.
+fn count_characters(text: &str) -> usize
+    ensures { result ≡ length (chars text.now) }
+{
+    text.chars().count()
 }
 
 /// How many bytes the text is read as.
