@@ -1,5 +1,5 @@
 -- The digits of words that are spread out, a number below 16 in each byte of a lane.
-use Rattle.std.proofs.Common.{◌≡◌, ◌+◌, ◌*◌, ◌/◌, ◌%◌, ◌^◌, ◌<◌, ◌∙◌, ◌&&◌, Bool, ℕ, ap, arith, bit_and, cond, false, inl, inr, nat_eq, refl, suc, true, zero}
+use Rattle.std.proofs.Common.{◌≡◌, ◌+◌, ◌*◌, ◌/◌, ◌%◌, ◌<◌, ◌∙◌, ◌&&◌, Bool, ℕ, ap, arith, bit_and, cond, false, inl, inr, nat_eq, refl, suc, true, zero}
 use Rattle.std.proofs.lemmas.Bool.{cases_lt}
 use Rattle.std.proofs.lemmas.Bool.Decides.{nat_tests}
 use Rattle.std.proofs.lemmas.Nat.{and_mask}

@@ -3,6 +3,7 @@ pub mod Commands
 pub mod Records
 pub mod Changes
 pub mod Receptions
+pub mod SecondReading
 pub mod OneEvent
 pub mod Playing
 pub mod Plays

@@ -1,27 +1,34 @@
 -- How a station goes on by a row, and why a record is no row.
-use Rattle.std.proofs.Common.{◌≡◌, ◌⊎◌, ◌<◌, ◌+◌, ◌∙◌, ◌∷◌, ◌++◌, [], ℕ, suc, add-one, List, None, Option, Some, ap, ap₂, arith, inl, inr, length, refl, subst, sym}
-use Rattle.std.specs.Prelude.{Err, IfErr, Ok, OnOk, Result}
+use Rattle.std.proofs.Common.{◌≡◌, ◌⊎◌, ◌<◌, ◌≤◌, ◌+◌, ◌∙◌, ◌∷◌, ◌++◌, [], ℕ, zero, suc, add-one, List, None, Option, Some, ap, ap₂, arith, inl, inr, length, refl, subst, sym}
+use Rattle.std.specs.Prelude.{Err, Ok, OnOk, Result}
 use Rattle.rds_world.specs.Event.{Event}
 use Rattle.rds_world.specs.State.{distance}
 use Rattle.rds_receiver.specs.Shown.{ShownView}
 use Rattle.rds_script.proofs.Changes.{changes_same}
 use Rattle.rds_output.specs.NoChange.{view_of_none}
-use Rattle.rds_world.specs.Slots.{input_of}
+use Rattle.rds_world.specs.Slots.{entries, input_of}
 use Rattle.rds_world.specs.StandsAt.{IsViewOfInput, ShowsStill, tuned_to}
 use Rattle.rds_script.specs.Outcomes.{AreOutcomes, IsOutcome, Outcome, answer_lines, lines_of, newest_views, receiver_changes, slot_lines, view_at}
 use Rattle.rds_script.specs.Inside.Player.{HasWatched, IsBegun, IsRowRefused, Played, PlayerStandsAt, PlaysRow}
 use Rattle.rds_script.specs.Inside.Watched.{AreKept, WatchedStandsAt, WereShown, views_kept}
+use Rattle.rds_script.specs.Notes.{first_of, wait_of}
+use Rattle.rds_script.specs.declared.notes.Wait.{Wait}
 use Rattle.rds_script.specs.declared.player.Player.{Player}
-use Rattle.rds_script.specs.declared.row.RowRefused.{RowRefused}
 use Rattle.rds_script.specs.declared.row.RowRefused.TheVariants as refused
 use Rattle.rds_script.specs.declared.watched.Watched.{Watched}
 use Rattle.rds_charset.specs.Laws.{TextIsReadOneWay}
-use Rattle.rds_world.specs.Replies.{CanBeTaken}
+use Rattle.rds_world.specs.Replies.{CanBeTaken, IsStepRefused, reply_at}
+use Rattle.rds_world.specs.declared.reply.StepRefused.{StepRefused}
+use Rattle.rds_world.specs.declared.reply.StepRefused.TheVariants as step
+use Rattle.rds_script.specs.RowCauses.{IsEventCause}
+use Rattle.rds_script.specs.declared.row_cause.RowCause.{RowCause}
 use Rattle.rds_script.specs.Receptions.{AreReceptions}
 use Rattle.rds_script.specs.Rows.{AreNoRows, AreRows, IsAllowed, Record, SaysEvent}
 use Rattle.rds_script.proofs.OneEvent.{same_event, same_events}
 use Rattle.rds_script.proofs.Receptions.{same_receptions}
 use Rattle.rds_script.specs.declared.form.Form.{Form}
+use Rattle.rds_script.specs.declared.form.Form.TheVariants.{Log, Simulation}
+use Rattle.rds_world.specs.declared.event.TheConstants.{MOST_RECEIVERS}
 use Rattle.rds_world.specs.declared.world.Config.{Config}
 
 -- a record, an event and an outcome for each slot
@@ -44,6 +51,21 @@ same_count row e f p q =
 pub names_receivers : (k : ℕ) (form : Form) (row : Record) (records : List Record) (e : Event) → SaysEvent row e → (IsAllowed form (length e.receptions) → ⊥) → AreNoRows k form (row ∷ records)
 names_receivers k form row records e says none [] say = say.rows
 names_receivers k form row records e says none (f ∷ older) say = none (subst (IsAllowed form) (sym (same_count row e f says say.rows.0 ∙ say.rows.1.count)) say.allowed)
+
+-- a record that says no event
+few_allowed : (form : Form) (n : ℕ) → IsAllowed form n → n ≤ MOST_RECEIVERS
+few_allowed Simulation n allowed = allowed
+few_allowed Log n allowed = omega (arith, allowed)
+
+pub says_none : (k : ℕ) (form : Form) (row : Record) (records : List Record) → ((e : Event) → length e.receptions ≤ MOST_RECEIVERS → SaysEvent row e → ⊥) → AreNoRows k form (row ∷ records)
+says_none k form row records none [] say = say.rows
+says_none k form row records none (e ∷ older) say = none e (let few = few_allowed form say.receivers say.allowed in omega (arith, few, say.rows.1.count)) say.rows.0
+
+-- a number of receivers that is not allowed, of up to eight
+pub not_allowed : (form : Form) (n : ℕ) → n ≤ MOST_RECEIVERS → (IsAllowed form n → ⊥) → (form ≡ Log) × (0 < n)
+not_allowed Simulation n few none = absurd (none few)
+not_allowed Log zero few none = absurd (none refl)
+not_allowed Log (suc n) few none = (refl, omega arith)
 
 -- rows of one script have one number of receivers
 same_receivers : (k n other : ℕ) (records : List Record) (events older : List Event) → AreRows k n records events → AreRows k other records older → 0 < length records → n ≡ other
@@ -103,15 +125,23 @@ is_ready (Some before) w played asked events outcomes had allowed rows are has b
   how = inl (let counted = as_many_rows played.config.late played.receivers played.records events rows in omega (arith, has.0, counted));
 }
 
+-- an event and an outcome for each slot
+pub as_many_outcomes : (config : Config) (events : List Event) (outcomes : List Outcome) → AreOutcomes config events outcomes → length events ≡ length outcomes
+as_many_outcomes config [] [] are = refl
+as_many_outcomes config [] (o ∷ older) are = absurd are
+as_many_outcomes config (e ∷ before) [] are = absurd are
+as_many_outcomes config (e ∷ before) (o ∷ older) are = ap suc (as_many_outcomes config before older are.1)
+
 -- a slot more is played in a world whose receivers are watched
 pub plays_on : {T E : Type 0} (r : Result T E) (before now : Player) (played : Played) (s : PlayerStandsAt before played) (receivers : ℕ) (kept : List ShownView) (w : Watched) (row : Record) (e : Event) (lines : List ℕ)
     → now.form ≡ before.form → now.config ≡ before.config → now.slot ≡ before.slot + 1 → now.watched ≡ Some w → IsAllowed played.form receivers
     → AreRows played.config.late receivers played.records s.events → SaysEvent row e → AreKept kept (newest_views s.outcomes)
     → OnOk r (CanBeTaken played.config.late receivers e s.events) → OnOk r (WatchedStandsAt played.config receivers w (e ∷ s.events))
     → OnOk r ((o : Outcome) × IsOutcome played.config e s.events o × (o.views ≡ views_kept w) × (lines ≡ slot_lines played.form before.slot kept o))
+    → OnOk r (now.wait ≡ first_of (wait_of before.slot e.command (reply_at (distance played.config) e.command (entries s.events))) before.wait)
     → OnOk r (PlaysRow now row lines played)
-plays_on (Err why) before now played s receivers kept w row e lines form config slot watched allowed rows says same taken stands outcome = tt
-plays_on (Ok done) before now played s receivers kept w row e lines form config slot watched allowed rows says same taken stands (o, is, views, gave) = (
+plays_on (Err why) before now played s receivers kept w row e lines form config slot watched allowed rows says same taken stands outcome wait = tt
+plays_on (Ok done) before now played s receivers kept w row e lines form config slot watched allowed rows says same taken stands (o, is, views, gave) wait = (
   receivers,
   record {
     form_is = form ∙ s.form_is;
@@ -123,6 +153,9 @@ plays_on (Ok done) before now played s receivers kept w row e lines form config 
     are = (is, s.are);
     slot = slot ∙ ap (λ (n : ℕ). n + 1) s.slot ∙ add-one (length s.outcomes);
     lines = slot_written played.form before.slot kept o s.outcomes played.written lines s.lines s.slot same gave;
+    wait =
+        let slots : before.slot ≡ length s.events = s.slot ∙ sym (as_many_outcomes played.config s.events s.outcomes s.are) in
+        wait ∙ ap₂ (λ (n : ℕ) (x : Option Wait). first_of (wait_of n e.command (reply_at (distance played.config) e.command (entries s.events))) x) slots s.wait;
     watched = subst (λ (x : Option Watched). HasWatched played.config receivers x (e ∷ s.events) (o ∷ s.outcomes)) (sym watched) (omega arith, stands, λ i. ap (λ (views : List ShownView). view_at views i) (sym views));
   },
 )
@@ -140,13 +173,21 @@ refused_row one form k receivers row records e events rows says how none (g ∷ 
     ] in
     none (subst (λ (n : ℕ). CanBeTaken k n e events) count (subst (λ (x : Event). CanBeTaken k say.receivers x events) same (subst (λ (l : List Event). CanBeTaken k say.receivers g l) before say.rows.1)))
 
--- a slot that is refused: the record is no row, after rows or as the first one
-pub refused_on : {T : Type 0} (r : Result T RowRefused) → TextIsReadOneWay → (played : Played) (receivers : ℕ) (row : Record) (e : Event) (events : List Event)
-    → AreRows played.config.late receivers played.records events → SaysEvent row e → (0 < length played.records) ⊎ (receivers ≡ length e.receptions)
-    → IfErr r (λ why. (why ≡ refused.NoRow) × (CanBeTaken played.config.late receivers e events → ⊥)) → IfErr r (IsRowRefused played row)
-refused_on (Ok done) one played receivers row e events rows says how why = tt
-refused_on (Err which) one played receivers row e events rows says how (is, none) =
-    rw is (refused_row one played.form played.config.late receivers row played.records e events rows says how none)
+-- a slot that is refused can't be taken
+not_taken : (k receivers : ℕ) (e : Event) (before : List Event) (why : StepRefused) → IsStepRefused k receivers e before why → CanBeTaken k receivers e before → ⊥
+not_taken k receivers e before step.ReceiverCount refused taken = refused taken.count
+not_taken k receivers e before (step.Late r) refused taken = refused.late.late (taken.due r)
+
+-- a slot that is refused: the record is no row, after rows or as the first one, for the cause that is found
+pub refused_on : TextIsReadOneWay → (played : Played) (k first slot receivers : ℕ) (row : Record) (e : Event) (events : List Event) (why : StepRefused) (cause : RowCause)
+    → k ≡ played.config.late → first ≡ receivers → slot ≡ length played.records → AreRows played.config.late receivers played.records events → SaysEvent row e → IsAllowed played.form (length e.receptions)
+    → (0 < length played.records) ⊎ (receivers ≡ length e.receptions) → IsStepRefused played.config.late receivers e events why
+    → ((form : Form) (before : List Record) (row : Record) (events : List Event) → AreRows k first before events → slot ≡ length before → SaysEvent row e → IsAllowed form (length e.receptions)
+    → (0 < length before) ⊎ (first ≡ length e.receptions) → IsStepRefused k first e events why → IsEventCause form k before row cause)
+    → IsRowRefused played row (refused.NoRow cause)
+refused_on one played k first slot receivers row e events why cause late count now rows says allowed how is finds =
+    let found = finds played.form played.records row events (rw (late, count) rows) now says allowed (rw count how) (rw (late, count) is) in
+    (refused_row one played.form played.config.late receivers row played.records e events rows says how (not_taken played.config.late receivers e events why is), inr (inr (rw late at found)))
 
 -- what a receiver shows that shows what it showed
 pub still_shown : (config : Config) (n i : ℕ) (events : List Event) (kept now : List ShownView) → ShowsStill config i events → WereShown config n events kept → i < n

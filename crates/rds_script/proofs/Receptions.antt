@@ -10,18 +10,7 @@ use Rattle.std.specs.Char.{IsAsciiDigit, IsNotAsciiDigit, digit_value}
 use Rattle.std.specs.Str.Parse.{AllDigits, digits_value}
 use Rattle.rds_world.specs.declared.event.Reception.{Reception}
 use Rattle.rds_world.specs.declared.event.Reception.TheVariants.{Got, Lost, Restart}
-use Rattle.rds_script.specs.Receptions.{AreReceptions, HasDigits, letter}
-
--- the text is empty or begins with another byte than a digit
-abbrev pub HasNoDigitFirst : List ℕ → Type 0
-HasNoDigitFirst [] = Unit {0}
-HasNoDigitFirst (b ∷ others) = 10 ≤ digit_value b
-
--- the text is cut after the decimal digits that it begins with
-pub record IsDigitCut (text digits rest : List ℕ) : Type 0 where
-  pub cut : text ≡ digits ++ rest
-  pub decimal : AllDigits 10 digits
-  pub ends : HasNoDigitFirst rest
+use Rattle.rds_script.specs.Receptions.{AreReceptions, HasDigits, HasNoDigitFirst, IsDigitCut, letter}
 
 not_empty : (b : ℕ) (more : List ℕ) → b ∷ more ≡ [] → ⊥
 not_empty b more e = cc

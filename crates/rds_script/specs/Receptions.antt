@@ -2,6 +2,7 @@
 -- it gets what was sent. `L`: it loses the slot. `R`: it restarts. After a `G` stand up to four decimal digits, the
 -- number of slots that the group comes late; no digit says 0. This is the project's own format.
 use Rattle.std.specs.Prelude.{◌≡◌, ◌≤◌, ◌++◌, ℕ, List, [], ◌∷◌, length}
+use Rattle.std.specs.Char.{digit_value}
 use Rattle.std.specs.Str.Parse.{AllDigits, digits_value}
 use Rattle.rds_world.specs.declared.event.Reception.{Reception}
 use Rattle.rds_world.specs.declared.event.Reception.TheVariants.{Got, Lost, Restart}
@@ -30,3 +31,14 @@ AreReceptions text [] = text ≡ []
 AreReceptions text (first ∷ others) =
     (digits : List ℕ) × (rest : List ℕ) × (text ≡ letter first ∷ digits ++ rest) × HasDigits first digits
     × AreReceptions rest others
+
+-- the text is empty or begins with another byte than a digit
+abbrev pub HasNoDigitFirst : List ℕ → Type 0
+HasNoDigitFirst [] = Unit {0}
+HasNoDigitFirst (b ∷ others) = 10 ≤ digit_value b
+
+-- the text is cut behind the decimal digits that it begins with
+pub record IsDigitCut (text digits rest : List ℕ) : Type 0 where
+  pub cut : text ≡ digits ++ rest
+  pub decimal : AllDigits 10 digits
+  pub ends : HasNoDigitFirst rest

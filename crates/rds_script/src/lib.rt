@@ -9,11 +9,18 @@ mod answer_lines;
 mod asked;
 mod form;
 mod laws;
+mod notes;
 mod player;
 mod row;
+mod row_cause;
 mod script;
 mod scripts;
+mod second_reading;
 mod watched;
 
 pub use laws::{rows_write_one_output, script_writes_one_output};
-pub use scripts::{encode, encode_within, simulate, simulate_within};
+pub use notes::{BadRow, ScriptNotes, Thing, Wait};
+pub use row_cause::{RowCause, TagNumber};
+pub use scripts::{
+    encode, encode_with_notes, encode_within, simulate, simulate_with_notes, simulate_within,
+};

@@ -1,12 +1,15 @@
 //! A station that plays the rows of a script.
-ghost use Rattle.std.specs.Prelude.{◌≡◌, ◌<◌, ◌≤◌, ◌+◌, ◌-◌, ◌^◌, [], IfErr, None, OnOk, Some};
+ghost use Rattle.std.specs.Prelude.{◌≡◌, ◌<◌, ◌≤◌, ◌+◌, ◌-◌, ◌^◌, [], IfErr, None, OnErr, OnOk, Some};
 ghost use Rattle.csv.specs.Records.{fields_of};
 ghost use Rattle.rds_world.specs.declared.event.TheConstants.{MOST_RECEIVERS};
 ghost use Rattle.rds_script.specs.declared.row.RowRefused.TheVariants as refused;
 ghost use Rattle.rds_script.specs.declared.watched.Watched.{Watched};
 
 use crate::form::Form;
+use crate::notes::{Wait, note_wait};
 use crate::row::{RowRefused, read_event};
+use crate::row_cause::RowCause;
+use crate::second_reading::{cause_of, refused_cause};
 use crate::watched::{RowLines, Watched};
 use arrayvec::ArrayVec;
 use csv::ByteRecord;
@@ -22,6 +25,8 @@ pub(crate) struct Player {
     config: Config,
     watched: Option<Watched>,
     pub(crate) slot: u64,
+    /// The first thing that was set too early.
+    pub(crate) wait: Option<Wait>,
 }
 
 impl Player {
@@ -39,6 +44,7 @@ impl Player {
             config,
             watched: None,
             slot: 0,
+            wait: None,
         }
     }
 
@@ -51,6 +57,7 @@ impl Player {
             OnOk result (PlaysRow self.new (fields_of row.now) lines.new played)) }
         ensures refused { WherePlayerStands self.old (λ played.
             IfErr result (IsRowRefused played (fields_of row.now))) }
+        ensures kept { OnErr result (self.new.wait ≡ self.old.wait) }
     {
         // the law by which a record says one event
         text_is_read_one_way();
@@ -60,18 +67,30 @@ impl Player {
             receptions: ArrayVec::new(),
         };
         if !read_event(row, &mut event) {
-            return Err(RowRefused::NoRow);
+            return Err(RowRefused::NoRow(cause_of(row)));
         }
         let receivers = event.receptions.len();
         if !self.form.allows(receivers) {
-            return Err(RowRefused::NoRow);
+            return Err(RowRefused::NoRow(RowCause::EncodeTakesNone(receivers)));
         }
         self.begin(receivers)?;
         match &mut self.watched {
             Some(watched) => {
                 let slot = self.slot;
                 self.slot += 1;
-                watched.play(self.form, slot, &event, lines)
+                match watched.play(self.form, slot, &event, lines) {
+                    Ok(reply) => {
+                        note_wait(&mut self.wait, slot, &event.command, reply);
+                        Ok(())
+                    }
+                    Err(why) => Err(RowRefused::NoRow(refused_cause(
+                        why,
+                        self.config.late,
+                        slot,
+                        watched.receivers(),
+                        &event,
+                    ))),
+                }
             }
             None => unreachable!(),
         }
@@ -83,6 +102,7 @@ impl Player {
         ensures begins { OnOk result ((w : Watched) × (self.new ≡ record self.old { watched = Some w })
             × IsBegun self.old.config receivers self.old.watched w) }
         ensures memory { IfErr result (λ why. (why ≡ refused.Memory) × (self.old.watched ≡ None)) }
+        ensures kept { OnErr result (self.new ≡ self.old) }
     {
         if self.watched.is_some() {
             return Ok(());
@@ -99,6 +119,7 @@ impl Player {
         ensures made { OnOk result ((w : Watched) × (self.new ≡ record self.old { watched = Some w })
             × IsBegun self.old.config receivers None w) }
         ensures memory { IfErr result (λ why. why ≡ refused.Memory) }
+        ensures kept { OnErr result (self.new ≡ self.old) }
     {
         self.watched = Some(Watched::new(self.alloc, self.config, receivers)?);
         Ok(())

@@ -19,6 +19,7 @@ ghost use Rattle.rds_script.specs.Receptions.{AreReceptions, HasDigits, IsLatene
 ghost use Rattle.rds_script.specs.Rows.{AreNumbers, HasNoSpace, IsCut, IsNameArgument, IsNumber};
 ghost use Rattle.rds_script.specs.Rows.{SaysCommand, SaysEvent, free_field, numbers_of_pair, numbers_of_tag};
 
+use crate::row_cause::RowCause;
 use arrayvec::ArrayVec;
 use csv::ByteRecord;
 use rds_assembly::{Name, Text};
@@ -27,11 +28,11 @@ use rds_fields::{Tag, TagPair};
 use rds_world::{Command, MOST_RECEIVERS, Reception, SlotEvent};
 
 /// The most bytes of a text, and more than those of a name.
-const LONGEST: usize = 64;
+pub(crate) const LONGEST: usize = 64;
 
 /// What a row tells the encoder to do; its argument says with what.
 #[derive(Clone, Copy)]
-enum Verb {
+pub(crate) enum Verb {
     Nothing,
     Restart,
     Text,
@@ -42,8 +43,8 @@ enum Verb {
 /// Why a record is not played.
 #[derive(Clone, Copy)]
 pub(crate) enum RowRefused {
-    /// It is no row.
-    NoRow,
+    /// It is no row, for this cause.
+    NoRow(RowCause),
     /// There was no memory for the world.
     Memory,
 }
@@ -70,15 +71,15 @@ pub(crate) fn read_event(row: &ByteRecord, event: &mut SlotEvent) -> bool
 
 /// The fields of a row.
 #[derive(Clone, Copy)]
-struct Fields<'a> {
-    word: &'a [u8],
-    argument: &'a [u8],
-    free: &'a [u8],
-    receptions: &'a [u8],
+pub(crate) struct Fields<'a> {
+    pub(crate) word: &'a [u8],
+    pub(crate) argument: &'a [u8],
+    pub(crate) free: &'a [u8],
+    pub(crate) receptions: &'a [u8],
 }
 
 /// The fields of a record, where it has four.
-fn four_fields(row: &ByteRecord) -> Option<Fields<'_>>
+pub(crate) fn four_fields(row: &ByteRecord) -> Option<Fields<'_>>
     ensures some { IfSome result (λ fields. fields_of row.now ≡ fields.word.now
         ∷ fields.argument.now ∷ fields.free.now ∷ fields.receptions.now ∷ []) }
     ensures none { IfNone result (length (fields_of row.now) ≢ 4) }
@@ -143,7 +144,7 @@ fn command_of(word: &[u8], argument: &[u8]) -> Option<Command>
 }
 
 /// The characters of an argument, where it is UTF-8.
-fn characters(argument: &[u8]) -> Option<&str>
+pub(crate) fn characters(argument: &[u8]) -> Option<&str>
     ensures some { IfSome result (λ text. (text.now ≡ argument.now) × IsUtf8 argument.now) }
     ensures none { IfNone result (IsUtf8 argument.now → ⊥) }
 {
@@ -151,7 +152,7 @@ fn characters(argument: &[u8]) -> Option<&str>
 }
 
 /// The verb that the word is.
-fn verb_of(word: &[u8]) -> Option<Verb>
+pub(crate) fn verb_of(word: &[u8]) -> Option<Verb>
     ensures some { IfSome result (λ verb. word.now ≡ verb_word verb) }
     ensures none { IfNone result ((verb : Verb) → word.now ≡ verb_word verb → ⊥) }
 {
@@ -249,7 +250,7 @@ fn numbers_of(text: &str) -> Option<ArrayVec<u8, 8>>
 }
 
 /// What stands before the first space, and what after it.
-fn cut_at_space(text: &str) -> Option<(&str, &str)>
+pub(crate) fn cut_at_space(text: &str) -> Option<(&str, &str)>
     ensures some { IfSome result (λ cut. IsCut text.now cut.0.now cut.1.now) }
     ensures none { IfNone result (HasNoSpace text.now) }
 {
@@ -257,7 +258,7 @@ fn cut_at_space(text: &str) -> Option<(&str, &str)>
 }
 
 /// The number up to 255 that one to three decimal digits write.
-fn number_of(text: &str) -> Option<u8>
+pub(crate) fn number_of(text: &str) -> Option<u8>
     ensures some { IfSome result (IsNumber text.now) }
     ensures none { IfNone result ((n : ℕ) → IsNumber text.now n → ⊥) }
 {
@@ -268,7 +269,7 @@ fn number_of(text: &str) -> Option<u8>
 }
 
 /// Whether the slot is free.
-fn free_of(field: &[u8]) -> Option<bool>
+pub(crate) fn free_of(field: &[u8]) -> Option<bool>
     ensures some { IfSome result (λ free. field.now ≡ free_field free) }
     ensures none { IfNone result ((free : Bool) → field.now ≡ free_field free → ⊥) }
 {
@@ -301,7 +302,7 @@ fn read_receptions(field: &[u8], receptions: &mut ArrayVec<Reception, MOST_RECEI
 }
 
 /// How many decimal digits the text begins with.
-fn digits_in_front(text: &[u8]) -> usize
+pub(crate) fn digits_in_front(text: &[u8]) -> usize
     ensures within { result ≤ length text.now }
     ensures digits { (k : ℕ) → k < result → IsAsciiDigit (slice_index text.now k) }
     ensures ends { result < length text.now → IsNotAsciiDigit (slice_index text.now result) }
@@ -316,7 +317,7 @@ fn digits_in_front(text: &[u8]) -> usize
 }
 
 /// What a letter says with the digits after it.
-fn reception_of(byte: u8, digits: &[u8]) -> Option<Reception>
+pub(crate) fn reception_of(byte: u8, digits: &[u8]) -> Option<Reception>
     requires { AllDigits 10 digits.now }
     ensures some { IfSome result (λ reception. (byte ≡ letter reception)
         × HasDigits reception digits.now) }

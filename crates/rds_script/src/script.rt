@@ -31,6 +31,11 @@ impl<R: TellingRead> Script<R> {
         }
     }
 
+    /// The line behind the last record, counted from 1.
+    pub(crate) fn line(&self) -> u64 {
+        self.reader.position().line()
+    }
+
     /// Reads the next record; `false` where there is none.
     ///
     /// # Errors

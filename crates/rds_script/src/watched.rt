@@ -1,9 +1,9 @@
 //! A world whose receivers are watched.
-ghost use Rattle.std.specs.Prelude.{◌≡◌, ◌≤◌, ◌<◌, ◌++◌, ◌∷◌, [], ℕ, IfErr, IfOk, OnOk, length, map};
+ghost use Rattle.std.specs.Prelude.{◌≡◌, ◌≤◌, ◌<◌, ◌++◌, ◌∷◌, [], ℕ, IfErr, IfOk, OnErr, OnOk, length, map};
 ghost use Rattle.rds_world.specs.declared.event.TheConstants.{MOST_RECEIVERS};
 ghost use Rattle.rds_world.specs.State.{distance};
-ghost use Rattle.rds_world.specs.Slots.{input_of};
-ghost use Rattle.rds_world.specs.Replies.{CanBeTaken};
+ghost use Rattle.rds_world.specs.Slots.{entries, input_of};
+ghost use Rattle.rds_world.specs.Replies.{CanBeTaken, IsStepRefused, reply_at};
 ghost use Rattle.rds_world.specs.StandsAt.{IsViewOfInput, WhereItStands};
 ghost use Rattle.rds_output.specs.KeptView.{view_kept};
 ghost use Rattle.rds_script.specs.Inside.Watched.{AreKept, WereShown};
@@ -17,7 +17,7 @@ use crate::row::RowRefused;
 use arrayvec::ArrayVec;
 use rds_charset::Lines;
 use rds_output::{KeptView, SLOT_ROOM, Stamp, show};
-use rds_world::{Config, MOST_RECEIVERS, SlotEvent, World};
+use rds_world::{Config, MOST_RECEIVERS, Reply, SlotEvent, StepRefused, World};
 use std::alloc::Global;
 
 /// Room for the output of a row: the reply, the group, and what changed at each receiver.
@@ -56,14 +56,14 @@ impl Watched {
         }
     }
 
-    /// Plays the slot of an event, and gives its lines.
+    /// Plays the slot of an event, and gives its lines and the reply to its command.
     pub(crate) fn play(
         &mut self,
         form: Form,
         slot: u64,
         event: &SlotEvent,
         lines: &mut RowLines,
-    ) -> Result<(), RowRefused>
+    ) -> Result<Reply, StepRefused>
         requires empty { lines.old ≡ [] }
         ensures stands { WhereWatchedStands self.old (λ config receivers events.
             OnOk result (WatchedStandsAt config receivers self.new (event.now ∷ events))) }
@@ -72,15 +72,29 @@ impl Watched {
         ensures outcome { WhereWatchedStands self.old (λ config receivers events.
             OnOk result ((o : Outcome) × IsOutcome config event.now events o × (o.views ≡ views_kept self.new)
             × (lines.new ≡ slot_lines form slot (views_kept self.old) o))) }
+        ensures reply { WhereWatchedStands self.old (λ config receivers events.
+            IfOk result (λ reply. reply ≡ reply_at (distance config) event.now.command (entries events))) }
         ensures refused { WhereWatchedStands self.old (λ config receivers events.
-            IfErr result (λ why. (why ≡ refused.NoRow) × (CanBeTaken config.late receivers event.now events → ⊥))) }
+            IfErr result (IsStepRefused config.late receivers event.now events)) }
+        ensures kept { OnErr result (self.new ≡ self.old) }
     {
-        let Ok(answer) = self.world.step(event) else {
-            return Err(RowRefused::NoRow);
-        };
-        push_answer(form, slot, &event.command, answer, lines);
-        push_views(slot, &self.world, self.shown.as_mut_slice(), lines);
-        Ok(())
+        match self.world.step(event) {
+            Ok(answer) => {
+                // read before the answer is passed on
+                let reply = answer.reply;
+                push_answer(form, slot, &event.command, answer, lines);
+                push_views(slot, &self.world, self.shown.as_mut_slice(), lines);
+                Ok(reply)
+            }
+            Err(why) => Err(why),
+        }
+    }
+
+    /// How many receivers there are.
+    pub(crate) fn receivers(&self) -> usize
+        ensures { WhereWatchedStands self.now (λ _ receivers _. result ≡ receivers) }
+    {
+        self.shown.len()
     }
 }
 

@@ -9,9 +9,11 @@ use Rattle.rds_world.specs.declared.world.Config.{Config}
 use Rattle.rds_world.specs.Event.{Event}
 use Rattle.rds_script.specs.Inside.Asked.{asked_bytes}
 use Rattle.rds_script.specs.Inside.Watched.{AreKept, WatchedStandsAt, views_kept}
+use Rattle.rds_script.specs.RowCauses.{IsRowCause}
 use Rattle.rds_script.specs.Rows.{AreNoRows, AreRows, IsAllowed, Record}
 use Rattle.rds_script.specs.Outcomes.{AreOutcomes, Outcome, lines_of, newest_views}
 use Rattle.rds_script.specs.Play.{RecordsUpTo}
+use Rattle.rds_script.specs.Notes.{first_wait}
 use Rattle.rds_output.specs.declared.fault.LogFault.{LogFault}
 use Rattle.rds_output.specs.declared.fault.LogFault.TheVariants.{Memory, Read}
 use Rattle.rds_script.specs.declared.form.Form.{Form}
@@ -74,6 +76,7 @@ pub record PlayerStandsAt (p : Player) (played : Played) : Type 0 where
   pub slot : p.slot ≡ length outcomes
   pub watched : HasWatched played.config played.receivers p.watched events outcomes
   pub lines : played.written ≡ lines_of played.form outcomes
+  pub wait : p.wait ≡ first_wait played.config events
 
 -- wherever the player stands, this holds of what it played
 abbrev pub WherePlayerStands : Player → (Played → Type 0) → Type 0
@@ -88,9 +91,11 @@ abbrev pub IsBegun : Config → ℕ → Option Watched → Watched → Type 0
 IsBegun config receivers None w = WatchedStandsAt config receivers w [] × AreKept (views_kept w) []
 IsBegun config receivers (Some before) w = w ≡ before
 
--- why a record is not played after these: not all are rows, or it is the first and there is no memory for a world
+-- why a record is not played after these: not all are rows, and this is the cause, or it is the first and there is no memory for a world
 abbrev pub IsRowRefused : Played → Record → RowRefused → Type 0
-IsRowRefused played row NoRow = AreNoRows played.config.late played.form (row ∷ played.records)
+IsRowRefused played row (NoRow cause) =
+    AreNoRows played.config.late played.form (row ∷ played.records)
+    × IsRowCause played.form played.config.late played.records row cause
 IsRowRefused played row refused.Memory = length played.records ≡ 0
 
 -- the station played these records, and their output was written

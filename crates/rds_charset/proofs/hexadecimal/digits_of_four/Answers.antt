@@ -1,4 +1,4 @@
-use Rattle.std.proofs.Common.{◌+◌, ◌*◌, ◌/◌, ◌<◌, [], ◌∷◌, arith, get_or, refl}
+use Rattle.std.proofs.Common.{◌+◌, ◌*◌, ◌/◌, [], ◌∷◌, arith, get_or, refl}
 use Rattle.rds_charset.proofs.SpreadDigits.{shows, spread}
 use Rattle.rds_charset.proofs.hexadecimal.digits_of_four.Goals as goal
 

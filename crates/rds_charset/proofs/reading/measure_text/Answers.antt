@@ -1,8 +1,7 @@
-use Rattle.std.proofs.Common.{◌≡◌, ◌<◌, ◌∙◌, ◌+◌, ◌-◌, [], ◌∷◌, ◌++◌, length, length-append, refl, arith, subst}
+use Rattle.std.proofs.Common.{◌<◌, ◌∙◌, ◌-◌, [], ◌∷◌, ◌++◌, length, length-append, refl, arith}
 use Rattle.std.specs.Str.{chars}
 use Rattle.rds_charset.proofs.Stopping.{before_and_after, some_bytes, some_character}
 use Rattle.rds_charset.proofs.Symbols.{Begins-IsUtf8, Begins-length, IsReadUpTo-drop, IsReadUpTo-length, IsReadUpTo-push, StopsAt-rest}
-use Rattle.rds_charset.specs.ReadAs.{IsReadUpTo}
 use Rattle.rds_charset.proofs.reading.measure_text.Goals as goal
 
 pub loop-character-init : goal.loop-character-init

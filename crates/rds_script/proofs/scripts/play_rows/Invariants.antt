@@ -1,4 +1,4 @@
-use Rattle.std.proofs.Common.{◌≡◌, [], List, length}
+use Rattle.std.proofs.Common.{◌≡◌, [], List, None, length}
 use Rattle.rds_charset.specs.Told.{traffic}
 use Rattle.std.specs.Prelude.{ℕ, Option}
 use Rattle.rds_world.specs.declared.world.Config.{Config}
@@ -10,6 +10,7 @@ use Rattle.rds_script.proofs.scripts.play_rows.Given as goal
 abbrev pub invariant-loop-turn : goal.invariant-loop-turn
 invariant-loop-turn g l = record {
   empty : l.lines ≡ [];
+  good : l.bad ≡ None;
   slot : l.player.slot ≡ l.turn;
   played : (form : Form) (config : Config) (known : Option (List ℕ)) → PlayerStandsAt l.initial.player (nothing_played form config) → ScriptStandsAt g.R.Read.remaining known l.initial.script []
       → (records : List Record) × ScriptStandsAt g.R.Read.remaining known l.script records × (length records ≡ l.turn)

@@ -1,22 +1,39 @@
-use Rattle.std.proofs.Common.{◌≡◌, ◌⊎◌, ◌<◌, ◌∙◌, ◌+◌, ℕ, None, Option, ap, arith, length, refl, rules, subst, sym}
+use Rattle.std.proofs.Common.{◌≡◌, ◌⊎◌, ◌<◌, ◌∙◌, ◌+◌, ℕ, None, Option, ap, arith, inr, length, refl, rules, subst, sym}
 use Rattle.std.proofs.lemmas.Result.{err_from_is_err_and}
 use Rattle.csv.specs.Records.{fields_of}
+use Rattle.std.specs.Prelude.{OnOk}
+use Rattle.rds_world.specs.Event.{Event}
+use Rattle.rds_world.specs.Replies.{reply_at}
+use Rattle.rds_world.specs.Slots.{entries}
+use Rattle.rds_world.specs.State.{distance}
+use Rattle.rds_world.specs.declared.event.Command.{Command}
+use Rattle.rds_world.specs.declared.reply.Reply.{Reply}
+use Rattle.rds_world.specs.declared.world.Config.{Config}
+use Rattle.rds_script.specs.Notes.{first_of, wait_of}
+use Rattle.rds_script.specs.declared.notes.Wait.{Wait}
 use Rattle.rds_script.specs.Inside.Player.{HasWatched}
-use Rattle.rds_script.specs.Inside.Watched.{views_kept}
+use Rattle.rds_script.specs.Inside.Watched.{WatchedStandsAt, views_kept}
 use Rattle.rds_script.specs.Rows.{IsAllowed}
 use Rattle.rds_script.specs.declared.player.Player.{Player}
 use Rattle.rds_script.specs.declared.watched.Watched.{Watched}
-use Rattle.rds_script.proofs.Playing.{IsReady, as_many_rows, is_ready, names_receivers, plays_on, refused_on}
+use Rattle.rds_script.proofs.Playing.{IsReady, as_many_outcomes, as_many_rows, is_ready, names_receivers, plays_on, not_allowed, refused_on, says_none}
 use Rattle.rds_script.proofs.player.Player.row.Goals as goal
+
+pub returns-then-not-read_event-clause-refused : goal.returns-then-not-read_event-clause-refused
+returns-then-not-read_event-clause-refused c played s =
+    (says_none played.config.late played.form (fields_of c.args.row.now) played.records (c.read_event.ensures.none c.if-not-read_event.true), c.cause_of.ensures played.form played.config.late played.records)
 
 pub returns-then-not-allows-clause-refused : goal.returns-then-not-allows-clause-refused
 returns-then-not-allows-clause-refused c played s =
     let asked : c.len-receivers.result ≡ length c.read_event.new.event.receptions = search rules in
-    names_receivers played.config.late played.form (fields_of c.args.row.now) played.records c.read_event.new.event (c.read_event.ensures.some c.if-not-read_event.false) (λ allowed.
+    let says = c.read_event.ensures.some c.if-not-read_event.false in
+    let none : IsAllowed played.form (length c.read_event.new.event.receptions) → ⊥ = λ allowed.
     let here : IsAllowed c.args.self.now.form c.len-receivers.result = rw (s.form_is, asked) allowed in
     let yes_allowed = c.allows.ensures.1 here in
     let no = c.if-not-allows.true in
-    cc)
+    cc in
+    let (log, some) = not_allowed played.form (length c.read_event.new.event.receptions) (omega (arith, asked, c.len-receivers.ensures.fits)) none in
+    (names_receivers played.config.late played.form (fields_of c.args.row.now) played.records c.read_event.new.event says none, inr (inr (log, c.read_event.new.event, says, asked, omega (arith, some, asked))))
 
 pub returns-in_err-begin-clause-refused : goal.returns-in_err-begin-clause-refused
 returns-in_err-begin-clause-refused c played s =
@@ -26,8 +43,8 @@ returns-in_err-begin-clause-refused c played s =
     let p = err_from_is_err_and c.from_residual.result c.from_residual.ensures.1 in
     rw (p.1, p.2, memory.0) (omega (arith, counted, ap length none))
 
-pub returns-clause-stands : goal.returns-clause-stands
-returns-clause-stands c played s =
+pub returns-in-Ok-clause-stands : goal.returns-in-Ok-clause-stands
+returns-in-Ok-clause-stands c played s =
     let (w, same, begun) = c.in_ok-begin.ensures.begins in
     let found = sym (ap (λ (p : Player). p.watched) same) ∙ c.in-Some.is in
     let is : w ≡ c.in-Some.watched = (cc) in
@@ -36,12 +53,24 @@ returns-clause-stands c played s =
     let allowed : IsAllowed c.args.self.now.form c.len-receivers.result = search rules in
     let r = subst (IsReady played s.events s.outcomes c.len-receivers.result) is
     (is_ready c.args.self.now.watched w played c.len-receivers.result s.events s.outcomes s.allowed (rw s.form_is at allowed) s.rows s.are s.watched (rw s.config_is at begun)) in
-    plays_on c.play.result c.args.self.now _ played s r.receivers (views_kept c.in-Some.watched) c.play.new.self (fields_of c.args.row.now) c.read_event.new.event c.play.new.lines form (ap (λ (p : Player). p.config) same) (ap (λ n. n + 1) slot) refl
+    let slots : c.begin.new.self.slot ≡ c.args.self.now.slot = slot in
+    let command : c.event.inside.command ≡ c.read_event.new.event.command = ap (λ (e : Event). e.command) c.event.view_is in
+    let reply = c.in-Ok.ensures.reply played.config r.receivers s.events r.stands in
+    let answered : Reply = reply_at (distance played.config) c.read_event.new.event.command (entries s.events) in
+    let before : c.begin.new.self.wait ≡ c.args.self.now.wait = ap (λ (p : Player). p.wait) same in
+    let noted : c.note_wait.new.wait ≡ first_of (wait_of c.args.self.now.slot c.read_event.new.event.command answered) c.args.self.now.wait = c.note_wait.ensures
+    ∙ ap (λ (n : ℕ). first_of (wait_of n c.event.inside.command c.in-Ok.reply) c.begin.new.self.wait) slots
+    ∙ ap (λ (x : Command). first_of (wait_of c.args.self.now.slot x c.in-Ok.reply) c.begin.new.self.wait) command
+    ∙ ap (λ (x : Reply). first_of (wait_of c.args.self.now.slot c.read_event.new.event.command x) c.begin.new.self.wait) reply
+    ∙ ap (λ (x : Option Wait). first_of (wait_of c.args.self.now.slot c.read_event.new.event.command answered) x) before in
+    let waited : OnOk c.play.result (c.note_wait.new.wait ≡ first_of (wait_of c.args.self.now.slot c.read_event.new.event.command answered) c.args.self.now.wait) = rw c.in-Ok.is noted in
+    let all = plays_on c.play.result c.args.self.now _ played s r.receivers (views_kept c.in-Some.watched) c.play.new.self (fields_of c.args.row.now) c.read_event.new.event c.play.new.lines form (ap (λ (p : Player). p.config) same) (ap (λ n. n + 1) slot) refl
     r.allowed r.rows (c.read_event.ensures.some c.if-not-read_event.false) r.same (c.play.ensures.taken played.config r.receivers s.events r.stands) (c.play.ensures.stands played.config r.receivers s.events r.stands)
-    (rw (form, s.form_is, slot) at (c.play.ensures.outcome played.config r.receivers s.events r.stands))
+    (rw (form, s.form_is, slot) at (c.play.ensures.outcome played.config r.receivers s.events r.stands)) waited in
+    rw c.in-Ok.is at all
 
-pub returns-clause-refused : goal.returns-clause-refused
-returns-clause-refused c played s =
+pub returns-in-Err-clause-refused : goal.returns-in-Err-clause-refused
+returns-in-Err-clause-refused c played s =
     let (w, same, begun) = c.in_ok-begin.ensures.begins in
     let found = sym (ap (λ (p : Player). p.watched) same) ∙ c.in-Some.is in
     let is : w ≡ c.in-Some.watched = (cc) in
@@ -49,7 +78,13 @@ returns-clause-refused c played s =
     let asked : c.len-receivers.result ≡ length c.read_event.new.event.receptions = search rules in
     let r = subst (IsReady played s.events s.outcomes c.len-receivers.result) is
     (is_ready c.args.self.now.watched w played c.len-receivers.result s.events s.outcomes s.allowed (rw s.form_is at allowed) s.rows s.are s.watched (rw s.config_is at begun)) in
-    refused_on c.play.result c.text_is_read_one_way.ensures played r.receivers (fields_of c.args.row.now) c.read_event.new.event s.events r.rows (c.read_event.ensures.some c.if-not-read_event.false) (subst (λ (n : ℕ). (0 < length played.records) ⊎ (r.receivers ≡ n)) asked r.how) (c.play.ensures.refused played.config r.receivers s.events r.stands)
+    let kept : c.play.new.self ≡ c.in-Some.watched = c.in-Err.ensures.kept in
+    let stands : WatchedStandsAt played.config r.receivers c.play.new.self s.events = subst (λ (x : Watched). WatchedStandsAt played.config r.receivers x s.events) (sym kept) r.stands in
+    let slots : c.args.self.now.slot ≡ length played.records = s.slot ∙ sym (as_many_outcomes played.config s.events s.outcomes s.are) ∙ sym (as_many_rows played.config.late played.receivers played.records s.events s.rows) in
+    refused_on c.text_is_read_one_way.ensures played c.begin.new.self.config.late c.receivers.result c.begin.new.self.slot r.receivers (fields_of c.args.row.now) c.read_event.new.event s.events c.in-Err.why c.refused_cause.result
+    (ap (λ (p : Player). p.config.late) same ∙ ap (λ (x : Config). x.late) s.config_is) (c.receivers.ensures played.config r.receivers s.events stands) (ap (λ (p : Player). p.slot) same ∙ slots)
+    r.rows (c.read_event.ensures.some c.if-not-read_event.false) (rw (s.form_is, asked) at allowed) (subst (λ (n : ℕ). (0 < length played.records) ⊎ (r.receivers ≡ n)) asked r.how)
+    (c.in-Err.ensures.refused played.config r.receivers s.events r.stands) c.refused_cause.ensures
 
 pub returns-then-not-allows-clause-slot : goal.returns-then-not-allows-clause-slot
 returns-then-not-allows-clause-slot c = tt

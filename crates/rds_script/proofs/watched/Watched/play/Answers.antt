@@ -7,8 +7,8 @@ use Rattle.rds_script.specs.Outcomes.{answer_lines, receiver_changes}
 use Rattle.rds_output.specs.declared.kept.KeptView.{KeptView}
 use Rattle.rds_script.proofs.watched.Watched.play.Goals as goal
 
-pub returns-clause-stands : goal.returns-clause-stands
-returns-clause-stands c config receivers events s =
+pub returns-in-Ok-clause-stands : goal.returns-in-Ok-clause-stands
+returns-in-Ok-clause-stands c config receivers events s =
     let old = c.args.self.now.shown.items in
     let new = c.push_views.new.shown in
     let world = c.in-Ok.ensures.stands config events s.world in
@@ -25,11 +25,11 @@ returns-clause-stands c config receivers events s =
       shown = λ i within. rw (← back) at (c.push_views.ensures.views (ap length lent ∙ as_many) config (c.args.event.now ∷ events) world (rw lent were) i (omega (arith, within, s.kept, ap length lent)));
     }
 
-pub returns-clause-taken : goal.returns-clause-taken
-returns-clause-taken c config receivers events s = rw s.count at (c.in-Ok.ensures.refused config events s.world)
+pub returns-in-Ok-clause-taken : goal.returns-in-Ok-clause-taken
+returns-in-Ok-clause-taken c config receivers events s = rw s.count at (c.in-Ok.ensures.refused config events s.world)
 
-pub returns-clause-outcome : goal.returns-clause-outcome
-returns-clause-outcome c config receivers events s =
+pub returns-in-Ok-clause-outcome : goal.returns-in-Ok-clause-outcome
+returns-in-Ok-clause-outcome c config receivers events s =
     let old = c.args.self.now.shown.items in
     let new = c.push_views.new.shown in
     let views = map view_kept new in

@@ -1,0 +1,94 @@
+-- What is noted of a script beside its output: why a record is no row, and the first thing that was set too early.
+-- Lists of records and of events have the newest first.
+use Rattle.std.specs.Prelude.{◌≡◌, [], ◌∷◌, ℕ, List, Option, None, Some, Ok, Err, Result, length}
+use Rattle.rds_charset.specs.Told.{Traffic}
+use Rattle.rds_encoder.specs.declared.refusal.Refusal.{Refusal}
+use Rattle.rds_encoder.specs.declared.refusal.Refusal.TheVariants.{Silent, Held, NoText, OutOfText}
+use Rattle.rds_output.specs.declared.fault.LogFault.{LogFault}
+use Rattle.rds_output.specs.declared.fault.LogFault.TheVariants as fault
+use Rattle.rds_world.specs.declared.event.Command.{Command}
+use Rattle.rds_world.specs.declared.event.Command.TheVariants.{Quiet, Restart, SetText, SetName, SetTags}
+use Rattle.rds_world.specs.declared.reply.Reply.{Reply}
+use Rattle.rds_world.specs.declared.reply.Reply.TheVariants as reply
+use Rattle.rds_world.specs.declared.world.Config.{Config}
+use Rattle.rds_world.specs.Event.{Event}
+use Rattle.rds_world.specs.Replies.{reply_at}
+use Rattle.rds_world.specs.Slots.{entries}
+use Rattle.rds_world.specs.State.{distance}
+use Rattle.rds_script.specs.Play.{Plays, Reading}
+use Rattle.rds_script.specs.RowCauses.{IsRowCause}
+use Rattle.rds_script.specs.Rows.{Record, RowsSay}
+use Rattle.rds_script.specs.declared.form.Form.{Form}
+use Rattle.rds_script.specs.declared.notes.BadRow.{BadRow}
+use Rattle.rds_script.specs.declared.notes.ScriptNotes.{ScriptNotes}
+use Rattle.rds_script.specs.declared.notes.Thing.{Thing}
+use Rattle.rds_script.specs.declared.notes.Thing.TheVariants.{Text, Name, Tags}
+use Rattle.rds_script.specs.declared.notes.Wait.{Wait}
+
+-- a thing that is refused for some slots is set too early, and other refusals are none of time
+abbrev pub wait_for : ℕ → Thing → Refusal → Option Wait
+wait_for slot thing (Silent n) = Some record { slot = slot; thing = thing; refusal = Silent n }
+wait_for slot thing (Held n) = Some record { slot = slot; thing = thing; refusal = Held n }
+wait_for slot thing NoText = None
+wait_for slot thing (OutOfText which) = None
+
+abbrev pub refused_wait : ℕ → Command → Refusal → Option Wait
+refused_wait slot Quiet refusal = None
+refused_wait slot Restart refusal = None
+refused_wait slot (SetText x) refusal = wait_for slot Text refusal
+refused_wait slot (SetName x) refusal = wait_for slot Name refusal
+refused_wait slot (SetTags pair) refusal = wait_for slot Tags refusal
+
+-- what the reply to the command of a slot says of waiting
+abbrev pub wait_of : ℕ → Command → Reply → Option Wait
+wait_of slot command (reply.Refused refusal) = refused_wait slot command refusal
+wait_of slot command reply.Quiet = None
+wait_of slot command reply.Restarted = None
+wait_of slot command reply.Done = None
+
+-- the wait before, or else the later one
+abbrev pub first_of : Option Wait → Option Wait → Option Wait
+first_of None before = before
+first_of (Some later) None = Some later
+first_of (Some later) (Some before) = Some before
+
+-- the first wait of these slots
+abbrev pub first_wait : Config → List Event → Option Wait
+first_wait config [] = None
+first_wait config (e ∷ before) =
+    first_of (wait_of (length before) e.command (reply_at (distance config) e.command (entries before)))
+    (first_wait config before)
+
+-- the rows that were played
+abbrev pub rows_played : (form : Form) (config : Config) (most : ℕ) (r : Reading) (w : Traffic)
+    (result : Result (Unit {0}) LogFault) → Plays form config most r w result → List Record
+rows_played form config most r w (Ok done) plays = plays.records
+rows_played form config most r w (Err (fault.BadLine n)) plays = []
+rows_played form config most r w (Err (fault.BadRow n)) plays = plays.0.records
+rows_played form config most r w (Err fault.Read) plays = plays.0
+rows_played form config most r w (Err fault.Memory) plays = plays.0
+rows_played form config most r w (Err fault.TooLong) plays = plays.0
+rows_played form config most r w (Err fault.Write) plays = plays.records
+
+-- a record that is no row is noted with its cause, and nothing is noted where there is none
+abbrev pub TellsBad : (form : Form) (config : Config) (most : ℕ) (r : Reading) (w : Traffic)
+    (result : Result (Unit {0}) LogFault) → Plays form config most r w result → Option BadRow → Type 0
+TellsBad form config most r w (Ok done) plays bad = bad ≡ None
+TellsBad form config most r w (Err (fault.BadLine n)) plays bad = bad ≡ None
+TellsBad form config most r w (Err (fault.BadRow n)) plays None = ⊥
+TellsBad form config most r w (Err (fault.BadRow n)) plays (Some bad) =
+    IsRowCause form config.late plays.0.records plays.0.bad bad.cause
+TellsBad form config most r w (Err fault.Read) plays bad = bad ≡ None
+TellsBad form config most r w (Err fault.Memory) plays bad = bad ≡ None
+TellsBad form config most r w (Err fault.TooLong) plays bad = bad ≡ None
+TellsBad form config most r w (Err fault.Write) plays bad = bad ≡ None
+
+-- playing a script did this, and the notes say why it stopped at a record, and the first wait of the slots that were
+-- played
+pub record NotesTell (form : Form) (config : Config) (most : ℕ) (r : Reading) (w : Traffic)
+    (result : Result (Unit {0}) LogFault) (notes : ScriptNotes) : Type 0 where
+  pub plays : Plays form config most r w result
+  pub bad : TellsBad form config most r w result plays notes.bad
+  pub events : List Event
+  pub say : RowsSay config.late form (rows_played form config most r w result plays) events
+  pub wait : notes.wait ≡ first_wait config events
