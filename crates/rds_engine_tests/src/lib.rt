@@ -11,6 +11,8 @@ mod failing_writes;
 #[cfg(test)]
 mod logs;
 #[cfg(test)]
+mod row_causes;
+#[cfg(test)]
 mod same;
 #[cfg(test)]
 mod scripts;
