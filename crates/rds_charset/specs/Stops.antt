@@ -1,4 +1,4 @@
--- Where the reading of a text stops, as people count: in characters, from 1.
+-- The place at which the reading of a text stops, counted in characters from 1.
 use Rattle.std.specs.Prelude.{◌≡◌, ◌+◌, ◌++◌, ℕ, List, drop, encode_utf8, length, take}
 use Rattle.std.specs.Str.{chars}
 use Rattle.rds_charset.specs.ReadAs.{StopsAt}

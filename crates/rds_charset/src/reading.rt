@@ -64,7 +64,7 @@ pub fn read_text(text: &str, into: &mut [u8]) -> Result<usize, TextFault>
 pub struct Stop {
     /// Its place, counted in characters from 1.
     pub place: usize,
-    /// The character: a backslash that begins no escape, or one that isn't in the table.
+    /// The character: a backslash that does not begin an escape, or a character that the table does not have.
     pub character: char,
 }
 
@@ -91,7 +91,7 @@ pub fn measure_text(text: &str) -> Result<usize, Stop>
     Ok(count)
 }
 
-/// How many characters the text has.
+/// Counts the characters of a text.
 fn count_characters(text: &str) -> usize
     ensures { result ≡ length (chars text.now) }
 {

@@ -1,4 +1,4 @@
-//! Why a record of a script is no row, as a user reads it. The wanted texts are written out by hand.
+//! The causes of malformed rows, as a user reads them. The wanted texts are written by hand.
 
 use crate::failing_writes::Stubborn;
 use crate::same::same;
@@ -25,10 +25,10 @@ enum Form {
     Receivers(u16),
 }
 
-/// A fault or none, and what is noted.
+/// The result of a script, and its notes.
 type Ended = (Result<(), LogFault>, ScriptNotes);
 
-/// Plays a script with a dwell of one slot. What the notes had before is lost.
+/// Plays a script with a dwell of one slot, with notes that are not empty before.
 fn played(alloc: Global, form: Form, script: &[u8]) -> Result<Ended, Fail> {
     let mut output = Vec::new(alloc);
     let mut writer = Told::new(&mut output);
@@ -54,7 +54,7 @@ fn played(alloc: Global, form: Form, script: &[u8]) -> Result<Ended, Fail> {
     Ok((done, notes))
 }
 
-/// Tests that a script stops at this row, on the line of that number, and what is noted of it.
+/// Tests that a script stops at this row, which is on the line of that number, and the text of its cause.
 fn stops(
     rt: &impl Abort,
     alloc: Global,
@@ -538,7 +538,7 @@ fn good_rows(rt: HostRuntime) -> Result<(), Fail> {
     Ok(())
 }
 
-/// Notes are taken also where a script stops: at a bad row, which is on this line, and at a writer that fails.
+/// A script that stops has notes too: at a bad row, which is on this line, and at a writer that fails.
 #[test]
 fn notes_at_a_stop(rt: HostRuntime) -> Result<(), Fail> {
     let wait = Some(Wait {

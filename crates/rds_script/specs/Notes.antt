@@ -1,4 +1,4 @@
--- What is noted of a script beside its output: why a record is no row, and the first thing that was set too early.
+-- The notes on a script, beside its output: why a record is not a row, and the first thing that was set too early.
 -- Lists of records and of events have the newest first.
 use Rattle.std.specs.Prelude.{◌≡◌, [], ◌∷◌, ℕ, List, Option, None, Some, Ok, Err, Result, length}
 use Rattle.rds_charset.specs.Told.{Traffic}
@@ -25,7 +25,7 @@ use Rattle.rds_script.specs.declared.notes.Thing.{Thing}
 use Rattle.rds_script.specs.declared.notes.Thing.TheVariants.{Text, Name, Tags}
 use Rattle.rds_script.specs.declared.notes.Wait.{Wait}
 
--- a thing that is refused for some slots is set too early, and other refusals are none of time
+-- the note of a refusal: only `Silent` and `Held` end after some slots
 abbrev pub wait_for : ℕ → Thing → Refusal → Option Wait
 wait_for slot thing (Silent n) = Some record { slot = slot; thing = thing; refusal = Silent n }
 wait_for slot thing (Held n) = Some record { slot = slot; thing = thing; refusal = Held n }
@@ -39,7 +39,7 @@ refused_wait slot (SetText x) refusal = wait_for slot Text refusal
 refused_wait slot (SetName x) refusal = wait_for slot Name refusal
 refused_wait slot (SetTags pair) refusal = wait_for slot Tags refusal
 
--- what the reply to the command of a slot says of waiting
+-- the note of a reply to the command of a slot
 abbrev pub wait_of : ℕ → Command → Reply → Option Wait
 wait_of slot command (reply.Refused refusal) = refused_wait slot command refusal
 wait_of slot command reply.Quiet = None
@@ -70,7 +70,7 @@ rows_played form config most r w (Err fault.Memory) plays = plays.0
 rows_played form config most r w (Err fault.TooLong) plays = plays.0
 rows_played form config most r w (Err fault.Write) plays = plays.records
 
--- a record that is no row is noted with its cause, and nothing is noted where there is none
+-- a malformed record is noted with its cause; without one nothing is noted
 abbrev pub TellsBad : (form : Form) (config : Config) (most : ℕ) (r : Reading) (w : Traffic)
     (result : Result (Unit {0}) LogFault) → Plays form config most r w result → Option BadRow → Type 0
 TellsBad form config most r w (Ok done) plays bad = bad ≡ None
@@ -83,8 +83,8 @@ TellsBad form config most r w (Err fault.Memory) plays bad = bad ≡ None
 TellsBad form config most r w (Err fault.TooLong) plays bad = bad ≡ None
 TellsBad form config most r w (Err fault.Write) plays bad = bad ≡ None
 
--- playing a script did this, and the notes say why it stopped at a record, and the first wait of the slots that were
--- played
+-- playing a script did this, and the notes hold the cause of a malformed record, and the first wait of the slots that
+-- were played
 pub record NotesTell (form : Form) (config : Config) (most : ℕ) (r : Reading) (w : Traffic)
     (result : Result (Unit {0}) LogFault) (notes : ScriptNotes) : Type 0 where
   pub plays : Plays form config most r w result

@@ -1,5 +1,5 @@
--- Why a record of a script is no row, with a clause for each cause. The number of fields comes first, and then the fields
--- in their order: a cause in one field says that the fields before it are good. This is the project's own format.
+-- Why a record of a script is not a row, with a clause for each cause. The number of fields comes first, then the fields
+-- in their order: a cause in one field requires that the fields before it are good. This is the project's own format.
 -- Lists of records and of events have the newest first. Places count from 1.
 use Rattle.std.specs.Prelude.{◌≡◌, ◌≢◌, ◌⊎◌, ◌<◌, ◌≤◌, ◌+◌, ◌-◌, ◌==◌, [], ◌∷◌}
 use Rattle.std.specs.Prelude.{ℕ, Bool, List, Some, IsUtf8, count_by, length, slice_index, slice_index_or}
@@ -80,11 +80,11 @@ BeginsWithNumbers text [] rest = text ≡ rest
 BeginsWithNumbers text (n ∷ more) rest =
     (first : List ℕ) × (after : List ℕ) × IsCut text first after × IsNumber first n × BeginsWithNumbers after more rest
 
--- what stands before the first space, or the whole text where there is none
+-- the text before the first space, or the whole text if it has no space
 abbrev pub IsFirstPiece : List ℕ → List ℕ → Type 0
 IsFirstPiece text piece = (HasNoSpace text × (piece ≡ text)) ⊎ ((rest : List ℕ) × IsCut text piece rest)
 
--- the piece at this place is the first that is no number
+-- the piece at this place is the first that is not a number
 pub record IsFirstNoNumber (argument : List ℕ) (place : ℕ) : Type 0 where
   pub numbers : List ℕ
   pub rest : List ℕ
@@ -99,7 +99,7 @@ pub record AreEight (argument numbers : List ℕ) : Type 0 where
   pub are : AreNumbers argument numbers
   pub eight : length numbers ≡ 8
 
--- where each of the eight stands, from 0, and the most that each may be
+-- the place of each of the eight, from 0, and the limit of each
 abbrev pub index_of : TagNumber → ℕ
 index_of Toggle = 0
 index_of Running = 1
@@ -113,18 +113,18 @@ index_of LengthOfTwo = 7
 abbrev pub most_numbers : List ℕ
 most_numbers = 1 ∷ 1 ∷ 63 ∷ 63 ∷ 63 ∷ 63 ∷ 63 ∷ 31 ∷ []
 
--- the first n of the eight are not over
+-- the first n of the eight keep their limits
 abbrev pub AreWithin : ℕ → List ℕ → Type 0
 AreWithin n numbers = (i : ℕ) → i < n → slice_index numbers i ≤ slice_index most_numbers i
 
--- this one is the first that is over
+-- this one is the first that exceeds its limit
 pub record IsFirstTooHigh (numbers : List ℕ) (number : TagNumber) (given most : ℕ) : Type 0 where
   pub before : AreWithin (index_of number) numbers
   pub is_given : given ≡ slice_index numbers (index_of number)
   pub is_most : most ≡ slice_index most_numbers (index_of number)
   pub over : most < given
 
--- the tag whose class stands at this place has class 0, and a start or a length marker
+-- the tag with its class at this place has class 0, and a start or a length marker that is not 0
 abbrev pub IsBadDummy : ℕ → List ℕ → Type 0
 IsBadDummy i numbers = (slice_index numbers i ≡ 0) × (0 < slice_index numbers (i + 1) + slice_index numbers (i + 2))
 
@@ -206,10 +206,10 @@ IsReceptionsCause field cause.TooManyReceivers =
     × (length receptions ≡ MOST_RECEIVERS) × (0 < length rest)
 IsReceptionsCause field _ = ⊥
 
--- all fields together: the record says an event that this script does not take
+-- all fields together: each field is good, and this script does not take the event
 
--- the event does what the rows before it allow, except that this receiver is the first that asks for what is not due to
--- it: the group of so many slots before
+-- this receiver is the first that asks for a group that is not due to it, `late` slots back; the number of receivers is
+-- good
 pub record AsksTooMuch (form : Form) (k : ℕ) (before : List Record) (row : Record) (receiver late : ℕ) : Type 0 where
   pub event : Event
   pub says : SaysEvent row event
@@ -250,7 +250,8 @@ pub record HasFieldCause (row : Record) (cause : RowCause) : Type 0 where
   pub fields : row ≡ word ∷ argument ∷ free ∷ receptions ∷ []
   pub field : IsFieldCause word argument free receptions cause
 
--- this is why the record after those before it is no row of a script of this form, where a group may come k slots late
+-- the cause why this record, after the records before it, is not a row of a script of this form; a group may come k slots
+-- late
 abbrev pub IsRowCause : Form → ℕ → List Record → Record → RowCause → Type 0
 IsRowCause form k before row cause =
     IsFieldCountCause row cause ⊎ (HasFieldCause row cause ⊎ IsEventCause form k before row cause)

@@ -1,4 +1,4 @@
-//! What is noted of a script beside its output.
+//! Notes on a script, beside its output.
 ghost use Rattle.std.specs.Prelude.{◌≡◌, None};
 ghost use Rattle.rds_script.specs.Notes.{first_of, wait_for, wait_of};
 ghost use Rattle.rds_world.specs.declared.reply.Reply.TheVariants as replies;
@@ -7,17 +7,17 @@ use crate::row_cause::RowCause;
 use rds_encoder::Refusal;
 use rds_world::{Command, Reply};
 
-/// Notes on a script that was played. They change nothing of its output (this project's own rule).
+/// Notes on a script that was played. The output is the same with notes and without (this project's own rule).
 #[derive(Clone, Copy, Debug, PartialEq, Eq)]
 pub struct ScriptNotes {
-    /// The record that is no row, if the script stopped at one.
+    /// The malformed record, if the script stopped at one.
     pub bad: Option<BadRow>,
-    /// The first text, name or pair of tags that was refused because it came too early.
+    /// The first text, name or pair of tags that came too early, if one did.
     pub wait: Option<Wait>,
 }
 
 impl ScriptNotes {
-    /// Nothing is noted yet.
+    /// Makes notes that are empty.
     pub fn new() -> ScriptNotes
         ensures bad { result.bad ≡ None }
         ensures wait { result.wait ≡ None }
@@ -29,31 +29,31 @@ impl ScriptNotes {
     }
 }
 
-/// A record of a script that is no row.
+/// A malformed record of a script.
 #[derive(Clone, Copy, Debug, PartialEq, Eq)]
 pub struct BadRow {
     /// The line on which the record starts, counted from 1.
     ///
-    /// If a script has empty lines, and a carriage return or the end of the script ends this record, the line can be
-    /// one too small.
+    /// The number is exact, with one exception: if the script has empty lines, and this record ends with a carriage
+    /// return or with the script, it can be one too small.
     pub line: u64,
-    /// Why it is no row.
+    /// Why it is not a row.
     pub cause: RowCause,
 }
 
-/// A text, a name or a pair of tags that the encoder refused for some slots.
+/// A text, a name or a pair of tags that came too early.
 #[derive(Clone, Copy, Debug, PartialEq, Eq)]
 pub struct Wait {
-    /// The slot in which it was set, counted from 0.
+    /// The slot of the command, counted from 0.
     pub slot: u64,
-    /// What was set.
+    /// The thing that the command sets.
     pub thing: Thing,
-    /// The reply: `Silent` or `Held`, with the number of slots that are left. The encoder accepts the thing so many
-    /// slots later at the earliest.
+    /// The reply: `Silent` or `Held`. Its number is the number of slots to wait: the encoder accepts nothing of this
+    /// kind before `slot` plus that number.
     pub refusal: Refusal,
 }
 
-/// What a command sets.
+/// The things that a command can set.
 #[derive(Clone, Copy, Debug, PartialEq, Eq)]
 pub enum Thing {
     /// A text.
@@ -64,7 +64,7 @@ pub enum Thing {
     Tags,
 }
 
-/// Notes the reply to a command where it is the first that came too early.
+/// Notes the reply to a command, if it is the first refusal for coming too early.
 #[inline(always)]
 pub(crate) fn note_wait(wait: &mut Option<Wait>, slot: u64, command: &Command, reply: Reply)
     ensures { wait.new ≡ first_of (wait_of slot command.now reply) wait.old }
@@ -74,7 +74,7 @@ pub(crate) fn note_wait(wait: &mut Option<Wait>, slot: u64, command: &Command, r
     }
 }
 
-/// Notes a refusal where it is the first that came too early. It stands apart so that other replies pay nothing for it.
+/// Notes a refusal, if it is the first for coming too early. Other replies pay nothing for this function.
 #[inline(never)]
 fn note_refused(wait: &mut Option<Wait>, slot: u64, command: &Command, refusal: Refusal)
     ensures { wait.new ≡ first_of (wait_of slot command.now (replies.Refused refusal)) wait.old }
@@ -89,7 +89,7 @@ fn note_refused(wait: &mut Option<Wait>, slot: u64, command: &Command, refusal: 
     }
 }
 
-/// What is to be waited for.
+/// Makes the note of a refusal, if that ends after some slots.
 fn wait_for(slot: u64, thing: Thing, refusal: Refusal) -> Option<Wait>
     ensures { result ≡ wait_for slot thing refusal }
 {

@@ -25,7 +25,7 @@ pub(crate) struct Player {
     config: Config,
     watched: Option<Watched>,
     pub(crate) slot: u64,
-    /// The first thing that was set too early.
+    /// The first thing that was set too early, if there was one.
     pub(crate) wait: Option<Wait>,
 }
 

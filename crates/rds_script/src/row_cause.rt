@@ -1,20 +1,20 @@
-//! Why a record of a script is no row.
+//! The reasons why a record of a script is not a row.
 
 use rds_fields::Which;
 use std::fmt;
 use thiserror::Error;
 
-/// The first mistake of a record, in the order of its fields (this project's own format).
+/// The first mistake in a record, in the order of its fields (this project's own format).
 ///
-/// The text is what a user reads behind the number of the row. Places count characters from 1. A lateness counts
-/// slots.
+/// `Display` gives the text for the user, in one line. Places count characters from 1, except where a variant counts
+/// bytes. Receivers count from 0. A lateness is a number of slots.
 #[derive(Clone, Copy, Debug, PartialEq, Eq, Error)]
 pub enum RowCause {
-    /// The record has so many fields, and not four.
+    /// The record has this many fields, not four.
     #[error("expected 4 fields (COMMAND,ARGUMENT,FREE,RECEPTIONS), found {0}")]
     Fields(usize),
 
-    /// The first field is no command.
+    /// The first field is not a command.
     #[error("COMMAND is not one of -, restart, text, name, tags (lower case)")]
     UnknownCommand,
 
@@ -24,16 +24,16 @@ pub enum RowCause {
     /// The argument of `text`, `name` or `tags` is not UTF-8.
     #[error("ARGUMENT is not UTF-8")]
     NotUtf8,
-    /// This character of a text or a name, at this place, has no byte.
+    /// The character table does not have this character of a text or a name, which is at this place.
     #[error("ARGUMENT: {0:?} at character {1} is not in the RDS character table")]
     NoSuchCharacter(char, usize),
-    /// The backslash at this place begins no escape.
+    /// The backslash at this place does not begin an escape.
     #[error("ARGUMENT: the backslash at character {0} begins no escape (\\x and two hexadecimal digits)")]
     BadEscape(usize),
-    /// The text has so many bytes over 64. A character or an escape gives one byte.
+    /// The text is this many bytes longer than 64. Each character or escape gives one byte.
     #[error("ARGUMENT: the text is too long by {0} (at most 64 characters)")]
     TextTooLong(usize),
-    /// The name has so many bytes over 8. A character or an escape gives one byte.
+    /// The name is this many bytes longer than 8. Each character or escape gives one byte.
     #[error("ARGUMENT: the name is too long by {0} (at most 8 characters)")]
     NameTooLong(usize),
     /// A text may not contain this byte. The place counts the bytes of the text from 1.
@@ -42,20 +42,20 @@ pub enum RowCause {
     /// A name may not contain this byte. The place counts the bytes of the name from 1.
     #[error("ARGUMENT: byte {1} of the name is \\x{0:02X}, which a name may not contain")]
     BadNameByte(u8, usize),
-    /// The argument of `tags` has one number more than it has spaces. These are so many, and not eight.
+    /// The argument of `tags` has this many numbers, one more than it has spaces, and not eight.
     #[error("ARGUMENT: tags takes 8 numbers with one space between them, found {0}")]
     TagCount(usize),
-    /// This number of the eight, counted from 1, is no decimal number up to 255.
+    /// This number of the eight, counted from 1, is not a decimal number up to 255.
     #[error("ARGUMENT: number {0} is not 1 to 3 decimal digits of at most 255")]
     NoTagNumber(usize),
-    /// This number of the eight is over the most that it may be.
+    /// This number of the eight exceeds its limit.
     #[error("ARGUMENT: {number} is {given}, at most {most} is allowed")]
     TagTooHigh {
         number: TagNumber,
         given: u8,
         most: u8,
     },
-    /// This tag has class 0, and a start or a length marker that is not 0.
+    /// This tag has class 0, but its start or its length marker is not 0.
     #[error("ARGUMENT: the {0} tag has class 0, so its start and its length marker must be 0")]
     DummyTag(Which),
 
@@ -63,19 +63,19 @@ pub enum RowCause {
     #[error("FREE is not 0 or 1")]
     Free,
 
-    /// The character at this place begins no reception.
+    /// The character at this place does not begin a reception.
     #[error("RECEPTIONS: character {0} is not G, L or R")]
     NoReception(usize),
-    /// The L or R at this place has digits behind it.
+    /// Digits follow the L or R at this place.
     #[error("RECEPTIONS: digits after the L or R at character {0}, only G takes digits")]
     DigitsAfter(usize),
-    /// The G at this place has more than four digits behind it.
+    /// More than four digits follow the G at this place.
     #[error("RECEPTIONS: more than 4 digits after the G at character {0}")]
     TooManyDigits(usize),
-    /// There is more behind eight receptions.
+    /// The field goes on after eight receptions.
     #[error("RECEPTIONS: more than 8 receivers")]
     TooManyReceivers,
-    /// A script that is encoded has no receivers, and the row names so many.
+    /// The row names this many receivers, but a script for `encode` has no receivers.
     #[error("RECEPTIONS: encode takes none; leave the field empty, but keep the comma before it")]
     EncodeTakesNone(usize),
     /// The row names another number of receivers than the first row.
@@ -84,21 +84,20 @@ pub enum RowCause {
         given: usize,
         first: usize,
     },
-    /// The receiver, counted from 0, asks for a group so many slots late, and the station allows fewer.
+    /// The receiver asks for a group `late` slots late, but the station allows only `most`.
     #[error("RECEPTIONS: receiver {receiver}: G{late} is later than --k {most} allows")]
     Late {
         receiver: usize,
         late: u16,
         most: u16,
     },
-    /// The receiver, counted from 0, asks for the group of so many slots before, which is before the first slot.
+    /// The receiver asks for the group `late` slots back, which is before the first slot.
     #[error("RECEPTIONS: receiver {receiver}: G{late} asks for a slot before the first one")]
     BeforeFirst {
         receiver: usize,
         late: u16,
     },
-    /// The receiver, counted from 0, asks for the group of so many slots before, and got that one or a newer one
-    /// already.
+    /// The receiver asks for the group `late` slots back, but it already has that one or a newer one.
     #[error("RECEPTIONS: receiver {receiver}: it already has the slot of G{late}, or a newer one")]
     AlreadyHanded {
         receiver: usize,
@@ -106,7 +105,7 @@ pub enum RowCause {
     },
 }
 
-/// A number of the argument of `tags`, in their order.
+/// A number in the argument of `tags`. The variants have the order of the argument.
 #[derive(Clone, Copy, Debug, PartialEq, Eq)]
 pub enum TagNumber {
     Toggle,
@@ -119,7 +118,7 @@ pub enum TagNumber {
     LengthOfTwo,
 }
 
-/// What the number says.
+/// Writes the name of the number.
 impl fmt::Display for TagNumber {
     fn fmt<W: fmt::Write>(&self, f: &mut fmt::Formatter<W>) -> fmt::Result {
         f.write_str(match self {

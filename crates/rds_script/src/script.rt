@@ -31,7 +31,7 @@ impl<R: TellingRead> Script<R> {
         }
     }
 
-    /// The line behind the last record, counted from 1.
+    /// Returns the line behind the last record, counted from 1.
     pub(crate) fn line(&self) -> u64 {
         self.reader.position().line()
     }

@@ -58,9 +58,9 @@ pub fn simulate_within<R: TellingRead + Drop, W: TellingWrite>(
     play(Form::Simulation, alloc, reader, writer, config, records)
 }
 
-/// [`simulate`], which also notes why a record is no row, and the first thing that was set too early.
+/// [`simulate`], which also takes notes: why a record is not a row, and the first thing that was set too early.
 ///
-/// What the notes had before is lost.
+/// The new notes replace the old content of `notes`.
 pub fn simulate_with_notes<R: TellingRead + Drop, W: TellingWrite>(
     alloc: Global,
     reader: R,
@@ -117,9 +117,9 @@ pub fn encode_within<R: TellingRead + Drop, W: TellingWrite>(
     play(Form::Log, alloc, reader, writer, config, records)
 }
 
-/// [`encode`], which also notes why a record is no row, and the first thing that was set too early.
+/// [`encode`], which also takes notes: why a record is not a row, and the first thing that was set too early.
 ///
-/// What the notes had before is lost.
+/// The new notes replace the old content of `notes`.
 pub fn encode_with_notes<R: TellingRead + Drop, W: TellingWrite>(
     alloc: Global,
     reader: R,
@@ -143,7 +143,7 @@ pub fn encode_with_notes<R: TellingRead + Drop, W: TellingWrite>(
     )
 }
 
-/// Plays a script, and nobody reads the notes.
+/// Plays a script without notes.
 fn play<R: TellingRead + Drop, W: TellingWrite>(
     form: Form,
     alloc: Global,
@@ -160,7 +160,7 @@ fn play<R: TellingRead + Drop, W: TellingWrite>(
     play_with_notes(form, alloc, reader, writer, config, records, &mut notes)
 }
 
-/// Plays a script, and notes what it comes to beside its output.
+/// Plays a script, and takes notes.
 fn play_with_notes<R: TellingRead + Drop, W: TellingWrite>(
     form: Form,
     alloc: Global,
@@ -233,8 +233,8 @@ fn play_rows<R: TellingRead, W: TellingWrite>(
     Err(LogFault::TooLong)
 }
 
-/// Finds the line on which a record starts, counted from 1: `number` is the record's number, and `after` the line behind
-/// it.
+/// Finds the line on which a record starts, counted from 1. `number` is the number of the record, and `after` the line
+/// behind it.
 ///
 /// `csv` notes the start of a record before it skips empty lines, and before the line feed of `\r\n`. So this counts
 /// back from the end, by the line feeds inside the record and the one that ends it. Each row has a line of its own, so

@@ -1,6 +1,6 @@
-//! The second reading of a record that is no row: it finds the cause.
+//! The second reading of a malformed record: it finds the cause.
 //!
-//! It stands apart from the first, so that rows pay nothing for it.
+//! Good rows are read once, and pay nothing for these functions.
 ghost use Rattle.std.specs.Prelude.{◌≡◌, ◌⊎◌, ◌<◌, ◌≤◌, ◌+◌, ◌^◌, ◌↔◌};
 ghost use Rattle.std.specs.Prelude.{ℕ, List, IfErr, IfNone, IfOk, IfSome, IsTrue, IsUtf8, length, slice_index_or, take};
 ghost use Rattle.std.specs.Str.Parse.{AllDigits};
@@ -46,7 +46,7 @@ const TAG_NUMBERS: usize = 8;
 /// The most that each number of `tags` may be.
 const MOST_NUMBERS: [u8; 8] = [1, 1, 63, 63, 63, 63, 63, 31];
 
-/// Finds why a record says no event.
+/// Finds why a record does not describe an event.
 #[inline(never)]
 pub(crate) fn cause_of(row: &ByteRecord) -> RowCause
     requires { (e : Event) → length e.receptions ≤ MOST_RECEIVERS
@@ -123,7 +123,7 @@ fn read_within(argument: &str, most: usize, bytes: &mut [u8; LONGEST]) -> Result
     }
 }
 
-/// The cause of a text or a name of which this character can't be read.
+/// Returns the cause for a text or a name with this unreadable character.
 fn stop_cause(stop: Stop) -> RowCause
     ensures { (word argument : List ℕ) → TakesCharacters word → IsUtf8 argument
         → IsStop argument stop → IsArgumentCause word argument result }
@@ -211,7 +211,7 @@ fn numbers_cause(numbers: &[u8]) -> Option<RowCause>
     }
 }
 
-/// How many spaces there are.
+/// Counts the spaces of a text.
 fn count_spaces(text: &str) -> usize
     ensures value { result ≡ spaces text.now }
     ensures fits { result < 2 ^ 63 }
@@ -223,7 +223,7 @@ fn count_spaces(text: &str) -> usize
 ///
 /// # Errors
 ///
-/// The place of the first piece that is no number, from 1.
+/// The place, from 1, of the first piece that is not a number.
 fn eight_numbers(text: &str) -> Result<ArrayVec<u8, TAG_NUMBERS>, usize>
     requires { spaces text.now + 1 ≡ TAG_NUMBERS }
     ensures numbers { IfOk result (λ numbers. AreNumbers text.now numbers.items) }
@@ -246,7 +246,7 @@ fn eight_numbers(text: &str) -> Result<ArrayVec<u8, TAG_NUMBERS>, usize>
     Ok(numbers)
 }
 
-/// A number of `tags` that is over the most that it may be.
+/// A number of `tags` that exceeds its limit.
 #[derive(Clone, Copy)]
 struct TooHigh {
     number: TagNumber,
@@ -254,7 +254,7 @@ struct TooHigh {
     most: u8,
 }
 
-/// The first of the eight numbers that is too high.
+/// Finds the first of the eight numbers that exceeds its limit.
 fn first_too_high(numbers: &[u8]) -> Option<TooHigh>
     requires { length numbers.now ≡ TAG_NUMBERS }
     ensures some { IfSome result
@@ -275,7 +275,7 @@ fn first_too_high(numbers: &[u8]) -> Option<TooHigh>
     None
 }
 
-/// The number of `tags` at this place, from 0.
+/// Returns the number of `tags` at this place, from 0.
 fn tag_number(place: usize) -> TagNumber
     requires { place < TAG_NUMBERS }
     ensures { index_of result ≡ place }
@@ -292,7 +292,7 @@ fn tag_number(place: usize) -> TagNumber
     }
 }
 
-/// Whether the tag whose class is at this place has class 0, and a start or a length marker.
+/// Returns whether the tag with its class at this place has class 0, and a start or a length marker that is not 0.
 fn is_bad_dummy(numbers: &[u8], place: usize) -> bool
     requires { place + 2 < length numbers.now }
     ensures { IsTrue result ↔ IsBadDummy place numbers.now }
@@ -322,7 +322,7 @@ fn receptions_cause(field: &[u8]) -> Option<RowCause>
     None
 }
 
-/// The cause of a letter, at this place, and its digits that are no reception.
+/// Returns the cause for a letter, at this place, that makes no reception with its digits.
 fn reception_cause(byte: u8, digits: &[u8], place: usize) -> RowCause
     requires decimal { AllDigits 10 digits.now }
     requires none { (r : Reception) → byte ≡ letter r → HasDigits r digits.now → ⊥ }
@@ -337,7 +337,7 @@ fn reception_cause(byte: u8, digits: &[u8], place: usize) -> RowCause
     }
 }
 
-/// The cause of a slot that was refused, of a row that says this event; `first` receivers are those of the first row.
+/// Finds why the event of a row was refused. `first` is the number of receivers of the first row.
 #[inline(never)]
 pub(crate) fn refused_cause(
     why: StepRefused,
@@ -370,7 +370,7 @@ pub(crate) fn refused_cause(
     }
 }
 
-/// How many slots late the group is that the receiver is to get; 0 where it gets none.
+/// Returns how many slots late the receiver's group is; 0 if it gets no group.
 fn lateness_at(receptions: &[Reception], receiver: usize) -> u16
     ensures { (late : ℕ) → slice_index_or receptions.now receiver reception.Lost ≡ reception.Got late
         → result ≡ late }
@@ -381,7 +381,7 @@ fn lateness_at(receptions: &[Reception], receiver: usize) -> u16
     }
 }
 
-/// The cause of a group, so many slots late, that is not due to a receiver.
+/// Returns the cause for a receiver that asks for a group, `late` slots late, that is not due to it.
 fn late_cause(receiver: usize, late: u16, most: u16, slot: u64) -> RowCause
     ensures { (form : Form) (before : List Record) (row : Record) → slot ≡ length before
         → AsksTooMuch form most before row receiver late

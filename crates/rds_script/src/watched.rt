@@ -80,7 +80,7 @@ impl Watched {
     {
         match self.world.step(event) {
             Ok(answer) => {
-                // read before the answer is passed on
+                // Prover: a field of a struct is read before the struct is passed on
                 let reply = answer.reply;
                 push_answer(form, slot, &event.command, answer, lines);
                 push_views(slot, &self.world, self.shown.as_mut_slice(), lines);
@@ -90,7 +90,7 @@ impl Watched {
         }
     }
 
-    /// How many receivers there are.
+    /// Returns the number of receivers.
     pub(crate) fn receivers(&self) -> usize
         ensures { WhereWatchedStands self.now (λ _ receivers _. result ≡ receivers) }
     {
