@@ -6,7 +6,7 @@ ghost use Rattle.rds_script.specs.declared.row.RowRefused.TheVariants as refused
 ghost use Rattle.rds_script.specs.declared.watched.Watched.{Watched};
 
 use crate::form::Form;
-use crate::notes::{Wait, note_wait};
+use crate::notes::Wait;
 use crate::row::{RowRefused, read_event};
 use crate::row_cause::RowCause;
 use crate::second_reading::{cause_of, refused_cause};
@@ -78,11 +78,8 @@ impl Player {
             Some(watched) => {
                 let slot = self.slot;
                 self.slot += 1;
-                match watched.play(self.form, slot, &event, lines) {
-                    Ok(reply) => {
-                        note_wait(&mut self.wait, slot, &event.command, reply);
-                        Ok(())
-                    }
+                match watched.play(self.form, slot, &event, lines, &mut self.wait) {
+                    Ok(()) => Ok(()),
                     Err(why) => Err(RowRefused::NoRow(refused_cause(
                         why,
                         self.config.late,

@@ -7,17 +7,19 @@ ghost use Rattle.rds_world.specs.Replies.{CanBeTaken, IsStepRefused, reply_at};
 ghost use Rattle.rds_world.specs.StandsAt.{IsViewOfInput, WhereItStands};
 ghost use Rattle.rds_output.specs.KeptView.{view_kept};
 ghost use Rattle.rds_script.specs.Inside.Watched.{AreKept, WereShown};
+ghost use Rattle.rds_script.specs.Notes.{first_of, wait_of};
 ghost use Rattle.rds_script.specs.Outcomes.{IsOutcome, Outcome, receiver_changes, slot_lines, view_at};
 ghost use Rattle.rds_script.specs.declared.row.RowRefused.TheVariants as refused;
 ghost use Rattle.rds_script.specs.declared.answer_lines.TheConstants.{ANSWER_ROOM};
 
 use crate::answer_lines::{ANSWER_ROOM, push_answer};
 use crate::form::Form;
+use crate::notes::{Wait, note_wait};
 use crate::row::RowRefused;
 use arrayvec::ArrayVec;
 use rds_charset::Lines;
 use rds_output::{KeptView, SLOT_ROOM, Stamp, show};
-use rds_world::{Config, MOST_RECEIVERS, Reply, SlotEvent, StepRefused, World};
+use rds_world::{Config, MOST_RECEIVERS, SlotEvent, StepRefused, World};
 use std::alloc::Global;
 
 /// Room for the output of a row: the reply, the group, and what changed at each receiver.
@@ -56,14 +58,15 @@ impl Watched {
         }
     }
 
-    /// Plays the slot of an event, and gives its lines and the reply to its command.
+    /// Plays the slot of an event, and gives its lines; notes the first thing that was set too early.
     pub(crate) fn play(
         &mut self,
         form: Form,
         slot: u64,
         event: &SlotEvent,
         lines: &mut RowLines,
-    ) -> Result<Reply, StepRefused>
+        wait: &mut Option<Wait>,
+    ) -> Result<(), StepRefused>
         requires empty { lines.old ≡ [] }
         ensures stands { WhereWatchedStands self.old (λ config receivers events.
             OnOk result (WatchedStandsAt config receivers self.new (event.now ∷ events))) }
@@ -72,19 +75,20 @@ impl Watched {
         ensures outcome { WhereWatchedStands self.old (λ config receivers events.
             OnOk result ((o : Outcome) × IsOutcome config event.now events o × (o.views ≡ views_kept self.new)
             × (lines.new ≡ slot_lines form slot (views_kept self.old) o))) }
-        ensures reply { WhereWatchedStands self.old (λ config receivers events.
-            IfOk result (λ reply. reply ≡ reply_at (distance config) event.now.command (entries events))) }
+        ensures wait { WhereWatchedStands self.old (λ config receivers events.
+            OnOk result (wait.new ≡ first_of (wait_of slot event.now.command
+            (reply_at (distance config) event.now.command (entries events))) wait.old)) }
+        ensures no_wait { OnErr result (wait.new ≡ wait.old) }
         ensures refused { WhereWatchedStands self.old (λ config receivers events.
             IfErr result (IsStepRefused config.late receivers event.now events)) }
         ensures kept { OnErr result (self.new ≡ self.old) }
     {
         match self.world.step(event) {
             Ok(answer) => {
-                // Prover: a field of a struct is read before the struct is passed on
-                let reply = answer.reply;
+                note_wait(wait, slot, &event.command, answer.reply);
                 push_answer(form, slot, &event.command, answer, lines);
                 push_views(slot, &self.world, self.shown.as_mut_slice(), lines);
-                Ok(reply)
+                Ok(())
             }
             Err(why) => Err(why),
         }
