@@ -52,13 +52,21 @@ late_rule = number_rule (codes "k") (Signed (pos 0) (pos 1024)) (codes "0")
 abbrev pub pty_rule : Rule
 pty_rule = number_rule (codes "pty") (Signed (pos 0) (pos 31)) (codes "0")
 
--- `--tp`, a flag
+-- a flag
+abbrev pub flag_rule : Text → Rule
+flag_rule name = record (new_rule name) { long = Some name; action = Some SetTrue }
+
+-- `--tp`
 abbrev pub tp_rule : Rule
-tp_rule = record (new_rule (codes "tp")) { long = Some (codes "tp"); action = Some SetTrue }
+tp_rule = flag_rule (codes "tp")
+
+-- `--quiet`
+abbrev pub quiet_rule : Rule
+quiet_rule = flag_rule (codes "quiet")
 
 -- a subcommand that reads a log
 unfoldable pub log_app : Text → App
-log_app name = with_rule (with_rule (new_app name) pi_rule) dwell_rule
+log_app name = with_rule (with_rule (with_rule (new_app name) pi_rule) dwell_rule) quiet_rule
 
 -- a subcommand that speaks of late groups
 unfoldable pub late_app : Text → App
@@ -95,11 +103,13 @@ TakesWords words = takes whole_app words ≡ true
 
 -- ---- what the words ask for
 
--- what is to be done, the text that is given as programme identification, and the dwell in slots
+-- what is to be done, the text that is given as programme identification, the dwell in slots, and whether warnings are
+-- left out
 pub record Asked : Type 0 where
   pub task : Task
   pub pi : Text
   pub dwell : ℕ
+  pub quiet : Bool
 
 -- four hexadecimal digits of either case, and the programme identification that they spell
 pub record IsPi (given : Text) (pi : ℕ) : Type 0 where
@@ -122,8 +132,15 @@ late_in rows = option_and_then (number_from_to 0 1024) (one_of (codes "k") rows)
 abbrev pub pty_in : List Row → Option ℕ
 pty_in rows = option_and_then (number_from_to 0 31) (one_of (codes "pty") rows)
 
+-- a flag is given
+abbrev pub flag_in : Text → List Row → Bool
+flag_in name rows = option_map_or (λ text. bytes_eq text (codes "true")) (first_of name rows) false
+
 abbrev pub tp_in : List Row → Bool
-tp_in rows = option_map_or (λ text. bytes_eq text (codes "true")) (first_of (codes "tp") rows) false
+tp_in = flag_in (codes "tp")
+
+abbrev pub quiet_in : List Row → Bool
+quiet_in = flag_in (codes "quiet")
 
 abbrev pub programme_in : List Row → Option Programme
 programme_in rows = option_map (λ pty. record { pty = pty; tp = tp_in rows }) (pty_in rows)
@@ -141,13 +158,13 @@ task_in name rows =
     else if bytes_eq name (codes "witness") then Some Witness
     else None
 
-abbrev pub asked : Option Task → Option Text → Option ℕ → Option Asked
-asked (Some task) (Some pi) (Some dwell) = Some (record { task = task; pi = pi; dwell = dwell })
-asked _ _ _ = None
+abbrev pub asked : Option Task → Option Text → Option ℕ → Bool → Option Asked
+asked (Some task) (Some pi) (Some dwell) quiet = Some (record { task = task; pi = pi; dwell = dwell; quiet = quiet })
+asked _ _ _ _ = None
 
 -- of the name of a subcommand and what was found for its options
 abbrev pub asked_of : Text × List Row → Option Asked
-asked_of p = asked (task_in p.0 p.1) (first_of (codes "pi") p.1) (dwell_in p.1)
+asked_of p = asked (task_in p.0 p.1) (first_of (codes "pi") p.1) (dwell_in p.1) (quiet_in p.1)
 
 -- what the words ask for, as `clap`'s definition reads them
 abbrev pub asked_in : List Text → Option Asked

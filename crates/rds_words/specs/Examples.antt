@@ -1,5 +1,5 @@
 -- Words that are written out, and what they ask for.
-use Rattle.std.specs.Prelude.{◌≡◌, ◌==◌, ◌∷◌, ℕ, Bool, List, [], codes, false, if◌then◌else◌}
+use Rattle.std.specs.Prelude.{◌≡◌, ◌==◌, ◌∷◌, ℕ, Bool, List, [], codes, false, true, if◌then◌else◌}
 use Rattle.clap.specs.Words.{Text, fault_of, takes}
 use Rattle.clap.specs.declared.error.kind.ErrorKind.TheVariants.{DisplayHelp, InvalidSubcommand}
 use Rattle.rds_words.specs.CommandLine.{AreRefused, Asked, whole_app}
@@ -25,17 +25,22 @@ pub record CallForHelp (words : List Text) : Type 0 where
   pub kinds : fault_of whole_app words ≡ DisplayHelp ∷ InvalidSubcommand ∷ []
 
 abbrev pub decoding : Text → ℕ → Asked
-decoding pi dwell = record { task = Decode; pi = pi; dwell = dwell }
+decoding pi dwell = record { task = Decode; pi = pi; dwell = dwell; quiet = false }
 
 abbrev pub encoding : ℕ → ℕ → Asked
-encoding dwell pty = record { task = Encode (record { pty = pty; tp = false }) 0; pi = codes "C201"; dwell = dwell }
+encoding dwell pty =
+    record { task = Encode (record { pty = pty; tp = false }) 0; pi = codes "C201"; dwell = dwell; quiet = false }
 
 abbrev pub simulating : ℕ → ℕ → Bool → ℕ → Asked
 simulating dwell pty tp late =
-    record { task = Simulate (record { pty = pty; tp = tp }) late; pi = codes "C201"; dwell = dwell }
+    record { task = Simulate (record { pty = pty; tp = tp }) late; pi = codes "C201"; dwell = dwell; quiet = false }
 
 abbrev pub witnessing : ℕ → Asked
-witnessing dwell = record { task = Witness; pi = codes "C201"; dwell = dwell }
+witnessing dwell = record { task = Witness; pi = codes "C201"; dwell = dwell; quiet = false }
 
 abbrev pub auditing : ℕ → ℕ → Asked
-auditing dwell late = record { task = Audit late; pi = codes "C201"; dwell = dwell }
+auditing dwell late = record { task = Audit late; pi = codes "C201"; dwell = dwell; quiet = false }
+
+-- the same without warnings
+abbrev pub quietly : Asked → Asked
+quietly asked = record asked { quiet = true }

@@ -2,8 +2,8 @@
 ghost use Rattle.std.specs.Prelude.{◌≡◌, IfOk, codes, false};
 ghost use Rattle.clap.specs.Words.{App, app_of, rule_of, with_subcommand};
 ghost use Rattle.clap.specs.declared.builder.command.Command.TheViews.{out-Command};
-ghost use Rattle.rds_words.specs.CommandLine.{dwell_rule, late_app, late_rule, log_app, number_rule, pi_rule};
-ghost use Rattle.rds_words.specs.CommandLine.{pty_rule, station_app, top_app, tp_rule, whole_app};
+ghost use Rattle.rds_words.specs.CommandLine.{dwell_rule, flag_rule, late_app, late_rule, log_app, number_rule};
+ghost use Rattle.rds_words.specs.CommandLine.{pi_rule, pty_rule, quiet_rule, station_app, top_app, tp_rule, whole_app};
 
 use clap::builder::ValueParser;
 use clap::{Arg, ArgAction, Command, value_parser};
@@ -77,15 +77,36 @@ fn pty<'a>(alloc: Global) -> Arg<'a>
     number(alloc, "pty", parser, "0", help)
 }
 
+/// Makes a flag.
+fn flag<'a>(alloc: Global, name: &'a str, help: &'a str) -> Arg<'a>
+    ensures rule { rule_of result ≡ flag_rule name.entry.now }
+    ensures local { result.global ≡ false }
+{
+    Arg::new(alloc, name)
+        .long(name)
+        .action(ArgAction::SetTrue)
+        .help(help)
+}
+
 /// Makes the flag `--tp`.
 fn tp<'a>(alloc: Global) -> Arg<'a>
     ensures rule { rule_of result ≡ tp_rule }
     ensures local { result.global ≡ false }
 {
-    Arg::new(alloc, "tp")
-        .long("tp")
-        .action(ArgAction::SetTrue)
-        .help("Sets the TP flag in each group: the programme carries traffic announcements")
+    flag(
+        alloc,
+        "tp",
+        "Sets the TP flag in each group: the programme carries traffic announcements",
+    )
+}
+
+/// Makes the flag `--quiet`. Help lists it after the other options.
+fn quiet<'a>(alloc: Global) -> Arg<'a>
+    ensures rule { rule_of result ≡ quiet_rule }
+    ensures local { result.global ≡ false }
+{
+    let help = "Prints no warnings on standard error; faults are still printed";
+    flag(alloc, "quiet", help).display_order(100)
 }
 
 /// The help texts of a subcommand.
@@ -107,7 +128,8 @@ fn log_reader<'a>(alloc: Global, name: &'a str, page: Page<'a>) -> Result<Comman
         .about(page.about)
         .after_long_help(page.ending)
         .arg(pi(alloc))?
-        .arg(dwell(alloc))
+        .arg(dwell(alloc))?
+        .arg(quiet(alloc))
 }
 
 /// Makes the subcommand `decode`.

@@ -1,7 +1,7 @@
 //! What the definition of the command line says of words that are written out.
 ghost use Rattle.std.specs.Prelude.{codes, false, true};
 ghost use Rattle.rds_words.specs.CommandLine.{AskFor, AskForHelp};
-ghost use Rattle.rds_words.specs.Examples.{AreNotTaken, CallForHelp, auditing, decoding, encoding, simulating, typed, witnessing};
+ghost use Rattle.rds_words.specs.Examples.{AreNotTaken, CallForHelp, auditing, decoding, encoding, quietly, simulating, typed, witnessing};
 
 /// The words of README's examples are taken and ask for what they say: the definition is no empty one. A dwell of 0
 /// slots, a programme type of 32, a subcommand with no programme and no subcommand are refused. Help and the
@@ -22,6 +22,10 @@ pub fn words_of_the_examples()
     ensures sim_late { AskFor (typed (codes "rdsrt sim --pi C201 --k 1024")) (simulating 128 0 false 1024) }
     ensures sim_of_eleven { AskFor (typed (codes "rdsrt sim --pi C201 --m 8 --k 2 --pty 24 --tp --"))
         (simulating 8 24 true 2) }
+    ensures decode_quiet { AskFor (typed (codes "rdsrt decode --pi C201 --quiet"))
+        (quietly (decoding (codes "C201") 128)) }
+    ensures sim_quiet { AskFor (typed (codes "rdsrt sim --quiet --pi C201 --pty 10 --tp"))
+        (quietly (simulating 128 10 true 0)) }
     ensures help { AskForHelp (typed (codes "rdsrt --help")) }
     ensures help_of_one { AskForHelp (typed (codes "rdsrt decode --help")) }
     ensures version { AskForHelp (typed (codes "rdsrt --version")) }

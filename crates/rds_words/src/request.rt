@@ -3,7 +3,7 @@ ghost use Rattle.std.specs.Prelude.{◌≡◌, ◌⊎◌, ℕ, IfErr, IfNone, If
 ghost use Rattle.clap.specs.Words.{FailsBy, fault_of, found_of, kind_of, rows_of};
 ghost use Rattle.rds_words.specs.Asks.{asked_by};
 ghost use Rattle.rds_words.specs.CommandLine.{AreRefused, AskForHelp, IsPi, TakesWords, asked_in, asked_of};
-ghost use Rattle.rds_words.specs.CommandLine.{dwell_in, is_shown, late_in, programme_in, task_in, tp_in, whole_app};
+ghost use Rattle.rds_words.specs.CommandLine.{dwell_in, flag_in, is_shown, late_in, programme_in, task_in, whole_app};
 
 use crate::command_line::whole;
 use clap::error::ErrorKind;
@@ -44,6 +44,8 @@ pub struct Request<'a> {
     /// What is given as programme identification, whatever its text.
     pub pi: &'a str,
     pub dwell: Dwell,
+    /// Whether warnings are left out.
+    pub quiet: bool,
 }
 
 /// The programme identification that is given; `None` where it is not four hexadecimal digits, of either case.
@@ -93,6 +95,7 @@ fn request_of<'a>(name: &'a str, inner: &ArgMatches<'a>) -> Option<Request<'a>>
         task: task_of(name, inner)?,
         pi: inner.get_str("pi")?,
         dwell: dwell_of(inner)?,
+        quiet: is_given(inner, "quiet"),
     })
 }
 
@@ -130,15 +133,15 @@ fn programme_of(inner: &ArgMatches<'_>) -> Option<Programme>
 {
     Some(Programme {
         pty: Place::new(inner.get_one::<u8>("pty")?)?,
-        tp: tp_of(inner),
+        tp: is_given(inner, "tp"),
     })
 }
 
-/// Whether the flag is given.
-fn tp_of(inner: &ArgMatches<'_>) -> bool
-    ensures { result ≡ tp_in (rows_of (found_of inner.now)) }
+/// Returns whether a flag is given.
+fn is_given(inner: &ArgMatches<'_>, name: &str) -> bool
+    ensures { result ≡ flag_in name.now (rows_of (found_of inner.now)) }
 {
-    match inner.get_str("tp") {
+    match inner.get_str(name) {
         Some(text) => text == "true",
         None => false,
     }

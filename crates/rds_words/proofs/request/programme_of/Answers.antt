@@ -36,4 +36,4 @@ returns c =
     c.get_one.ensures.none c.get_one.ensures.value (λ t x g. g.0) (omega arith) in
     let place = pty_between c.in_ok-get_one.field-0 c.new.result c.new.ensures.below c.new.ensures.value in
     let pty = read ∙ ap (option_and_then (between 0 31)) c.in_ok-get_one.was ∙ sym place ∙ c.in_ok-new.was in
-    ap (λ (tp : Bool). programme tp (Some c.in_ok-new.field-0)) c.tp_of.ensures ∙ sym (ap (programme (tp_in rows)) pty)
+    ap (λ (tp : Bool). programme tp (Some c.in_ok-new.field-0)) c.is_given.ensures ∙ sym (ap (programme (tp_in rows)) pty)
