@@ -40,13 +40,13 @@ number_rule name parser default = record (new_rule name) {
   parser = Some parser;
 }
 
--- `--m N`, from 1 to 65535
+-- `--m N` or `-m N`, from 1 to 65535
 abbrev pub dwell_rule : Rule
-dwell_rule = number_rule (codes "m") (Signed (pos 1) (pos 65535)) (codes "128")
+dwell_rule = record (number_rule (codes "m") (Signed (pos 1) (pos 65535)) (codes "128")) { short = Some 109 }
 
--- `--k N`, from 0 to 1024
+-- `--k N` or `-k N`, from 0 to 1024
 abbrev pub late_rule : Rule
-late_rule = number_rule (codes "k") (Signed (pos 0) (pos 1024)) (codes "0")
+late_rule = record (number_rule (codes "k") (Signed (pos 0) (pos 1024)) (codes "0")) { short = Some 107 }
 
 -- `--pty N`, from 0 to 31
 abbrev pub pty_rule : Rule

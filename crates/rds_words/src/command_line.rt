@@ -40,30 +40,32 @@ fn number<'a>(
         .help(help)
 }
 
-/// Makes the option `--m`.
+/// Makes the option `-m`, `--m`.
 fn dwell<'a>(alloc: Global) -> Arg<'a>
     ensures rule { rule_of result ≡ dwell_rule }
     ensures local { result.global ≡ false }
 {
     let parser = value_parser!(u16).range(1..);
-    number(alloc, "m", parser, "128", "Dwell M in slots, 1 to 65535").long_help(
-        "Dwell M in slots, 1 to 65535. A slot is the time of one group, about 88 ms.\n\
-         A receiver drops a text if no part of it arrived for M slots. The station needs\n\
-         the same M or a larger one. Then no receiver shows a mix of two texts.",
-    )
+    number(alloc, "m", parser, "128", "Dwell M in slots, 1 to 65535")
+        .short('m')
+        .long_help(
+            "Dwell M in slots, 1 to 65535. A slot is the time of one group, about 88 ms.\n\
+             A receiver drops a text if no part of it arrived for M slots. The station needs\n\
+             the same M or a larger one. Then no receiver shows a mix of two texts.",
+        )
 }
 
-/// Makes the option `--k`.
+/// Makes the option `-k`, `--k`.
 fn late<'a>(alloc: Global) -> Arg<'a>
     ensures rule { rule_of result ≡ late_rule }
     ensures local { result.global ≡ false }
 {
     let parser = value_parser!(u16).range(0..1025);
     let help = "Lateness K in slots, 0 to 1024: how late a group may reach a receiver";
-    number(alloc, "k", parser, "0", help).long_help(
+    number(alloc, "k", parser, "0", help).short('k').long_help(
         "Lateness K in slots, 0 to 1024: how late a group may reach a receiver, for example\n\
-         through a buffer or a network. Late groups must stay in their order. The station\n\
-         spaces its texts by M + K slots; a receiver needs M alone.",
+             through a buffer or a network. Late groups must stay in their order. The station\n\
+             spaces its texts by M + K slots; a receiver needs M alone.",
     )
 }
 

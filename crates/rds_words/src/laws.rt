@@ -22,6 +22,8 @@ pub fn words_of_the_examples()
     ensures sim_late { AskFor (typed (codes "rdsrt sim --pi C201 --k 1024")) (simulating 128 0 false 1024) }
     ensures sim_of_eleven { AskFor (typed (codes "rdsrt sim --pi C201 --m 8 --k 2 --pty 24 --tp --"))
         (simulating 8 24 true 2) }
+    ensures decode_short { AskFor (typed (codes "rdsrt decode --pi C201 -m 8")) (decoding (codes "C201") 8) }
+    ensures sim_short { AskFor (typed (codes "rdsrt sim --pi C201 -k 2")) (simulating 128 0 false 2) }
     ensures decode_quiet { AskFor (typed (codes "rdsrt decode --pi C201 --quiet"))
         (quietly (decoding (codes "C201") 128)) }
     ensures sim_quiet { AskFor (typed (codes "rdsrt sim --quiet --pi C201 --pty 10 --tp"))

@@ -18,6 +18,8 @@ returns c = record {
   witness = record { taken = refl; ask = refl };
   sim_late = record { taken = refl; ask = refl };
   sim_of_eleven = record { taken = refl; ask = refl };
+  decode_short = record { taken = refl; ask = refl };
+  sim_short = record { taken = refl; ask = refl };
   decode_quiet = record { taken = refl; ask = refl };
   sim_quiet = record { taken = refl; ask = refl };
   help = refl;
