@@ -269,7 +269,8 @@ def stale_sections(sources, page, text):
             yield f"link {link}"
         elif anchor and anchor not in map(anchor_of, sources.headings.get(path, [])):
             yield f"section {link}"
-    pages = {os.path.splitext(os.path.basename(it))[0]: it for it in sources.headings}
+    # the files of the top come first, so its README takes the place of the other one
+    pages = {os.path.splitext(os.path.basename(it))[0]: it for it in reversed(sources.headings)}
     cited = rf'\b({"|".join(pages)})(?:\.md)?`?(?:\]\([^)]*\))?,? "([^"]+)"'
     for stem, heading in re.findall(cited, " ".join(text.split())):
         if heading not in sources.headings[pages[stem]]:
