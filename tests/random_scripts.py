@@ -30,9 +30,12 @@ def words(rng, command, asked):
     numbers += [("--pty", asked.pty, 0)] if command in ("encode", "sim") else []
     for name, number, default in numbers:
         if number != default or rng.random() < 0.5:
-            given.append((name, rng.choice((f"{number}", f"0{number}", f"+{number}"))))
+            spelling = rng.choice((name, name[1:])) if name in ("--m", "--k") else name
+            given.append((spelling, rng.choice((f"{number}", f"0{number}", f"+{number}"))))
     if command in ("encode", "sim") and asked.tp:
         given.append(("--tp",))
+    if rng.random() < 0.3:
+        given.append(("--quiet",))
     rng.shuffle(given)
     options = []
     for option in given:

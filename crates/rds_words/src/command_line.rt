@@ -64,8 +64,8 @@ fn late<'a>(alloc: Global) -> Arg<'a>
     let help = "Lateness K in slots, 0 to 1024: how late a group may reach a receiver";
     number(alloc, "k", parser, "0", help).short('k').long_help(
         "Lateness K in slots, 0 to 1024: how late a group may reach a receiver, for example\n\
-             through a buffer or a network. Late groups must stay in their order. The station\n\
-             spaces its texts by M + K slots; a receiver needs M alone.",
+         through a buffer or a network. Late groups must stay in their order. The station\n\
+         spaces its texts by M + K slots; a receiver needs M alone.",
     )
 }
 
@@ -143,6 +143,8 @@ fn decode<'a>(alloc: Global) -> Result<Command<'a>, AllocError>
         about: "Reads a log of received groups and prints what a receiver shows",
         ending: "Prints one line for each change of the text, the name (PTYN) or the RT+ tags.\n\
                  A log has one line for each slot, lost slots too (---- ---- ---- ----).\n\n\
+                 A receiver counts its own slots and needs M alone, so decode has no --k. K belongs\n\
+                 to the station: encode, sim and audit have it.\n\n\
                  Example:\n  \
                    $ echo C201 2140 4849 0D20 | rdsrt decode --pi C201\n  \
                    0 text \"HI\"",
@@ -239,7 +241,8 @@ fn encode<'a>(alloc: Global) -> Result<Command<'a>, AllocError>
         about: "Reads a script and prints the log of the groups that a station sends",
         ending: "A row of the script is one slot: COMMAND,ARGUMENT,FREE,RECEPTIONS. The last field is\n\
                  empty here, for example text,HI,1, or -,,1, if nothing is set. Replies to commands\n\
-                 are comments in the log. The station is silent in the first M + K rows.\n\n\
+                 are comments in the log. The station is silent in the first M + K rows. At the\n\
+                 default M of 128, put 128 rows such as -,,1, before the first text.\n\n\
                  Example:\n  \
                    $ printf -- '-,,1,\\ntext,HI,1,\\n' | rdsrt encode --pi C201 --m 1\n  \
                    ---- ---- ---- ----\n  \
@@ -259,7 +262,8 @@ fn simulate<'a>(alloc: Global) -> Result<Command<'a>, AllocError>
         ending: "A row of the script is one slot: COMMAND,ARGUMENT,FREE,RECEPTIONS, for example\n\
                  text,HI,1,GGL. RECEPTIONS has a letter for each receiver: G gets the group of this\n\
                  slot, G3 gets the group sent 3 slots before, L loses it, R restarts. The station is\n\
-                 silent in the first M + K rows.\n\n\
+                 silent in the first M + K rows. At the default M of 128, put 128 rows such as\n\
+                 -,,1,GGL before the first text.\n\n\
                  Example:\n  \
                    $ printf -- '-,,1,G\\ntext,HI,1,G\\n' | rdsrt sim --pi C201 --m 1\n  \
                    1 text ok\n  \
