@@ -1,5 +1,5 @@
 -- How the audit of a log goes on and ends: what the source gives, and what the audit makes of it.
-use Rattle.std.proofs.Common.{◌≡◌, ◌+◌, ℕ, List, ◌∷◌, None, Option, Ok, subst, refl, inr, arith}
+use Rattle.std.proofs.Common.{◌≡◌, ◌+◌, ℕ, List, ◌∷◌, None, Option, Ok, subst, refl, inl, inr, arith}
 use Rattle.std.specs.Prelude.{MatchOption}
 use Rattle.rds_block.specs.declared.group.Group.{Group}
 use Rattle.rds_audit.specs.AuditState.{AuditState}
@@ -10,7 +10,8 @@ use Rattle.rds_log.specs.LogLines.{Line}
 use Rattle.rds_log.specs.LineSays.{LineSays}
 use Rattle.rds_log.specs.Inside.Source.{ReaderState, SourceStandsAt, since}
 use Rattle.rds_log.specs.Audit.{HasAudited, Judges, SlotsPass}
-use Rattle.rds_log.specs.declared.log_line.LogLine.TheVariants.{Slot}
+use Rattle.rds_log.specs.declared.log_line.LogLine.{LogLine}
+use Rattle.rds_log.specs.declared.log_line.LogLine.TheVariants.{Skip, Slot}
 use Rattle.rds_log.specs.declared.source.Source.{Source}
 use Rattle.rds_log.specs.declared.verdict.Verdict.TheVariants.{No}
 use Rattle.rds_log.proofs.Decodes.{begins_with}
@@ -33,6 +34,16 @@ audits_slot pi d a after number lines line slot says s stands passed =
       audit = stands;
       passed = passed;
     }
+
+-- a line that is taken, and was said to be a slot with which the slots pass
+pub audits_said : (pi d : ℕ) (a after : AuditState) (number : ℕ) (lines : List Line) (line : Line) (said : LogLine) (slot : Option Group) → LineSays line said → said ≡ Slot slot
+    → (s : HasAudited pi d a number lines) → AuditStandsAt pi d after (slot ∷ s.slots) → after.fault ≡ None → HasAudited pi d after (number + 1) (line ∷ lines)
+audits_said pi d a after number lines line said slot says is s stands passed = audits_slot pi d a after number lines line slot (rw is at says) s stands passed
+
+-- a line that is skipped
+pub audits_skip : (pi d : ℕ) (a : AuditState) (number : ℕ) (lines : List Line) (line : Line) (said : LogLine) → LineSays line said → said ≡ Skip
+    → HasAudited pi d a number lines → HasAudited pi d a number (line ∷ lines)
+audits_skip pi d a number lines line said says is s = record { slots = s.slots; say = inl (rw is at says, s.say); count = s.count; audit = s.audit; passed = s.passed }
 
 -- a line that is a slot with which they do not
 pub stops_at_slot : (pi d reads : ℕ) (source : Source) (a after : AuditState) (number : ℕ) (start now : ReaderState) (lines : List Line) (line : Line) (slot : Option Group) (fault : AuditFault)

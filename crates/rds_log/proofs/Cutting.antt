@@ -1,5 +1,6 @@
 -- How the cutter of a log goes on: what it keeps, and the lines that its bytes make.
-use Rattle.std.proofs.Common.{◌≡◌, ◌≢◌, ◌⊎◌, ◌+◌, ◌<◌, ◌≤◌, min, ℕ, List, [], ◌∷◌, ◌++◌, take, length, append_assoc, ap, sym, ◌∙◌, refl, arith, inl, inr}
+use Rattle.std.proofs.Common.{◌≡◌, ◌≢◌, ◌⊎◌, ◌+◌, ◌<◌, ◌≤◌, min, ℕ, List, None, Option, Some, [], ◌∷◌, ◌++◌, take, length, append_assoc, ap, sym, ◌∙◌, refl, arith, inl, inr}
+use Rattle.std.specs.Prelude.{IfNone}
 use Rattle.std.proofs.lemmas.List.{length-take, take-append-le, take_all}
 use Rattle.std.proofs.lemmas.List.Elements.{All-append, All-cons, All-nil}
 use Rattle.std.proofs.Math.Seq.{take-append-add}
@@ -14,23 +15,23 @@ pub text_of-more : (closed : List Line) (begun bytes : Line) → text_of closed 
 text_of-more [] begun bytes = refl
 text_of-more (line ∷ before) begun bytes = append_assoc (text_of before line) (line_feed ∷ begun) bytes
 
-pub kept_of_more : (begun bytes : Line) → take 21 (take 21 begun ++ bytes) ≡ take 21 (begun ++ bytes)
+pub kept_of_more : (begun bytes : Line) → take 60 (take 60 begun ++ bytes) ≡ take 60 (begun ++ bytes)
 kept_of_more begun bytes = elim (few_or_many (length begun)) [
-  | inl few ↦ ap (λ (l : Line). take 21 (l ++ bytes)) (take_all 21 begun few)
+  | inl few ↦ ap (λ (l : Line). take 60 (l ++ bytes)) (take_all 60 begun few)
   | inr many ↦
-      let full : 21 ≤ length (take 21 begun) = omega (arith, length-take 21 begun, many) in
-      let long : 21 ≤ length begun = omega (arith, many) in
-      let most : length (take 21 begun) ≤ 21 = omega (arith, length-take 21 begun) in
-      take-append-le 21 (take 21 begun) bytes full ∙ take_all 21 (take 21 begun) most ∙ sym (take-append-le 21 begun bytes long)
+      let full : 60 ≤ length (take 60 begun) = omega (arith, length-take 60 begun, many) in
+      let long : 60 ≤ length begun = omega (arith, many) in
+      let most : length (take 60 begun) ≤ 60 = omega (arith, length-take 60 begun) in
+      take-append-le 60 (take 60 begun) bytes full ∙ take_all 60 (take 60 begun) most ∙ sym (take-append-le 60 begun bytes long)
 ]
   where
-    few_or_many : (n : ℕ) → (n ≤ 21) ⊎ (21 < n)
+    few_or_many : (n : ℕ) → (n ≤ 60) ⊎ (60 < n)
     few_or_many n = grind arith
 
 -- as many bytes as there is room for
-pub kept_in_room : (kept bytes : Line) (room : ℕ) → room + length kept ≡ 21 → kept ++ take (min (length bytes) room) bytes ≡ take 21 (kept ++ bytes)
+pub kept_in_room : (kept bytes : Line) (room : ℕ) → room + length kept ≡ 60 → kept ++ take (min (length bytes) room) bytes ≡ take 60 (kept ++ bytes)
 kept_in_room kept bytes room fits =
-    let all : length kept + room ≡ 21 = omega (arith, fits) in
+    let all : length kept + room ≡ 60 = omega (arith, fits) in
     ap (λ (l : Line). kept ++ l) (elim (by_room (length bytes)) [
       | inl few ↦
           let least : min (length bytes) room ≡ length bytes = omega (arith, few) in
@@ -44,15 +45,20 @@ kept_in_room kept bytes room fits =
     by_room n = grind arith
 
 -- the line that is begun is empty exactly where nothing of it is kept
-pub begun_empty : (begun : Line) → length (take 21 begun) ≡ 0 → begun ≡ []
+pub begun_empty : (begun : Line) → length (take 60 begun) ≡ 0 → begun ≡ []
 begun_empty [] h = refl
-begun_empty (b ∷ rest) h = absurd (omega (arith, length-take 21 (b ∷ rest)))
+begun_empty (b ∷ rest) h = absurd (omega (arith, length-take 60 (b ∷ rest)))
+
+-- what is kept where nothing is said is kept in any case
+pub kept_either : (said : Option LogLine) (kept first : Line) → kept ≡ first → IfNone said (kept ≡ first)
+kept_either None kept first same = same
+kept_either (Some said) kept first same = tt
 
 -- more bytes of the line that is begun were kept
 pub cuts_on : (c after : Cutter) (closed : List Line) (begun bytes : Line) → CutterStandsAt c closed begun → IsLine bytes
-    → after.kept.items ≡ take 21 (c.kept.items ++ bytes) → after.lines ≡ c.lines → CutterStandsAt after closed (begun ++ bytes)
+    → after.kept.items ≡ take 60 (c.kept.items ++ bytes) → after.lines ≡ c.lines → CutterStandsAt after closed (begun ++ bytes)
 cuts_on c after closed begun bytes s line kept lines = record {
-  kept = kept ∙ ap (λ (l : Line). take 21 (l ++ bytes)) s.kept ∙ kept_of_more begun bytes;
+  kept = kept ∙ ap (λ (l : Line). take 60 (l ++ bytes)) s.kept ∙ kept_of_more begun bytes;
   count = lines ∙ s.count;
   lines = s.lines;
   line = All-append (λ x. x ≢ line_feed) begun bytes s.line line;

@@ -94,14 +94,14 @@ begins_with s most start now lines stands = by_end s.ended stands.where_it_is
     by_end false is = (is.text, is.read, inl (is.holds.begun, _, is.holds.cut, is.holds.cutter.lines, is.holds.cutter.line))
 
 -- the source had no further line, and the output was written
-pub ends_by_fault : (t : Tuning) (d : Decoder) (reads : ℕ) (start now : ReaderState) (w : Traffic) (lines : List Line) (fault : LogFault) → HasNoNext reads start now lines fault
+pub ends_by_fault : (t : Tuning) (d : Decoder) (reads : ℕ) (start now : ReaderState) (w : Traffic) (lines : List Line) (first : List ℕ) (fault : LogFault) → HasNoNext reads start now lines first fault
     → HasDecoded t d w lines → d.output ≡ [] → Decodes t reads (since start now) w (Err fault)
-ends_by_fault t d reads start now w lines (BadLine n) (text, read, bad, calm) h none = (text, read, record { lines = lines; next = bad; wrote = wrote_lines t d w lines h none }, calm)
-ends_by_fault t d reads start now w lines Read (up_to, failed) h none = (record { closed = lines; reads = up_to; wrote = wrote_lines t d w lines h none }, failed)
-ends_by_fault t d reads start now w lines TooLong (up_to, calm) h none = (record { closed = lines; reads = up_to; wrote = wrote_lines t d w lines h none }, calm)
-ends_by_fault t d reads start now w lines (BadRow n) gives h none = absurd gives
-ends_by_fault t d reads start now w lines Write gives h none = absurd gives
-ends_by_fault t d reads start now w lines Memory gives h none = absurd gives
+ends_by_fault t d reads start now w lines first (BadLine n) (text, read, (bad, is), calm) h none = (text, read, record { lines = lines; next = bad; wrote = wrote_lines t d w lines h none }, calm)
+ends_by_fault t d reads start now w lines first Read (up_to, failed) h none = (record { closed = lines; reads = up_to; wrote = wrote_lines t d w lines h none }, failed)
+ends_by_fault t d reads start now w lines first TooLong (up_to, calm) h none = (record { closed = lines; reads = up_to; wrote = wrote_lines t d w lines h none }, calm)
+ends_by_fault t d reads start now w lines first (BadRow n) gives h none = absurd gives
+ends_by_fault t d reads start now w lines first Write gives h none = absurd gives
+ends_by_fault t d reads start now w lines first Memory gives h none = absurd gives
 
 -- the writer failed after a line
 pub ends_by_write : (t : Tuning) (s : Source) (reads : ℕ) (start now : ReaderState) (w : Traffic) (lines : List Line) → SourceStandsAt s reads start now lines → WrotePart t w lines
@@ -111,14 +111,14 @@ ends_by_write t s reads start now w lines stands part =
     (text, read, record { lines = lines; begins = begins; wrote = part }, stands.reads.calm)
 
 -- the writer failed at a bad line
-pub ends_at_bad_line : (t : Tuning) (reads n : ℕ) (start now : ReaderState) (w : Traffic) (lines : List Line) → HasNoNext reads start now lines (BadLine n) → WrotePart t w lines
+pub ends_at_bad_line : (t : Tuning) (reads n : ℕ) (start now : ReaderState) (w : Traffic) (lines : List Line) (first : List ℕ) → HasNoNext reads start now lines first (BadLine n) → WrotePart t w lines
     → Decodes t reads (since start now) w (Err Write)
-ends_at_bad_line t reads n start now w lines (text, read, bad, calm) part =
+ends_at_bad_line t reads n start now w lines first (text, read, (bad, is), calm) part =
     (text, read, record { lines = lines; begins = inl (bad.line, bad.rest, bad.cut, bad.bad.lines, bad.bad.is_line); wrote = part }, calm)
 
 -- the writer failed after the source had no further line: only a bad one was there, since else nothing waited
-pub ends_at_fault : (t : Tuning) (line : Option ℕ) (reads : ℕ) (start now : ReaderState) (w : Traffic) (lines : List Line) (fault : LogFault) → (line ≢ None → IsBadLineFault fault)
-    → line ≢ None → HasNoNext reads start now lines fault → WrotePart t w lines → Decodes t reads (since start now) w (Err Write)
-ends_at_fault t line reads start now w lines fault there some gives part =
+pub ends_at_fault : (t : Tuning) (line : Option ℕ) (reads : ℕ) (start now : ReaderState) (w : Traffic) (lines : List Line) (first : List ℕ) (fault : LogFault) → (line ≢ None → IsBadLineFault fault)
+    → line ≢ None → HasNoNext reads start now lines first fault → WrotePart t w lines → Decodes t reads (since start now) w (Err Write)
+ends_at_fault t line reads start now w lines first fault there some gives part =
     let (n, is) = there some in
-    ends_at_bad_line t reads n start now w lines (rw is at gives) part
+    ends_at_bad_line t reads n start now w lines first (rw is at gives) part

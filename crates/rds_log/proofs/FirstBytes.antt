@@ -1,4 +1,4 @@
--- The first 21 bytes of a line say what the line says.
+-- The first 60 bytes of a line say what the line says.
 use Rattle.std.proofs.Common.{◌≡◌, ◌⊎◌, ◌+◌, ◌-◌, ◌<◌, ◌≤◌, ℕ, Bool, true, false, cond, Option, Some, None, take, length, get_or, sym, ◌∙◌, subst, arith, inl, inr}
 use Rattle.std.specs.Prelude.{IfNone, IfSome}
 use Rattle.std.proofs.lemmas.List.{take_all, length-take, get_or-take}
@@ -81,38 +81,38 @@ content_near line = by_end (ends_with_return line)
     by_end true = omega arith
     by_end false = omega arith
 
-either : (n : ℕ) → (n ≤ 21) ⊎ (21 < n)
+either : (n : ℕ) → (n ≤ 60) ⊎ (60 < n)
 either n = grind arith
 
-start_of : (line : Line) → 21 < length line → SameStart line (take 21 line)
+start_of : (line : Line) → 60 < length line → SameStart line (take 60 line)
 start_of line long = record {
   from = omega (arith, long, content_near line);
-  to = omega (arith, long, content_near (take 21 line), length-take 21 line);
-  bytes = λ i h. sym (get_or-take 21 line i 0 (omega arith));
+  to = omega (arith, long, content_near (take 60 line), length-take 60 line);
+  bytes = λ i h. sym (get_or-take 60 line i 0 (omega arith));
 }
 
 back : (p q : Line) → SameStart p q → SameStart q p
 back p q s = record { from = s.to; to = s.from; bytes = λ i h. sym (s.bytes i h) }
 
-pub said_of_first : (line : Line) (said : LogLine) → LineSays (take 21 line) said → LineSays line said
+pub said_of_first : (line : Line) (said : LogLine) → LineSays (take 60 line) said → LineSays line said
 said_of_first line said says = elim (either (length line)) [
-  | inl short ↦ subst (λ (l : Line). LineSays l said) (take_all 21 line short) says
-  | inr long ↦ same_said (take 21 line) line said (back line (take 21 line) (start_of line long)) says
+  | inl short ↦ subst (λ (l : Line). LineSays l said) (take_all 60 line short) says
+  | inr long ↦ same_said (take 60 line) line said (back line (take 60 line) (start_of line long)) says
 ]
 
-first_of_said : (line : Line) (said : LogLine) → LineSays line said → LineSays (take 21 line) said
+first_of_said : (line : Line) (said : LogLine) → LineSays line said → LineSays (take 60 line) said
 first_of_said line said says = elim (either (length line)) [
-  | inl short ↦ subst (λ (l : Line). LineSays l said) (sym (take_all 21 line short)) says
-  | inr long ↦ same_said line (take 21 line) said (start_of line long) says
+  | inl short ↦ subst (λ (l : Line). LineSays l said) (sym (take_all 60 line short)) says
+  | inr long ↦ same_said line (take 60 line) said (start_of line long) says
 ]
 
-pub bad_by_first : (line : Line) → IsBad (take 21 line) → IsBad line
+pub bad_by_first : (line : Line) → IsBad (take 60 line) → IsBad line
 bad_by_first line bad said says = bad said (first_of_said line said says)
 
-pub some_by_first : (line : Line) (said : Option LogLine) → IfSome said (LineSays (take 21 line)) → IfSome said (LineSays line)
+pub some_by_first : (line : Line) (said : Option LogLine) → IfSome said (LineSays (take 60 line)) → IfSome said (LineSays line)
 some_by_first line None says = tt
 some_by_first line (Some said) says = said_of_first line said says
 
-pub none_by_first : (line : Line) (said : Option LogLine) → IfNone said (IsBad (take 21 line)) → IfNone said (IsBad line)
+pub none_by_first : (line : Line) (said : Option LogLine) → IfNone said (IsBad (take 60 line)) → IfNone said (IsBad line)
 none_by_first line None bad = bad_by_first line bad
 none_by_first line (Some said) bad = tt

@@ -1,11 +1,12 @@
 -- How the slots that are kept go on by a line.
-use Rattle.std.proofs.Common.{◌≡◌, List, Option, [], ◌∷◌, ◌++◌, ap, inr, refl, reverse, ◌∙◌}
+use Rattle.std.proofs.Common.{◌≡◌, List, Option, [], ◌∷◌, ◌++◌, ap, inl, inr, refl, reverse, ◌∙◌}
 use Rattle.std.proofs.lemmas.List.{reverse-append}
 use Rattle.rds_block.specs.declared.group.Group.{Group}
 use Rattle.rds_log.specs.LineSays.{LineSays}
 use Rattle.rds_log.specs.LogLines.{Line}
 use Rattle.rds_log.specs.LogWrites.{AreSlots}
-use Rattle.rds_log.specs.declared.log_line.LogLine.TheVariants.{Slot}
+use Rattle.rds_log.specs.declared.log_line.LogLine.{LogLine}
+use Rattle.rds_log.specs.declared.log_line.LogLine.TheVariants.{Skip, Slot}
 
 pub keeps_none : (log : List (Option Group)) → log ≡ [] → AreSlots [] (reverse log)
 keeps_none log none = ap reverse none
@@ -14,3 +15,13 @@ pub keeps_slot : (lines : List Line) (line : Line) (slot : Option Group) (log af
     → AreSlots (line ∷ lines) (reverse after)
 keeps_slot lines line slot log after says had more =
     inr (slot, reverse log, says, ap reverse more ∙ reverse-append log (slot ∷ []), had)
+
+-- a line that was said to be a slot
+pub keeps_said : (lines : List Line) (line : Line) (said : LogLine) (slot : Option Group) (log after : List (Option Group)) → LineSays line said → said ≡ Slot slot
+    → AreSlots lines (reverse log) → after ≡ log ++ (slot ∷ []) → AreSlots (line ∷ lines) (reverse after)
+keeps_said lines line said slot log after says is had more = keeps_slot lines line slot log after (rw is at says) had more
+
+-- a line that is skipped
+pub keeps_skip : (lines : List Line) (line : Line) (said : LogLine) (log : List (Option Group)) → LineSays line said → said ≡ Skip → AreSlots lines (reverse log)
+    → AreSlots (line ∷ lines) (reverse log)
+keeps_skip lines line said log says is had = inl (rw is at says, had)

@@ -4,6 +4,8 @@ pub mod Views
 pub mod NearEnd
 pub mod Cutting
 pub mod Reading
+pub mod Hearing
+pub mod Noting
 pub mod Decodes
 pub mod Audits
 pub mod KeptSlots

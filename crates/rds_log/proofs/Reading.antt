@@ -1,6 +1,6 @@
 -- How a source of lines goes on: from line to line, and from chunk to chunk.
 use Rattle.std.proofs.Common.{◌≡◌, ◌≢◌, ◌+◌, ◌-◌, ◌<◌, ◌≤◌, ℕ, Bool, List, [], ◌∷◌, ◌++◌, take, drop, length, length-append, Option, Some, None, Ok, Err, true, false, append_assoc, add-one, ap, sym, ◌∙◌, refl, arith, inl, inr}
-use Rattle.std.specs.Prelude.{IfNone, IfSome, MatchBool, MatchOption, MatchResult, Result}
+use Rattle.std.specs.Prelude.{IfErr, IfNone, IfSome, MatchBool, MatchOption, MatchResult, Result}
 use Rattle.std.proofs.lemmas.List.{append-nil, drop-drop, drop-take, take-append-drop, take-take}
 use Rattle.std.proofs.lemmas.List.Elements.{All-append}
 use Rattle.std.proofs.Math.Seq.{drop-cons}
@@ -129,21 +129,25 @@ gives_line s after most n start now lines said stands line less closes chunk at 
     )
 
 -- the next line is bad
-gives_bad : (s : Source) (most n number : ℕ) (start now : ReaderState) (lines : List Line) → SourceStandsAt s most start now lines → s.line ≡ Some n
+gives_bad : (s after : Source) (most n number : ℕ) (start now : ReaderState) (lines : List Line) → SourceStandsAt s most start now lines → s.line ≡ Some n
     → ((begun : Line) → CutterStandsAt s.cutter lines begun → IsLine (take n (waiting s)) → IsBadLine number lines (begun ++ take n (waiting s)))
-    → HasNoNext most start now lines (BadLine number)
-gives_bad s most n number start now lines stands line bad =
+    → ((begun : Line) → CutterStandsAt s.cutter lines begun → after.cutter.kept.items ≡ take 60 (begun ++ take n (waiting s)))
+    → HasNoNext most start now lines after.cutter.kept.items (BadLine number)
+gives_bad s after most n number start now lines stands line bad first =
     let is = inside s most start now lines (goes_on s most n start now lines line stands) stands in
     let ends = an_end (waiting s) s.line n line is.holds.line in (
       is.text,
       is.read,
-      record {
-        line = is.holds.begun ++ take n (waiting s);
-        rest = line_feed ∷ drop (n + 1) (waiting s);
-        cut = is.holds.cut ∙ cut_line lines is.holds.begun (waiting s) n ends;
-        ends = refl;
-        bad = bad is.holds.begun is.holds.cutter ends.line;
-      },
+      (
+        record {
+          line = is.holds.begun ++ take n (waiting s);
+          rest = line_feed ∷ drop (n + 1) (waiting s);
+          cut = is.holds.cut ∙ cut_line lines is.holds.begun (waiting s) n ends;
+          ends = refl;
+          bad = bad is.holds.begun is.holds.cutter ends.line;
+        },
+        first is.holds.begun is.holds.cutter,
+      ),
       stands.reads.calm,
     )
 
@@ -151,12 +155,14 @@ gives_bad s most n number start now lines stands line bad =
 pub gives_either : (s after : Source) (most n : ℕ) (start now : ReaderState) (lines : List Line) (result : Result LogLine fault.BadLine) → SourceStandsAt s most start now lines → s.line ≡ Some n
     → s.at + n < s.count → ((begun : Line) → CutterStandsAt s.cutter lines begun → IsLine (take n (waiting s))
     → MatchResult result (Closes after.cutter lines (begun ++ take n (waiting s))) (λ bad. IsBadLine bad.number lines (begun ++ take n (waiting s))))
+    → ((begun : Line) → CutterStandsAt s.cutter lines begun → IfErr result (λ _. after.cutter.kept.items ≡ take 60 (begun ++ take n (waiting s))))
     → after.chunk ≡ s.chunk → after.at ≡ s.at + n + 1 → after.count ≡ s.count → after.left ≡ s.left → after.ended ≡ s.ended
     → MatchOption after.line (IsLine (waiting after)) (EndsAt (waiting after))
-    → MatchResult result (λ said. GivesNext after most start now lines (Some said)) (λ bad. HasNoNext most start now lines (BadLine bad.number))
-gives_either s after most n start now lines (Ok said) stands line less closes chunk at count left ended next =
+    → MatchResult result (λ said. GivesNext after most start now lines (Some said)) (λ bad. HasNoNext most start now lines after.cutter.kept.items (BadLine bad.number))
+gives_either s after most n start now lines (Ok said) stands line less closes first chunk at count left ended next =
     gives_line s after most n start now lines said stands line less closes chunk at count left ended next
-gives_either s after most n start now lines (Err bad) stands line less closes chunk at count left ended next = gives_bad s most n bad.number start now lines stands line closes
+gives_either s after most n start now lines (Err bad) stands line less closes first chunk at count left ended next =
+    gives_bad s after most n bad.number start now lines stands line closes first
 
 -- all of the chunk is of the line that is begun
 pub takes_rest : (s : Source) (lines : List Line) (text : List ℕ) (h : HasLine s lines text) → s.line ≡ None → (text ≡ text_of lines (h.begun ++ waiting s)) × IsLine (waiting s)
@@ -287,17 +293,20 @@ ends_line s after most start now lines said last some closed left ended none =
     )
 
 -- the end closes a bad line
-pub ends_bad : (s : Source) (most number : ℕ) (start now : ReaderState) (lines : List Line) (last : IsAtLast s most start now lines) → IsBadLine number lines (last.begun ++ [])
-    → HasNoNext most start now lines (BadLine number)
-ends_bad s most number start now lines last bad = (
+pub ends_bad : (s : Source) (kept : List ℕ) (most number : ℕ) (start now : ReaderState) (lines : List Line) (last : IsAtLast s most start now lines) → IsBadLine number lines (last.begun ++ [])
+    → kept ≡ take 60 (last.begun ++ []) → HasNoNext most start now lines kept (BadLine number)
+ends_bad s kept most number start now lines last bad first = (
   text_of lines last.begun,
   last.read,
-  record {
-    line = last.begun;
-    rest = [];
-    cut = sym (append-nil (text_of lines last.begun));
-    ends = last.end;
-    bad = rw (append-nil last.begun) at bad;
-  },
+  (
+    record {
+      line = last.begun;
+      rest = [];
+      cut = sym (append-nil (text_of lines last.begun));
+      ends = last.end;
+      bad = rw (append-nil last.begun) at bad;
+    },
+    rw (append-nil last.begun) at first,
+  ),
   last.reads.calm,
 )

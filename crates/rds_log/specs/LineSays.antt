@@ -27,10 +27,10 @@ percent_sign = 37
 abbrev pub blocks : ℕ
 blocks = 19
 
--- how many first bytes decide what a line says: the blocks, the byte after them, and one more, since a carriage
--- return is dropped only at the end of a line
+-- how many first bytes of a line are kept, as many as a note on a bad line shows. The first 21 of them decide what the
+-- line says: the blocks, the byte after them, and one more, since a carriage return is dropped only at the end of a line
 abbrev pub deciding : ℕ
-deciding = 21
+deciding = 60
 
 -- the first byte of a line that is no slot
 abbrev pub IsMark : ℕ → Type 0

@@ -1,10 +1,13 @@
 //! The bytes of a log, cut into lines at each line feed.
 ghost use Rattle.std.specs.Prelude.{◌≡◌, ◌≤◌, ◌<◌, ◌+◌, ◌-◌, ◌^◌, ◌++◌, ◌↔◌, []};
-ghost use Rattle.std.specs.Prelude.{IfNone, IfSome, IsTrue, MatchResult, take};
+ghost use Rattle.std.specs.Prelude.{IfErr, IfNone, IfSome, IsTrue, MatchResult, take};
 ghost use Rattle.rds_log.specs.LineSays.{IsBad, LineSays, deciding};
 ghost use Rattle.rds_log.specs.LogLines.{EndsAt, IsLine, Line};
+ghost use Rattle.rds_log.specs.Notes.{IsNoteOn};
 
+use crate::line_cause::cause_of;
 use crate::log_line::{DECIDING, LogLine, said_by};
+use crate::notes::BadStart;
 use arrayvec::ArrayVec;
 use memchr::memchr;
 use rds_output::BadLine;
@@ -44,7 +47,8 @@ impl Cutter {
         self.kept.is_empty()
     }
 
-    /// Takes the last bytes of the line that is begun, and its end; gives what the line says.
+    /// Takes the last bytes of the line that is begun, and its end; gives what the line says. Of a bad line the first
+    /// bytes stay.
     #[inline(always)]
     pub(crate) fn close(&mut self, last: &[u8]) -> Result<LogLine, BadLine>
         requires lines { self.old.lines < 2 ^ 64 - 1 }
@@ -52,6 +56,8 @@ impl Cutter {
         ensures closes { IsLine last.now → WhereItCuts self.old (λ closed begun. MatchResult result
             (Closes self.new closed (begun ++ last.now))
             (λ bad. IsBadLine bad.number closed (begun ++ last.now))) }
+        ensures kept { WhereItCuts self.old (λ _ begun. IfErr result
+            (λ _. self.new.kept.items ≡ take deciding (begun ++ last.now))) }
     {
         let Some(said) = self.said(last) else {
             return Err(BadLine {
@@ -61,6 +67,18 @@ impl Cutter {
         self.lines += 1;
         self.kept.clear();
         Ok(said)
+    }
+
+    /// Returns the first bytes of the line that is begun, as of a bad one, and why it is bad.
+    pub(crate) fn bad_start(&self) -> BadStart
+        ensures { IsNoteOn self.now.kept.items result }
+    {
+        let mut start = ArrayVec::new();
+        start.try_extend_from_slice(self.kept.as_slice()).unwrap();
+        BadStart {
+            cause: cause_of(self.kept.as_slice()),
+            start,
+        }
     }
 
     /// Takes bytes of the line that is begun, and keeps those of them that decide what it says.
@@ -75,20 +93,39 @@ impl Cutter {
         self.kept.try_extend_from_slice(&bytes[..count]).unwrap();
     }
 
-    /// What the line that is begun says where these are its last bytes; `None` for a bad line.
+    /// What the line that is begun says where these are its last bytes; `None` for a bad line, of which the first bytes
+    /// are then kept.
     #[inline(always)]
     fn said(&mut self, last: &[u8]) -> Option<LogLine>
         ensures some { (begun : Line) → self.old.kept.items ≡ take deciding begun
             → IfSome result (LineSays (begun ++ last.now)) }
         ensures none { (begun : Line) → self.old.kept.items ≡ take deciding begun
             → IfNone result (IsBad (begun ++ last.now)) }
+        ensures kept { (begun : Line) → self.old.kept.items ≡ take deciding begun
+            → IfNone result (self.new.kept.items ≡ take deciding (begun ++ last.now)) }
         ensures lines { self.new.lines ≡ self.old.lines }
     {
         if self.kept.is_empty() {
-            return said_by(last);
+            return self.said_at_once(last);
         }
         self.keep(last);
         said_by(self.kept.as_slice())
+    }
+
+    /// What a line says of which no byte was kept; `None` for a bad line, of which the first bytes are then kept.
+    #[inline(always)]
+    fn said_at_once(&mut self, line: &[u8]) -> Option<LogLine>
+        requires { self.old.kept.items ≡ [] }
+        ensures some { IfSome result (LineSays line.now) }
+        ensures none { IfNone result (IsBad line.now) }
+        ensures kept { IfNone result (self.new.kept.items ≡ take deciding line.now) }
+        ensures lines { self.new.lines ≡ self.old.lines }
+    {
+        let said = said_by(line);
+        if said.is_none() {
+            self.keep(line);
+        }
+        said
     }
 }
 

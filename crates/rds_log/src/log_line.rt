@@ -13,9 +13,9 @@ use rds_charset::{four_words, word_at};
 /// How many bytes the four blocks of a slot line and the spaces between them take.
 const BLOCKS: usize = 19;
 
-/// How many bytes decide what a line says: the blocks, the byte after them, and one more, since a
-/// carriage return is dropped only at the end of a line.
-pub(crate) const DECIDING: usize = 21;
+/// How many first bytes of a line are kept, as many as a note on a bad line shows. The first 21 of them decide what the
+/// line says: the blocks, the byte after them, and one more, since a carriage return is dropped only at the end of a line.
+pub(crate) const DECIDING: usize = 60;
 
 /// What a line says.
 #[derive(Clone, Copy)]
@@ -102,7 +102,7 @@ fn has_no_word(line: &[u8]) -> bool
 }
 
 /// How many bytes the line has without one carriage return at its end.
-fn content_length(line: &[u8]) -> usize
+pub(crate) fn content_length(line: &[u8]) -> usize
     ensures value { result ≡ content_length line.now }
     ensures within { result ≤ length line.now }
 {
@@ -114,7 +114,7 @@ fn content_length(line: &[u8]) -> usize
 }
 
 #[inline(always)]
-fn is_skipped(line: &[u8], length: usize) -> bool
+pub(crate) fn is_skipped(line: &[u8], length: usize) -> bool
     requires { length ≡ content_length line.now }
     ensures { IsTrue result ↔ IsSkipped line.now }
 {
@@ -159,7 +159,7 @@ fn carried(first: Block, second: Block, third: Block, fourth: Block) -> Option<B
 
 /// The block from the place on; `None` where there is none.
 #[inline(always)]
-fn block_at(line: &[u8], place: usize) -> Option<Block>
+pub(crate) fn block_at(line: &[u8], place: usize) -> Option<Block>
     requires { place + 4 ≤ length line.now }
     ensures some { IfSome result (IsBlock line.now place) }
     ensures none { IfNone result ((block : Block) → IsBlock line.now place block → ⊥) }

@@ -2,11 +2,13 @@
 ghost use Rattle.std.specs.Prelude.{◌≡◌, ◌≢◌, ◌≤◌, ◌<◌, ◌+◌, ◌-◌, ◌*◌, ◌^◌, ◌↔◌, []};
 ghost use Rattle.std.specs.Prelude.{ℕ, List, None, Some, IfErr, IfOk, IsTrue, MatchResult, OnOk, false, true};
 ghost use Rattle.rds_log.specs.LogLines.{Line};
+ghost use Rattle.rds_log.specs.Notes.{HasNote};
 ghost use Rattle.rds_log.specs.Reads.{MadeReads, to_come};
 ghost use Rattle.rds_output.specs.declared.fault.LogFault.TheVariants as faults;
 
 use crate::cutter::{Cutter, line_end};
 use crate::log_line::LogLine;
+use crate::notes::BadStart;
 use rds_charset::TellingRead;
 use rds_output::{BadLine, LogFault};
 
@@ -84,7 +86,8 @@ impl Source {
             (λ most start lines. MatchResult result
             (λ given. GivesNext self.new most start (state_of R.remaining R.failures R.reads reader.new) lines
             (given_if given said.new))
-            (HasNoNext most start (state_of R.remaining R.failures R.reads reader.new) lines)) }
+            (HasNoNext most start (state_of R.remaining R.failures R.reads reader.new) lines
+            self.new.cutter.kept.items)) }
     {
         loop {
             if let Some(count) = self.line {
@@ -104,6 +107,25 @@ impl Source {
         }
     }
 
+    /// Returns how many lines were read, skipped ones too.
+    pub(crate) fn lines(&self) -> u64 {
+        self.cutter.lines
+    }
+
+    /// Returns the note on a fault of this source: on a bad line, its first bytes and why it is bad.
+    pub(crate) fn note(&self, fault: LogFault) -> Option<BadStart>
+        ensures { HasNote self.now.cutter.kept.items fault result }
+    {
+        match fault {
+            LogFault::BadLine(_) => Some(self.cutter.bad_start()),
+            LogFault::BadRow(_)
+            | LogFault::Read
+            | LogFault::Write
+            | LogFault::TooLong
+            | LogFault::Memory => None,
+        }
+    }
+
     /// What the line says that ends after so many of the bytes that wait.
     #[inline(always)]
     fn close(&mut self, count: usize) -> Result<LogLine, BadLine>
@@ -111,7 +133,7 @@ impl Source {
         ensures budget { budget self.new < budget self.old }
         ensures gives { (now : ReaderState) → WhereItReads self.old now (λ most start lines.
             MatchResult result (λ said. GivesNext self.new most start now lines (Some said))
-            (λ bad. HasNoNext most start now lines (faults.BadLine bad.number))) }
+            (λ bad. HasNoNext most start now lines self.new.cutter.kept.items (faults.BadLine bad.number))) }
     {
         let end = self.at + count;
         let chunk: &[u8] = &self.chunk;
@@ -164,7 +186,7 @@ impl Source {
         ensures gives { (most : ℕ) (start now : ReaderState) (lines : List Line)
             → IsAtLast self.old most start now lines → MatchResult result
             (GivesNext self.new most start now lines)
-            (λ bad. HasNoNext most start now lines (faults.BadLine bad.number)) }
+            (λ bad. HasNoNext most start now lines self.new.cutter.kept.items (faults.BadLine bad.number)) }
     {
         self.ended = true;
         if self.cutter.is_between() {

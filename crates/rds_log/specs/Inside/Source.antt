@@ -6,7 +6,7 @@ use Rattle.std.specs.Prelude.{Option, Result, Some, drop, false, length, take, t
 use Rattle.std.specs.Io.KnownBytes.{Consumes, IsAtEnd}
 use Rattle.rds_charset.specs.Told.{HasFailed, IsCalm, Traffic, count_after}
 use Rattle.rds_log.specs.LogLines.{AreLines, EndsAt, IsLine, Line, text_of}
-use Rattle.rds_log.specs.LineSays.{LineSays}
+use Rattle.rds_log.specs.LineSays.{LineSays, deciding}
 use Rattle.rds_log.specs.Inside.Cutter.{CutterStandsAt}
 use Rattle.rds_log.specs.Reads.{NextIsBad, ReadsUpTo, to_come}
 use Rattle.rds_output.specs.declared.fault.LogFault.{LogFault}
@@ -84,15 +84,16 @@ pub record IsAtLast (s : Source) (most : ℕ) (start now : ReaderState) (lines :
   pub end : IsAtEnd now.left
   pub cutter : CutterStandsAt s.cutter lines begun
 
--- why there is no further line
-abbrev pub HasNoNext : ℕ → ReaderState → ReaderState → List Line → LogFault → Type 0
-HasNoNext most start now lines (BadLine n) =
-    (text : List ℕ) × Consumes start.left now.left text × NextIsBad n lines text now.left × IsCalm (since start now)
-HasNoNext most start now lines Read = ReadsUpTo (since start now) 0 lines × HasFailed (since start now)
-HasNoNext most start now lines TooLong = ReadsUpTo (since start now) most lines × IsCalm (since start now)
-HasNoNext most start now lines (BadRow n) = ⊥
-HasNoNext most start now lines Write = ⊥
-HasNoNext most start now lines Memory = ⊥
+-- why there is no further line. These are the first bytes of one that is bad
+abbrev pub HasNoNext : ℕ → ReaderState → ReaderState → List Line → List ℕ → LogFault → Type 0
+HasNoNext most start now lines first (BadLine n) =
+    (text : List ℕ) × Consumes start.left now.left text
+    × ((next : NextIsBad n lines text now.left) × (first ≡ take deciding next.line)) × IsCalm (since start now)
+HasNoNext most start now lines first Read = ReadsUpTo (since start now) 0 lines × HasFailed (since start now)
+HasNoNext most start now lines first TooLong = ReadsUpTo (since start now) most lines × IsCalm (since start now)
+HasNoNext most start now lines first (BadRow n) = ⊥
+HasNoNext most start now lines first Write = ⊥
+HasNoNext most start now lines first Memory = ⊥
 
 -- what the line after these says; there is none where the log ends with them
 abbrev pub GivesNext : Source → ℕ → ReaderState → ReaderState → List Line → Option LogLine → Type 0
@@ -109,7 +110,7 @@ given_if false said = None
 abbrev pub ReadsOn : Source → ℕ → ReaderState → ReaderState → List Line → Result Bool LogFault → Type 0
 ReadsOn s most start now lines (Ok true) = SourceStandsAt s most start now lines
 ReadsOn s most start now lines (Ok false) = IsAtLast s most start now lines
-ReadsOn s most start now lines (Err fault) = HasNoNext most start now lines fault
+ReadsOn s most start now lines (Err fault) = HasNoNext most start now lines s.cutter.kept.items fault
 
 abbrev pub IsBadLineFault : LogFault → Type 0
 IsBadLineFault fault = (n : ℕ) × (fault ≡ BadLine n)

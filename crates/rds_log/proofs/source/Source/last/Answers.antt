@@ -11,7 +11,7 @@ returns-then-is_between-clause-gives c most start now lines last =
 pub returns-in_err-said-clause-gives : goal.returns-in_err-said-clause-gives
 returns-in_err-said-clause-gives c most start now lines last =
     let p = err_from_is_err_and c.from_residual.result c.from_residual.ensures.1 in
-    rw (p.1, p.2) (ends_bad c.args.self.now most _ start now lines last (c.in_err-said.ensures.closes (All-nil _) lines last.begun last.cutter))
+    rw (p.1, p.2) (ends_bad c.args.self.now _ most _ start now lines last (c.in_err-said.ensures.closes (All-nil _) lines last.begun last.cutter) (c.in_err-said.ensures.kept lines last.begun last.cutter))
 
 pub returns-clause-gives : goal.returns-clause-gives
 returns-clause-gives c most start now lines last =

@@ -1,0 +1,66 @@
+-- Why a line is no log line, from its left: another form, or the first block that is not good. Blocks are counted from
+-- 1 in a cause, and from 0 by their places, which are 5 bytes apart. This is the project's own rule.
+use Rattle.std.specs.Prelude.{◌≡◌, ◌≢◌, ◌⊎◌, ◌<◌, ◌≤◌, ◌+◌, ◌-◌, ◌*◌}
+use Rattle.std.specs.Prelude.{ℕ, List, None, Some, drop, length, slice_index, take}
+use Rattle.memchr.specs.Find.{IsFirstByte, is_byte}
+use Rattle.rds_assembly.specs.Body.{space}
+use Rattle.rds_log.specs.LogLines.{Line, content_length}
+use Rattle.rds_log.specs.LineSays.{IsBlock}
+use Rattle.rds_log.specs.declared.log_line.Block.{Block}
+use Rattle.rds_log.specs.declared.line_cause.LineCause.{LineCause}
+use Rattle.rds_log.specs.declared.line_cause.LineCause.TheVariants.{Json, Script, NoSpace, EndsAfter, Length, Digit}
+
+abbrev pub brace : ℕ
+brace = 0x7B
+
+abbrev pub comma : ℕ
+comma = 0x2C
+
+-- four bytes stand from the place on, and then a space or the end of the line
+abbrev pub EndsAfterFour : Line → ℕ → Type 0
+EndsAfterFour line place = (place + 4 ≤ content_length line)
+    × ((content_length line ≡ place + 4) ⊎ (slice_index line (place + 4) ≡ space))
+
+-- a good block stands from the place on: four digits or four dashes, and then a space or the end of the line
+pub record IsGoodAt (line : Line) (place : ℕ) : Type 0 where
+  pub block : Block
+  pub is : IsBlock line place block
+  pub ends : EndsAfterFour line place
+
+abbrev pub IsGoodBlock : Line → ℕ → Type 0
+IsGoodBlock line block = IsGoodAt line (5 * block)
+
+-- the first n blocks are good
+abbrev pub AreGoodBlocks : Line → ℕ → Type 0
+AreGoodBlocks line n = (block : ℕ) → block < n → IsGoodBlock line block
+
+-- so many bytes stand before the first space, or before the end
+abbrev pub StandBeforeSpace : List ℕ → ℕ → Type 0
+StandBeforeSpace bytes n = IsFirstByte (is_byte space) bytes (Some n)
+    ⊎ (IsFirstByte (is_byte space) bytes None × (n ≡ length bytes))
+
+-- a comma stands before any space
+abbrev pub HasCommaBeforeSpace : Line → Type 0
+HasCommaBeforeSpace line = (place : ℕ) × IsFirstByte (is_byte comma) line (Some place)
+    × (IsFirstByte (is_byte space) line None
+    ⊎ ((after : ℕ) × IsFirstByte (is_byte space) line (Some after) × (place < after)))
+
+-- the bytes of the line from the place of a block on
+abbrev pub rest_from : Line → ℕ → List ℕ
+rest_from line block = take (content_length line - 5 * block) (drop (5 * block) line)
+
+-- the blocks before this one are good, and it is not
+pub record IsFirstNotGood (line : Line) (block : ℕ) : Type 0 where
+  pub few : block < 4
+  pub before : AreGoodBlocks line block
+  pub not_good : IsGoodBlock line block → ⊥
+
+abbrev pub IsLineCause : Line → LineCause → Type 0
+IsLineCause line Json = slice_index line 0 ≡ brace
+IsLineCause line Script = HasCommaBeforeSpace line
+IsLineCause line NoSpace = IsFirstByte (is_byte space) line None
+IsLineCause line (EndsAfter n) = IsFirstNotGood line n × (content_length line < 5 * n)
+IsLineCause line (Length n count) = (block : ℕ) × (n ≡ block + 1) × IsFirstNotGood line block
+    × (5 * block ≤ content_length line) × StandBeforeSpace (rest_from line block) count × (count ≢ 4)
+IsLineCause line (Digit n) = (block : ℕ) × (n ≡ block + 1) × IsFirstNotGood line block
+    × (5 * block ≤ content_length line) × StandBeforeSpace (rest_from line block) 4

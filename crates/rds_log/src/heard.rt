@@ -1,0 +1,93 @@
+//! The programmes of a log's groups.
+ghost use Rattle.std.specs.Prelude.{◌≡◌, ◌≤◌, ◌<◌, ◌+◌, ◌-◌, ◌^◌, ◌∷◌, [], List, Option, Some, false};
+ghost use Rattle.rds_block.specs.declared.group.Group.{Group};
+ghost use Rattle.rds_log.specs.LineSays.{LineSays};
+ghost use Rattle.rds_log.specs.LogLines.{Line};
+
+use crate::log_line::LogLine;
+use rds_block::Blocks;
+
+/// Of which programmes the groups of a log are, as far as a person wants to know who gave the PI of another programme
+/// (this project's own rule).
+#[derive(Clone, Copy)]
+pub struct Heard {
+    /// Whether a group of the wanted programme was read. The other fields are then of no use.
+    pub wanted: bool,
+    /// The number of groups that were read, whatever their programme.
+    pub groups: u64,
+    /// The PI of the first of them,
+    pub first: Option<u16>,
+    /// and the number of groups with this PI.
+    pub of_first: u64,
+    ghost few: { of_first ≤ groups },
+}
+
+impl Heard {
+    ghost use Rattle.rds_log.specs.Heard.{HeardLines, IsHeard};
+
+    /// Returns what is heard before the first line.
+    pub(crate) fn new(pi: u16) -> Heard
+        ensures groups { result.groups ≡ 0 }
+        ensures heard { HeardLines pi [] result }
+    {
+        Heard {
+            wanted: false,
+            groups: 0,
+            first: None,
+            of_first: 0,
+        }
+    }
+
+    /// Takes what a line says.
+    #[inline(always)]
+    pub(crate) fn line(&mut self, pi: u16, said: LogLine)
+        requires { self.old.groups < 2 ^ 64 - 1 }
+        ensures groups { self.new.groups ≤ self.old.groups + 1 }
+        ensures heard { (lines : List Line) (line : Line) → LineSays line said
+            → HeardLines pi lines self.old → HeardLines pi (line ∷ lines) self.new }
+    {
+        if !self.wanted {
+            self.look(pi, said);
+        }
+    }
+
+    /// Takes what a line says while no group of the wanted programme was read. It stands apart so that the other lines
+    /// pay nothing for it.
+    #[inline(never)]
+    fn look(&mut self, pi: u16, said: LogLine)
+        requires groups { self.old.groups < 2 ^ 64 - 1 }
+        requires none { self.old.wanted ≡ false }
+        ensures groups { self.new.groups ≤ self.old.groups + 1 }
+        ensures heard { (lines : List Line) (line : Line) → LineSays line said
+            → HeardLines pi lines self.old → HeardLines pi (line ∷ lines) self.new }
+    {
+        match said {
+            LogLine::Slot(slot) => self.slot(pi, slot),
+            LogLine::Skip => {}
+        }
+    }
+
+    /// Counts the group of a slot.
+    fn slot(&mut self, pi: u16, slot: Option<Blocks>)
+        requires groups { self.old.groups < 2 ^ 64 - 1 }
+        requires none { self.old.wanted ≡ false }
+        ensures groups { self.new.groups ≤ self.old.groups + 1 }
+        ensures heard { (slots : List (Option Group)) → IsHeard pi slots self.old
+            → IsHeard pi (slot ∷ slots) self.new }
+    {
+        let Some(group) = slot else {
+            return;
+        };
+        let own = group.pi();
+        self.wanted = own == pi;
+        self.groups += 1;
+        match self.first {
+            None => {
+                self.first = Some(own);
+                self.of_first = 1;
+            }
+            Some(first) if first == own => self.of_first += 1,
+            Some(_) => {}
+        }
+    }
+}

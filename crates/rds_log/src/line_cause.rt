@@ -1,0 +1,138 @@
+//! Why a line is no log line.
+ghost use Rattle.std.specs.Prelude.{◌≡◌, ◌<◌, ◌≤◌, ◌*◌, ◌+◌, ◌↔◌, ◌⊎◌, IfNone, IfSome, IsTrue, length};
+ghost use Rattle.rds_log.specs.LogLines.{content_length};
+ghost use Rattle.rds_log.specs.LineSays.{IsSkipped};
+ghost use Rattle.rds_log.specs.LineCauses.{AreGoodBlocks, EndsAfterFour, IsGoodAt, IsGoodBlock, IsLineCause, StandBeforeSpace};
+
+use crate::log_line::{block_at, content_length, is_skipped};
+use memchr::memchr;
+use thiserror::Error;
+
+/// How many blocks a slot line has.
+const COUNT: usize = 4;
+
+/// Why a line is no log line: the first cause from its left (this project's own rule). Blocks are counted from 1, lengths
+/// in bytes.
+#[derive(Clone, Copy, Debug, PartialEq, Eq, Error)]
+pub enum LineCause {
+    /// A brace begins the line, as in JSON.
+    #[error("it looks like JSON")]
+    Json,
+    /// A comma stands before any space, as in a row of a script.
+    #[error("it looks like a row of a script, which encode and sim read")]
+    Script,
+    /// The line has no space.
+    #[error("it has no space")]
+    NoSpace,
+    /// The line ends after this block.
+    #[error("it ends after block {0}")]
+    EndsAfter(usize),
+    /// This block has so many bytes.
+    #[error("block {0} has {1} characters, expected 4")]
+    Length(usize, usize),
+    /// This block is neither four hexadecimal digits nor four dashes.
+    #[error("block {0} has a character that is not a hexadecimal digit")]
+    Digit(usize),
+}
+
+/// Returns why a bad line is bad; `None` for a line that is skipped or whose four blocks are good.
+#[inline(never)]
+pub(crate) fn cause_of(line: &[u8]) -> Option<LineCause>
+    ensures some { IfSome result (IsLineCause line.now) }
+    ensures none { IfNone result (IsSkipped line.now ⊎ AreGoodBlocks line.now 4) }
+{
+    let length = content_length(line);
+    if is_skipped(line, length) {
+        return None;
+    }
+    match form_cause(line) {
+        Some(cause) => Some(cause),
+        None => blocks_cause(line, length),
+    }
+}
+
+/// Returns the cause if the line has another form.
+fn form_cause(line: &[u8]) -> Option<LineCause>
+    requires { 0 < length line.now }
+    ensures { IfSome result (IsLineCause line.now) }
+{
+    if line[0] == b'{' {
+        return Some(LineCause::Json);
+    }
+    match (memchr(b',', line), memchr(b' ', line)) {
+        (Some(_), None) => Some(LineCause::Script),
+        (Some(comma), Some(space)) if comma < space => Some(LineCause::Script),
+        (None, None) => Some(LineCause::NoSpace),
+        _ => None,
+    }
+}
+
+/// Returns why the first block that is not good is not; `None` if all four are good.
+fn blocks_cause(line: &[u8], length: usize) -> Option<LineCause>
+    requires { length ≡ content_length line.now }
+    ensures some { IfSome result (IsLineCause line.now) }
+    ensures none { IfNone result (AreGoodBlocks line.now 4) }
+{
+    for block in 0..COUNT {
+        if let Some(cause) = block_cause(line, length, block) {
+            return Some(cause);
+        }
+    }
+    None
+}
+
+/// Returns why this block is not good; `None` if it is. Those before it are good.
+fn block_cause(line: &[u8], length: usize, block: usize) -> Option<LineCause>
+    requires length { length ≡ content_length line.now }
+    requires few { block < 4 }
+    requires before { AreGoodBlocks line.now block }
+    ensures some { IfSome result (IsLineCause line.now) }
+    ensures none { IfNone result (IsGoodBlock line.now block) }
+{
+    let place = 5 * block;
+    if is_good(line, length, place) {
+        return None;
+    }
+    if length < place {
+        return Some(LineCause::EndsAfter(block));
+    }
+    let count = bytes_before_space(&line[place..length]);
+    if count == 4 {
+        return Some(LineCause::Digit(block + 1));
+    }
+    Some(LineCause::Length(block + 1, count))
+}
+
+/// Returns whether a good block stands from the place on: four digits or four dashes, and then a space or the end.
+fn is_good(line: &[u8], length: usize, place: usize) -> bool
+    requires length { length ≡ content_length line.now }
+    requires place { place ≤ 15 }
+    ensures { IsTrue result ↔ IsGoodAt line.now place }
+{
+    if !ends_after_four(line, length, place) {
+        return false;
+    }
+    match block_at(line, place) {
+        Some(_) => true,
+        None => false,
+    }
+}
+
+/// Returns whether four bytes stand from the place on, and then a space or the end.
+fn ends_after_four(line: &[u8], length: usize, place: usize) -> bool
+    requires length { length ≡ content_length line.now }
+    requires place { place ≤ 15 }
+    ensures { IsTrue result ↔ EndsAfterFour line.now place }
+{
+    length >= place + 4 && (length == place + 4 || line[place + 4] == b' ')
+}
+
+/// Returns how many bytes stand before the first space, or before the end.
+fn bytes_before_space(bytes: &[u8]) -> usize
+    ensures { StandBeforeSpace bytes.now result }
+{
+    match memchr(b' ', bytes) {
+        Some(count) => count,
+        None => bytes.len(),
+    }
+}

@@ -1,0 +1,111 @@
+//! What a run over a log found beside its output, for a person at a terminal.
+ghost use Rattle.std.specs.Prelude.{◌≡◌, None};
+
+use crate::heard::Heard;
+use crate::line_cause::LineCause;
+use crate::log_line::DECIDING;
+use arrayvec::ArrayVec;
+use rds_audit::{Audit, AuditFault};
+use rds_block::Blocks;
+use rds_fields::Message;
+
+/// A line that is no log line (this project's own rule).
+#[derive(Drop)]
+pub struct BadStart {
+    /// The first bytes of the line, at most 60.
+    pub start: ArrayVec<u8, DECIDING>,
+    /// Why it is no log line.
+    pub cause: Option<LineCause>,
+}
+
+/// The slot at which an audit stopped (this project's own rule).
+#[derive(Clone, Copy, Debug, PartialEq, Eq)]
+pub struct NoNote {
+    /// The slot, counted from 0, that breaks a rule first.
+    pub slot: u64,
+    /// The line of this slot, counted from 1.
+    pub line: u64,
+    /// The rule that it breaks.
+    pub fault: AuditFault,
+    /// Whether a name broke it, and not a text or its tags.
+    pub of_name: bool,
+    /// The earlier slot that it comes too soon after: of `EarlyFlag` the last slot of the text or name before the previous
+    /// one, and of `EarlyTag` the first slot in which the text can have started.
+    pub earlier: Option<u64>,
+}
+
+impl NoNote {
+    /// Returns the note on a slot with which an audit stopped, which took this group.
+    pub(crate) fn of(
+        audit: &Audit,
+        group: Option<Blocks>,
+        slot: u64,
+        line: u64,
+        fault: AuditFault,
+    ) -> NoNote
+        ensures slot { result.slot ≡ slot }
+        ensures fault { result.fault ≡ fault }
+    {
+        let of_name = is_name(group);
+        let stored = audit.store();
+        let age = match fault {
+            AuditFault::EarlyFlag if of_name => Some(stored.name.since_before),
+            AuditFault::EarlyFlag => Some(stored.text.since_before),
+            AuditFault::EarlyTag if stored.text.is_open != 0 => Some(stored.text.since_start),
+            _ => None,
+        };
+        NoNote {
+            slot,
+            line,
+            fault,
+            of_name,
+            earlier: slot_before(slot, age),
+        }
+    }
+}
+
+/// Returns whether the group is one of a name.
+fn is_name(group: Option<Blocks>) -> bool {
+    match group {
+        Some(group) => Message::name_in(group).is_some(),
+        None => false,
+    }
+}
+
+/// Returns the slot so many slots before this one.
+fn slot_before(slot: u64, age: Option<u32>) -> Option<u64> {
+    slot.checked_sub(u64::from(age?))
+}
+
+/// What a run over a log found beside its output (this project's own rule).
+#[derive(Drop)]
+pub struct LogNotes {
+    /// The number of slots, once the log was read to its end.
+    pub slots: u64,
+    /// The programmes of the groups.
+    pub heard: Heard,
+    /// The bad line at which the run stopped.
+    pub bad: Option<BadStart>,
+    /// The slot at which the audit stopped.
+    pub no: Option<NoNote>,
+}
+
+impl LogNotes {
+    ghost use Rattle.rds_log.specs.Heard.{HeardLines};
+    ghost use Rattle.std.specs.Prelude.{[]};
+
+    /// Returns the notes on a log for a receiver of this programme, before its first line.
+    pub fn new(pi: u16) -> LogNotes
+        ensures groups { result.heard.groups ≡ 0 }
+        ensures heard { HeardLines pi [] result.heard }
+        ensures bad { result.bad ≡ None }
+        ensures no { result.no ≡ None }
+    {
+        LogNotes {
+            slots: 0,
+            heard: Heard::new(pi),
+            bad: None,
+            no: None,
+        }
+    }
+}
