@@ -24,4 +24,4 @@ mod witnessing;
 
 pub use burst::Burst;
 pub use laws::{a_part_shows_no_more, what_a_mix_means};
-pub use witnessing::witness;
+pub use witnessing::{witness, witness_with_notes};

@@ -1,10 +1,13 @@
 //! Whether a log shows a receiver that pays for a rule that it breaks.
-ghost use Rattle.std.specs.Prelude.{◌≡◌, ◌≤◌, ◌^◌, [], length};
+ghost use Rattle.std.specs.Prelude.{◌≡◌, ◌≤◌, ◌^◌, [], ℕ, Err, OnOk, length};
 ghost use Rattle.rds_block.specs.declared.group.Group.{Group};
 ghost use Rattle.rds_charset.specs.Puts.{Puts};
 ghost use Rattle.rds_charset.specs.Told.{traffic};
+ghost use Rattle.rds_log.specs.Heard.{HeardLog};
 ghost use Rattle.rds_log.specs.LogWrites.{tuned};
+ghost use Rattle.rds_log.specs.Notes.{NotesFault};
 ghost use Rattle.rds_log.specs.Reads.{MadeReads};
+ghost use Rattle.rds_output.specs.declared.fault.LogFault.TheVariants as faults;
 ghost use Rattle.rds_witness.specs.Lines.{IsAnswer, no_witness_up_to};
 ghost use Rattle.rds_witness.specs.Search.{IsSure};
 ghost use Rattle.rds_witness.specs.Witness.{Answers, Witnesses};
@@ -16,7 +19,7 @@ use crate::search::Found;
 use rds_block::Group;
 use rds_charset::{Lines, TellingRead, TellingWrite, WriteFault, put};
 use rds_fields::Dwell;
-use rds_log::gather;
+use rds_log::{LogNotes, gather_with_notes};
 use rds_output::LogFault;
 use std::alloc::Global;
 
@@ -39,7 +42,27 @@ pub fn witness<R: TellingRead, W: TellingWrite>(
         (traffic W.contents W.failures writer.old writer.new) result }
     ensures reads { MadeReads (2 ^ 32) (R.reads reader.old) (R.reads reader.new) result }
 {
-    let log = gather(alloc, reader)?;
+    witness_with_notes(alloc, reader, writer, pi, dwell, &mut LogNotes::new(pi))
+}
+
+/// [`witness`] with notes for a person: with them or without, it writes and returns the same.
+pub fn witness_with_notes<R: TellingRead, W: TellingWrite>(
+    alloc: Global,
+    reader: &mut R,
+    writer: &mut W,
+    pi: u16,
+    dwell: Dwell,
+    notes: &mut LogNotes,
+) -> Result<bool, LogFault>
+    ensures witnesses { Witnesses (tuned pi dwell) (traffic R.remaining R.failures reader.old reader.new)
+        (traffic W.contents W.failures writer.old writer.new) result }
+    ensures reads { MadeReads (2 ^ 32) (R.reads reader.old) (R.reads reader.new) result }
+    ensures heard { OnOk result
+        (HeardLog pi (traffic R.remaining R.failures reader.old reader.new) notes.new.heard) }
+    ensures bad { (n : ℕ) → result ≡ Err (faults.BadLine n)
+        → NotesFault (traffic R.remaining R.failures reader.old reader.new) (faults.BadLine n) notes.new.bad }
+{
+    let log = gather_with_notes(alloc, reader, pi, notes)?;
     let Ok(found) = find_surely(alloc, log.as_slice(), pi, dwell) else {
         return Err(LogFault::Memory);
     };
