@@ -3,9 +3,13 @@
 #![tactic(auto)]
 
 mod gather;
+mod prompt;
+mod reason;
 mod status;
 mod words;
 
 pub use gather::{Flushing, Gathered, Gathering, Kept, send};
+pub use prompt::{Prompting, prompt_for};
+pub use reason::{Reason, Reasoned};
 pub use status::{no_words, status_at_end};
 pub use words::{texts, words_of};

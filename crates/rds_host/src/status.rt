@@ -21,14 +21,17 @@ pub fn status_at_end(status: u8, was_read: bool, all_out: bool) -> u8
 }
 
 /// The status where the words can't be taken: for want of memory, which is told as far as the writer takes it, or for
-/// another cause.
-pub fn no_words<W: Write + Drop>(memory: bool, writer: W) -> u8
+/// another cause. Each has a note.
+pub fn no_words<W: Write + Drop, N: Write + Drop>(memory: bool, writer: W, notes: N) -> u8
     ensures memory { memory ≡ true → result ≡ 1 }
     ensures other { memory ≡ false → result ≡ 2 }
 {
+    let mut notes = Told::new(notes);
     if !memory {
+        let _ = put(b"rdsrt: an argument is not UTF-8\n", &mut notes);
         return REFUSED;
     }
     let _ = put(b"fault memory\n", &mut Told::new(writer));
+    let _ = put(b"rdsrt: fault memory: out of memory\n", &mut notes);
     FAULT
 }

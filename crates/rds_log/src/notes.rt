@@ -32,6 +32,8 @@ pub struct NoNote {
     /// The earlier slot that it comes too soon after: of `EarlyFlag` the last slot of the text or name before the previous
     /// one, and of `EarlyTag` the first slot in which the text can have started.
     pub earlier: Option<u64>,
+    /// M + K, in slots.
+    pub spacing: u32,
 }
 
 impl NoNote {
@@ -60,6 +62,7 @@ impl NoNote {
             fault,
             of_name,
             earlier: slot_before(slot, age),
+            spacing: stored.distance,
         }
     }
 }

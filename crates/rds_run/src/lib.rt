@@ -3,7 +3,9 @@
 #![tactic(auto)]
 
 mod gathered;
+mod notes;
 mod program;
+mod tell;
 
-pub use gathered::run_gathered;
-pub use program::{run, run_lent};
+pub use gathered::{Screen, run_gathered};
+pub use program::{run, run_lent, run_with_notes};

@@ -1,6 +1,6 @@
 //! The whole program over its words.
 ghost use Rattle.std.specs.Prelude.{◌≡◌, ◌⊎◌, ◌≤◌, ◌+◌, ◌++◌, ℕ};
-ghost use Rattle.std.specs.Prelude.{None, codes, decimal, false, true, length, map};
+ghost use Rattle.std.specs.Prelude.{None, codes, decimal, false, true, if◌then◌else◌, length, map};
 ghost use Rattle.rds_charset.specs.Told.{PutsNothing, Traffic, traffic};
 ghost use Rattle.rds_log.specs.LogWrites.{tuned};
 ghost use Rattle.rds_output.specs.ReadFailed.{SomeReadFailed};
@@ -10,17 +10,21 @@ ghost use Rattle.rds_run.specs.Run as specs;
 ghost use Rattle.rds_run.specs.Run.{EndsWith, IsUntouched, PutsAfter, PutsLine, RefusesPi, RunsFrom, RunsRead, RunsWords};
 ghost use Rattle.rds_run.specs.Run.{TaskRuns, TellsFault, done, mark_of, reader_before, status_of};
 
+use crate::notes::{End, Options, RunNotes};
+use crate::tell::tell_run;
 use clap::Error;
 use clap::error::ErrorKind;
 use rds_charset::{Lines, TellingRead, TellingWrite, put};
 use rds_fields::{Dwell, Head, Late};
-use rds_log::{audit, decode};
+use rds_log::{audit_with_notes, decode_with_notes};
 use rds_output::LogFault;
-use rds_script::{encode, simulate};
-use rds_witness::witness;
+use rds_script::{encode_with_notes, simulate_with_notes};
+use rds_witness::witness_with_notes;
 use rds_words::{Programme, Request, Task, identification_of, read_words};
 use rds_world::Config;
 use std::alloc::Global;
+use std::cell::RefCell;
+use std::io::Write;
 
 /// The status where all was done, the audit says yes, or help was asked for.
 const DONE: u8 = 0;
@@ -74,15 +78,36 @@ pub fn run_lent<R: TellingRead, W: TellingWrite>(
         (IsUntouched R.remaining R.failures R.reads reader.old reader.new)
         (traffic W.contents W.failures writer.old writer.new) result }
 {
-    run_read(alloc, read_words(alloc, words), reader, writer)
+    run_read(alloc, read_words(alloc, words), reader, writer, &mut RunNotes::new())
 }
 
-/// Does what the words ask for, by what they were read as.
+/// [`run_lent`] with notes for a person, which go to `screen`: with them or without, it writes and returns the same.
+pub fn run_with_notes<R: TellingRead, W: TellingWrite, N: TellingWrite>(
+    alloc: Global,
+    words: &[&str],
+    reader: &mut R,
+    writer: &mut W,
+    screen: &mut N,
+) -> u8
+    ensures { RunsWords (map (λ w. w.now) words.entry.now)
+        (λ task t. TaskRuns task t (traffic R.remaining R.failures reader.old reader.new)
+        (SomeReadFailed R.failures) (traffic W.contents W.failures writer.old writer.new) result)
+        (IsUntouched R.remaining R.failures R.reads reader.old reader.new)
+        (traffic W.contents W.failures writer.old writer.new) result }
+{
+    let mut notes = RunNotes::new();
+    let status = run_read(alloc, read_words(alloc, words), reader, writer, &mut notes);
+    tell_run(&notes, &RefCell::new(None), screen);
+    status
+}
+
+/// Does what the words ask for, by what they were read as, and notes what a person may want to know.
 pub(crate) fn run_read<R: TellingRead, W: TellingWrite>(
     alloc: Global,
     read: Result<Option<Request<'_>>, Error>,
     reader: &mut R,
     writer: &mut W,
+    notes: &mut RunNotes,
 ) -> u8
     ensures { RunsRead read.entry
         (λ task t. TaskRuns task t (traffic R.remaining R.failures reader.old reader.new)
@@ -91,15 +116,15 @@ pub(crate) fn run_read<R: TellingRead, W: TellingWrite>(
         (traffic W.contents W.failures writer.old writer.new) result }
 {
     match read {
-        Ok(Some(request)) => answer(alloc, request, reader, writer),
+        Ok(Some(request)) => answer(alloc, request, reader, writer, notes),
         Ok(None) => REFUSED,
-        Err(error) => tell_error(&error, writer),
+        Err(error) => tell_error(&error, writer, notes),
     }
 }
 
 /// Writes the text of `clap`, help or why the words are refused, as far as the writer takes it. If there was no memory,
 /// writes the fault line.
-fn tell_error<W: TellingWrite>(error: &Error, writer: &mut W) -> u8
+fn tell_error<W: TellingWrite>(error: &Error, writer: &mut W, notes: &mut RunNotes) -> u8
     ensures status { result ≡ status_of (kind_of error.now) }
     ensures memory { kind_of error.now ≡ ErrorKind.OutOfMemory
         → PutsLine (codes "fault memory\n") (traffic W.contents W.failures writer.old writer.new) }
@@ -109,7 +134,11 @@ fn tell_error<W: TellingWrite>(error: &Error, writer: &mut W) -> u8
         return FAULT;
     }
     let _ = write!(writer, "{error}");
-    if error.use_stderr() { REFUSED } else { DONE }
+    if !error.use_stderr() {
+        return DONE;
+    }
+    let _ = write!(notes.refused, "{error}");
+    REFUSED
 }
 
 /// Does what the words ask for.
@@ -118,6 +147,7 @@ fn answer<R: TellingRead, W: TellingWrite>(
     request: Request<'_>,
     reader: &mut R,
     writer: &mut W,
+    notes: &mut RunNotes,
 ) -> u8
     ensures runs { (pi : ℕ) → IsPi request.entry.pi.now pi
         → TaskRuns request.entry.task (tuned pi request.entry.dwell)
@@ -127,11 +157,18 @@ fn answer<R: TellingRead, W: TellingWrite>(
         → RefusesPi request.entry.task (traffic W.contents W.failures writer.old writer.new) result
         × IsUntouched R.remaining R.failures R.reads reader.old reader.new }
 {
+    notes.options = Some(Options {
+        task: request.task,
+        dwell: request.dwell,
+        quiet: request.quiet,
+    });
+    let _ = notes.pi.write(request.pi.as_bytes());
     let Some(pi) = identification_of(request.pi) else {
+        notes.end = End::BadPi;
         tell_fault_text(request.task, b"fault pi", writer);
         return REFUSED;
     };
-    run_task(alloc, request.task, pi, request.dwell, reader, writer)
+    run_task(alloc, request.task, pi, request.dwell, reader, writer, notes)
 }
 
 /// Runs the engine of the task for its programme, and tells its fault.
@@ -142,6 +179,7 @@ fn run_task<R: TellingRead, W: TellingWrite>(
     dwell: Dwell,
     reader: &mut R,
     writer: &mut W,
+    notes: &mut RunNotes,
 ) -> u8
     ensures { TaskRuns task (tuned pi dwell) (traffic R.remaining R.failures reader.old reader.new)
         (SomeReadFailed R.failures) (traffic W.contents W.failures writer.old writer.new) result }
@@ -150,29 +188,33 @@ fn run_task<R: TellingRead, W: TellingWrite>(
     let asked = task;
     match task {
         Task::Decode => {
-            let decoded = decode(reader, writer, pi, dwell);
-            end_with(asked, decoded, writer)
+            let decoded = decode_with_notes(reader, writer, pi, dwell, &mut notes.log);
+            end_with(asked, decoded, writer, &mut notes.end)
         }
         Task::Encode(programme, late) => {
             let station = station_of(pi, dwell, programme, late);
-            let encoded = encode(alloc, &mut *reader, writer, station);
-            end_with(asked, encoded, writer)
+            let notes_on = &mut notes.script;
+            let encoded = encode_with_notes(alloc, &mut *reader, writer, station, notes_on);
+            end_with(asked, encoded, writer, &mut notes.end)
         }
         Task::Simulate(programme, late) => {
             let station = station_of(pi, dwell, programme, late);
-            let simulated = simulate(alloc, &mut *reader, writer, station);
-            end_with(asked, simulated, writer)
+            let notes_on = &mut notes.script;
+            let simulated = simulate_with_notes(alloc, &mut *reader, writer, station, notes_on);
+            end_with(asked, simulated, writer, &mut notes.end)
         }
-        Task::Audit(late) => match audit(reader, writer, pi, dwell, late) {
-            Ok(true) => DONE,
-            Ok(false) => NO,
-            Err(fault) => fail_with(asked, fault, writer),
-        },
-        Task::Witness => match witness(alloc, reader, writer, pi, dwell) {
-            Ok(true) => NO,
-            Ok(false) => DONE,
-            Err(fault) => fail_with(asked, fault, writer),
-        },
+        Task::Audit(late) => {
+            match audit_with_notes(reader, writer, pi, dwell, late, &mut notes.log) {
+                Ok(passed) => answer_by(passed, DONE, NO, &mut notes.end),
+                Err(fault) => fail_with(asked, fault, writer, &mut notes.end),
+            }
+        }
+        Task::Witness => {
+            match witness_with_notes(alloc, reader, writer, pi, dwell, &mut notes.log) {
+                Ok(found) => answer_by(found, NO, DONE, &mut notes.end),
+                Err(fault) => fail_with(asked, fault, writer, &mut notes.end),
+            }
+        }
     }
 }
 
@@ -191,21 +233,38 @@ fn station_of(pi: u16, dwell: Dwell, programme: Programme, late: Late) -> Config
     }
 }
 
+/// The status of an engine that answered yes or no.
+fn answer_by(yes: bool, if_yes: u8, if_no: u8, end: &mut End) -> u8
+    ensures { result ≡ if yes then if_yes else if_no }
+{
+    *end = End::Done;
+    if yes { if_yes } else { if_no }
+}
+
 /// The status of an engine that does all, or of its fault, which is told.
-fn end_with<W: TellingWrite>(task: Task, outcome: Result<(), LogFault>, writer: &mut W) -> u8
+fn end_with<W: TellingWrite>(
+    task: Task,
+    outcome: Result<(), LogFault>,
+    writer: &mut W,
+    end: &mut End,
+) -> u8
     ensures { EndsWith done task outcome (traffic W.contents W.failures writer.old writer.new) result }
 {
     match outcome {
-        Ok(()) => DONE,
-        Err(fault) => fail_with(task, fault, writer),
+        Ok(()) => {
+            *end = End::Done;
+            DONE
+        }
+        Err(fault) => fail_with(task, fault, writer, end),
     }
 }
 
 /// The status of a fault, which is told.
-fn fail_with<W: TellingWrite>(task: Task, fault: LogFault, writer: &mut W) -> u8
+fn fail_with<W: TellingWrite>(task: Task, fault: LogFault, writer: &mut W, end: &mut End) -> u8
     ensures status { result ≡ 1 }
     ensures told { PutsAfter task fault (traffic W.contents W.failures writer.old writer.new) }
 {
+    *end = End::Fault(fault);
     tell_fault(task, fault, writer);
     FAULT
 }

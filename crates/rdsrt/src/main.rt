@@ -1,16 +1,19 @@
 //! `rdsrt`: texts of RDS, sent and received. `decode` reads what a receiver heard, and prints what it shows.
 //!
 //! The program is `rds_run`: its contract says which output each input has. `main` gives it the words of the command
-//! line, standard input and standard output, whose writes are gathered: one before each read, and one at the end.
+//! line, standard input and standard output, whose writes are gathered: one before each read, and one at the end. Notes for
+//! a person go to standard error.
 //!
 //! ```text
 //! rdsrt decode --pi C201
 //! ```
 #![tactic(auto)]
 
-use rds_host::{no_words, texts, words_of};
-use rds_run::run_gathered;
-use std::io::ErrorKind;
+use rds_charset::Told;
+use rds_host::{Prompting, Reasoned, no_words, prompt_for, texts, words_of};
+use rds_run::{Screen, run_gathered};
+use std::cell::RefCell;
+use std::io::{ErrorKind, IsTerminal};
 use std::process::ExitCode;
 
 fn main(rt: HostRuntime) -> ExitCode {
@@ -18,12 +21,35 @@ fn main(rt: HostRuntime) -> ExitCode {
         Ok(words) => words,
         Err(error) => {
             let memory = error.kind() == ErrorKind::OutOfMemory;
-            return ExitCode::from(no_words(memory, rt.stdout()));
+            return ExitCode::from(no_words(memory, rt.stdout(), rt.stderr()));
         }
     };
     let status = match texts(rt.alloc(), words.as_slice()) {
-        Ok(words) => run_gathered(rt.alloc(), words.as_slice(), rt.stdin(), rt.stdout()),
-        Err(_) => no_words(true, rt.stdout()),
+        Ok(words) => run(&rt, words.as_slice()),
+        Err(_) => no_words(true, rt.stdout(), rt.stderr()),
     };
     ExitCode::from(status)
+}
+
+/// Runs the program over its words and the standard streams.
+fn run(rt: &HostRuntime, words: &[&str]) -> u8 {
+    let line = if rt.stdin().is_terminal() {
+        prompt_for(words)
+    } else {
+        None
+    };
+    let mut screen = Screen {
+        notes: Told::new(rt.stderr()),
+        output_is_terminal: rt.stdout().is_terminal(),
+    };
+    let reason = RefCell::new(None);
+    let input = Prompting::new(rt.stdin(), line, Told::new(rt.stderr()));
+    run_gathered(
+        rt.alloc(),
+        words,
+        Reasoned::new(input, &reason),
+        Reasoned::new(rt.stdout(), &reason),
+        &reason,
+        &mut screen,
+    )
 }

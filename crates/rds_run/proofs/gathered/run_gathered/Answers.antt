@@ -4,12 +4,12 @@ use Rattle.rds_run.proofs.gathered.run_gathered.Goals as goal
 
 pub returns : goal.returns
 returns g c =
-    let known : ReadAs (map (λ w. w.now) c.args.words.now) c.read_words.result = record {
-      ok = c.read_words.ensures.ok;
-      err = c.read_words.ensures.err;
-      kinds = c.read_words.ensures.kinds;
-      taken = c.read_words.ensures.taken;
-      help = c.read_words.ensures.help;
-      refused = c.read_words.ensures.refused;
+    let known : ReadAs (map (λ w. w.now) c.args.words.now) c.read_words-read.result = record {
+      ok = c.read_words-read.ensures.ok;
+      err = c.read_words-read.ensures.err;
+      kinds = c.read_words-read.ensures.kinds;
+      taken = c.read_words-read.ensures.taken;
+      help = c.read_words-read.ensures.help;
+      refused = c.read_words-read.ensures.refused;
     } in
-    ends_by _ c.read_words.result _ c.run_read_gathered.result known c.run_read_gathered.ensures
+    ends_by _ c.read_words-read.result _ c.run_read_gathered.result known c.run_read_gathered.ensures

@@ -1,7 +1,7 @@
 use Rattle.std.proofs.Common.{arith}
 use Rattle.std.proofs.lemmas.Grind.{common_steps}
 use Rattle.rds_run.proofs.Statuses.{ends_read, still_few}
-use Rattle.rds_run.proofs.gathered.run_read_gathered.Goals as goal
+use Rattle.rds_run.proofs.gathered.run_and_send.Goals as goal
 
 pub returns : goal.returns
 returns g c =

@@ -1,0 +1,50 @@
+//! A reader that tells a person at a terminal that it waits for input.
+
+use rds_charset::{TellingWrite, put};
+use std::io::{self, Read};
+
+/// A reader that prints a line before its first read, if there is one to print.
+#[derive(Drop)]
+pub struct Prompting<R, N> {
+    reader: R,
+    line: Option<&'static [u8]>,
+    screen: N,
+}
+
+impl<R, N> Prompting<R, N> {
+    /// Wraps a reader with a line, and where to print it.
+    pub fn new(reader: R, line: Option<&'static [u8]>, screen: N) -> Self {
+        Prompting {
+            reader,
+            line,
+            screen,
+        }
+    }
+}
+
+impl<R: Read, N: TellingWrite> Read for Prompting<R, N> {
+    ghost remaining = { λ prompting. R.remaining prompting.reader };
+
+    fn read(&mut self, buf: &mut [u8]) -> io::Result<usize> {
+        if let Some(line) = self.line {
+            self.line = None;
+            let _ = put(line, &mut self.screen);
+        }
+        self.reader.read(buf)
+    }
+}
+
+/// Returns the line for a person at a terminal who gave these arguments; `None` if they turn warnings off.
+pub fn prompt_for(words: &[&str]) -> Option<&'static [u8]> {
+    for word in words {
+        if *word == "--quiet" {
+            return None;
+        }
+    }
+    match words.get(1) {
+        Some(word) if *word == "encode" || *word == "sim" => {
+            Some(b"rdsrt: reading a script from the terminal; Ctrl-D ends it\n")
+        }
+        _ => Some(b"rdsrt: reading a log from the terminal; Ctrl-D ends it\n"),
+    }
+}
