@@ -27,7 +27,8 @@ def ran(command):
     """Returns the status and the output of the command, with the built program in place of ./rdsrt."""
     environment = {**os.environ, "RDSRT": PROGRAM}
     call = re.sub(r"^\./rdsrt ", '"$RDSRT" ', command)
-    done = subprocess.run(["bash", "-c", call], cwd=ROOT, stdout=subprocess.PIPE, timeout=SECONDS, env=environment)
+    done = subprocess.run(["bash", "-c", call], cwd=ROOT, stdout=subprocess.PIPE, stderr=subprocess.DEVNULL, timeout=SECONDS,
+                          env=environment)
     return done.returncode, done.stdout.decode()
 
 

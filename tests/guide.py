@@ -37,7 +37,8 @@ def page():
 def ran(call, given=b""):
     environment = {**os.environ, "RDSRT": PROGRAM}
     words = ["bash", "-c", call.replace("./rdsrt", '"$RDSRT"')]
-    done = subprocess.run(words, cwd=ROOT, input=given, stdout=subprocess.PIPE, timeout=SECONDS, env=environment)
+    done = subprocess.run(words, cwd=ROOT, input=given, stdout=subprocess.PIPE, stderr=subprocess.DEVNULL, timeout=SECONDS,
+                          env=environment)
     return done.stdout.decode()
 
 

@@ -55,7 +55,7 @@ def example(name):
 
 def program(words, data):
     """Status and output of the program that the gate built."""
-    done = subprocess.run([PROGRAM, *words], input=data, stdout=subprocess.PIPE, timeout=SECONDS)
+    done = subprocess.run([PROGRAM, *words], input=data, stdout=subprocess.PIPE, stderr=subprocess.DEVNULL, timeout=SECONDS)
     return [done.returncode, done.stdout.decode()]
 
 

@@ -68,7 +68,8 @@ def commands(check):
         for command, output in shown:
             # ./rdsrt is the program once it is built
             call = command.replace("./rdsrt", "rdsrt")
-            done = subprocess.run(["bash", "-c", call], cwd=ROOT, stdout=subprocess.PIPE, timeout=SECONDS, env=environment)
+            done = subprocess.run(["bash", "-c", call], cwd=ROOT, stdout=subprocess.PIPE, stderr=subprocess.DEVNULL,
+                                  timeout=SECONDS, env=environment)
             check(f"{path}: {command}", done.stdout.decode(), output)
             if path.endswith(".md"):
                 played |= set(re.findall(r"examples/[\w.]+\.(?:csv|log)", command))

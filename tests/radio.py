@@ -83,7 +83,8 @@ def heard(case, folder):
         air.append(samples)
     steps = [TRANSMIT, "--pi", "C201"], air, [RECEIVE, "--pi", "C201"]
     call = "set -o pipefail; " + " | ".join(map(shlex.join, steps))
-    done = subprocess.run(["bash", "-c", call], input=log, stdout=subprocess.PIPE, timeout=SECONDS, check=True)
+    done = subprocess.run(["bash", "-c", call], input=log, stdout=subprocess.PIPE, stderr=subprocess.DEVNULL,
+                          timeout=SECONDS, check=True)
     sent = [line for line in log.decode().splitlines() if line[0] != "#"]
     return Heard(texts, sent, done.stdout.decode().splitlines())
 
@@ -92,7 +93,8 @@ def shown(lines, dwell):
     """The texts that `decode` shows of these lines."""
     given = "".join(f"{line}\n" for line in lines).encode()
     words = [PROGRAM, "decode", "--pi", "C201", "--m", str(dwell)]
-    output = subprocess.run(words, input=given, stdout=subprocess.PIPE, timeout=SECONDS, check=True).stdout
+    output = subprocess.run(words, input=given, stdout=subprocess.PIPE, stderr=subprocess.DEVNULL, timeout=SECONDS,
+                            check=True).stdout
     return re.findall(r'^\d+ text "(.*)"$', output.decode(), re.M)
 
 

@@ -29,7 +29,7 @@ def rows_of(text, *words):
 
 def encoded(rows, dwell):
     words = [PROGRAM, "encode", "--pi", "C201", "--m", str(dwell)]
-    return subprocess.run(words, input=rows.encode(), stdout=subprocess.PIPE, timeout=SECONDS)
+    return subprocess.run(words, input=rows.encode(), stdout=subprocess.PIPE, stderr=subprocess.DEVNULL, timeout=SECONDS)
 
 
 def at_once(check):
@@ -117,7 +117,8 @@ def mixes(slots):
     """What a radio with the flag bit alone shows of these slots that no station set."""
     given = "".join(f"{line}\n" for line in slots).encode()
     words = [PROGRAM, "decode", "--pi", "C201", "--m", "65535"]
-    shown = subprocess.run(words, input=given, stdout=subprocess.PIPE, timeout=SECONDS).stdout.decode()
+    shown = subprocess.run(words, input=given, stdout=subprocess.PIPE, stderr=subprocess.DEVNULL,
+                           timeout=SECONDS).stdout.decode()
     texts = [line.split(" ", 2)[2].strip('"') for line in shown.splitlines() if " text \"" in line]
     return [it for it in texts if it and it not in [text for life in LIVES for text in life.values()]], len(texts)
 

@@ -119,7 +119,7 @@ def random_log(rng):
 
 
 def ran(words, given):
-    done = subprocess.run([PROGRAM, *words], input=given, stdout=subprocess.PIPE, timeout=SECONDS)
+    done = subprocess.run([PROGRAM, *words], input=given, stdout=subprocess.PIPE, stderr=subprocess.DEVNULL, timeout=SECONDS)
     return done.returncode, done.stdout.decode()
 
 

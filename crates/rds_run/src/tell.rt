@@ -10,7 +10,7 @@ use rds_log::{BadStart, NoNote};
 use rds_output::LogFault;
 use rds_script::Thing;
 use rds_words::Task;
-use std::io::Write;
+use std::io::{ErrorKind, Write};
 
 /// The most bytes of a note; more than any note has.
 const ROOM: usize = 1024;
@@ -150,7 +150,8 @@ fn tell_pi<N: TellingWrite>(given: &[u8], screen: &mut N) {
     print(note, screen);
 }
 
-/// Prints a fault of the log or script, the input or the output.
+/// Prints a fault of the log or script, the input or the output. A pipe whose reader has gone, as in `| head`, is none to
+/// a person.
 fn tell_fault<N: TellingWrite>(
     task: Task,
     fault: LogFault,
@@ -158,6 +159,9 @@ fn tell_fault<N: TellingWrite>(
     reason: &Reason,
     screen: &mut N,
 ) {
+    if is_gone(reason) {
+        return;
+    }
     let mut note = begun();
     match fault {
         LogFault::BadLine(number) => push_bad_line(number, &notes.log.bad, &mut note),
@@ -170,6 +174,17 @@ fn tell_fault<N: TellingWrite>(
         }
     }
     print(note, screen);
+}
+
+/// Returns whether the reader of a pipe has gone.
+fn is_gone(reason: &Reason) -> bool {
+    let Ok(reason) = reason.try_borrow() else {
+        return false;
+    };
+    match reason.as_ref() {
+        Some(error) => error.kind() == ErrorKind::BrokenPipe,
+        None => false,
+    }
 }
 
 /// Appends a failure with the system's reason.

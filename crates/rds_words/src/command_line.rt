@@ -172,7 +172,7 @@ fn audit<'a>(alloc: Global) -> Result<Command<'a>, AllocError>
                  slot that breaks a rule and the name of the fault, status 1.\n\n\
                  Yes: no receiver with this M shows a mix of two texts, whichever groups it loses,\n\
                  if its groups come at most K slots late. A log without a group of this PI gets a\n\
-                 yes too: check the PI.\n\
+                 yes too, and a warning.\n\
                  No: a rule was broken. A receiver may or may not show a mix; `witness` looks for\n\
                  one. A station that keeps the rules can get a no if it has few free slots.\n\n\
                  Faults, each with its cure:\n  \

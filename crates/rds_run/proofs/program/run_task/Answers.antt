@@ -7,10 +7,10 @@ use Rattle.rds_run.proofs.program.run_task.Goals as goal
 pub returns-in-Encode : goal.returns-in-Encode
 returns-in-Encode g c =
     let station = c.station_of-station.result in
-    let engine = c.encode-encoded in
+    let engine = c.encode_with_notes-encoded in
     let script = g.R.Read.remaining c.args.reader.now in
     let w = traffic g.W.Write.contents g.W.TellingWrite.failures c.args.writer.now engine.new.writer in
-    let played = plays_by (failed_behind (λ r. r.now) g.R.TellingRead.failures) Log station (2 ^ 32) script w engine.result engine.ensures in
+    let played = plays_by (failed_behind (λ r. r.now) g.R.TellingRead.failures) Log station (2 ^ 32) script w engine.result engine.ensures.plays in
     rw c.in-Encode.is record {
       outcome = engine.result;
       mid = g.W.Write.contents engine.new.writer;
@@ -22,10 +22,10 @@ returns-in-Encode g c =
 pub returns-in-Simulate : goal.returns-in-Simulate
 returns-in-Simulate g c =
     let station = c.station_of-station-in-Simulate.result in
-    let engine = c.simulate-simulated in
+    let engine = c.simulate_with_notes-simulated in
     let script = g.R.Read.remaining c.args.reader.now in
     let w = traffic g.W.Write.contents g.W.TellingWrite.failures c.args.writer.now engine.new.writer in
-    let played = plays_by (failed_behind (λ r. r.now) g.R.TellingRead.failures) Simulation station (2 ^ 32) script w engine.result engine.ensures in
+    let played = plays_by (failed_behind (λ r. r.now) g.R.TellingRead.failures) Simulation station (2 ^ 32) script w engine.result engine.ensures.plays in
     rw c.in-Simulate.is record {
       outcome = engine.result;
       mid = g.W.Write.contents engine.new.writer;
