@@ -9,6 +9,8 @@ mod audit_engine;
 #[cfg(test)]
 mod failing_writes;
 #[cfg(test)]
+mod log_notes;
+#[cfg(test)]
 mod logs;
 #[cfg(test)]
 mod row_causes;

@@ -1,0 +1,134 @@
+//! What is noted of a log beside what is written. The wanted notes are written out by hand.
+
+use rds_audit::AuditFault;
+use rds_charset::Told;
+use rds_fields::{Dwell, Late};
+use rds_log::{
+    LineCause, LogNotes, NoNote, audit_with_notes, decode_with_notes, gather_with_notes,
+};
+use rds_output::LogFault;
+use rds_witness::witness_with_notes;
+use std::test::Fail;
+
+/// A log of two slots: a group of C201, and a lost one.
+const TWO_SLOTS: &[u8] = b"# note\nC201 2140 4849 0D20\n---- ---- ---- ----\n";
+
+/// A line that is no log line, and why.
+const CAUSES: [(&[u8], LineCause); 9] = [
+    (b"{\"pi\":\"0xC201\"}", LineCause::Json),
+    (b"text,HI,1,G", LineCause::Script),
+    (b"-,,1,", LineCause::Script),
+    (b"C201214048490D20", LineCause::NoSpace),
+    (b"C201 2140 4849", LineCause::EndsAfter(3)),
+    (b"C201 21400 4849 0D20", LineCause::Length(2, 5)),
+    (b" C201 2140 4849 0D20", LineCause::Length(1, 0)),
+    (b"C201 2140 4849 0D2O", LineCause::Digit(4)),
+    (b"C201 2140 ---1 0D20", LineCause::Digit(3)),
+];
+
+fn dwell(slots: u16) -> Result<Dwell, Fail> {
+    Ok(Dwell::new(slots).ok_or("dwell")?)
+}
+
+/// A bad line is noted by its first bytes and its cause, whatever came before it.
+#[test]
+fn causes_of_lines(rt: HostRuntime) -> Result<(), Fail> {
+    for (line, cause) in CAUSES {
+        let mut log = Vec::new(rt.alloc());
+        log.extend_from_slice(TWO_SLOTS)?;
+        log.extend_from_slice(line)?;
+        let mut output = Vec::new(rt.alloc());
+        let mut notes = LogNotes::new(0);
+        let done = decode_with_notes(
+            &mut Told::new(log.as_slice()),
+            &mut Told::new(&mut output),
+            0xC201,
+            dwell(128)?,
+            &mut notes,
+        );
+        assert_eq!(rt; done, Err(LogFault::BadLine(4)));
+        let bad = notes.bad.ok_or("a bad line is noted")?;
+        assert_eq!(rt; bad.start.as_slice(), line);
+        assert_eq!(rt; bad.cause, Some(cause));
+    }
+    Ok(())
+}
+
+/// The other calls note a bad line too, and the first 60 bytes of a long one.
+#[test]
+fn bad_lines_of_all_calls(rt: HostRuntime) -> Result<(), Fail> {
+    let log = [b'x'; 100];
+    let mut notes = LogNotes::new(0);
+    let slots = gather_with_notes(rt.alloc(), &mut Told::new(log.as_slice()), 0xC201, &mut notes);
+    assert_eq!(rt; slots.err(), Some(LogFault::BadLine(1)));
+    let bad = notes.bad.ok_or("a bad line is noted")?;
+    assert_eq!(rt; bad.start.as_slice(), &log[..60]);
+    let mut notes = LogNotes::new(0);
+    let mut output = Vec::new(rt.alloc());
+    let found = witness_with_notes(
+        rt.alloc(),
+        &mut Told::new(log.as_slice()),
+        &mut Told::new(&mut output),
+        0xC201,
+        dwell(8)?,
+        &mut notes,
+    );
+    assert_eq!(rt; found, Err(LogFault::BadLine(1)));
+    assert_eq!(rt; notes.bad.is_some(), true);
+    Ok(())
+}
+
+/// The groups of a log are counted until one of the wanted programme comes.
+#[test]
+fn programmes(rt: HostRuntime) -> Result<(), Fail> {
+    for (pi, wanted, groups, first, of_first) in [
+        (0xC201, true, 1, Some(0xC201), 1),
+        (0xC202, false, 1, Some(0xC201), 1),
+    ] {
+        let mut output = Vec::new(rt.alloc());
+        let mut notes = LogNotes::new(0);
+        let done = decode_with_notes(
+            &mut Told::new(TWO_SLOTS),
+            &mut Told::new(&mut output),
+            pi,
+            dwell(128)?,
+            &mut notes,
+        );
+        assert_eq!(rt; done, Ok(()));
+        let heard = notes.heard;
+        assert_eq!(rt;
+            (notes.slots, heard.wanted, heard.groups, heard.first, heard.of_first),
+            (2, wanted, groups, first, of_first)
+        );
+    }
+    Ok(())
+}
+
+/// A no is noted with its slot, its line, and the slot that it comes too soon after.
+#[test]
+fn slot_of_a_no(rt: HostRuntime) -> Result<(), Fail> {
+    let log = b"# note\nC201 2140 4849 0D20\nC201 2150 594F 0D20\nC201 2140 4849 0D20\n".as_slice();
+    for (m, k) in [(4, 0), (2, 2), (100, 28)] {
+        let mut output = Vec::new(rt.alloc());
+        let mut notes = LogNotes::new(0);
+        let passed = audit_with_notes(
+            &mut Told::new(log),
+            &mut Told::new(&mut output),
+            0xC201,
+            dwell(m)?,
+            Late::new(k).ok_or("late")?,
+            &mut notes,
+        );
+        assert_eq!(rt; passed, Ok(false));
+        let wanted = NoNote {
+            slot: 2,
+            line: 4,
+            fault: AuditFault::EarlyFlag,
+            of_name: false,
+            earlier: Some(0),
+            spacing: u32::from(m) + u32::from(k),
+        };
+        assert_eq!(rt; notes.no, Some(wanted));
+    }
+    Ok(())
+}
