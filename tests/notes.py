@@ -10,6 +10,8 @@ import worked_rows
 ROOT = os.path.dirname(os.path.dirname(os.path.abspath(__file__)))
 PROGRAM = os.path.join(ROOT, "crates/rdsrt/out/rdsrt")
 SECONDS = 60
+# in which one Ctrl-D ends a program
+PROMPT = 10
 SEED = 20261126
 HI = worked_rows.HI
 LOST = worked_rows.NO_GROUP
@@ -196,7 +198,11 @@ def terminals(check):
                                   stderr=subprocess.PIPE) as program:
                 os.close(theirs)
                 os.write(ours, b"\x04")
-                told = program.communicate(timeout=SECONDS)[1].decode()
+                try:
+                    told = program.communicate(timeout=PROMPT)[1].decode()
+                except subprocess.TimeoutExpired:
+                    program.kill()
+                    told = "no end"
                 os.close(ours)
             first = told.split("\n")[0]
             wanted = "" if quiet else f"rdsrt: reading a {what} from the terminal; Ctrl-D ends it"

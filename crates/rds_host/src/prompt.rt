@@ -1,23 +1,30 @@
 //! A reader that tells a person at a terminal that it waits for input.
 
+ghost use Rattle.std.specs.Prelude.{◌≡◌, true};
+ghost use Rattle.std.specs.Io.KnownBytes.{IsAtEnd};
+
 use rds_charset::{TellingWrite, put};
 use std::io::{self, Read};
 
-/// A reader that prints a line before its first read, if there is one to print.
+/// A reader that prints a line before its first read, if there is one to print. Once it is at its end it asks for no more,
+/// so that one Ctrl-D is enough.
 #[derive(Drop)]
-pub struct Prompting<R, N> {
+pub struct Prompting<R: Read, N> {
     reader: R,
     line: Option<&'static [u8]>,
     screen: N,
+    ended: bool,
+    ghost at_end: { ended ≡ true → ∥ IsAtEnd (R.remaining reader) ∥₁ },
 }
 
-impl<R, N> Prompting<R, N> {
+impl<R: Read, N> Prompting<R, N> {
     /// Wraps a reader with a line, and where to print it.
     pub fn new(reader: R, line: Option<&'static [u8]>, screen: N) -> Self {
         Prompting {
             reader,
             line,
             screen,
+            ended: false,
         }
     }
 }
@@ -26,11 +33,16 @@ impl<R: Read, N: TellingWrite> Read for Prompting<R, N> {
     ghost remaining = { λ prompting. R.remaining prompting.reader };
 
     fn read(&mut self, buf: &mut [u8]) -> io::Result<usize> {
+        if self.ended {
+            return Ok(0);
+        }
         if let Some(line) = self.line {
             self.line = None;
             let _ = put(line, &mut self.screen);
         }
-        self.reader.read(buf)
+        let count = self.reader.read(buf)?;
+        self.ended = count == 0 && !buf.is_empty();
+        Ok(count)
     }
 }
 

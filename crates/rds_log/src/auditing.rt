@@ -125,7 +125,7 @@ fn judge<R: TellingRead>(
     let mut said = LogLine::Skip;
     loop {
         match source.next(reader, &mut said) {
-            Ok(true) => notes.heard.line(pi, said),
+            Ok(true) => notes.heard.line(pi, &said),
             Ok(false) => {
                 notes.slots = slots;
                 return Ok(Verdict::Yes(slots));
@@ -139,11 +139,9 @@ fn judge<R: TellingRead>(
         let LogLine::Slot(group) = line else {
             continue;
         };
-        // a copy by a name of its own: what is noted may not be given away
-        let taken = group;
         if let Err(fault) = audit.slot_blocks(group) {
             let why = fault;
-            notes.no = Some(NoNote::of(&audit, taken, slots, source.lines(), why));
+            notes.no = Some(NoNote::of(&audit, &said, slots, source.lines(), why));
             return Ok(Verdict::No(slots, fault));
         }
         slots += 1;

@@ -40,10 +40,10 @@ impl Heard {
 
     /// Takes what a line says.
     #[inline(always)]
-    pub(crate) fn line(&mut self, pi: u16, said: LogLine)
+    pub(crate) fn line(&mut self, pi: u16, said: &LogLine)
         requires { self.old.groups < 2 ^ 64 - 1 }
         ensures groups { self.new.groups ≤ self.old.groups + 1 }
-        ensures heard { (lines : List Line) (line : Line) → LineSays line said
+        ensures heard { (lines : List Line) (line : Line) → LineSays line said.now
             → HeardLines pi lines self.old → HeardLines pi (line ∷ lines) self.new }
     {
         if !self.wanted {
@@ -54,14 +54,14 @@ impl Heard {
     /// Takes what a line says while no group of the wanted programme was read. It stands apart so that the other lines
     /// pay nothing for it.
     #[inline(never)]
-    fn look(&mut self, pi: u16, said: LogLine)
+    fn look(&mut self, pi: u16, said: &LogLine)
         requires groups { self.old.groups < 2 ^ 64 - 1 }
         requires none { self.old.wanted ≡ false }
         ensures groups { self.new.groups ≤ self.old.groups + 1 }
-        ensures heard { (lines : List Line) (line : Line) → LineSays line said
+        ensures heard { (lines : List Line) (line : Line) → LineSays line said.now
             → HeardLines pi lines self.old → HeardLines pi (line ∷ lines) self.new }
     {
-        match said {
+        match *said {
             LogLine::Slot(slot) => self.slot(pi, slot),
             LogLine::Skip => {}
         }

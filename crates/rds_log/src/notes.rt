@@ -3,10 +3,9 @@ ghost use Rattle.std.specs.Prelude.{◌≡◌, None};
 
 use crate::heard::Heard;
 use crate::line_cause::LineCause;
-use crate::log_line::DECIDING;
+use crate::log_line::{DECIDING, LogLine};
 use arrayvec::ArrayVec;
 use rds_audit::{Audit, AuditFault};
-use rds_block::Blocks;
 use rds_fields::Message;
 
 /// A line that is no log line (this project's own rule).
@@ -37,10 +36,10 @@ pub struct NoNote {
 }
 
 impl NoNote {
-    /// Returns the note on a slot with which an audit stopped, which took this group.
+    /// Returns the note on a slot with which an audit stopped, whose line said this.
     pub(crate) fn of(
         audit: &Audit,
-        group: Option<Blocks>,
+        said: &LogLine,
         slot: u64,
         line: u64,
         fault: AuditFault,
@@ -48,7 +47,7 @@ impl NoNote {
         ensures slot { result.slot ≡ slot }
         ensures fault { result.fault ≡ fault }
     {
-        let of_name = is_name(group);
+        let of_name = is_name(said);
         let stored = audit.store();
         let age = match fault {
             AuditFault::EarlyFlag if of_name => Some(stored.name.since_before),
@@ -67,11 +66,11 @@ impl NoNote {
     }
 }
 
-/// Returns whether the group is one of a name.
-fn is_name(group: Option<Blocks>) -> bool {
-    match group {
-        Some(group) => Message::name_in(group).is_some(),
-        None => false,
+/// Returns whether the line has a group of a name.
+fn is_name(said: &LogLine) -> bool {
+    match *said {
+        LogLine::Slot(Some(group)) => Message::name_in(group).is_some(),
+        LogLine::Slot(None) | LogLine::Skip => false,
     }
 }
 
