@@ -14,7 +14,7 @@ use Rattle.rds_words.specs.declared.request.Task.TheVariants.{Audit, Decode, Enc
 use Rattle.rds_run.specs.Run.{Runs, TaskRuns, done, station_of}
 
 -- no call fails that leaves the number of failures at none
-never_fails : Failed 0 0 → ⊥
+pub never_fails : Failed 0 0 → ⊥
 never_fails (inl one) = omega (arith, one)
 never_fails (inr most) = omega (arith, most.0)
 

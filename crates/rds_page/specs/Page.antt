@@ -23,14 +23,17 @@ Prints words input w status =
 abbrev pub Refuses : Traffic → ℕ → Type 0
 Refuses w status = (status ≡ 2) × PutsNothing w
 
--- the output begins with what was printed, or with as much of it as there is room for
+-- a buffer begins with what was printed, or with as much of it as there is room for
 pub record Begun (printed output : List ℕ) (number : ℕ) : Type 0 where
   pub number_is : number ≡ length printed
   pub shown : take number output ≡ take (length output) printed
 
--- a run in a page
-pub record RunsInPage (words input output : List ℕ) (number failures status : ℕ) : Type 0 where
+-- a run in a page. `lines` are its notes: they may be any, except after words that are no text
+pub record RunsInPage (words input output notes : List ℕ) (number failures noted status : ℕ) : Type 0 where
   pub printed : List ℕ
   pub begun : Begun printed output number
   pub prints : IsUtf8 words → Prints (words_in words) input (writing printed failures) status
   pub no_text : (IsUtf8 words → ⊥) → Refuses (writing printed failures) status
+  pub lines : List ℕ
+  pub notes_begun : Begun lines notes noted
+  pub unnoted : (IsUtf8 words → ⊥) → lines ≡ []

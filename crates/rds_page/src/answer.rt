@@ -1,12 +1,12 @@
 //! The program over words that come as one text.
 ghost use Rattle.std.specs.Str.{IsUtf8};
-ghost use Rattle.rds_charset.specs.Told.{traffic};
+ghost use Rattle.rds_charset.specs.Told.{PutsNothing, traffic};
 ghost use Rattle.rds_page.specs.Page.{Prints, Refuses, words_in};
 
 use crate::given::Given;
 use crate::words::words_in;
 use rds_charset::{TellingWrite, put};
-use rds_run::run;
+use rds_run::run_with_notes;
 use std::alloc::Global;
 
 /// The status where the words are no text.
@@ -15,12 +15,20 @@ const REFUSED: u8 = 2;
 /// The status where there is no memory for the words.
 const FAULT: u8 = 1;
 
-/// Runs the program over its words, one a line, and over bytes in memory.
-pub fn answer<W: TellingWrite>(alloc: Global, words: &[u8], input: &[u8], writer: &mut W) -> u8
+/// Runs the program over its words, one a line, and over bytes in memory. Its notes go to `screen`.
+pub fn answer<W: TellingWrite, N: TellingWrite>(
+    alloc: Global,
+    words: &[u8],
+    input: &[u8],
+    writer: &mut W,
+    screen: &mut N,
+) -> u8
     ensures text { IsUtf8 words.now → Prints (words_in words.now) input.now
         (traffic W.contents W.failures writer.old writer.new) result }
     ensures no_text { (IsUtf8 words.now → ⊥)
         → Refuses (traffic W.contents W.failures writer.old writer.new) result }
+    ensures unnoted { (IsUtf8 words.now → ⊥)
+        → PutsNothing (traffic N.contents N.failures screen.old screen.new) }
 {
     let Ok(text) = str::from_utf8(words) else {
         return REFUSED;
@@ -29,5 +37,6 @@ pub fn answer<W: TellingWrite>(alloc: Global, words: &[u8], input: &[u8], writer
         let _ = put(b"fault memory\n", writer);
         return FAULT;
     };
-    run(alloc, words.as_slice(), Given::new(input), writer)
+    let mut given = Given::new(input);
+    run_with_notes(alloc, words.as_slice(), &mut given, writer, screen)
 }

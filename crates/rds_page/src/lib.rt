@@ -1,4 +1,4 @@
-//! The program `rdsrt` for a page: its words and its input are bytes of memory, and so is its output.
+//! The program `rdsrt` for a page: its words and its input are bytes of memory, and so are its output and its notes.
 #![tactic(auto)]
 
 mod answer;
@@ -20,20 +20,32 @@ pub struct Ended {
     pub length: usize,
     /// How many writes failed, for want of memory.
     pub failures: u64,
+    /// How many bytes of notes it printed. If the buffer of the notes has less room, only the first of them are in it.
+    pub noted: usize,
     /// Its status.
     pub status: u8,
 }
 
-/// Runs the program over its words, one a line, the program's own name first, and the bytes of its input.
+/// Runs the program over its words, one a line, the program's own name first, and the bytes of its input. Copies its
+/// standard output to `output` and its notes, which it prints on standard error, to `notes`.
 #[unsafe(no_mangle)]
-pub extern "C" fn rdsrt_run(alloc: Global, words: &[u8], input: &[u8], output: &mut [u8]) -> Ended
-    ensures { RunsInPage words.now input.now output.new result.length result.failures result.status }
+pub extern "C" fn rdsrt_run(
+    alloc: Global,
+    words: &[u8],
+    input: &[u8],
+    output: &mut [u8],
+    notes: &mut [u8],
+) -> Ended
+    ensures { RunsInPage words.now input.now output.new notes.new
+        result.length result.failures result.noted result.status }
 {
     let mut sheet = Sheet::new(alloc);
-    let status = answer(alloc, words, input, &mut sheet);
+    let mut screen = Sheet::new(alloc);
+    let status = answer(alloc, words, input, &mut sheet, &mut screen);
     Ended {
         length: copy_front(sheet.bytes.as_slice(), output),
         failures: sheet.failures,
+        noted: copy_front(screen.bytes.as_slice(), notes),
         status,
     }
 }

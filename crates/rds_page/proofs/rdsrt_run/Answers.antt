@@ -1,3 +1,4 @@
+use Rattle.std.proofs.Common.{arith}
 use Rattle.rds_page.proofs.rdsrt_run.Goals as goal
 
 pub returns : goal.returns
@@ -8,4 +9,7 @@ returns c =
       begun = rw c.as_slice.ensures.value at c.copy_front.ensures;
       prints = λ text. rw (c.new-sheet.ensures.empty, c.new-sheet.ensures.unfailed) at (did.text text);
       no_text = λ none. rw (c.new-sheet.ensures.empty, c.new-sheet.ensures.unfailed) at (did.no_text none);
+      lines = c.answer-status.new.screen.bytes.items;
+      notes_begun = rw c.as_slice-2.ensures.value at c.copy_front-2.ensures;
+      unnoted = λ none. grind (arith, c.new-screen.ensures.empty, (did.unnoted none).bytes);
     }

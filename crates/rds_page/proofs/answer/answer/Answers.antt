@@ -1,8 +1,9 @@
 use Rattle.std.proofs.Common.{◌≡◌, List, ℕ, None, Some, inl, inr, map, refl, rules, subst, sym}
+use Rattle.rds_charset.specs.Told.{traffic}
 use Rattle.rds_log.specs.LogWrites.{tuned}
 use Rattle.rds_words.specs.CommandLine.{AreRefused, AskFor, AskForHelp, TakesWords, asked_in}
 use Rattle.rds_page.specs.Page.{words_in}
-use Rattle.rds_page.proofs.Calm.{calm_task, none_failed}
+use Rattle.rds_page.proofs.Calm.{calm_task, never_fails, none_failed}
 use Rattle.rds_page.proofs.answer.answer.Goals as goal
 
 pub returns-in_default-words_in-clause-text : goal.returns-in_default-words_in-clause-text
@@ -18,21 +19,23 @@ returns-in_default-words_in-clause-text g c text = record {
 pub returns-clause-text : goal.returns-clause-text
 returns-clause-text g c text =
     let words : map (λ w. w.now) c.as_slice.result.now ≡ words_in c.args.words.now = search rules in
-    let did = c.run.ensures in
+    let did = c.run_with_notes.ensures in
     record {
       runs = λ asked pi given is. elim (did.runs asked pi (subst (λ (ws : List (List ℕ)). AskFor ws asked) (sym words) given) is) [
-        | inl memory ↦ inl memory
-        | inr from ↦ inr (record {
-          r = from.r;
-          starts = record { bytes_are = search rules; failures_are = search rules };
-          fails = λ failed. none_failed (from.fails failed);
-          ran = calm_task none_failed asked.task (tuned pi asked.dwell) from.r _ c.run.result from.ran;
+        | inl memory ↦ inl (memory.0, tt)
+        | inr ran ↦ inr (record {
+          r = traffic (λ given. Some given.rest.now) (λ given. 0) c.new-given.result c.run_with_notes.new.reader;
+          starts = record { bytes_are = search rules; failures_are = refl };
+          fails = never_fails;
+          ran = calm_task none_failed asked.task (tuned pi asked.dwell) _ _ c.run_with_notes.result ran;
         })
       ];
-      fault_pi = λ asked given none. did.fault_pi asked (subst (λ (ws : List (List ℕ)). AskFor ws asked) (sym words) given) none;
-      nothing_asked = λ takes none.
-          did.nothing_asked (subst (λ (ws : List (List ℕ)). TakesWords ws) (sym words) takes) (subst (λ (ws : List (List ℕ)). asked_in ws ≡ None) (sym words) none);
-      help = λ asks. did.help (subst (λ (ws : List (List ℕ)). AskForHelp ws) (sym words) asks);
-      refused = λ refused. did.refused (subst (λ (ws : List (List ℕ)). AreRefused ws) (sym words) refused);
-      not_taken = λ untaken. did.not_taken (λ takes. untaken (subst (λ (ws : List (List ℕ)). TakesWords ws) words takes));
+      fault_pi = λ asked given none. ((did.fault_pi asked (subst (λ (ws : List (List ℕ)). AskFor ws asked) (sym words) given) none).0, tt);
+      nothing_asked = λ takes none. (
+        (did.nothing_asked (subst (λ (ws : List (List ℕ)). TakesWords ws) (sym words) takes) (subst (λ (ws : List (List ℕ)). asked_in ws ≡ None) (sym words) none)).0,
+        tt,
+      );
+      help = λ asks. ((did.help (subst (λ (ws : List (List ℕ)). AskForHelp ws) (sym words) asks)).0, tt);
+      refused = λ refused. ((did.refused (subst (λ (ws : List (List ℕ)). AreRefused ws) (sym words) refused)).0, tt);
+      not_taken = λ untaken. ((did.not_taken (λ takes. untaken (subst (λ (ws : List (List ℕ)). TakesWords ws) words takes))).0, tt);
     }
