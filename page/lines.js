@@ -1,5 +1,5 @@
 "use strict";
-/* What logs, scripts and the program's lines say, for drawing: docs/FORMATS.md has their forms. */
+/* What logs, scripts, the program's lines and its notes say: docs/FORMATS.md has the forms of all but the notes. */
 const lines = (() => {
   const LOST = "---- ---- ---- ----";
   const SLOT = 104 / 1187.5, BLOCK = "(?:[0-9A-Fa-f]{4}|----)";
@@ -14,20 +14,20 @@ const lines = (() => {
   }
 
   /* The slots of a log up to the first malformed line: four words, or null if nothing was received; the blocks of each one's
-     line and its number; and the number of the malformed line. */
+     line and its number. */
   function slots_of(log) {
     const slots = [], logged = [], at = [];
     const all = log.split("\n");
     for (let i = 0; i < all.length; i++) {
       const line = all[i];
       if (SKIPPED.test(line)) continue;
-      if (!SLOT_LINE.test(line)) return { slots, logged, at, bad: i };
+      if (!SLOT_LINE.test(line)) break;
       const blocks = line.slice(0, 19);
       slots.push(blocks.includes("-") ? null : blocks.split(" ").map((word) => parseInt(word, 16)));
       logged.push(blocks);
       at.push(i);
     }
-    return { slots, logged, at, bad: null };
+    return { slots, logged, at };
   }
 
   /* What each part showed, as runs [from, to) with a value; null where nothing was shown. */
@@ -94,6 +94,13 @@ const lines = (() => {
     return said;
   }
 
+  /* The notes of a run, one a line, without the name of the program. */
+  const notes = (text) => text.split("\n").filter((line) => line).map((line) => line.replace(/^rdsrt: /, ""));
+
+  /* The first note that begins so, without its advice for a terminal; empty if there is none. */
+  const ADVICE = ". To look for lost slots";
+  const note_of = (all, begin) => (all.find((note) => note.startsWith(begin)) ?? "").split(ADVICE)[0];
+
   /* What a group is to the text services. */
   const NOTHING = 0, TEXT = 1, NAME = 2, TAGS = 3, OTHER = 4;
   function code_of(group, pi) {
@@ -109,25 +116,10 @@ const lines = (() => {
     return codes;
   }
 
-  /* Bytes as the program prints them. */
-  const table = new Map();
-  const STRETCHES = { 0x80: "áàéèíìóòúùÑÇ", 0x90: "âäêëîïôöûüñç", 0xA9: "€£$", 0xC0: "ÁÀÉÈÍÌÓÒÚÙ", 0xD0: "ÂÄÊËÎÏÔÖÛÜ" };
-  for (const [from, all] of Object.entries(STRETCHES)) [...all].forEach((c, i) => table.set(Number(from) + i, c));
-  for (let b = 0x20; b <= 0x7D; b++) if (![0x22, 0x24, 0x5C, 0x5E, 0x60].includes(b)) table.set(b, String.fromCharCode(b));
-  const escaped = (byte) => `\\x${byte.toString(16).toUpperCase().padStart(2, "0")}`;
-  const printed = (bytes) => bytes.map((byte) => table.get(byte) ?? escaped(byte)).join("");
-
   const CLASSES = ["", "TITLE", "ALBUM", "TRACKNUMBER", "ARTIST", "COMPOSITION", "MOVEMENT", "CONDUCTOR", "COMPOSER", "BAND", "COMMENT",
     "GENRE"];
   const class_of = (number) => number < CLASSES.length ? `ITEM.${CLASSES[number]}` : String(number);
 
-  /* The two tags of a group 11A: class, start and extra of each. */
-  function tags_of(group) {
-    const [, b, c, d] = group;
-    return [[((b & 7) << 3) | (c >> 13), (c >> 7) & 63, (c >> 1) & 63], [((c & 1) << 5) | (d >> 11), (d >> 5) & 63, d & 31]];
-  }
-  const bytes_of = (group) => [group[2] >> 8, group[2] & 255, group[3] >> 8, group[3] & 255];
-
   const CODES = { NOTHING, TEXT, NAME, TAGS, OTHER };
-  return { ...CODES, LOST, View, bytes_of, class_of, code_of, codes_of, printed, read, seconds, slots_of, tags_of, time };
+  return { ...CODES, LOST, View, class_of, code_of, codes_of, note_of, notes, read, seconds, slots_of, time };
 })();

@@ -3,12 +3,20 @@
 const log_tab = (() => {
   const { $, make } = parts;
   const PI = "C201", MOST_PROGRAMMES = 12;
-  const LINE = "A slot line has four blocks with one space between them. A block has four hexadecimal digits, or ---- if it was "
-    + "not received. The page does not show the lines after it.";
   const NO_WITNESS = ": no burst of lost slots makes a mix of a text or a name. A tag or two bursts may still make one. "
     + "A no says that a rule was broken.";
   const STOPPED = ": the search stopped there. There may be a mix. A no says that a rule was broken.";
-  const NO_GROUP = "The log has no group of this programme, so this yes says nothing.";
+  /* The cure of each fault, as in docs/FORMATS.md. */
+  const CURES = {
+    EarlyFlag: "Keep each text on air for at least M + K slots, and flip the flag only for a new text.",
+    Changed: "Flip the flag with every change, even of one word.",
+    NotOneText: "Send printable characters, end the text with one carriage return, fill its segment with spaces, and send no segment "
+      + "past it.",
+    EarlyTag: "Send the first tags M + K slots after the start of their text.",
+    TagOutside: "Count the start from 0, send the number of characters less one as the length, and set the tags after their text.",
+  };
+  const WHOLE_NAME = "A name has eight printable characters, filled with spaces.";
+  const OTHER_TAGS = "If this 11A is not RT+, empty its lines before the audit.";
   /* Milliseconds that the page has to draw the answer before a witness is looked for. */
   const DRAWN = 30;
   const PARTS = [["name", "name"], ["tag1", "first tag"], ["tag2", "second tag"]];
@@ -71,7 +79,7 @@ const log_tab = (() => {
   function look({ fit }) {
     if (!$("log-form").checkValidity()) return;
     const pi = $("log-pi").value, m = $("log-m").value, k = $("log-k").value, number = parseInt(pi, 16);
-    const { slots, logged, at, bad } = lines.slots_of(state.text), count = slots.length;
+    const { slots, logged, at } = lines.slots_of(state.text), count = slots.length;
     const heard = slots.map((group, slot) => state.lost.has(slot) ? null : group);
     Object.assign(state, { slots, logged, at, number, heard });
     const words = ["decode", "--pi", pi, "--m", m], audit_words = ["audit", "--pi", pi, "--m", m, "--k", k];
@@ -83,7 +91,7 @@ const log_tab = (() => {
     const no = /^no (\d+) (\w+)/.exec(audit.output);
     timeline.title = `rdsrt ${words.join(" ")}`;
     timeline.show(lanes(no, count), count, { fit });
-    show_verdict({ audit, no, m: Number(m), k: Number(k), bad });
+    show_verdict({ audit, no, m: Number(m), k: Number(k) });
     $("log-unlose").hidden = !state.lost.size;
     $("log-limit").textContent = flag_alone.limit(count);
     $("log-limit").hidden = !flag_alone.limit(count);
@@ -153,45 +161,49 @@ const log_tab = (() => {
   const says = (strong, text) => make("p", {}, make("b", { textContent: strong }), ` ${text}`);
   const go_to = (slot) => button(`slot ${slot.toLocaleString("en")}`, () => { timeline.move(slot); timeline.canvas.focus(); });
 
-  function show_verdict({ audit, no, m, k, bad }) {
+  function show_verdict({ audit, no, m, k }) {
     const root = $("verdict"), yes = /^yes (\d+)/.exec(audit.output), told = [];
     root.className = `verdict${no ? " no" : yes ? "" : " fault"}`;
     state.turn++;
-    if (yes) told.push(...passed(Number(yes[1])));
-    else if (no) told.push(...refused(no, m, k));
-    else told.push(...faulty(audit, bad));
+    if (yes) told.push(...passed(audit, Number(yes[1])));
+    else if (no) told.push(...refused(audit, no, m));
+    else told.push(...faulty(audit));
     const about = `The audit reads the log as sent, with M + K = ${m + k} slots (${lines.time(m + k)}).`;
     root.replaceChildren(...told, make("p", { className: "small", textContent: about }));
   }
 
-  function passed(count) {
-    const has_groups = state.slots.some((group) => group && group[0] === state.number);
+  function passed(audit, count) {
     const kept = `All ${parts.counted(count, "slot")} keep the rules. No receiver with this M shows a mix of two texts, `
-      + "whichever groups it loses.";
-    return [make("h2", { textContent: "✓ Passes the audit" }), make("p", { textContent: has_groups ? kept : NO_GROUP })];
+      + "whichever groups it loses", note = lines.note_of(audit.notes, "no group");
+    return [make("h2", { textContent: "✓ Passes the audit" }), make("p", { textContent: `${note || kept}.` })];
   }
 
-  function refused(no, m, k) {
-    const slot = Number(no[1]), { cause, what, should } = rules.explain(no[2], state.slots, state.number, slot, m + k);
+  /* What the encoder should do after a fault in this slot. */
+  function cure(fault, slot) {
+    const is_name = lines.code_of(state.slots[slot], state.number) === lines.NAME;
+    if (fault === "NotOneText" && is_name) return WHOLE_NAME;
+    return fault === "EarlyTag" ? `${CURES[fault]} ${OTHER_TAGS}` : CURES[fault] ?? "";
+  }
+
+  function refused(audit, no, m) {
+    const slot = Number(no[1]), note = lines.note_of(audit.notes, "slot "), rule = note.slice(`slot ${slot}`.length);
     const about = make("p", { className: "witness", textContent: "Looking for lost slots that make a mix …" });
     look_for_witness(about, slot, m);
     return [
       make("h2", {}, "✗ ", make("code", { textContent: no[2] })),
-      make("p", { textContent: cause }),
-      make("p", {}, "First in ", go_to(slot), ` (${lines.time(slot)}). ${what ?? ""}`),
-      ...(should ? [says("What the encoder should do:", should)] : []),
+      make("p", {}, "First in ", go_to(slot), `${rule}. This slot is ${lines.time(slot)} after the first.`),
+      says("What the encoder should do:", cure(no[2], slot)),
       about,
     ];
   }
 
-  function faulty(audit, bad) {
-    const line = /^fault line (\d+)/.exec(audit.output);
-    if (!line) return [make("h2", { textContent: "No verdict" }), make("p", { textContent: audit.output.trim() })];
-    const number = Number(line[1]), text = state.text.split("\n")[number - 1] ?? "";
+  function faulty(audit) {
+    const line = /^fault line (\d+)/.exec(audit.output), note = lines.note_of(audit.notes, "fault ") || audit.output.trim();
+    if (!line) return [make("h2", { textContent: "No verdict" }), make("p", { textContent: `${note}.` })];
+    const number = Number(line[1]);
     return [
       make("h2", { textContent: `Line ${number.toLocaleString("en")} is malformed` }),
-      make("p", {}, make("code", { textContent: text.length > 60 ? `${text.slice(0, 60)}…` : text || "(empty)" })),
-      make("p", { textContent: LINE }),
+      make("p", { textContent: `${note}. The page does not show the lines after it.` }),
       make("p", {}, button("Show the line", () => parts.go_to_line("log-text", number))),
     ];
   }

@@ -1,7 +1,7 @@
 "use strict";
-/* The program itself: words and input in, status and output out. Its output is read in lines.js. */
+/* The program itself: words and input in, status, output and notes out. lines.js reads its output and its notes. */
 const rdsrt = (() => {
-  const HEAP = 1 << 20, ROOM = 1 << 16, MOST = 2 ** 31, PAGE = 1 << 16;
+  const HEAP = 1 << 20, ROOM = 1 << 16, NOTES = 1 << 13, MOST = 2 ** 31, PAGE = 1 << 16;
   const encoder = new TextEncoder(), decoder = new TextDecoder();
   let module = null;
 
@@ -13,13 +13,14 @@ const rdsrt = (() => {
     module = made.instance.exports;
   }
 
-  /* Where words, input, output and heap of one run lie, behind what is the module's own. */
+  /* Where words, input, output, notes and heap of one run lie, behind what is the module's own. */
   function layout(words, input, room, heap) {
     const up = (n) => (n + 15) & ~15, ended = up(Number(module.__heap_base.value));
     const at = { ended, words: ended + 64 };
     at.input = up(at.words + words);
     at.output = up(at.input + input);
-    at.heap = up(at.output + room);
+    at.notes = up(at.output + room);
+    at.heap = at.notes + NOTES;
     at.end = at.heap + heap;
     return at;
   }
@@ -33,16 +34,23 @@ const rdsrt = (() => {
     bytes.set(words, at.words);
     bytes.set(input, at.input);
     module.rdsrt_heap(BigInt(at.heap), BigInt(at.end));
-    module.rdsrt_run(...[at.ended, at.words, words.length, at.input, input.length, at.output, room].map(BigInt));
-    const ended = new DataView(module.memory.buffer, at.ended, 24);
+    const given = [at.words, words.length, at.input, input.length], taken = [at.output, room, at.notes, NOTES];
+    module.rdsrt_run(...[at.ended, ...given, ...taken].map(BigInt));
+    const ended = new DataView(module.memory.buffer, at.ended, 32);
     return {
       length: Number(ended.getBigUint64(0, true)),
       failures: Number(ended.getBigUint64(8, true)),
-      status: ended.getUint8(16),
-      at: at.output,
+      noted: Number(ended.getBigUint64(16, true)),
+      status: ended.getUint8(24),
+      at,
       heap: Number(module.rdsrt_heap_at()) - at.heap,
     };
   }
+
+  const text_at = (at, length) => decoder.decode(new Uint8Array(module.memory.buffer, at, length));
+
+  /* The notes of a call, as far as they have room: its lines without the name of the program. */
+  const notes_of = (got) => lines.notes(text_at(got.at.notes, Math.min(got.noted, NOTES)));
 
   /* Runs the program. Where there was no memory, or no room for the output, it runs again with more. */
   function run(words, input) {
@@ -51,14 +59,14 @@ const rdsrt = (() => {
     let room = ROOM + 4 * bytes.length, heap = HEAP + 2 * room;
     for (;;) {
       const got = call(given, bytes, room, heap), fits = got.length <= room;
-      const output = fits ? decoder.decode(new Uint8Array(module.memory.buffer, got.at, got.length)) : "";
+      const output = fits ? text_at(got.at.output, got.length) : "";
       if (got.failures > 0 || output.endsWith("fault memory\n")) {
         heap *= 4;
         if (heap > MOST) throw new Error("no memory for this input");
       } else if (!fits) {
         room = got.length;
         heap = Math.max(heap, HEAP + 2 * room);
-      } else return { status: got.status, output, heap: got.heap, ms: performance.now() - from };
+      } else return { status: got.status, output, notes: notes_of(got), heap: got.heap, ms: performance.now() - from };
     }
   }
 

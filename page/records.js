@@ -28,7 +28,7 @@ const records = (() => {
   const letters = (receptions) => receptions.match(/G\d*|L|R/g) ?? [];
   function row_of({ fields, line }) {
     const [command = "", argument = "", free = "", receptions = ""] = fields;
-    return { command, argument, free, receptions: letters(receptions), line, fields };
+    return { command, argument, free, receptions: letters(receptions), line };
   }
   const read = (text) => split(text).map(row_of);
   const empty = (receivers) => ({ command: "-", argument: "", free: "1", receptions: Array(receivers).fill("G") });
@@ -36,19 +36,6 @@ const records = (() => {
   const field = (s) => /[",\n\r]/.test(s) ? `"${s.replaceAll('"', '""')}"` : s;
   const write_row = (r) => `${field(r.command)},${field(r.argument)},${r.free},${r.receptions.join("")}\n`;
   const write = (rows) => rows.map(write_row).join("");
-
-  /* Why a row is invalid, as far as its fields alone show. */
-  function why_no_row(row, receivers) {
-    const { fields } = row;
-    if (fields.length !== 4) return `it has ${fields.length === 1 ? "one field" : `${fields.length} fields`}, and a row has four`;
-    if (!["-", "restart", "text", "name", "tags"].includes(fields[0])) return `“${fields[0]}” is not a command`;
-    if (fields[2] !== "0" && fields[2] !== "1") return "its third field is not 0 or 1";
-    if (!/^(?:G\d{0,4}|L|R)*$/.test(fields[3])) return "its last field has something other than G, L and R";
-    if (row.receptions.length > 8) return "it has more than eight receivers";
-    if (row.receptions.length !== receivers) return `it has ${row.receptions.length} receivers, and the first row has ${receivers}`;
-    if (/\d/.test(fields[3])) return "a group comes too late or out of order";
-    return "its argument is invalid for its command";
-  }
 
   /* A script as letters of a link, and back. */
   const MOST = 8000;
@@ -67,5 +54,5 @@ const records = (() => {
     return new TextDecoder("utf-8", { fatal: true }).decode(bytes);
   }
 
-  return { empty, pack, read, unpack, why_no_row, write };
+  return { empty, pack, read, unpack, write };
 })();

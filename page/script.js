@@ -135,6 +135,7 @@ const script_tab = (() => {
     parts.fill("script-lines", got.output);
     $("script-command").textContent = `rdsrt ${words.join(" ")}`;
     tell_mixes();
+    tell_wait();
     tell_fault(text);
   }
 
@@ -267,17 +268,24 @@ const script_tab = (() => {
     $("script-count").textContent = n === 0 || state.said.fault ? "" : `${told} ${flag_alone.limit(state.rows.length)}`.trim();
   }
 
-  /* A fault of the script, by the line of the text that was played. */
+  /* Shows the program's note on the first set that came too early. */
+  function tell_wait() {
+    const note = lines.note_of(state.result.notes, "slot ");
+    $("script-note").textContent = note && `${note}.`;
+    $("script-note").hidden = !note;
+  }
+
+  /* A fault of the script, by the program's note; and a button to the line of a bad row in the text that was played. */
   function tell_fault(text) {
     const { fault } = state.said, root = $("script-fault"), row = /^fault row (\d+)/.exec(fault ?? "");
     root.hidden = !fault;
     if (!fault) return;
+    root.textContent = `${lines.note_of(state.result.notes, fault) || fault}.`;
     const bad = row && records.read(text)[Number(row[1]) - 1];
-    if (!bad) { root.textContent = fault; return; }
+    if (!bad) return;
     const go = parts.make("button", { type: "button", textContent: "Show the line" });
     go.onclick = () => parts.go_to_line("script-text", bad.line);
-    const why = records.why_no_row(bad, receivers());
-    root.replaceChildren(`Line ${bad.line.toLocaleString("en")} is not a valid row: ${why}. The rows after it are not played. `, go);
+    root.append(" The rows after it are not played. ", go);
   }
 
   // ---- a slot

@@ -53,10 +53,14 @@ def example(name):
         return file.read()
 
 
+def run_program(words, data):
+    """Status, output and notes of the program that the gate built."""
+    done = subprocess.run([PROGRAM, *words], input=data, capture_output=True, timeout=SECONDS)
+    return [done.returncode, done.stdout.decode(), re.findall("^rdsrt: (.*)$", done.stderr.decode(), re.M)]
+
+
 def program(words, data):
-    """Status and output of the program that the gate built."""
-    done = subprocess.run([PROGRAM, *words], input=data, stdout=subprocess.PIPE, stderr=subprocess.DEVNULL, timeout=SECONDS)
-    return [done.returncode, done.stdout.decode()]
+    return run_program(words, data)[:2]
 
 
 # ---- the page
@@ -118,7 +122,7 @@ def settled_verdict(b):
 
 def same(b, name, words, data):
     got = call(b, "probe.run", words, list(data))
-    check(f"{name}: {' '.join(words)}", got, program(words, data))
+    check(f"{name}: {' '.join(words)}", got, run_program(words, data))
 
 
 def some_line(dice):
@@ -370,60 +374,74 @@ def links(b, url):
 
 
 def faults(b):
-    said = verdict_of(b, f"# note\n{HI}\nC201 2140 4849\n", 8)
-    check("a bad line is named", ("Line 3 is malformed" in said, "C201 2140 4849" in said), (True, True))
+    said = verdict_of(b, f"# note\n{HI}\nC201 <b>40 4849\n", 8)
+    check("a bad line is named", said.partition("Show the line")[0],
+          'Line 3 is malformedfault line 3: "C201 <b>40 4849": block 2 has 5 characters, expected 4; a log line looks like '
+          f"{HI}. The page does not show the lines after it.")
+    check("and its text is no HTML", b.run("document.querySelectorAll('#verdict b').length"), 0)
     b.run("[...document.querySelectorAll('#verdict button')].at(-1).click()")
-    check("and shown", call(b, "probe.chosen_line", "log-text"), "C201 2140 4849")
+    check("and shown", call(b, "probe.chosen_line", "log-text"), "C201 <b>40 4849")
     rows = [
-        ("-,,1,G\n\n-,,1\n", 3, "it has 3 fields, and a row has four"),
-        ("-,,1,G\nsing,,1,G\n", 2, "“sing” is not a command"),
-        ("-,,1,G\n-,,2,G\n", 2, "its third field is not 0 or 1"),
-        ("-,,1,G\n-,,1,X\n", 2, "its last field has something other than G, L and R"),
-        ("-,,1,G\n-,,1,GG\n", 2, "it has 2 receivers, and the first row has 1"),
-        ("-,,1,G\n-,,1,G1\n", 2, "a group comes too late or out of order"),
-        ('-,,1,G\ntags,"1\n2",1,G\n', 2, "its argument is invalid for its command"),
-        ("text,\u2603,1,G\n", 1, "its argument is invalid for its command"),
+        ("-,,1,G\n\n-,,1\n", "row 2 (line 3): expected 4 fields (COMMAND,ARGUMENT,FREE,RECEPTIONS), found 3"),
+        ("-,,1,G\n-,,1,GG\n", "row 2 (line 2): RECEPTIONS: the number of receivers is 2, but row 1 has 1"),
+        ("text,\u2603,1,G\n", "row 1 (line 1): ARGUMENT: '\u2603' at character 1 is not in the RDS character table"),
     ]
-    for text, line, why in rows:
+    for text, why in rows:
         open_script(b, text, m=8, k=0)
         check(f"a bad row is named: {why}", text_of(b, "#script-fault"),
-              f"Line {line} is not a valid row: {why}. The rows after it are not played. Show the line")
+              f"fault {why}. The rows after it are not played. Show the line")
     click(b, "#script-fault button")
     check("and shown", call(b, "probe.chosen_line", "script-text"), "text,\u2603,1,G")
+
+
+def warnings(b):
+    """A yes over a log without a group of the programme, and the first set that came too early."""
+    said = verdict_of(b, f"{NOTHING}\n" * 3, 8)
+    check("a yes that says nothing", "✓ Passes the auditno group of C201 in 3 slots. The yes says nothing." in said, True)
+    said = verdict_of(b, f"{HI}\n", 8)
+    check("and one that does", "✓ Passes the auditAll 1 slot keep the rules." in said, True)
+    open_script(b, "text,HI,1,G\n" * 3, m=8, k=0)
+    check("the first refused set", text_of(b, "#script-note"),
+          "slot 0: text refused, the station is silent after a restart for 8 slots more; accepted from slot 8 on.")
+    open_script(b, "-,,1,G\n" * 8 + "text,HI,1,G\nname,POP,1,G\n-,,1,G\nname,JAZZ,1,G\n", m=8, k=0)
+    check("one that is held", text_of(b, "#script-note"),
+          "slot 11: name refused, the one before is still held for 14 slots more; accepted from slot 25 on.")
+    open_script(b, "-,,1,G\n" * 8 + "text,HI,1,G\n", m=8, k=0)
+    check("no refused set", (text_of(b, "#script-note"), of(b, "#script-note", "hidden")), ("", True))
 
 
 # ---- after a no
 
 
+YO = "C201 2150 594F 0D20"
 EXPLAINED = [
     ("EarlyFlag", [GROUPS[2], GROUPS[3], "C201 2150 4E45 5753", "C201 2151 2046 4D0D", "C201 2140 504F 5020"],
-     "In slot 4 the text “POP…” reuses the flag of “JAZZ FM”, whose last group was in slot 1: 3 slots before, and M + K is 8.",
-     "Our own encoder keeps each text for 2 (M + K) = 16 slots"),
+     "First in slot 4 (line 5): a text reused the A/B flag less than M + K = 8 slots after the last group of the text before the "
+     "previous one, in slot 1. This slot is 0.35 s after the first.", "Keep each text on air for at least M + K slots"),
     ("EarlyFlag", ["C201 A140 504F 5020", "C201 A150 4A41 5A5A", "C201 A140 504F 5020"],
-     "In slot 2 the name “POP…”", "Our own encoder keeps each name"),
+     "First in slot 2 (line 3): a name (PTYN) reused the A/B flag", "flip the flag only for a new text"),
     ("Changed", [HI, "C201 2140 594F 0D20"],
-     "The text “HI” had “HI\\x0D ” for characters 1 to 4 (slot 0), and in slot 1 has “YO\\x0D ” there", "Flip the flag with every change"),
+     "First in slot 1 (line 2): a text changed without a flip of the A/B flag. This slot", "Flip the flag with every change"),
     ("NotOneText", ["C201 2140 4849 0D21"],
-     "In slot 0 the segment “HI\\x0D!” (characters 1 to 4) has a character other than a space after the carriage return.",
-     "end the text with one carriage return"),
-    ("NotOneText", [HI, "C201 2141 4849 4849"],
-     "is past the carriage return that ends the text.", "end the text with one carriage return"),
+     "First in slot 0 (line 1): the segments fit no text. This slot", "end the text with one carriage return"),
     ("NotOneText", ["C201 A140 0148 4949"],
-     "has a control character.", "A name has eight printable characters"),
-    ("EarlyTag", ["C201 B158 8012 0985"],
-     "The tags in slot 0 come before any text.", "M + K is 8 slots"),
-    ("EarlyTag", [HI, "C201 2150 594F 0D20", "C201 B158 8012 0985"],
-     "come with the text “YO”, whose first group was in slot 1. They may start in slot 9.", "Send the first tags M + K slots after"),
+     "First in slot 0 (line 1): the segments fit no name (PTYN). This slot", "A name has eight printable characters"),
+    ("EarlyTag", ["# note", "C201 B158 8012 0985"],
+     "First in slot 0 (line 2): RT+ tags came before any text. This slot", "If this 11A is not RT+, empty its lines"),
+    ("EarlyTag", [HI, YO, "C201 B158 8012 0985"],
+     "First in slot 2 (line 3): RT+ tags came less than M + K = 8 slots after their text started, in slot 1. This slot",
+     "Send the first tags M + K slots after"),
     ("TagOutside", [HI, *[NOTHING] * 6, HI, "C201 B158 8012 0985"],
-     "A tag in slot 8 ends at character 10, and the text “HI” has 2.", "Count the start from 0"),
+     "First in slot 8 (line 9): an RT+ tag ends past the end of its text. This slot", "Count the start from 0"),
 ]
 
 
 def explained(b):
-    """A worked log of each fault: what the verdict says."""
+    """A worked log of each fault: the verdict has the program's note and the cure, and no advice for a terminal."""
     for fault, log, what, should in EXPLAINED:
         said = verdict_of(b, "".join(f"{line}\n" for line in log), 8)
-        check(f"{fault}: {what}", (text_of(b, "#verdict h2 code"), said if what not in said or should not in said else ""), (fault, ""))
+        missing = [it for it in (what, should) if it not in said]
+        check(f"{fault}: {what}", (text_of(b, "#verdict h2 code"), missing, "rdsrt" in said), (fault, [], False))
 
 
 def witnesses(b):
@@ -557,7 +575,7 @@ def nothing_fetched(b, folder):
     check("and these are in its folder", (sorted(here - set(os.listdir(folder))), len(here) > 10), ([], True))
 
 
-PARTS = (the_first_log, the_first_script, names_and_tags, flag_bit_alone, restarts, the_dwell, files, faults, explained,
+PARTS = (the_first_log, the_first_script, names_and_tags, flag_bit_alone, restarts, the_dwell, files, faults, warnings, explained,
          witnesses, keyboard, screen_reader, contrast_and_width, same_lines_of_examples, same_help_and_refusals,
          same_lines_by_chance, large)
 

@@ -3,10 +3,10 @@
 const probe = (() => {
   const at = (id) => document.getElementById(id);
 
-  /* Status and output of the program in the page over these bytes. */
+  /* Status, output and notes of the program in the page over these bytes. */
   function run(words, bytes) {
-    const { status, output } = rdsrt.run(words, Uint8Array.from(bytes));
-    return [status, output];
+    const { status, output, notes } = rdsrt.run(words, Uint8Array.from(bytes));
+    return [status, output, notes];
   }
 
   function choose(id, value) {

@@ -10,7 +10,7 @@ PROGRAM = os.path.join(ROOT, "crates/rdsrt/out/rdsrt")
 SECONDS = 60
 MOST_WORDS = {"README.md": 850, "docs/GUIDE.md": 2000, "docs/FORMATS.md": 1500, "docs/TRUST.md": 700,
               "CONTRIBUTING.md": 800, "CHANGELOG.md": 150}
-MANUAL, HEADER, RULES = "docs/man/rdsrt.1", "include/rdsrt.h", "page/rules.js"
+MANUAL, HEADER, CURES = "docs/man/rdsrt.1", "include/rdsrt.h", "page/log.js"
 HELP = ["tests/shown/help.txt", *(f"tests/shown/help_of_{it}.txt" for it in ("decode", "audit", "witness", "encode", "sim"))]
 FAULTS = {"EarlyFlag", "Changed", "NotOneText", "EarlyTag", "TagOutside"}
 REPLIES = ("ok", "silent", "held", "notext", "outoftext")
@@ -129,15 +129,17 @@ def plain(text):
 
 
 def faults(check):
-    """Each fault of the audit has one wording, with cause and cure."""
+    """Each fault of the audit has one wording, with cause and cure. The page has the cures alone, beside the program's notes."""
     section = text_of("docs/FORMATS.md").split("### Faults of the audit\n")[1].split("\n\nNames (PTYN)")[0]
     wordings = dict(re.findall(r"^- `(\w+)`: (.*?)(?=\n- |\Z)", section.strip(), re.M | re.S))
     check("FORMATS has the five faults", set(wordings), FAULTS)
-    places = {"audit --help": text_of("tests/shown/help_of_audit.txt"), MANUAL: manual(), HEADER: text_of(HEADER), RULES: text_of(RULES)}
+    places = {"audit --help": text_of("tests/shown/help_of_audit.txt"), MANUAL: manual(), HEADER: text_of(HEADER)}
     for name, wording in wordings.items():
         check(f"{name} has a cause and a cure", wording.count(".") >= 2, True)
         for place, text in places.items():
             check(f"{name} in {place}", plain(wording) in plain(text), True)
+        cure = wording.split(".", 1)[1]
+        check(f"the cure of {name} in {CURES}", plain(cure) in plain(text_of(CURES)), True)
 
 
 def manual_is_complete(check):
