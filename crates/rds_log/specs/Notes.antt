@@ -1,11 +1,11 @@
 -- What is noted of a run over a log. This is the project's own rule. r is what a call did to the reader.
-use Rattle.std.specs.Prelude.{◌≡◌, ℕ, List, Option, Some, None, Ok, Err, Result, IfSome, take}
+use Rattle.std.specs.Prelude.{◌≡◌, ◌⊎◌, ℕ, List, Option, Some, None, Ok, Err, Result, IfNone, IfSome, take}
 use Rattle.std.specs.Io.KnownBytes.{Consumes}
 use Rattle.rds_charset.specs.Told.{Traffic}
 use Rattle.rds_log.specs.Audit.{Judges}
 use Rattle.rds_log.specs.Heard.{HeardLog}
-use Rattle.rds_log.specs.LineCauses.{IsLineCause}
-use Rattle.rds_log.specs.LineSays.{deciding}
+use Rattle.rds_log.specs.LineCauses.{AreGoodBlocks, IsLineCause}
+use Rattle.rds_log.specs.LineSays.{IsSkipped, deciding}
 use Rattle.rds_log.specs.LogLines.{Line}
 use Rattle.rds_log.specs.Reads.{NextIsBad}
 use Rattle.rds_log.specs.declared.notes.BadStart.{BadStart}
@@ -16,10 +16,12 @@ use Rattle.rds_log.specs.declared.verdict.Verdict.TheVariants.{No, Yes}
 use Rattle.rds_output.specs.declared.fault.LogFault.{LogFault}
 use Rattle.rds_output.specs.declared.fault.LogFault.TheVariants.{BadLine, BadRow, Read, Write, TooLong, Memory}
 
--- a line that begins with these bytes is noted, and a cause that is given holds of them
+-- a line that begins with these bytes is noted, and a cause that is given holds of them; none is given only for a line
+-- that is skipped, or whose four blocks are good
 pub record IsNoteOn (first : List ℕ) (note : BadStart) : Type 0 where
   pub start : note.start.items ≡ first
   pub cause : IfSome note.cause (IsLineCause first)
+  pub none : IfNone note.cause (IsSkipped first ⊎ AreGoodBlocks first 4)
 
 -- this is noted at a fault: of a bad line its first bytes, and else nothing
 abbrev pub HasNote : List ℕ → LogFault → Option BadStart → Type 0

@@ -93,6 +93,16 @@ impl Cutter {
         self.kept.try_extend_from_slice(&bytes[..count]).unwrap();
     }
 
+    /// Keeps the first bytes of a bad line. It stands apart so that good lines pay nothing for it.
+    #[inline(never)]
+    fn keep_bad(&mut self, line: &[u8])
+        requires { self.old.kept.items ≡ [] }
+        ensures kept { self.new.kept.items ≡ take deciding line.now }
+        ensures lines { self.new.lines ≡ self.old.lines }
+    {
+        self.keep(line);
+    }
+
     /// What the line that is begun says where these are its last bytes; `None` for a bad line, of which the first bytes
     /// are then kept.
     #[inline(always)]
@@ -123,7 +133,7 @@ impl Cutter {
     {
         let said = said_by(line);
         if said.is_none() {
-            self.keep(line);
+            self.keep_bad(line);
         }
         said
     }

@@ -106,7 +106,7 @@ fn decode_noting<R: TellingRead, W: TellingWrite>(
     loop {
         match source.next(reader, &mut said) {
             Ok(true) => {
-                notes.heard.line(pi, &said);
+                notes.heard.line(pi, said);
                 decoder.line(said);
             }
             Ok(false) => {

@@ -90,7 +90,7 @@ fn gather_noting<R: TellingRead>(
     let mut said = LogLine::Skip;
     loop {
         match source.next(reader, &mut said) {
-            Ok(true) => notes.heard.line(pi, &said),
+            Ok(true) => notes.heard.line(pi, said),
             Ok(false) => {
                 notes.slots = slots.len() as u64;
                 return Ok(slots);

@@ -40,10 +40,10 @@ impl Heard {
 
     /// Takes what a line says.
     #[inline(always)]
-    pub(crate) fn line(&mut self, pi: u16, said: &LogLine)
+    pub(crate) fn line(&mut self, pi: u16, said: LogLine)
         requires { self.old.groups < 2 ^ 64 - 1 }
         ensures groups { self.new.groups ≤ self.old.groups + 1 }
-        ensures heard { (lines : List Line) (line : Line) → LineSays line said.now
+        ensures heard { (lines : List Line) (line : Line) → LineSays line said
             → HeardLines pi lines self.old → HeardLines pi (line ∷ lines) self.new }
     {
         if !self.wanted {
@@ -51,23 +51,23 @@ impl Heard {
         }
     }
 
-    /// Takes what a line says while no group of the wanted programme was read. It stands apart so that the other lines
-    /// pay nothing for it.
-    #[inline(never)]
-    fn look(&mut self, pi: u16, said: &LogLine)
+    /// Takes what a line says while no group of the wanted programme was read.
+    #[inline(always)]
+    fn look(&mut self, pi: u16, said: LogLine)
         requires groups { self.old.groups < 2 ^ 64 - 1 }
         requires none { self.old.wanted ≡ false }
         ensures groups { self.new.groups ≤ self.old.groups + 1 }
-        ensures heard { (lines : List Line) (line : Line) → LineSays line said.now
+        ensures heard { (lines : List Line) (line : Line) → LineSays line said
             → HeardLines pi lines self.old → HeardLines pi (line ∷ lines) self.new }
     {
-        match *said {
+        match said {
             LogLine::Slot(slot) => self.slot(pi, slot),
             LogLine::Skip => {}
         }
     }
 
     /// Counts the group of a slot.
+    #[inline(always)]
     fn slot(&mut self, pi: u16, slot: Option<Blocks>)
         requires groups { self.old.groups < 2 ^ 64 - 1 }
         requires none { self.old.wanted ≡ false }
@@ -75,10 +75,21 @@ impl Heard {
         ensures heard { (slots : List (Option Group)) → IsHeard pi slots self.old
             → IsHeard pi (slot ∷ slots) self.new }
     {
-        let Some(group) = slot else {
-            return;
-        };
-        let own = group.pi();
+        if let Some(group) = slot {
+            self.count(pi, group.pi());
+        }
+    }
+
+    /// Counts a group of this programme. It stands apart, and takes no more than two numbers, so that the other slots pay
+    /// nothing for it.
+    #[inline(never)]
+    fn count(&mut self, pi: u16, own: u16)
+        requires groups { self.old.groups < 2 ^ 64 - 1 }
+        requires none { self.old.wanted ≡ false }
+        ensures groups { self.new.groups ≤ self.old.groups + 1 }
+        ensures heard { (slots : List (Option Group)) (group : Group) → group.pi ≡ own → IsHeard pi slots self.old
+            → IsHeard pi (Some group ∷ slots) self.new }
+    {
         self.wanted = own == pi;
         self.groups += 1;
         match self.first {

@@ -36,10 +36,12 @@ pub struct NoNote {
 }
 
 impl NoNote {
-    /// Returns the note on a slot with which an audit stopped, whose line said this.
+    /// Returns the note on a slot with which an audit stopped, and which a name broke or not. It stands apart so
+    /// that slots that pass pay nothing for it.
+    #[inline(never)]
     pub(crate) fn of(
         audit: &Audit,
-        said: &LogLine,
+        of_name: bool,
         slot: u64,
         line: u64,
         fault: AuditFault,
@@ -47,7 +49,6 @@ impl NoNote {
         ensures slot { result.slot ≡ slot }
         ensures fault { result.fault ≡ fault }
     {
-        let of_name = is_name(said);
         let stored = audit.store();
         let age = match fault {
             AuditFault::EarlyFlag if of_name => Some(stored.name.since_before),
@@ -66,9 +67,9 @@ impl NoNote {
     }
 }
 
-/// Returns whether the line has a group of a name.
-fn is_name(said: &LogLine) -> bool {
-    match *said {
+/// Returns whether a line has a group of a name.
+pub(crate) fn is_name(said: LogLine) -> bool {
+    match said {
         LogLine::Slot(Some(group)) => Message::name_in(group).is_some(),
         LogLine::Slot(None) | LogLine::Skip => false,
     }

@@ -112,7 +112,9 @@ impl Source {
         self.cutter.lines
     }
 
-    /// Returns the note on a fault of this source: on a bad line, its first bytes and why it is bad.
+    /// Returns the note on a fault of this source: on a bad line, its first bytes and why it is bad. It stands apart so that
+    /// good lines pay nothing for it.
+    #[inline(never)]
     pub(crate) fn note(&self, fault: LogFault) -> Option<BadStart>
         ensures { HasNote self.now.cutter.kept.items fault result }
     {
