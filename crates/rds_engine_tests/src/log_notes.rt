@@ -59,7 +59,12 @@ fn causes_of_lines(rt: HostRuntime) -> Result<(), Fail> {
 fn bad_lines_of_all_calls(rt: HostRuntime) -> Result<(), Fail> {
     let log = [b'x'; 100];
     let mut notes = LogNotes::new(0);
-    let slots = gather_with_notes(rt.alloc(), &mut Told::new(log.as_slice()), 0xC201, &mut notes);
+    let slots = gather_with_notes(
+        rt.alloc(),
+        &mut Told::new(log.as_slice()),
+        0xC201,
+        &mut notes,
+    );
     assert_eq!(rt; slots.err(), Some(LogFault::BadLine(1)));
     let bad = notes.bad.ok_or("a bad line is noted")?;
     assert_eq!(rt; bad.start.as_slice(), &log[..60]);
@@ -97,7 +102,13 @@ fn programmes(rt: HostRuntime) -> Result<(), Fail> {
         assert_eq!(rt; done, Ok(()));
         let heard = notes.heard;
         assert_eq!(rt;
-            (notes.slots, heard.wanted, heard.groups, heard.first, heard.of_first),
+            (
+                notes.slots,
+                heard.wanted,
+                heard.groups,
+                heard.first,
+                heard.of_first
+            ),
             (2, wanted, groups, first, of_first)
         );
     }

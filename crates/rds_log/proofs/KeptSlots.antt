@@ -1,5 +1,5 @@
 -- How the slots that are kept go on by a line.
-use Rattle.std.proofs.Common.{◌≡◌, List, Option, [], ◌∷◌, ◌++◌, ap, inl, inr, refl, reverse, ◌∙◌}
+use Rattle.std.proofs.Common.{◌≡◌, List, Option, [], ◌∷◌, ◌++◌, ap, inl, inr, reverse, ◌∙◌}
 use Rattle.std.proofs.lemmas.List.{reverse-append}
 use Rattle.rds_block.specs.declared.group.Group.{Group}
 use Rattle.rds_log.specs.LineSays.{LineSays}

@@ -1,5 +1,5 @@
 -- What the answer of an audit means.
-use Rattle.std.proofs.Common.{◌≡◌, ◌+◌, ◌<◌, ℕ, Bool, true, false, List, Option, Ok, Err, refl}
+use Rattle.std.proofs.Common.{◌≡◌, ◌+◌, ℕ, Bool, true, false, List, Option, Ok, Err, refl}
 use Rattle.std.specs.Prelude.{Result}
 use Rattle.rds_block.specs.declared.group.Group.{Group}
 use Rattle.rds_charset.specs.Told.{Traffic}

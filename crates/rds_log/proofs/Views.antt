@@ -1,12 +1,12 @@
 -- How the views and their changes go on by a slot.
-use Rattle.std.proofs.Common.{◌≡◌, ◌+◌, ◌++◌, ℕ, List, [], ◌∷◌, Option, Some, None, length, refl, sym, ap, ◌∙◌, arith}
+use Rattle.std.proofs.Common.{◌≡◌, ◌+◌, ◌++◌, ℕ, List, [], ◌∷◌, Option, length, sym, ap, ◌∙◌, arith}
 use Rattle.std.proofs.lemmas.List.{append-nil}
 use Rattle.rds_block.specs.declared.group.Group.{Group}
 use Rattle.rds_receiver.specs.Receipts.{Tuning}
 use Rattle.rds_receiver.specs.Shown.{IsView, ShownView}
 use Rattle.rds_receiver.specs.StandsAt.{StandsAt}
 use Rattle.rds_output.specs.NoChange.{no_change, view_of_none}
-use Rattle.rds_output.specs.Output.{change, newest, nothing_shown, slot_stamp}
+use Rattle.rds_output.specs.Output.{change, newest, slot_stamp}
 use Rattle.rds_log.specs.LogWrites.{AreViews}
 use Rattle.rds_output.specs.KeptView.{view_kept}
 use Rattle.rds_log.specs.Inside.ViewLines.{ViewsStandAt}

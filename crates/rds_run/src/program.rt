@@ -78,7 +78,13 @@ pub fn run_lent<R: TellingRead, W: TellingWrite>(
         (IsUntouched R.remaining R.failures R.reads reader.old reader.new)
         (traffic W.contents W.failures writer.old writer.new) result }
 {
-    run_read(alloc, read_words(alloc, words), reader, writer, &mut RunNotes::new())
+    run_read(
+        alloc,
+        read_words(alloc, words),
+        reader,
+        writer,
+        &mut RunNotes::new(),
+    )
 }
 
 /// [`run_lent`] with notes for a person, which go to `screen`: with them or without, it writes and returns the same.
@@ -168,7 +174,15 @@ fn answer<R: TellingRead, W: TellingWrite>(
         tell_fault_text(request.task, b"fault pi", writer);
         return REFUSED;
     };
-    run_task(alloc, request.task, pi, request.dwell, reader, writer, notes)
+    run_task(
+        alloc,
+        request.task,
+        pi,
+        request.dwell,
+        reader,
+        writer,
+        notes,
+    )
 }
 
 /// Runs the engine of the task for its programme, and tells its fault.

@@ -67,7 +67,10 @@ fn tell_wait<N: TellingWrite>(notes: &RunNotes, screen: &mut N) {
     let slot = wait.slot;
     let from = slot.saturating_add(u64::from(slots));
     let mut note = begun();
-    let _ = write!(note, "slot {slot}: {thing} refused, {why} for {slots} slots more");
+    let _ = write!(
+        note,
+        "slot {slot}: {thing} refused, {why} for {slots} slots more"
+    );
     let _ = write!(note, "; accepted from slot {from} on");
     print(note, screen);
 }
@@ -108,7 +111,10 @@ fn tell_no<N: TellingWrite>(notes: &RunNotes, screen: &mut N) {
     let mut note = begun();
     let _ = write!(note, "slot {slot} (line {line}): ");
     push_rule(no, &mut note);
-    let _ = write!(note, ". To look for lost slots that make a mix: rdsrt witness --pi ");
+    let _ = write!(
+        note,
+        ". To look for lost slots that make a mix: rdsrt witness --pi "
+    );
     push(notes.pi.as_slice(), &mut note);
     if let Some(options) = notes.options {
         let slots = options.dwell.get();
@@ -129,7 +135,10 @@ fn push_rule(no: NoNote, note: &mut Note) {
             "a {thing} reused the A/B flag less than M + K = {spacing} slots after the last group of the {thing} before \
              the previous one"
         ),
-        AuditFault::EarlyTag if no.earlier.is_none() => write!(note, "RT+ tags came before any text"),
+        AuditFault::EarlyTag if no.earlier.is_none() => write!(
+            note,
+            "RT+ tags came before any text"
+        ),
         AuditFault::EarlyTag => write!(
             note,
             "RT+ tags came less than M + K = {spacing} slots after their text started"
@@ -146,7 +155,10 @@ fn tell_pi<N: TellingWrite>(given: &[u8], screen: &mut N) {
     let mut note = begun();
     let _ = write!(note, "fault pi: --pi ");
     push_shown(given, &mut note);
-    let _ = write!(note, ": a PI code has four hexadecimal digits and no 0x, for example C201");
+    let _ = write!(
+        note,
+        ": a PI code has four hexadecimal digits and no 0x, for example C201"
+    );
     print(note, screen);
 }
 
@@ -166,7 +178,11 @@ fn tell_fault<N: TellingWrite>(
     match fault {
         LogFault::BadLine(number) => push_bad_line(number, &notes.log.bad, &mut note),
         LogFault::BadRow(number) => push_bad_row(number, notes, &mut note),
-        LogFault::Read => push_failed("fault read: reading standard input failed", reason, &mut note),
+        LogFault::Read => push_failed(
+            "fault read: reading standard input failed",
+            reason,
+            &mut note,
+        ),
         LogFault::Write => push_failed("writing standard output failed", reason, &mut note),
         LogFault::TooLong => push_too_long(task, &mut note),
         LogFault::Memory => {
@@ -201,7 +217,10 @@ fn push_failed(what: &str, reason: &Reason, note: &mut Note) {
 /// Appends that the input is too long.
 fn push_too_long(task: Task, note: &mut Note) {
     let unit = if reads_script(task) { "rows" } else { "reads" };
-    let _ = write!(note, "fault too long: the input has 4294967296 {unit} or more");
+    let _ = write!(
+        note,
+        "fault too long: the input has 4294967296 {unit} or more"
+    );
 }
 
 /// Appends which line is bad, why, and what a line looks like.

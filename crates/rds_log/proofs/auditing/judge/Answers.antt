@@ -1,4 +1,4 @@
-use Rattle.std.proofs.Common.{[], ◌≡◌, ◌+◌, ◌∷◌, arith, refl, rules, true}
+use Rattle.std.proofs.Common.{[], ◌+◌, ◌∷◌, arith, refl}
 use Rattle.rds_log.specs.Inside.Source.{state_of}
 use Rattle.rds_log.proofs.Audits.{audits_said, audits_skip, stops_at_slot}
 use Rattle.rds_log.proofs.Noting.{fault_noted}

@@ -1,4 +1,4 @@
-use Rattle.std.proofs.Common.{eqb, arith, w8, ◌∙◌}
+use Rattle.std.proofs.Common.{eqb, arith, w8}
 use Rattle.std.proofs.lemmas.List.{length-take-le}
 use Rattle.std.proofs.lemmas.Simd.{bitmask_splat}
 use lib.ListN.{take}

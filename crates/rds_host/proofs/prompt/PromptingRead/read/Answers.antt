@@ -1,4 +1,4 @@
-use Rattle.std.proofs.Common.{[], List, None, Option, Some, ℕ, rules}
+use Rattle.std.proofs.Common.{List, None, Option, Some, ℕ}
 use Rattle.std.proofs.KnownBytes.{Consumes-nil}
 use Rattle.std.proofs.Props.{props}
 use Rattle.std.proofs.Math.Logic.{∥∥₁_elim}
