@@ -239,7 +239,6 @@ fn play_rows<R: TellingRead, W: TellingWrite>(
 /// `csv` notes the start of a record before it skips empty lines, and before the line feed of `\r\n`. So this counts
 /// back from the end, by the line feeds inside the record and the one that ends it. Each row has a line of its own, so
 /// the line is `number` or more.
-#[inline(never)]
 fn line_of(number: u64, after: u64, row: &ByteRecord) -> u64 {
     let inside = row.as_slice().iter().filter(|byte| **byte == b'\n').count();
     after
