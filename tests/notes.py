@@ -2,9 +2,11 @@
 import os
 import pty
 import random
+import re
 import shlex
 import subprocess
 
+import plain_audit
 import worked_rows
 
 ROOT = os.path.dirname(os.path.dirname(os.path.abspath(__file__)))
@@ -155,6 +157,45 @@ def noes(check):
           note(f"slot 1 (line 2): a name (PTYN) changed without a flip of the A/B flag{NEXT}4"))
 
 
+def earlier_of(slots, spacing):
+    """The fault of the slots, whether it is of a name, and the slot that it comes too soon after, by the plain audit."""
+    services = {"text": plain_audit.Reigns(spacing, plain_audit.is_text_segment),
+                "name": plain_audit.Reigns(spacing, plain_audit.is_name_segment)}
+    for slot, group in enumerate(slots):
+        segment = group and plain_audit.segment_of(group)
+        reigns = services[segment[0] if segment else "text"].all
+        try:
+            if segment:
+                services[segment[0]].take(slot, *segment[1:])
+            elif group:
+                services["text"].take_tags(slot, plain_audit.tag_ends_of(group))
+        except plain_audit.Broken as fault:
+            earlier = {"EarlyFlag": lambda: reigns[-2]["last"],
+                       "EarlyTag": lambda: reigns[-1]["start"] if reigns else None}.get(str(fault), lambda: None)()
+            return str(fault), bool(segment) and segment[0] == "name", earlier
+    return None
+
+
+def earlier_slots(check):
+    """The earlier slot of a no, on logs by chance."""
+    draw = random.Random(SEED)
+    groups = ["C201 2140 4849 0D20", "C201 2150 594F 0D20", "C201 A540 504F 5020", "C201 A550 4A41 5A5A",
+              "C201 B148 2002 0000", None]
+    early = 0
+    for _ in range(300):
+        m, k = draw.randrange(1, 6), draw.randrange(3)
+        slots = [draw.choices(groups, (4, 4, 2, 2, 1, 20))[0] for _ in range(60)]
+        wanted = earlier_of([it and it.split() for it in slots], m + k)
+        log = "".join(f"{it or '---- ---- ---- ----'}\n" for it in slots).encode()
+        told = noted(f"{AUDIT} --m {m} --k {k}", log)[2]
+        slot = re.search(r", in slot (\d+)\. To look", told)
+        got = slot and int(slot.group(1))
+        early += wanted is not None and wanted[2] is not None
+        check(f"earlier slot, M {m}, K {k}, seed {SEED}", (got, "name (PTYN)" in told),
+              (wanted and wanted[2], bool(wanted) and wanted[1]))
+    check("some no of these logs has an earlier slot", early > 50, True)
+
+
 def waits(check):
     silent = "slot 0: text refused, the station is silent after a restart for 128 slots more; accepted from slot 128 on"
     for words in ("encode", "sim"):
@@ -247,5 +288,5 @@ def silence(check):
 
 
 def run(check):
-    for part in (lines, rows, programmes, noes, waits, faults, terminals, quiet, silence):
+    for part in (lines, rows, programmes, noes, earlier_slots, waits, faults, terminals, quiet, silence):
         part(check)

@@ -9,3 +9,6 @@ mod tell;
 
 pub use gathered::{Screen, run_gathered};
 pub use program::{run, run_lent, run_with_notes};
+
+#[cfg(test)]
+mod tests;

@@ -136,6 +136,7 @@ fn tell_error<W: TellingWrite>(error: &Error, writer: &mut W, notes: &mut RunNot
         → PutsLine (codes "fault memory\n") (traffic W.contents W.failures writer.old writer.new) }
 {
     if error.kind() == ErrorKind::OutOfMemory {
+        let _ = notes.refused.write(b"rdsrt: fault memory: out of memory\n");
         tell(b"fault memory\n", writer);
         return FAULT;
     }
