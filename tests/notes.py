@@ -109,7 +109,7 @@ def rows(check):
         check(f"status and output at {row!r}", got[:2], (1, b"# fault row 1\n" if words == ENCODE else b"fault row 1\n"))
     later = noted(SIM, b"-,,1,GG\n\n-,,1,G\n")[2]
     check("note on receivers of another number", later,
-          note("fault row 2 (line 3): RECEPTIONS: the number of receivers is 1, but row 1 has 2"))
+          note("fault row 2 (line 3): RECEPTIONS: the number of receivers is 1, but the first row has 2"))
     again = noted("sim --pi C201 --m 1 --k 2", b"-,,1,G\n-,,1,G1\n")[2]
     check("note on a group that was handed over", again,
           note("fault row 2 (line 2): RECEPTIONS: receiver 0: it already has the slot of G1, or a newer one"))

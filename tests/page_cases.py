@@ -383,7 +383,7 @@ def faults(b):
     check("and shown", call(b, "probe.chosen_line", "log-text"), "C201 <b>40 4849")
     rows = [
         ("-,,1,G\n\n-,,1\n", "row 2 (line 3): expected 4 fields (COMMAND,ARGUMENT,FREE,RECEPTIONS), found 3"),
-        ("-,,1,G\n-,,1,GG\n", "row 2 (line 2): RECEPTIONS: the number of receivers is 2, but row 1 has 1"),
+        ("-,,1,G\n-,,1,GG\n", "row 2 (line 2): RECEPTIONS: the number of receivers is 2, but the first row has 1"),
         ("text,\u2603,1,G\n", "row 1 (line 1): ARGUMENT: '\u2603' at character 1 is not in the RDS character table"),
     ]
     for text, why in rows:

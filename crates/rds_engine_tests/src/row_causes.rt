@@ -351,12 +351,12 @@ fn receptions(rt: HostRuntime) -> Result<(), Fail> {
         (
             b"-,,1,G\n-,,1,GG\n",
             2,
-            "RECEPTIONS: the number of receivers is 2, but row 1 has 1",
+            "RECEPTIONS: the number of receivers is 2, but the first row has 1",
         ),
         (
             b"-,,1,GLR\n-,,1,RLG\n-,,1,\n",
             3,
-            "RECEPTIONS: the number of receivers is 0, but row 1 has 3",
+            "RECEPTIONS: the number of receivers is 0, but the first row has 3",
         ),
     ];
     for case in cases {
@@ -481,7 +481,7 @@ fn two_causes(rt: HostRuntime) -> Result<(), Fail> {
         (
             b"-,,1,G\n-,,1,G5G5\n",
             2,
-            "RECEPTIONS: the number of receivers is 2, but row 1 has 1",
+            "RECEPTIONS: the number of receivers is 2, but the first row has 1",
         ),
     ];
     for case in cases {

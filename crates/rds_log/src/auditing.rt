@@ -10,7 +10,7 @@ ghost use Rattle.rds_output.specs.declared.fault.LogFault.TheVariants as faults;
 use crate::decoding::MOST_READS;
 use crate::laws::what_an_answer_means;
 use crate::log_line::LogLine;
-use crate::notes::{LogNotes, NoNote, is_name};
+use crate::notes::{LogNotes, NoNote};
 use crate::source::Source;
 use crate::verdict::Verdict;
 use rds_audit::Audit;
@@ -141,7 +141,7 @@ fn judge<R: TellingRead>(
         };
         if let Err(fault) = audit.slot_blocks(group) {
             let why = fault;
-            notes.no = Some(NoNote::of(&audit, is_name(said), slots, source.lines(), why));
+            notes.no = Some(NoNote::of(&audit, said, slots, source.lines(), why));
             return Ok(Verdict::No(slots, fault));
         }
         slots += 1;

@@ -36,12 +36,12 @@ pub struct NoNote {
 }
 
 impl NoNote {
-    /// Returns the note on a slot with which an audit stopped, and which a name broke or not. It stands apart so
-    /// that slots that pass pay nothing for it.
+    /// Returns the note on a slot with which an audit stopped, whose line said this. It stands apart so that slots
+    /// that pass pay nothing for it.
     #[inline(never)]
     pub(crate) fn of(
         audit: &Audit,
-        of_name: bool,
+        said: LogLine,
         slot: u64,
         line: u64,
         fault: AuditFault,
@@ -49,6 +49,7 @@ impl NoNote {
         ensures slot { result.slot ≡ slot }
         ensures fault { result.fault ≡ fault }
     {
+        let of_name = is_name(said);
         let stored = audit.store();
         let age = match fault {
             AuditFault::EarlyFlag if of_name => Some(stored.name.since_before),
@@ -68,7 +69,7 @@ impl NoNote {
 }
 
 /// Returns whether a line has a group of a name.
-pub(crate) fn is_name(said: LogLine) -> bool {
+fn is_name(said: LogLine) -> bool {
     match said {
         LogLine::Slot(Some(group)) => Message::name_in(group).is_some(),
         LogLine::Slot(None) | LogLine::Skip => false,

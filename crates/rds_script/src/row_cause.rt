@@ -79,7 +79,7 @@ pub enum RowCause {
     #[error("RECEPTIONS: encode takes none; leave the field empty, but keep the comma before it")]
     EncodeTakesNone(usize),
     /// The row names another number of receivers than the first row.
-    #[error("RECEPTIONS: the number of receivers is {given}, but row 1 has {first}")]
+    #[error("RECEPTIONS: the number of receivers is {given}, but the first row has {first}")]
     ReceiverCount {
         given: usize,
         first: usize,
