@@ -3,6 +3,8 @@
 const page = (() => {
   const { $ } = parts, TABS = ["log", "script", "dwell"];
   const state = { ready: false };
+  /* The M and the K of a file: those that the program takes without options. */
+  const DEFAULTS = { m: 128, k: 0 };
 
   function tab(name, focus = false) {
     for (const it of TABS) {
@@ -33,7 +35,7 @@ const page = (() => {
 
   async function open_file(file) {
     const text = await file.text(), to_script = is_script(file.name, text);
-    if (to_script) script_tab.open(text); else log_tab.open(text);
+    (to_script ? script_tab : log_tab).open(text, DEFAULTS);
     tab(to_script ? "script" : "log");
   }
 

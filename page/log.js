@@ -165,17 +165,20 @@ const log_tab = (() => {
     const root = $("verdict"), yes = /^yes (\d+)/.exec(audit.output), told = [];
     root.className = `verdict${no ? " no" : yes ? "" : " fault"}`;
     state.turn++;
-    if (yes) told.push(...passed(audit, Number(yes[1])));
+    if (yes) told.push(...passed(audit, Number(yes[1]), m));
     else if (no) told.push(...refused(audit, no, m));
     else told.push(...faulty(audit));
     const about = `The audit reads the log as sent, with M + K = ${m + k} slots (${lines.time(m + k)}).`;
     root.replaceChildren(...told, make("p", { className: "small", textContent: about }));
   }
 
-  function passed(audit, count) {
+  /* The dwell of a verdict, for its heading. */
+  const with_dwell = (m) => `with M = ${m.toLocaleString("en")} (${lines.time(m)})`;
+
+  function passed(audit, count, m) {
     const kept = `All ${parts.counted(count, "slot")} keep the rules. No receiver with this M shows a mix of two texts, `
       + "whichever groups it loses", note = lines.note_of(audit.notes, "no group");
-    return [make("h2", { textContent: "✓ Passes the audit" }), make("p", { textContent: `${note || kept}.` })];
+    return [make("h2", { textContent: `✓ Passes ${with_dwell(m)}` }), make("p", { textContent: `${note || kept}.` })];
   }
 
   /* What the encoder should do after a fault in this slot. */
@@ -190,7 +193,7 @@ const log_tab = (() => {
     const about = make("p", { className: "witness", textContent: "Looking for lost slots that make a mix …" });
     look_for_witness(about, slot, m);
     return [
-      make("h2", {}, "✗ ", make("code", { textContent: no[2] })),
+      make("h2", {}, "✗ ", make("code", { textContent: no[2] }), ` ${with_dwell(m)}`),
       make("p", {}, "First in ", go_to(slot), `${rule}. This slot is ${lines.time(slot)} after the first.`),
       says("What the encoder should do:", cure(no[2], slot)),
       about,

@@ -344,6 +344,34 @@ def files(b):
         check("a saved picture", (data[:8], struct.unpack(">I", data[16:20])), (b"\x89PNG\r\n\x1a\n", (2400,)))
 
 
+# three texts of two segments, each for 100 slots
+EVERY_100 = "".join(f"C201 21{flag}0 {first}\nC201 21{flag}1 {second}\n" * 50 for flag, first, second in
+                    ((4, "4A41 5A5A", "2046 4D0D"), (5, "4E45 5753", "2031 320D"), (4, "504F 5020", "4D49 580D")))
+
+
+def files_at_the_default(b):
+    """A file is judged as the program judges it without options, whatever the fields held; an example keeps its own M."""
+    heading = f"✗ {program(['audit', '--pi', 'C201'], EVERY_100.encode())[1].split()[2]} with M = 128 (11.2 s)"
+    for way in ("drop", "pick"):
+        for tab in ("log", "script"):
+            for field, value in (("m", "8" if way == "drop" else ""), ("k", "3")):
+                call(b, "probe.choose", f"{tab}-{field}", value)
+        name = ["log-file"] if way == "pick" else []
+        call(b, f"probe.{way}", *name, "own.log", EVERY_100)
+        settle(b)
+        got = [text_of(b, "#verdict h2"), of(b, "#log-m", "value"), of(b, "#log-k", "value")]
+        check(f"a log by {way}", got, [heading, "128", "0"])
+        name = ["script-file"] if way == "pick" else []
+        call(b, f"probe.{way}", *name, "tunnel.csv", example("tunnel.csv").decode())
+        settle(b)
+        options = ["--pi", "C201", "--pty", "10"]
+        check(f"a script by {way}", printed(b), program(["sim", *options], example("tunnel.csv"))[1])
+    call(b, "page.tab", "log")
+    call(b, "probe.choose", "log-example", 2)
+    settle(b)
+    check("an example keeps its M", text_of(b, "#verdict h2"), "✓ Passes with M = 8 (0.70 s)")
+
+
 def waited_for(path):
     """What the browser saves in this file."""
     end = time.time() + SECONDS
@@ -397,9 +425,9 @@ def faults(b):
 def warnings(b):
     """A yes over a log without a group of the programme, and the first set that came too early."""
     said = verdict_of(b, f"{NOTHING}\n" * 3, 8)
-    check("a yes that says nothing", "✓ Passes the auditno group of C201 in 3 slots. The yes says nothing." in said, True)
+    check("a yes that says nothing", "✓ Passes with M = 8 (0.70 s)no group of C201 in 3 slots. The yes says nothing." in said, True)
     said = verdict_of(b, f"{HI}\n", 8)
-    check("and one that does", "✓ Passes the auditAll 1 slot keep the rules." in said, True)
+    check("and one that does", "✓ Passes with M = 8 (0.70 s)All 1 slot keep the rules." in said, True)
     open_script(b, "text,HI,1,G\n" * 3, m=8, k=0)
     check("the first refused set", text_of(b, "#script-note"),
           "slot 0: text refused, the station is silent after a restart for 8 slots more; accepted from slot 8 on.")
@@ -452,7 +480,7 @@ def witnesses(b):
         m, log = dice.choice([2, 4, 8]), "".join(f"{dice.choice(groups)}\n" for _ in range(dice.randrange(4, 60)))
         options, said = ["--pi", "C201", "--m", str(m)], verdict_of(b, log, m)
         if program(["audit", *options], log.encode())[0] == 0:
-            check(f"log {number} passes", "✓ Passes the audit" in said, True)
+            check(f"log {number} passes", "✓ Passes with M = " in said, True)
             continue
         told = program(["witness", *options], log.encode())[1].splitlines()
         its = b.run("log_tab.state.witness")
@@ -575,8 +603,8 @@ def nothing_fetched(b, folder):
     check("and these are in its folder", (sorted(here - set(os.listdir(folder))), len(here) > 10), ([], True))
 
 
-PARTS = (the_first_log, the_first_script, names_and_tags, flag_bit_alone, restarts, the_dwell, files, faults, warnings, explained,
-         witnesses, keyboard, screen_reader, contrast_and_width, same_lines_of_examples, same_help_and_refusals,
+PARTS = (the_first_log, the_first_script, names_and_tags, flag_bit_alone, restarts, the_dwell, files, files_at_the_default, faults, warnings,
+         explained, witnesses, keyboard, screen_reader, contrast_and_width, same_lines_of_examples, same_help_and_refusals,
          same_lines_by_chance, large)
 
 

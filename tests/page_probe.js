@@ -22,6 +22,14 @@ const probe = (() => {
     document.querySelector("h1").dispatchEvent(new DragEvent("drop", { dataTransfer: data, bubbles: true, cancelable: true }));
   }
 
+  /* Chooses a file of this text by a file button. */
+  function pick(id, name, text) {
+    const data = new DataTransfer();
+    data.items.add(new File([text], name));
+    at(id).files = data.files;
+    at(id).dispatchEvent(new Event("change"));
+  }
+
   const chosen_line = (id) => at(id).value.slice(at(id).selectionStart, at(id).selectionEnd);
 
   /* A place of the canvas in the window: the middle of a slot, and of the first lane that fits. */
@@ -133,5 +141,5 @@ const probe = (() => {
     return told;
   }
 
-  return { choose, chosen_line, contrasts, drop, large, many, place, run };
+  return { choose, chosen_line, contrasts, drop, large, many, pick, place, run };
 })();
