@@ -162,10 +162,12 @@ const log_tab = (() => {
   const go_to = (slot) => button(`slot ${slot.toLocaleString("en")}`, () => { timeline.move(slot); timeline.canvas.focus(); });
 
   function show_verdict({ audit, no, m, k }) {
-    const root = $("verdict"), yes = /^yes (\d+)/.exec(audit.output), told = [];
-    root.className = `verdict${no ? " no" : yes ? "" : " fault"}`;
+    const root = $("verdict"), yes = audit.output.startsWith("yes "), told = [];
+    const is_empty = yes && state.slots.every((group) => group === null);
+    root.className = `verdict${no ? " no" : is_empty ? " empty" : yes ? "" : " fault"}`;
     state.turn++;
-    if (yes) told.push(...passed(audit, Number(yes[1]), m));
+    if (is_empty) told.push(...empty());
+    else if (yes) told.push(...passed(m));
     else if (no) told.push(...refused(audit, no, m));
     else told.push(...faulty(audit));
     const about = `The audit reads the log as sent, with M + K = ${m + k} slots (${lines.time(m + k)}).`;
@@ -175,10 +177,27 @@ const log_tab = (() => {
   /* The dwell of a verdict, for its heading. */
   const with_dwell = (m) => `with M = ${m.toLocaleString("en")} (${lines.time(m)})`;
 
-  function passed(audit, count, m) {
-    const kept = `All ${parts.counted(count, "slot")} keep the rules. No receiver with this M shows a mix of two texts, `
-      + "whichever groups it loses", note = lines.note_of(audit.notes, "no group");
-    return [make("h2", { textContent: `✓ Passes ${with_dwell(m)}` }), make("p", { textContent: `${note || kept}.` })];
+  /* A yes over a log without a group. The programmes to choose are those of its groups. */
+  function empty() {
+    const count = state.slots.length, has = count ? `no whole group in ${parts.counted(count, "slot")}` : "no slots";
+    return [
+      make("h2", { textContent: "Nothing to audit" }),
+      make("p", { textContent: `The log has ${has}. The program answers yes, and this yes means nothing.` }),
+    ];
+  }
+
+  /* A yes; it covers the slots that were recorded. */
+  function passed(m) {
+    const { slots } = state, missing = slots.filter((group) => group === null).length;
+    const kept = missing ? `The recorded ${slots.length - missing === 1 ? "slot keeps" : "slots keep"}`
+      : `All ${parts.counted(slots.length, "slot")} keep`;
+    const of = missing ? "the recorded texts" : "two texts";
+    const all = [
+      make("h2", { textContent: `✓ Passes ${with_dwell(m)}` }),
+      make("p", { textContent: `${kept} the rules. No receiver with this M shows a mix of ${of}, whichever groups it loses.` }),
+    ];
+    const few = `${missing.toLocaleString("en")} of ${parts.counted(slots.length, "slot")} ${missing === 1 ? "is" : "are"} missing`;
+    return missing ? [...all, says(few, "(no whole group). The yes covers only the others.")] : all;
   }
 
   /* What the encoder should do after a fault in this slot. */

@@ -424,10 +424,21 @@ def faults(b):
 
 def warnings(b):
     """A yes over a log without a group of the programme, and the first set that came too early."""
-    said = verdict_of(b, f"{NOTHING}\n" * 3, 8)
-    check("a yes that says nothing", "✓ Passes with M = 8 (0.70 s)no group of C201 in 3 slots. The yes says nothing." in said, True)
-    said = verdict_of(b, f"{HI}\n", 8)
-    check("and one that does", "✓ Passes with M = 8 (0.70 s)All 1 slot keep the rules." in said, True)
+    means_nothing = "The program answers yes, and this yes means nothing."
+    rows = [
+        ("", "empty", f"Nothing to auditThe log has no slots. {means_nothing}"),
+        ("# a note\n", "empty", f"Nothing to auditThe log has no slots. {means_nothing}"),
+        (f"{NOTHING}\n" * 3, "empty", f"Nothing to auditThe log has no whole group in 3 slots. {means_nothing}"),
+        (f"{HI}\n", "", "✓ Passes with M = 8 (0.70 s)All 1 slot keep the rules. No receiver with this M shows a mix of two texts, "
+         "whichever groups it loses."),
+        (f"{HI}\n{NOTHING}\n", "", "✓ Passes with M = 8 (0.70 s)The recorded slot keeps the rules. No receiver with this M shows a mix "
+         "of the recorded texts, whichever groups it loses.1 of 2 slots is missing (no whole group). The yes covers only the others."),
+        (f"{HI}\n" * 1188 + f"{NOTHING}\n" * 1812, "", "1,812 of 3,000 slots are missing (no whole group). The yes covers only the others."),
+    ]
+    for log, kind, wanted in rows:
+        said, colour = verdict_of(b, log, 8), b.run("getComputedStyle(document.querySelector('#verdict')).borderLeftColor")
+        ink = call(b, "probe.colour", "t4" if kind else "good")
+        check(f"a yes over {log[:20]!r}", (wanted in said and "undefined" not in said or said, colour), (True, ink))
     open_script(b, "text,HI,1,G\n" * 3, m=8, k=0)
     check("the first refused set", text_of(b, "#script-note"),
           "slot 0: text refused, the station is silent after a restart for 8 slots more; accepted from slot 8 on.")

@@ -49,6 +49,14 @@ const probe = (() => {
     painter_of_one.fillRect(0, 0, 1, 1);
     return [...painter_of_one.getImageData(0, 0, 1, 1).data];
   }
+  /* A colour of the style by its name. */
+  function colour(name) {
+    const element = document.body.appendChild(document.createElement("i"));
+    element.style.color = `var(--${name})`;
+    const { color } = getComputedStyle(element);
+    element.remove();
+    return color;
+  }
   const channel = (v) => v / 255 <= 0.03928 ? v / 255 / 12.92 : ((v / 255 + 0.055) / 1.055) ** 2.4;
   const light = ([r, g, b]) => 0.2126 * channel(r) + 0.7152 * channel(g) + 0.0722 * channel(b);
   function ratio(a, b) {
@@ -141,5 +149,5 @@ const probe = (() => {
     return told;
   }
 
-  return { choose, chosen_line, contrasts, drop, large, many, pick, place, run };
+  return { choose, chosen_line, colour, contrasts, drop, large, many, pick, place, run };
 })();
