@@ -108,7 +108,7 @@ const lines = (() => {
     const kind = group[1] >> 11;
     if (kind === 4) return TEXT;
     if (kind === 20) return NAME;
-    return kind === 22 || (kind === 6 && (group[1] & 31) === 22) ? TAGS : OTHER;
+    return kind === 22 ? TAGS : OTHER;
   }
   function codes_of(groups, count, pi) {
     const codes = new Uint8Array(count);

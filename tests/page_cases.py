@@ -262,6 +262,12 @@ def names_and_tags(b):
     last = b.run("[...script_tab.state.alone, ...script_tab.state.said.views].map(view => view.parts.tag1.at(-1).value.text)")
     check("tags of both kinds of receivers", last, ["Édith Piaf"] * 4)
     check("nothing is taken for a mix", "No receiver shows a mix" in text_of(b, "#script-count"), True)
+    sent = "[...script_tab.timeline.lanes[0].codes]"
+    check("tags have their colour", b.run(f"{sent}.includes(lines.TAGS)"), True)
+    open_script(b, example("mix.csv").decode(), m=8, k=0)
+    wanted = ["text" if "sent C201 2" in line else "other" for line in printed(b).splitlines() if " sent " in line]
+    got = b.run(f"{sent}.filter(code => code).map(code => ['', 'text', 'name', 'tags', 'other'][code])")
+    check("announcements of tags have not", (got, "other" in got), (wanted, True))
 
 
 def runs_of(b, view, part="text"):
