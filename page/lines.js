@@ -7,10 +7,12 @@ const lines = (() => {
   const SHOWN = /^(?:none$|"|[01] [01]$|\S+ ")/;
 
   const seconds = (slots) => slots * SLOT;
+  /* Rounded first, so that no part comes to 60. */
   function time(slots) {
-    const s = seconds(slots);
-    if (s < 60) return `${s.toFixed(s < 10 ? 2 : 1)} s`;
-    return s < 3600 ? `${Math.floor(s / 60)} min ${Math.round(s % 60)} s` : `${(s / 3600).toFixed(1)} h`;
+    const s = seconds(slots), whole = Math.round(s);
+    if (s < 59.95) return `${s.toFixed(s < 9.995 ? 2 : 1)} s`;
+    const minutes = Math.floor(whole / 60), short = `${minutes % 60} min ${whole % 60} s`;
+    return minutes < 60 ? short : `${Math.floor(minutes / 60)} h ${short}`;
   }
 
   /* The slots of a log up to the first malformed line: four words, or null if nothing was received; the blocks of each one's

@@ -319,6 +319,10 @@ def the_dwell(b):
     check("and with our own encoder", text_of(b, ".card + .card strong"), "22.4 s")
     call(b, "probe.choose", "k-range", 128)
     check("with late groups", text_of(b, ".card strong"), "22.4 s")
+    times = {0: "0.00 s", 114: "9.98 s", 685: "1 min 0 s", 1366: "2 min 0 s", 41_101: "1 h 0 min 0 s", 49_384: "1 h 12 min 5 s"}
+    check("times", {slots: call(b, "lines.time", slots) for slots in times}, times)
+    sixty = b.run("Array.from({ length: 200000 }, (_, slots) => lines.time(slots)).filter(told => /\\b60(\\.0+)? /.test(told))")
+    check("no part of a time comes to 60", sixty, [])
     told = b.run("[...document.querySelectorAll('[role=tab]')].map(tab => tab.ariaSelected)")
     check("the chosen tab is told", told, ["false", "false", "true"])
 
