@@ -264,15 +264,13 @@ const log_tab = (() => {
 
   function show_slot(slot) {
     const group = state.slots[slot], sent = group ? `${KINDS[lines.code_of(group, state.number)]} group` : "nothing received";
-    const what = state.lost.has(slot) ? "lost" : sent, run = state.view.at("text", slot), other = state.alone.at("text", slot);
+    const what = state.lost.has(slot) ? "lost" : sent, run = state.view.at("text", slot);
     const none = run && run.value === null && run.from > 0 ? why_gone("text", run.from) : "no text";
-    const is_mix = (it) => !!it && it.value !== null && state.mixed("text", it.value);
-    const led = (it, or) => is_mix(it) ? "nobody sent this" : or;
-    const simple = { led: led(other, ""), bad: is_mix(other), none: flag_alone.none_at(slot) };
-    parts.radio($("log-radio"), "The receiver, with the dwell", state.view, slot, { led: led(run, what), bad: is_mix(run), none });
+    const { mixed } = state, ours = { led: what, mixed, none }, simple = { mixed, none: flag_alone.none_at(slot) };
+    parts.radio($("log-radio"), "The receiver, with the dwell", state.view, slot, ours);
     parts.radio($("log-alone"), "Flag bit alone: decode --m 65535", state.alone, slot, simple);
-    const words = (view, it, none) => parts.in_words(view, slot, none) + (is_mix(it) ? ", which nobody sent" : "");
-    return `${what}. The receiver shows ${words(state.view, run)}. With the flag bit alone: ${words(state.alone, other, simple.none)}.`;
+    const shown = parts.in_words(state.view, slot, ours), other = parts.in_words(state.alone, slot, simple);
+    return `${what}. The receiver shows ${shown}. With the flag bit alone: ${other}.`;
   }
 
   function begin() {

@@ -22,8 +22,20 @@ const parts = (() => {
   const label_of = (value) => value === null ? null : typeof value === "string" ? value || "(empty)" : said_of(value);
   const key_of = (part, value) => typeof value === "string" ? `${part} ${value}` : `tag ${value.kind} ${value.text}`;
 
-  /* A display as a car has it: the name, the text and its tags at a slot. */
-  function radio(root, caption, view, slot, { led = "", bad = false, none = "no text" } = {}) {
+  /* The names of the parts of a display that nobody sent. */
+  const NAMES = { text: "text", name: "name", tag1: "tag", tag2: "tag" };
+  function mixes_at(view, slot, mixed) {
+    const is_mix = (part) => {
+      const value = view?.at(part, slot)?.value ?? null;
+      return value !== null && mixed(part, value);
+    };
+    return [...new Set(Object.keys(NAMES).filter(is_mix).map((part) => NAMES[part]))];
+  }
+
+  /* A display as a car has it: the name, the text and its tags at a slot. Parts that nobody sent make it red. */
+  function radio(root, caption, view, slot, { led: calm = "", mixed = () => false, none = "no text" } = {}) {
+    const mixes = mixes_at(view, slot, mixed), bad = mixes.length > 0;
+    const which = mixes.includes("text") ? "" : ` ${mixes.join(" and ")}`, led = bad ? `nobody sent this${which}` : calm;
     const at = (part) => view?.at(part, slot)?.value ?? null, text = at("text");
     const tags = [at("tag1"), at("tag2")].filter((tag) => tag !== null);
     const said = (className, textContent) => make("div", { className, textContent });
@@ -35,11 +47,16 @@ const parts = (() => {
     root.classList.toggle("mixed", bad);
   }
 
-  /* What a display shows, in words. */
-  function in_words(view, slot, none = "no text") {
-    const at = (part) => view?.at(part, slot)?.value ?? null, text = at("text"), name = at("name");
-    const all = [text === null ? none : `“${text}”`, ...(name === null ? [] : [`name ${name.trim()}`])];
-    return [...all, ...[at("tag1"), at("tag2")].filter((tag) => tag !== null).map(said_of)].join(", ");
+  /* What a display shows, in words. Each part that nobody sent has words of its own. */
+  const WORDS = { text: (text) => `“${text}”`, name: (name) => `name ${name.trim()}`, tag1: said_of, tag2: said_of };
+  function in_words(view, slot, { mixed = () => false, none = "no text" } = {}) {
+    const all = [];
+    for (const [part, words] of Object.entries(WORDS)) {
+      const value = view?.at(part, slot)?.value ?? null;
+      if (value !== null) all.push(`${words(value)}${mixed(part, value) ? ", which nobody sent" : ""}`);
+      else if (part === "text") all.push(none);
+    }
+    return all.join(", ");
   }
 
   /* Gives each text one of eight colours, in turn. */

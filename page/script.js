@@ -305,18 +305,17 @@ const script_tab = (() => {
     const i = state.chosen, row = state.rows[slot], n = receivers(), reply = state.replies.get(slot);
     const got = does(row?.receptions[i] ?? "", slot);
     const view = state.said.views[i], run = view?.at("text", slot), simple = state.alone[i], other = simple?.at("text", slot);
-    const mix = !!other && other.value !== null && state.mixed("text", other.value), old = !!other && is_old(other.value, slot);
     const none = run ? parts.why_gone("text", state.heard[i]?.[run.from], parseInt(PI, 16)) : "no text";
-    const sent = state.said.sent[slot] ? "sends" : "", stale = old ? "long over" : "";
+    const sent = state.said.sent[slot] ? "sends" : "", stale = other && is_old(other.value, slot) ? "long over" : "";
     const named = (what) => n ? `Receiver ${i}, ${what}` : "No receiver";
     parts.radio($("script-air"), "On air", state.air, slot, { led: reply ? `${reply.what} ${reply.reply}` : sent, none: "silence" });
-    parts.radio($("script-radio"), named("with the dwell"), view, slot, { led: got, none });
-    const led = mix ? "nobody sent this" : stale, nothing = flag_alone.none_at(slot);
-    parts.radio($("script-alone"), named("flag bit alone"), simple, slot, { led, bad: mix, none: nothing });
+    const { mixed } = state, ours = { led: got, mixed, none }, its = { led: stale, mixed, none: flag_alone.none_at(slot) };
+    parts.radio($("script-radio"), named("with the dwell"), view, slot, ours);
+    parts.radio($("script-alone"), named("flag bit alone"), simple, slot, its);
     show_command(slot, row);
     const air = `On air ${parts.in_words(state.air, slot)}.`;
-    const its = `${parts.in_words(simple, slot, nothing)}${mix ? ", which nobody sent" : ""}`;
-    return n ? `${air} Receiver ${i} ${got}: ${parts.in_words(view, slot)}. With the flag bit alone: ${its}.` : air;
+    const shown = parts.in_words(view, slot, { mixed }), other_shown = parts.in_words(simple, slot, its);
+    return n ? `${air} Receiver ${i} ${got}: ${shown}. With the flag bit alone: ${other_shown}.` : air;
   }
 
   function show_command(slot, row) {

@@ -270,6 +270,29 @@ def names_and_tags(b):
     check("announcements of tags have not", (got, "other" in got), (wanted, True))
 
 
+def a_mix_of_tags(b):
+    """A receiver that loses a text and gets its tags: the display is red, and its words name the tags."""
+    rows = ["-,,1,"] * 48
+    rows[8:10] = ['text,"Édith Piaf, Milord",1,', "tags,1 1 4 0 9 1 12 5,1,"]
+    rows[24:26] = ['text,"Kraftwerk, Model",1,', "tags,0 1 4 0 8 1 11 4,1,"]
+    script = "".join(f"{row}G\n" for row in rows)
+    sent = dict(re.findall("^(\\d+) sent (.*)$", program(["sim", "--pi", "C201", "--m", "8"], script.encode())[1], re.M))
+    lost = [slot for slot in range(24, 48) if sent.get(str(slot), "").startswith("C201 2")]
+    open_script(b, "".join(f"{row}{'L' if slot in lost else 'G'}\n" for slot, row in enumerate(rows)), m=8, k=0)
+    log = "".join(f"{sent.get(str(slot), NOTHING)}\n" for slot in range(48))
+    call(b, "log_tab.open", log, {"pi": "C201", "m": 8, "k": 0, "lost": lost})
+    told = "With the flag bit alone: “Édith Piaf, Milord”, artist: Édith Pia, which nobody sent, title:  Milo, which nobody sent."
+    for tab in ("script", "log"):
+        call(b, "page.tab", tab)
+        b.run(f"{tab}_tab.timeline.move(47)")
+        check(f"{tab}: a mix of tags is red", (of(b, f"#{tab}-alone", "className"), text_of(b, f"#{tab}-alone .led")),
+              ("radio alone mixed", "nobody sent this tag"))
+        check(f"{tab}: and is in the words", told in of(b, f"#{tab}-time canvas", "ariaValueText") or told, True)
+        check(f"{tab}: with the dwell there is none", of(b, f"#{tab}-radio", "className"), "radio")
+        b.run(f"{tab}_tab.timeline.move(22)")
+        check(f"{tab}: tags that were sent are not red", of(b, f"#{tab}-alone", "className"), "radio alone")
+
+
 def runs_of(b, view, part="text"):
     """The slots from which a view shows something else of a part, with what it shows."""
     return b.run(f"{view}.parts.{part}.map(run => [run.from, run.value])")
@@ -624,8 +647,8 @@ def nothing_fetched(b, folder):
     check("and these are in its folder", (sorted(here - set(os.listdir(folder))), len(here) > 10), ([], True))
 
 
-PARTS = (the_first_log, the_first_script, names_and_tags, flag_bit_alone, restarts, the_dwell, files, files_at_the_default, faults, warnings,
-         explained, witnesses, keyboard, screen_reader, contrast_and_width, same_lines_of_examples, same_help_and_refusals,
+PARTS = (the_first_log, the_first_script, names_and_tags, a_mix_of_tags, flag_bit_alone, restarts, the_dwell, files,
+         files_at_the_default, faults, warnings, explained, witnesses, keyboard, screen_reader, contrast_and_width, same_lines_of_examples, same_help_and_refusals,
          same_lines_by_chance, large)
 
 
