@@ -5,6 +5,7 @@ const page = (() => {
   const state = { ready: false };
   /* The M and the K of a file: those that the program takes without options. */
   const DEFAULTS = { m: 128, k: 0 };
+  const decoder = new TextDecoder("utf-8", { ignoreBOM: true });
 
   function tab(name, focus = false) {
     for (const it of TABS) {
@@ -33,9 +34,10 @@ const page = (() => {
   /* A script has a comma in its first line; no line of a log has one before its 20th byte. */
   const is_script = (name, text) => /\.csv$/i.test(name) || /^\uFEFF?(?:\r?\n)*(?:-|text|name|tags|restart|"[a-z-]+"),/.test(text);
 
+  /* Opens a file. The program gets its bytes as they are. The text that the page shows keeps a byte-order mark. */
   async function open_file(file) {
-    const text = await file.text(), to_script = is_script(file.name, text);
-    (to_script ? script_tab : log_tab).open(text, DEFAULTS);
+    const input = new Uint8Array(await file.arrayBuffer()), text = decoder.decode(input), to_script = is_script(file.name, text);
+    (to_script ? script_tab : log_tab).open(text, { ...DEFAULTS, input });
     tab(to_script ? "script" : "log");
   }
 

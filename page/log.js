@@ -22,7 +22,7 @@ const log_tab = (() => {
   const PARTS = [["name", "name"], ["tag1", "first tag"], ["tag2", "second tag"]];
   const KINDS = ["nothing", "text", "name", "tags", "other"];
   const state = {
-    text: "", lost: new Set(), slots: [], logged: [], at: [], heard: [], view: new lines.View(), alone: new lines.View(),
+    text: "", input: "", lost: new Set(), slots: [], logged: [], at: [], heard: [], view: new lines.View(), alone: new lines.View(),
     mixed: () => false, turn: 0, witness: null,
   };
   const timeline = new Timeline($("log-time"), {
@@ -52,8 +52,9 @@ const log_tab = (() => {
     return all.length ? all : [[parseInt(PI, 16), 0]];
   }
 
-  function open(text, { pi, m, k, lost = [], example = "" } = {}) {
-    Object.assign(state, { text, lost: new Set(lost) });
+  /* Opens a log: its text, and the program's input, which for a file is the file's bytes. */
+  function open(text, { pi, m, k, lost = [], example = "", input = text } = {}) {
+    Object.assign(state, { text, input, lost: new Set(lost) });
     $("log-example").value = example;
     const all = programmes(lines.slots_of(text).slots);
     const options = all.map(([p, n]) => new Option(`${parts.hex(p)} (${parts.counted(n, "group")})`, parts.hex(p)));
@@ -70,7 +71,7 @@ const log_tab = (() => {
 
   /* The log as a receiver gets it: a lost slot's line is one of missing blocks. */
   function received() {
-    if (!state.lost.size) return state.text;
+    if (!state.lost.size) return state.input;
     const all = state.text.split("\n");
     for (const slot of state.lost) if (state.at[slot] !== undefined) all[state.at[slot]] = lines.LOST;
     return all.join("\n");
@@ -83,7 +84,7 @@ const log_tab = (() => {
     const heard = slots.map((group, slot) => state.lost.has(slot) ? null : group);
     Object.assign(state, { slots, logged, at, number, heard });
     const words = ["decode", "--pi", pi, "--m", m], audit_words = ["audit", "--pi", pi, "--m", m, "--k", k];
-    const decode = rdsrt.run(words, received()), audit = rdsrt.run(audit_words, state.text);
+    const decode = rdsrt.run(words, received()), audit = rdsrt.run(audit_words, state.input);
     state.view = lines.read(decode.output, count).views[0] ?? new lines.View();
     state.alone = flag_alone.receive(pi, logged.map((line, slot) => state.lost.has(slot) ? lines.LOST : line));
     state.mixed = mixed_by(words, pi, count);
@@ -101,7 +102,7 @@ const log_tab = (() => {
   /* Nobody sent what neither receiver shows that loses nothing. */
   function mixed_by(words, pi, count) {
     if (!state.lost.size) return () => false;
-    const whole = lines.read(rdsrt.run(words, state.text).output, count).views[0];
+    const whole = lines.read(rdsrt.run(words, state.input).output, count).views[0];
     const sent = parts.all_shown(whole, flag_alone.receive(pi, state.logged));
     return (part, value) => !sent.has(parts.key_of(part, value));
   }

@@ -6,7 +6,7 @@ const script_tab = (() => {
   const HINTS = { text: "the text", name: "the name", tags: "1 1 4 0 3 1 7 7" };
   const state = {
     rows: [], chosen: 0, pty: "10", air: new lines.View(), said: { views: [], sent: [] }, alone: [], heard: [], replies: new Map(),
-    spans: new Map(), mixed: () => false,
+    spans: new Map(), mixed: () => false, text: "", opened: { text: "", input: "" },
   };
   const timeline = new Timeline($("script-time"), {
     label: "Slot of the script",
@@ -102,8 +102,10 @@ const script_tab = (() => {
     state.chosen = Math.max(0, Math.min(state.chosen, receivers() - 1));
   }
 
-  function open(text, { m, k, pty = "10", is_edit = false, example = "" } = {}) {
+  /* Opens a script: its text, and the program's input for this text, which for a file is the file's bytes. */
+  function open(text, { m, k, pty = "10", is_edit = false, example = "", input = text } = {}) {
     state.pty = pty;
+    if (!is_edit) state.opened = { text, input };
     if (!is_edit) $("script-example").value = example;
     if (m) $("script-m").value = m;
     if (k !== undefined) $("script-k").value = k;
@@ -117,10 +119,12 @@ const script_tab = (() => {
     else if (first) timeline.move(Math.min(state.rows.length - 1, first.from + Number($("script-m").value)), { keep: true });
   }
 
-  function play({ fit = false, text = records.write(state.rows) } = {}) {
+  function play({ fit = false, text = state.text } = {}) {
+    const input = text === state.opened.text ? state.opened.input : text;
+    state.text = text;
     if (!$("script-form").checkValidity()) return;
     const m = $("script-m").value, k = $("script-k").value, count = state.rows.length;
-    const words = ["sim", "--pi", PI, "--pty", state.pty, "--m", m, "--k", k], got = rdsrt.run(words, text);
+    const words = ["sim", "--pi", PI, "--pty", state.pty, "--m", m, "--k", k], got = rdsrt.run(words, input);
     const said = lines.read(got.output, count), tint = parts.tinter(), broadcast = on_air(said.replies, count, tint);
     const replies = new Map(said.replies.map((it) => [it.slot, it]));
     Object.assign(state, { said, replies, air: broadcast.air, result: got, spaced: Number(m) + Number(k) });

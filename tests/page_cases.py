@@ -405,6 +405,30 @@ def files_at_the_default(b):
     check("an example keeps its M", text_of(b, "#verdict h2"), "✓ Passes with M = 8 (0.70 s)")
 
 
+def files_of_bytes(b):
+    """What the page prints over a file is what the program prints over its bytes, whatever they are."""
+    mark, log, script = b"\xef\xbb\xbf", example("hi.log"), example("tunnel.csv")
+    latin = "text,Édith,1,\n".encode("latin-1")
+    logs = [mark + log, log.decode().encode("utf-16"), log + b"\xff\xfe\n" + log, "# Édith\n".encode("latin-1") + log,
+            log.replace(b"\n", b"\r\n")]
+    for data in logs:
+        call(b, "probe.drop", "own.log", list(data))
+        settle(b)
+        for name, words in (("log", ["decode", "--pi", "C201"]), ("audit", ["audit", "--pi", "C201"])):
+            check(f"{words[0]} over a file that begins with {data[:12]}", text_of(b, f"#{name}-lines"), program(words, data)[1])
+        b.run("log_tab.lose([0])")
+        check("and once a slot is lost", text_of(b, "#audit-lines"), program(["audit", "--pi", "C201"], data)[1])
+    check("the last one passes, the first does not", (text_of(b, "#verdict")[:8], program(["audit", "--pi", "C201"], logs[0])),
+          ("✓ Passes", [1, "fault line 1\n"]))
+    for data in (mark + script, script.decode().encode("utf-16"), latin, script + latin, script.replace(b"\n", b"\r\n\r\n")):
+        call(b, "probe.drop", "own.csv", list(data))
+        for m in (128, 8):
+            call(b, "probe.choose", "script-m", m)
+            settle(b)
+            check(f"sim over a file that begins with {data[:12]}, M {m}", printed(b),
+                  program(["sim", "--pi", "C201", "--pty", "10", "--m", str(m)], data)[1])
+
+
 def waited_for(path):
     """What the browser saves in this file."""
     end = time.time() + SECONDS
@@ -648,7 +672,7 @@ def nothing_fetched(b, folder):
 
 
 PARTS = (the_first_log, the_first_script, names_and_tags, a_mix_of_tags, flag_bit_alone, restarts, the_dwell, files,
-         files_at_the_default, faults, warnings, explained, witnesses, keyboard, screen_reader, contrast_and_width, same_lines_of_examples, same_help_and_refusals,
+         files_at_the_default, files_of_bytes, faults, warnings, explained, witnesses, keyboard, screen_reader, contrast_and_width, same_lines_of_examples, same_help_and_refusals,
          same_lines_by_chance, large)
 
 

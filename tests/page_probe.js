@@ -15,17 +15,20 @@ const probe = (() => {
     at(id).dispatchEvent(new Event("change"));
   }
 
-  /* Drops a file of this text on the page. */
-  function drop(name, text) {
+  /* A file of this text, or of these bytes. */
+  const file = (name, content) => new File([typeof content === "string" ? content : Uint8Array.from(content)], name);
+
+  /* Drops such a file on the page. */
+  function drop(name, content) {
     const data = new DataTransfer();
-    data.items.add(new File([text], name));
+    data.items.add(file(name, content));
     document.querySelector("h1").dispatchEvent(new DragEvent("drop", { dataTransfer: data, bubbles: true, cancelable: true }));
   }
 
-  /* Chooses a file of this text by a file button. */
-  function pick(id, name, text) {
+  /* Chooses such a file by a file button. */
+  function pick(id, name, content) {
     const data = new DataTransfer();
-    data.items.add(new File([text], name));
+    data.items.add(file(name, content));
     at(id).files = data.files;
     at(id).dispatchEvent(new Event("change"));
   }
