@@ -14,7 +14,9 @@ import struct
 import subprocess
 import sys
 import tempfile
+import threading
 import time
+from http.server import BaseHTTPRequestHandler, ThreadingHTTPServer
 
 sys.dont_write_bytecode = True
 import browser
@@ -671,6 +673,32 @@ def nothing_fetched(b, folder):
     check("and these are in its folder", (sorted(here - set(os.listdir(folder))), len(here) > 10), ([], True))
 
 
+def policy(b, url):
+    """The page's policy lets no inline script run, and has nothing fetched from elsewhere: a server sees no request."""
+    asked = []
+
+    class Handler(BaseHTTPRequestHandler):
+        def do_GET(self):
+            asked.append(self.path)
+            self.send_response(200)
+            self.end_headers()
+            self.wfile.write(b"window.tempted && tempted.push('remote')")
+
+        def log_message(self, *_):
+            pass
+
+    server = ThreadingHTTPServer(("127.0.0.1", 0), Handler)
+    threading.Thread(target=server.serve_forever, daemon=True).start()
+    try:
+        visit(b, url)
+        ran = call(b, "probe.tempt", f"http://127.0.0.1:{server.server_port}/")
+    finally:
+        server.shutdown()
+        server.server_close()
+    check("the policy lets nothing foreign run", ran, [])
+    check("and nothing be fetched", sorted(asked), [])
+
+
 PARTS = (the_first_log, the_first_script, names_and_tags, a_mix_of_tags, flag_bit_alone, restarts, the_dwell, files,
          files_at_the_default, files_of_bytes, faults, warnings, explained, witnesses, keyboard, screen_reader, contrast_and_width, same_lines_of_examples, same_help_and_refusals,
          same_lines_by_chance, large)
@@ -692,6 +720,7 @@ def main():
         check("the browser's console is empty", b.complaints(), [])
         no_wide_memory(b, url)
         nothing_fetched(b, folder)
+        policy(b, url)
     finally:
         b.close()
     failed = outcomes.count(False)

@@ -152,5 +152,23 @@ const probe = (() => {
     return told;
   }
 
-  return { choose, chosen_line, colour, contrasts, drop, large, many, pick, place, run };
+  // ---- what the policy refuses
+
+  /* Tries to run scripts from a text and to fetch from this address, each by an element; answers which ran or was applied. */
+  async function tempt(address) {
+    const root = document.body.appendChild(document.createElement("div")), ran = window.tempted = [];
+    root.innerHTML = `<a id="tempting" href="javascript:tempted.push('href')" onclick="tempted.push('handler')"></a>
+      <i style="display: none"></i><link rel="stylesheet" href="${address}style.css"><link rel="prefetch" href="${address}prefetch">
+      <img src="${address}image.png" alt=""><audio src="${address}audio" preload="auto"></audio><iframe src="${address}frame"></iframe>`;
+    const add = (props) => root.appendChild(Object.assign(document.createElement("script"), props));
+    add({ textContent: "tempted.push('inline')" });
+    for (const src of ["data:text/javascript,tempted.push('data')", `${address}script.js`]) add({ src });
+    at("tempting").click();
+    await new Promise((done) => setTimeout(done, 1000));
+    if (getComputedStyle(root.querySelector("i")).display === "none") ran.push("style");
+    root.remove();
+    return ran;
+  }
+
+  return { choose, chosen_line, colour, contrasts, drop, large, many, pick, place, run, tempt };
 })();
