@@ -191,7 +191,7 @@ const log_tab = (() => {
   function passed(m) {
     const { slots } = state, missing = slots.filter((group) => group === null).length;
     const kept = missing ? `The recorded ${slots.length - missing === 1 ? "slot keeps" : "slots keep"}`
-      : `All ${parts.counted(slots.length, "slot")} keep`;
+      : slots.length === 1 ? "The one slot keeps" : `All ${parts.counted(slots.length, "slot")} keep`;
     const of = missing ? "the recorded texts" : "two texts";
     const all = [
       make("h2", { textContent: `✓ Passes ${with_dwell(m)}` }),

@@ -305,11 +305,17 @@ const script_tab = (() => {
     return letter.length > 1 ? `gets slot ${slot - Number(letter.slice(1))}` : "gets";
   }
 
+  /* Why receiver i shows no text in this slot, if it showed one up to the slot `from`. */
+  function why_gone(from, slot, i) {
+    if (state.rows.slice(from, slot + 1).some((row) => row.receptions[i] === "R")) return "restarted";
+    return parts.why_gone("text", state.heard[i]?.[from], parseInt(PI, 16));
+  }
+
   function show_slot(slot) {
     const i = state.chosen, row = state.rows[slot], n = receivers(), reply = state.replies.get(slot);
     const got = does(row?.receptions[i] ?? "", slot);
     const view = state.said.views[i], run = view?.at("text", slot), simple = state.alone[i], other = simple?.at("text", slot);
-    const none = run ? parts.why_gone("text", state.heard[i]?.[run.from], parseInt(PI, 16)) : "no text";
+    const none = run?.value === null ? why_gone(run.from, slot, i) : "no text";
     const sent = state.said.sent[slot] ? "sends" : "", stale = other && is_old(other.value, slot) ? "long over" : "";
     const named = (what) => n ? `Receiver ${i}, ${what}` : "No receiver";
     parts.radio($("script-air"), "On air", state.air, slot, { led: reply ? `${reply.what} ${reply.reply}` : sent, none: "silence" });

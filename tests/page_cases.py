@@ -311,6 +311,9 @@ def flag_bit_alone(b):
         check(f"the flag bit alone over {name}", (runs_of(b, "log_tab.state.alone"), len(wanted) > 0), (wanted, True))
     open_script(b, "".join(f"text,HI,1,{letter}\n" for letter in "GGRGLR"), m=1, k=0)
     check("it restarts with its receiver", runs_of(b, "script_tab.state.alone[0]"), [[1, "HI"], [2, None], [3, "HI"], [5, None]])
+    for slot, word in ((2, "restarted"), (5, "restarted")):
+        b.run(f"script_tab.timeline.move({slot})")
+        check(f"why no text is shown in slot {slot}", shown(b, "script-radio"), f"— {word} —")
     call(b, "page.tab", "log")
     many = f"{HI}\n" + f"{NOTHING}\n" * 65_535
     for text, ends, told in ((many[:-20], 65_535, ""),
@@ -488,7 +491,7 @@ def warnings(b):
         ("", "empty", f"Nothing to auditThe log has no slots. {means_nothing}"),
         ("# a note\n", "empty", f"Nothing to auditThe log has no slots. {means_nothing}"),
         (f"{NOTHING}\n" * 3, "empty", f"Nothing to auditThe log has no whole group in 3 slots. {means_nothing}"),
-        (f"{HI}\n", "", "✓ Passes with M = 8 (0.70 s)All 1 slot keep the rules. No receiver with this M shows a mix of two texts, "
+        (f"{HI}\n", "", "✓ Passes with M = 8 (0.70 s)The one slot keeps the rules. No receiver with this M shows a mix of two texts, "
          "whichever groups it loses."),
         (f"{HI}\n{NOTHING}\n", "", "✓ Passes with M = 8 (0.70 s)The recorded slot keeps the rules. No receiver with this M shows a mix "
          "of the recorded texts, whichever groups it loses.1 of 2 slots is missing (no whole group). The yes covers only the others."),
