@@ -75,8 +75,8 @@ const page = (() => {
     const hash = location.hash.slice(1);
     try {
       if (await script_tab.open_link(hash)) return "script";
-    } catch {
-      $("script-saved").textContent = "The link has no script.";
+    } catch (error) {
+      $("script-saved").textContent = error instanceof RangeError ? error.message : "The link has no script.";
       return "script";
     }
     return TABS.includes(hash) ? hash : "log";

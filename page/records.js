@@ -37,20 +37,36 @@ const records = (() => {
   const write_row = (r) => `${field(r.command)},${field(r.argument)},${r.free},${r.receptions.join("")}\n`;
   const write = (rows) => rows.map(write_row).join("");
 
-  /* A script as letters of a link, and back. */
-  const MOST = 8000;
-  async function squeezed(bytes, by) {
-    const stream = new Blob([bytes]).stream().pipeThrough(by);
-    return new Uint8Array(await new Response(stream).arrayBuffer());
+  /* A script as letters of a link, and back. A few letters can hold many bytes, so both ways have a bound of bytes. */
+  const MOST = 8000, MOST_PLAIN = 4_000_000;
+  const TOO_LARGE = "The link holds a script of more than 4 MB. The page does not open it.";
+  /* Reads the stream up to a bound, and no further; throws beyond it. */
+  async function squeezed(bytes, by, most = Infinity) {
+    const reader = new Blob([bytes]).stream().pipeThrough(by).getReader(), pieces = [];
+    let length = 0;
+    for (;;) {
+      const { done, value } = await reader.read();
+      if (done) break;
+      length += value.length;
+      if (length > most) {
+        await reader.cancel();
+        throw new RangeError(TOO_LARGE);
+      }
+      pieces.push(value);
+    }
+    return new Uint8Array(await new Blob(pieces).arrayBuffer());
   }
   async function pack(text) {
-    const bytes = await squeezed(new TextEncoder().encode(text), new CompressionStream("deflate-raw"));
+    const plain = new TextEncoder().encode(text);
+    if (plain.length > MOST_PLAIN) return null;
+    const bytes = await squeezed(plain, new CompressionStream("deflate-raw"));
     if (bytes.length > MOST) return null;
     return btoa(String.fromCharCode(...bytes)).replaceAll("+", "-").replaceAll("/", "_").replace(/=+$/, "");
   }
   async function unpack(packed) {
     const plain = atob(packed.replaceAll("-", "+").replaceAll("_", "/"));
-    const bytes = await squeezed(Uint8Array.from(plain, (c) => c.charCodeAt(0)), new DecompressionStream("deflate-raw"));
+    const packed_bytes = Uint8Array.from(plain, (c) => c.charCodeAt(0));
+    const bytes = await squeezed(packed_bytes, new DecompressionStream("deflate-raw"), MOST_PLAIN);
     return new TextDecoder("utf-8", { fatal: true }).decode(bytes);
   }
 

@@ -6,6 +6,7 @@ usage: page_cases.py PAGE     the page's folder, as page/build writes it
 
 The program is the one that the gate left, crates/rdsrt/out/rdsrt. The last line is `N passed, M failed`.
 """
+import base64
 import json
 import os
 import random
@@ -16,6 +17,7 @@ import sys
 import tempfile
 import threading
 import time
+import zlib
 from http.server import BaseHTTPRequestHandler, ThreadingHTTPServer
 
 sys.dont_write_bytecode = True
@@ -445,6 +447,12 @@ def waited_for(path):
     return b""
 
 
+def packed(script):
+    """A script as a link holds it."""
+    deflate = zlib.compressobj(wbits=-15)
+    return base64.urlsafe_b64encode(deflate.compress(script) + deflate.flush()).decode().rstrip("=")
+
+
 def links(b, url):
     open_script(b, example("late.csv").decode(), m=4, k=2, pty="10")
     click(b, "#script-share")
@@ -454,6 +462,9 @@ def links(b, url):
     check("a link opens its script", (printed(b), hidden(b), len(link) < 2000), (before, ["log", "dwell"], True))
     visit(b, f"{url}#script=nonsense")
     check("a link that holds none", text_of(b, "#script-saved"), "The link has no script.")
+    for size, told in ((4_000_000, ""), (4_000_001, "The link holds a script of more than 4 MB. The page does not open it.")):
+        visit(b, f"{url}#script={packed(b'-,,1,' + bytes(size - 5))}")
+        check(f"a link that holds {size} bytes", text_of(b, "#script-saved"), told)
     visit(b, f"{url}#script")
     check("a tab by its name", (text_of(b, "#script-saved"), hidden(b)), ("", ["log", "dwell"]))
     dice = random.Random(SEED)
