@@ -4,9 +4,10 @@ const script_tab = (() => {
   const { $ } = parts;
   const COMMANDS = ["-", "text", "name", "tags", "restart"], PI = "C201";
   const HINTS = { text: "the text", name: "the name", tags: "1 1 4 0 3 1 7 7" };
+  const UNPLAYED = "not played";
   const state = {
-    rows: [], chosen: 0, pty: "10", air: new lines.View(), said: { views: [], sent: [] }, alone: [], heard: [], replies: new Map(),
-    spans: new Map(), mixed: () => false, text: "", opened: { text: "", input: "" },
+    rows: [], played: 0, chosen: 0, pty: "10", air: new lines.View(), said: { views: [], sent: [] }, alone: [], heard: [],
+    replies: new Map(), spans: new Map(), mixed: () => false, text: "", opened: { text: "", input: "" },
   };
   const timeline = new Timeline($("script-time"), {
     label: "Slot of the script",
@@ -125,22 +126,29 @@ const script_tab = (() => {
     if (!$("script-form").checkValidity()) return;
     const m = $("script-m").value, k = $("script-k").value, count = state.rows.length;
     const words = ["sim", "--pi", PI, "--pty", state.pty, "--m", m, "--k", k], got = rdsrt.run(words, input);
-    const said = lines.read(got.output, count), tint = parts.tinter(), broadcast = on_air(said.replies, count, tint);
+    const played = played_of(got.output, count), said = lines.read(got.output, played), tint = parts.tinter();
+    const broadcast = on_air(said.replies, played, tint);
     const replies = new Map(said.replies.map((it) => [it.slot, it]));
-    Object.assign(state, { said, replies, air: broadcast.air, result: got, spaced: Number(m) + Number(k) });
+    Object.assign(state, { said, replies, played, air: broadcast.air, result: got, spaced: Number(m) + Number(k) });
     const sent = parts.all_shown(state.air);
     state.mixed = (part, value) => !sent.has(parts.key_of(part, value));
     state.spans = spans(state.air.parts.text);
     hear();
     timeline.chosen = receivers() ? state.chosen : null;
     timeline.title = `rdsrt ${words.join(" ")}`;
-    timeline.show(lanes(broadcast.marks, count, tint), count, { fit });
+    timeline.show(lanes(broadcast.marks, played, tint), count, { fit });
     parts.fill("script-text", text);
     parts.fill("script-lines", got.output);
     $("script-command").textContent = `rdsrt ${words.join(" ")}`;
     tell_mixes();
     tell_wait();
     tell_fault(text);
+  }
+
+  /* How many rows the program played: those before a bad one. */
+  function played_of(output, count) {
+    const row = /^fault row (\d+)/m.exec(output);
+    return row ? Math.min(count, Number(row[1]) - 1) : count;
   }
 
   /* The characters of a printed text: an escape is one. */
@@ -197,7 +205,8 @@ const script_tab = (() => {
 
   /* What each receiver got, and what one with the flag bit alone shows of it. */
   function hear() {
-    const { said, rows } = state, sources_of = (i) => rows.map((row, slot) => source_of(row.receptions[i], slot));
+    const { said } = state, rows = state.rows.slice(0, state.played);
+    const sources_of = (i) => rows.map((row, slot) => source_of(row.receptions[i], slot));
     const all = Array.from({ length: receivers() }, (_, i) => sources_of(i));
     state.heard = all.map((sources) => sources.map((slot) => said.sent[slot] ?? null));
     const got = all.map((sources) => sources.map((slot) => said.logged[slot] ?? lines.LOST));
@@ -313,16 +322,19 @@ const script_tab = (() => {
 
   function show_slot(slot) {
     const i = state.chosen, row = state.rows[slot], n = receivers(), reply = state.replies.get(slot);
-    const got = does(row?.receptions[i] ?? "", slot);
+    const is_played = slot < state.played, or_unplayed = (word) => is_played ? word : UNPLAYED;
+    const got = or_unplayed(does(row?.receptions[i] ?? "", slot)), sent = or_unplayed(state.said.sent[slot] ? "sends" : "");
     const view = state.said.views[i], run = view?.at("text", slot), simple = state.alone[i], other = simple?.at("text", slot);
-    const none = run?.value === null ? why_gone(run.from, slot, i) : "no text";
-    const sent = state.said.sent[slot] ? "sends" : "", stale = other && is_old(other.value, slot) ? "long over" : "";
+    const none = or_unplayed(run?.value === null ? why_gone(run.from, slot, i) : "no text");
+    const stale = other && is_old(other.value, slot) ? "long over" : "";
     const named = (what) => n ? `Receiver ${i}, ${what}` : "No receiver";
-    parts.radio($("script-air"), "On air", state.air, slot, { led: reply ? `${reply.what} ${reply.reply}` : sent, none: "silence" });
-    const { mixed } = state, ours = { led: got, mixed, none }, its = { led: stale, mixed, none: flag_alone.none_at(slot) };
+    const air_led = reply ? `${reply.what} ${reply.reply}` : sent, { mixed } = state;
+    const ours = { led: got, mixed, none }, its = { led: or_unplayed(stale), mixed, none: or_unplayed(flag_alone.none_at(slot)) };
+    parts.radio($("script-air"), "On air", state.air, slot, { led: air_led, none: or_unplayed("silence") });
     parts.radio($("script-radio"), named("with the dwell"), view, slot, ours);
     parts.radio($("script-alone"), named("flag bit alone"), simple, slot, its);
     show_command(slot, row);
+    if (!is_played) return `${UNPLAYED}.`;
     const air = `On air ${parts.in_words(state.air, slot)}.`;
     const shown = parts.in_words(view, slot, { mixed }), other_shown = parts.in_words(simple, slot, its);
     return n ? `${air} Receiver ${i} ${got}: ${shown}. With the flag bit alone: ${other_shown}.` : air;

@@ -493,6 +493,14 @@ def faults(b):
               f"fault {why}. The rows after it are not played. Show the line")
     click(b, "#script-fault button")
     check("and shown", call(b, "probe.chosen_line", "script-text"), "text,\u2603,1,G")
+    open_script(b, "text,HI,1,G\n" * 5 + "text,\u2603,1,G\n" + "-,,1,G\n" * 6, m=1, k=0)
+    b.run("script_tab.timeline.move(3)")
+    check("a text is shown before a bad row", (shown(b, "script-radio"), shown(b, "script-alone")), ("HI", "HI"))
+    ends = b.run("script_tab.timeline.lanes.map(lane => (lane.codes?.length ?? lane.runs?.at(-1)?.to ?? 0))")
+    check("no lane goes on behind it", [it for it in ends if it > 5], [])
+    for slot in (5, 11):
+        b.run(f"script_tab.timeline.move({slot})")
+        check(f"slot {slot} behind it is not played", [shown(b, f"script-{it}") for it in ("air", "radio", "alone")], ["— not played —"] * 3)
 
 
 def warnings(b):
