@@ -23,7 +23,7 @@ const log_tab = (() => {
   const KINDS = ["nothing", "text", "name", "tags", "other"];
   const state = {
     text: "", input: "", lost: new Set(), slots: [], logged: [], at: [], heard: [], view: new lines.View(), alone: new lines.View(),
-    mixed: () => false, turn: 0, witness: null,
+    mixed: () => false, turn: 0, witness: null, result: null,
   };
   const timeline = new Timeline($("log-time"), {
     label: "Slot of the log",
@@ -78,7 +78,8 @@ const log_tab = (() => {
   }
 
   function look({ fit }) {
-    if (!$("log-form").checkValidity()) return;
+    const problem = parts.problem_of($("log-form"));
+    if (problem) { show_problem(problem, { fit }); return; }
     const pi = $("log-pi").value, m = $("log-m").value, k = $("log-k").value, number = parseInt(pi, 16);
     const { slots, logged, at } = lines.slots_of(state.text), count = slots.length;
     const heard = slots.map((group, slot) => state.lost.has(slot) ? null : group);
@@ -97,6 +98,22 @@ const log_tab = (() => {
     $("log-limit").textContent = flag_alone.limit(count);
     $("log-limit").hidden = !flag_alone.limit(count);
     tell_lines([["log", words, decode], ["audit", audit_words, audit]]);
+  }
+
+  /* Shows why nothing is decoded, and no result of what was there before. */
+  function show_problem(problem, { fit }) {
+    const none = { slots: [], logged: [], at: [], heard: [], result: null, witness: null };
+    Object.assign(state, none, { view: new lines.View(), alone: new lines.View(), mixed: () => false });
+    state.turn++;
+    timeline.title = "";
+    timeline.show([], lines.slots_of(state.text).slots.length, { fit });
+    $("verdict").className = "verdict fault";
+    $("verdict").replaceChildren(make("h2", { textContent: "No verdict" }), make("p", { textContent: problem }));
+    $("log-limit").hidden = true;
+    for (const name of ["log", "audit"]) {
+      $(`${name}-command`).textContent = "";
+      parts.fill(`${name}-lines`, "");
+    }
   }
 
   /* Nobody sent what neither receiver shows that loses nothing. */
@@ -265,11 +282,12 @@ const log_tab = (() => {
 
   function show_slot(slot) {
     const group = state.slots[slot], sent = group ? `${KINDS[lines.code_of(group, state.number)]} group` : "nothing received";
-    const what = state.lost.has(slot) ? "lost" : sent, run = state.view.at("text", slot);
+    const what = !state.result ? "" : state.lost.has(slot) ? "lost" : sent, run = state.view.at("text", slot);
     const none = run && run.value === null && run.from > 0 ? why_gone("text", run.from) : "no text";
     const { mixed } = state, ours = { led: what, mixed, none }, simple = { mixed, none: flag_alone.none_at(slot) };
     parts.radio($("log-radio"), "The receiver, with the dwell", state.view, slot, ours);
     parts.radio($("log-alone"), "Flag bit alone: decode --m 65535", state.alone, slot, simple);
+    if (!state.result) return "Not decoded.";
     const shown = parts.in_words(state.view, slot, ours), other = parts.in_words(state.alone, slot, simple);
     return `${what}. The receiver shows ${shown}. With the flag bit alone: ${other}.`;
   }

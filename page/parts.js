@@ -16,6 +16,14 @@ const parts = (() => {
     return () => { clearTimeout(timer); timer = setTimeout(what, 120); };
   };
 
+  /* Why the program gets none of the form's numbers: the first that is no whole number within its bounds. Empty if all are. */
+  function problem_of(form) {
+    const is_bad = ({ value, min, max }) => !/^\d+$/.test(value) || Number(value) < Number(min) || Number(value) > Number(max);
+    const bad = [...form.querySelectorAll("[type=number]")].find(is_bad), number = (n) => Number(n).toLocaleString("en");
+    if (!bad) return "";
+    return `${bad.labels[0].textContent.trim()} must be a whole number from ${number(bad.min)} to ${number(bad.max)}.`;
+  }
+
   /* A class of RadioText Plus in small letters, as ITEM.ARTIST. */
   const kind_of = (tag) => tag.kind.replace(/^ITEM\./, "").toLowerCase();
   const said_of = (tag) => `${kind_of(tag)}: ${tag.text}`;
@@ -130,5 +138,5 @@ const parts = (() => {
   }
 
   const lanes = { all_shown, bars, mark, shows, shows_tags, tag_bars, tinter };
-  return { $, ...lanes, counted, fill, go_to_line, hex, in_words, key_of, make, radio, soon, why_gone };
+  return { $, ...lanes, counted, fill, go_to_line, hex, in_words, key_of, make, problem_of, radio, soon, why_gone };
 })();

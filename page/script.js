@@ -80,8 +80,16 @@ const script_tab = (() => {
     edited();
   }
 
+  /* A number of the form was changed: a script of another size is edited, and one of the same is played again. */
+  function form_changed() {
+    const n = state.rows[0]?.receptions.length ?? 0, count = Math.max(1, state.rows.length);
+    const problem = parts.problem_of($("script-form"));
+    if (problem) show_problem(problem);
+    else if (receivers() === n && Number($("script-slots").value) === count) play();
+    else resize();
+  }
+
   function resize() {
-    if (!$("script-form").checkValidity()) return;
     const n = receivers(), count = Number($("script-slots").value);
     while (state.rows.length < count) state.rows.push(records.empty(n));
     state.rows.length = count;
@@ -123,7 +131,9 @@ const script_tab = (() => {
   function play({ fit = false, text = state.text } = {}) {
     const input = text === state.opened.text ? state.opened.input : text;
     state.text = text;
-    if (!$("script-form").checkValidity()) return;
+    parts.fill("script-text", text);
+    const problem = too_much() || parts.problem_of($("script-form"));
+    if (problem) { show_problem(problem); return; }
     const m = $("script-m").value, k = $("script-k").value, count = state.rows.length;
     const words = ["sim", "--pi", PI, "--pty", state.pty, "--m", m, "--k", k], got = rdsrt.run(words, input);
     const played = played_of(got.output, count), said = lines.read(got.output, played), tint = parts.tinter();
@@ -137,12 +147,33 @@ const script_tab = (() => {
     timeline.chosen = receivers() ? state.chosen : null;
     timeline.title = `rdsrt ${words.join(" ")}`;
     timeline.show(lanes(broadcast.marks, played, tint), count, { fit });
-    parts.fill("script-text", text);
     parts.fill("script-lines", got.output);
     $("script-command").textContent = `rdsrt ${words.join(" ")}`;
     tell_mixes();
     tell_wait();
     tell_fault(text);
+  }
+
+  /* Why the page does not play these rows; empty if it does. */
+  function too_much() {
+    const n = state.rows[0]?.receptions.length ?? 0, count = state.rows.length;
+    const most = (id) => Number($(id).max);
+    if (n > most("script-n")) return `The script has ${n.toLocaleString("en")} receivers. The page plays at most ${most("script-n")}.`;
+    if (count <= most("script-slots")) return "";
+    return `The script has ${parts.counted(count, "row")}. The page plays at most ${most("script-slots").toLocaleString("en")}.`;
+  }
+
+  /* Shows why nothing is played, and no result of what was there before. */
+  function show_problem(problem) {
+    const none = { played: 0, replies: new Map(), spans: new Map(), alone: [], heard: [], result: null, first_mix: null };
+    Object.assign(state, none, { said: { views: [], sent: [], logged: [] }, air: new lines.View(), mixed: () => false });
+    timeline.title = "";
+    timeline.show([], state.rows.length);
+    for (const id of ["script-count", "script-note", "script-command"]) $(id).textContent = "";
+    $("script-note").hidden = true;
+    parts.fill("script-lines", "");
+    $("script-fault").textContent = problem;
+    $("script-fault").hidden = false;
   }
 
   /* How many rows the program played: those before a bad one. */
@@ -385,8 +416,7 @@ const script_tab = (() => {
   }
 
   function begin() {
-    for (const id of ["script-m", "script-k"]) $(id).oninput = parts.soon(() => play());
-    for (const id of ["script-n", "script-slots"]) $(id).oninput = parts.soon(resize);
+    for (const id of ["script-m", "script-k", "script-n", "script-slots"]) $(id).oninput = parts.soon(form_changed);
     $("script-text").oninput = parts.soon(() => {
       const area = $("script-text"), at = area.selectionStart;
       open(area.value, { pty: state.pty, is_edit: true });

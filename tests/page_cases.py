@@ -436,6 +436,43 @@ def files_of_bytes(b):
                   program(["sim", "--pi", "C201", "--pty", "10", "--m", str(m)], data)[1])
 
 
+def results(b, tab):
+    """What a tab shows of a result: texts, marks of a mix, lanes and lines."""
+    texts = b.run(f"[...document.querySelectorAll('#{tab} .lcd .text:not(.none)')].map(it => it.textContent)")
+    lanes = b.run(f"{tab}_tab.timeline.lanes.length")
+    return texts, b.run(f"document.querySelectorAll('#{tab} .mixed').length"), lanes, text_of(b, f"#{tab}-lines")
+
+
+def no_old_results(b):
+    """What the page doesn't play is named in a sentence, and no result of another input stays beside it."""
+    nothing = [], 0, 0, ""
+    number = "{} must be a whole number from {} to {}."
+    rows = [("log", "m", "", number.format("Dwell M", 1, "65,535")), ("log", "m", "1e2", number.format("Dwell M", 1, "65,535")),
+            ("log", "k", "1025", number.format("Late K", 0, "1,024")), ("script", "m", "1e2", number.format("Dwell M", 1, "65,535")),
+            ("script", "k", "", number.format("Late K", 0, "1,024")), ("script", "n", "9", number.format("Receivers", 0, 8)),
+            ("script", "slots", "0", number.format("Slots", 1, "200,000"))]
+    for tab, field, value, told in rows:
+        call(b, "page.tab", tab)
+        call(b, "probe.choose", f"{tab}-example", 0)
+        was, before = of(b, f"#{tab}-{field}", "value"), results(b, tab)
+        call(b, "probe.choose", f"{tab}-{field}", value)
+        settle(b)
+        said = text_of(b, "#verdict p" if tab == "log" else "#script-fault")
+        check(f"{tab}-{field} {value!r}", (said, results(b, tab), before != nothing), (told, nothing, True))
+        call(b, "probe.choose", f"{tab}-{field}", was)
+        settle(b)
+        check(f"{tab}-{field} {was!r} again", results(b, tab), before)
+    call(b, "probe.choose", "log-m", "")
+    call(b, "log_tab.open", EVERY_100)
+    check("a log beside an empty M", (results(b, "log"), text_of(b, "#verdict h2")), (nothing, "No verdict"))
+    for text, told in (("-,,1,GGGGGGGGG\n", "The script has 9 receivers. The page plays at most 8."),
+                       ("-,,1,\n" * 200_001, "The script has 200,001 rows. The page plays at most 200,000.")):
+        call(b, "probe.choose", "script-example", 0)
+        call(b, "script_tab.open", text)
+        check(told, (text_of(b, "#script-fault"), results(b, "script"), text_of(b, "#script-count")), (told, nothing, ""))
+    first_examples(b)
+
+
 def waited_for(path):
     """What the browser saves in this file."""
     end = time.time() + SECONDS
@@ -722,7 +759,7 @@ def policy(b, url):
 
 
 PARTS = (the_first_log, the_first_script, names_and_tags, a_mix_of_tags, flag_bit_alone, restarts, the_dwell, files,
-         files_at_the_default, files_of_bytes, faults, warnings, explained, witnesses, keyboard, screen_reader, contrast_and_width, same_lines_of_examples, same_help_and_refusals,
+         files_at_the_default, files_of_bytes, no_old_results, faults, warnings, explained, witnesses, keyboard, screen_reader, contrast_and_width, same_lines_of_examples, same_help_and_refusals,
          same_lines_by_chance, large)
 
 
