@@ -16,6 +16,7 @@ const page = (() => {
       if (is_on && focus) button.focus();
     }
     try { history.replaceState(null, "", `#${name}`); } catch { /* some browsers refuse it to a file */ }
+    parts.entitle();
     for (const it of [log_tab, script_tab]) it.timeline.draw();
   }
 
@@ -37,7 +38,7 @@ const page = (() => {
   /* Opens a file. The program gets its bytes as they are. The text that the page shows keeps a byte-order mark. */
   async function open_file(file) {
     const input = new Uint8Array(await file.arrayBuffer()), text = decoder.decode(input), to_script = is_script(file.name, text);
-    (to_script ? script_tab : log_tab).open(text, { ...DEFAULTS, input });
+    (to_script ? script_tab : log_tab).open(text, { ...DEFAULTS, input, file: file.name });
     tab(to_script ? "script" : "log");
   }
 
@@ -49,7 +50,12 @@ const page = (() => {
     };
     select.replaceChildren(...all.map((it, i) => new Option(it.name, i)), new Option("your own", ""));
     select.onchange = use;
-    $(`${what}-file`).onchange = (e) => { if (e.target.files[0]) open_file(e.target.files[0]); };
+    // an empty field hears the choice of the same file again
+    $(`${what}-file`).onchange = ({ target }) => {
+      const [file] = target.files;
+      target.value = "";
+      if (file) open_file(file);
+    };
     use();
   }
 

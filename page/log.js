@@ -53,8 +53,9 @@ const log_tab = (() => {
   }
 
   /* Opens a log: its text, and the program's input, which for a file is the file's bytes. */
-  function open(text, { pi, m, k, lost = [], example = "", input = text } = {}) {
+  function open(text, { pi, m, k, lost = [], example = "", file = "", input = text } = {}) {
     Object.assign(state, { text, input, lost: new Set(lost) });
+    parts.name_file("log", file);
     $("log-example").value = example;
     const all = programmes(lines.slots_of(text).slots);
     const options = all.map(([p, n]) => new Option(`${parts.hex(p)} (${parts.counted(n, "group")})`, parts.hex(p)));

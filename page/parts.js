@@ -24,6 +24,19 @@ const parts = (() => {
     return `${bad.labels[0].textContent.trim()} must be a whole number from ${number(bad.min)} to ${number(bad.max)}.`;
   }
 
+  /* Puts the name of the open tab's file into the title of the page. */
+  const TITLE = document.title;
+  function entitle() {
+    const name = document.querySelector("[role=tabpanel]:not([hidden]) .file-name")?.textContent;
+    document.title = name ? `${name} – ${TITLE}` : TITLE;
+  }
+
+  /* Shows beside the field of a tab which file the tab holds; nothing if it holds none. */
+  function name_file(tab, name) {
+    $(`${tab}-file-name`).textContent = name;
+    entitle();
+  }
+
   /* A class of RadioText Plus in small letters, as ITEM.ARTIST. */
   const kind_of = (tag) => tag.kind.replace(/^ITEM\./, "").toLowerCase();
   const said_of = (tag) => `${kind_of(tag)}: ${tag.text}`;
@@ -138,5 +151,5 @@ const parts = (() => {
   }
 
   const lanes = { all_shown, bars, mark, shows, shows_tags, tag_bars, tinter };
-  return { $, ...lanes, counted, fill, go_to_line, hex, in_words, key_of, make, problem_of, radio, soon, why_gone };
+  return { $, ...lanes, counted, entitle, fill, go_to_line, hex, in_words, key_of, make, name_file, problem_of, radio, soon, why_gone };
 })();

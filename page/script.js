@@ -7,7 +7,7 @@ const script_tab = (() => {
   const UNPLAYED = "not played";
   const state = {
     rows: [], played: 0, chosen: 0, pty: "10", air: new lines.View(), said: { views: [], sent: [] }, alone: [], heard: [],
-    replies: new Map(), spans: new Map(), mixed: () => false, text: "", opened: { text: "", input: "" },
+    replies: new Map(), spans: new Map(), mixed: () => false, text: "", opened: { text: "", input: "", file: "" },
   };
   const timeline = new Timeline($("script-time"), {
     label: "Slot of the script",
@@ -112,9 +112,9 @@ const script_tab = (() => {
   }
 
   /* Opens a script: its text, and the program's input for this text, which for a file is the file's bytes. */
-  function open(text, { m, k, pty = "10", is_edit = false, example = "", input = text } = {}) {
+  function open(text, { m, k, pty = "10", is_edit = false, example = "", file = "", input = text } = {}) {
     state.pty = pty;
-    if (!is_edit) state.opened = { text, input };
+    if (!is_edit) state.opened = { text, input, file };
     if (!is_edit) $("script-example").value = example;
     if (m) $("script-m").value = m;
     if (k !== undefined) $("script-k").value = k;
@@ -129,8 +129,9 @@ const script_tab = (() => {
   }
 
   function play({ fit = false, text = state.text } = {}) {
-    const input = text === state.opened.text ? state.opened.input : text;
+    const { opened } = state, is_opened = text === opened.text, input = is_opened ? opened.input : text;
     state.text = text;
+    parts.name_file("script", opened.file && !is_opened ? `${opened.file}, edited` : opened.file);
     parts.fill("script-text", text);
     const problem = too_much() || parts.problem_of($("script-form"));
     if (problem) { show_problem(problem); return; }

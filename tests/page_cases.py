@@ -436,6 +436,31 @@ def files_of_bytes(b):
                   program(["sim", "--pi", "C201", "--pty", "10", "--m", str(m)], data)[1])
 
 
+def names_of_files(b):
+    """A file's name is beside the field and in the title as long as the page shows that file. It can be chosen again."""
+    title = "RadioText, slot by slot"
+    for tab, name, text in (("log", "<b>own</b>.log", EVERY_100), ("script", "own.csv", example("tunnel.csv").decode())):
+        shows = lambda: (text_of(b, f"#{tab}-file-name"), b.run("document.title"), of(b, f"#{tab}-file", "files.length"))
+        call(b, "page.tab", tab)
+        for way in ("pick", "drop"):
+            call(b, f"probe.{way}", *([f"{tab}-file"] if way == "pick" else []), name, text)
+            settle(b)
+            # a field that still holds its file does not hear the same file again
+            check(f"{tab}: a file by {way}", shows(), (name, f"{name} – {title}", 0))
+            call(b, "probe.choose", f"{tab}-example", 1)
+            check(f"{tab}: an example after it", shows(), ("", title, 0))
+    call(b, "probe.drop", "own.csv", example("tunnel.csv").decode())
+    settle(b)
+    b.run("script_tab.timeline.move(30)")
+    call(b, "probe.choose", "command", "restart")
+    check("an edited file", text_of(b, "#script-file-name"), "own.csv, edited")
+    click(b, "#script-undo")
+    check("and undone", text_of(b, "#script-file-name"), "own.csv")
+    call(b, "page.tab", "log")
+    check("the title is of the open tab", b.run("document.title"), title)
+    first_examples(b)
+
+
 def results(b, tab):
     """What a tab shows of a result: texts, marks of a mix, lanes and lines."""
     texts = b.run(f"[...document.querySelectorAll('#{tab} .lcd .text:not(.none)')].map(it => it.textContent)")
@@ -537,7 +562,8 @@ def faults(b):
     check("no lane goes on behind it", [it for it in ends if it > 5], [])
     for slot in (5, 11):
         b.run(f"script_tab.timeline.move({slot})")
-        check(f"slot {slot} behind it is not played", [shown(b, f"script-{it}") for it in ("air", "radio", "alone")], ["— not played —"] * 3)
+        all_shown = [shown(b, f"script-{it}") for it in ("air", "radio", "alone")]
+        check(f"slot {slot} behind it is not played", all_shown, ["— not played —"] * 3)
 
 
 def warnings(b):
@@ -759,8 +785,8 @@ def policy(b, url):
 
 
 PARTS = (the_first_log, the_first_script, names_and_tags, a_mix_of_tags, flag_bit_alone, restarts, the_dwell, files,
-         files_at_the_default, files_of_bytes, no_old_results, faults, warnings, explained, witnesses, keyboard, screen_reader, contrast_and_width, same_lines_of_examples, same_help_and_refusals,
-         same_lines_by_chance, large)
+         files_at_the_default, files_of_bytes, names_of_files, no_old_results, faults, warnings, explained, witnesses, keyboard,
+         screen_reader, contrast_and_width, same_lines_of_examples, same_help_and_refusals, same_lines_by_chance, large)
 
 
 def main():
