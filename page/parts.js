@@ -11,9 +11,13 @@ const parts = (() => {
   };
   const hex = (n) => n.toString(16).toUpperCase().padStart(4, "0");
   const counted = (n, one, more = `${one}s`) => `${n.toLocaleString("en")} ${n === 1 ? one : more}`;
+  /* Puts off what is to be done until nothing more comes; its `now` does at once what is still put off. */
   const soon = (what) => {
-    let timer;
-    return () => { clearTimeout(timer); timer = setTimeout(what, 120); };
+    let timer = 0;
+    const run = () => { timer = 0; what(); };
+    const later = () => { clearTimeout(timer); timer = setTimeout(run, 120); };
+    later.now = () => { if (timer) { clearTimeout(timer); run(); } };
+    return later;
   };
 
   /* Why the program gets none of the form's numbers: the first that is no whole number within its bounds. Empty if all are. */

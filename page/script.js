@@ -65,20 +65,28 @@ const script_tab = (() => {
   }
 
   function back(by) {
+    played_soon.now();
     const text = undo.go(by);
     if (text === undefined) return;
     take(text);
     play({ text });
   }
 
-  function command_changed() {
+  /* Writes the form's command into the row of the chosen slot; answers whether there is one. */
+  function write_command() {
     const row = state.rows[timeline.cursor], takes = ["text", "name", "tags"].includes($("command").value);
     $("argument").hidden = !takes;
-    if (!row) return;
+    if (!row) return false;
     const free = $("free").checked ? "1" : "0";
     Object.assign(row, { command: $("command").value, argument: takes ? $("argument").value : "", free });
-    edited();
+    return true;
   }
+
+  const command_changed = () => { if (write_command()) edited(); };
+
+  /* A letter was typed: the row of its slot gets it at once, for another slot may be chosen before the rows are played. */
+  const played_soon = parts.soon(() => edited());
+  const argument_typed = () => { if (write_command()) played_soon(); };
 
   /* A number of the form was changed: a script of another size is edited, and one of the same is played again. */
   function form_changed() {
@@ -424,7 +432,7 @@ const script_tab = (() => {
       area.selectionStart = area.selectionEnd = at;
     });
     for (const id of ["command", "free"]) $(id).onchange = command_changed;
-    $("argument").oninput = parts.soon(command_changed);
+    $("argument").oninput = argument_typed;
     const buttons = { "script-undo": () => back(-1), "script-redo": () => back(1), "script-save": save, "script-share": link };
     for (const [id, what] of Object.entries(buttons)) $(id).onclick = what;
   }

@@ -259,6 +259,28 @@ def brush(b):
     check("a stroke is undone as one", b.run(got), "GGGGGGGGG")
 
 
+def typed_in_time(b):
+    """A text belongs to the slot that it was typed for, even if another slot is chosen before the page plays it."""
+    open_script(b, "-,,1,G\n" * 12, m=1, k=0)
+    b.run("script_tab.timeline.move(3)")
+    call(b, "probe.choose", "command", "text")
+    settle(b)
+    call(b, "probe.type_and_leave", "HELLO", 6)
+    settle(b)
+    rows = ["-,,1,G"] * 12
+    rows[3] = "text,HELLO,1,G"
+    script = "".join(f"{row}\n" for row in rows)
+    check("a typed text stays in its slot", of(b, "#script-text", "value"), script)
+    check("and is played there", printed(b), program(["sim", "--pi", "C201", "--m", "1", "--pty", "10"], script.encode())[1])
+    b.run("script_tab.timeline.move(3)")
+    call(b, "probe.type_and_leave", "HELLO YOU", 6)
+    click(b, "#script-undo")
+    settle(b)
+    check("an undo at once takes back what was typed last", of(b, "#script-text", "value"), script)
+    click(b, "#script-redo")
+    check("and it can be done again", of(b, "#script-text", "value"), script.replace("HELLO", "HELLO YOU"))
+
+
 def names_and_tags(b):
     open_script(b, "".join(f"{line}GG\n" for line in example("chanson.csv").decode().splitlines()), m=8, k=0)
     names = b.run("script_tab.timeline.lanes.map(lane => lane.name.trim())")
@@ -784,7 +806,7 @@ def policy(b, url):
     check("and nothing be fetched", sorted(asked), [])
 
 
-PARTS = (the_first_log, the_first_script, names_and_tags, a_mix_of_tags, flag_bit_alone, restarts, the_dwell, files,
+PARTS = (the_first_log, the_first_script, typed_in_time, names_and_tags, a_mix_of_tags, flag_bit_alone, restarts, the_dwell, files,
          files_at_the_default, files_of_bytes, names_of_files, no_old_results, faults, warnings, explained, witnesses, keyboard,
          screen_reader, contrast_and_width, same_lines_of_examples, same_help_and_refusals, same_lines_by_chance, large)
 

@@ -15,6 +15,15 @@ const probe = (() => {
     at(id).dispatchEvent(new Event("change"));
   }
 
+  /* Types an argument, and chooses another slot before the page can play it. */
+  function type_and_leave(text, slot) {
+    at("argument").focus();
+    at("argument").value = text;
+    at("argument").dispatchEvent(new Event("input"));
+    script_tab.timeline.canvas.focus();
+    script_tab.timeline.move(slot);
+  }
+
   /* A file of this text, or of these bytes. */
   const file = (name, content) => new File([typeof content === "string" ? content : Uint8Array.from(content)], name);
 
@@ -170,5 +179,5 @@ const probe = (() => {
     return ran;
   }
 
-  return { choose, chosen_line, colour, contrasts, drop, large, many, pick, place, run, tempt };
+  return { choose, chosen_line, colour, contrasts, drop, large, many, pick, place, run, tempt, type_and_leave };
 })();
