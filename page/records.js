@@ -1,12 +1,16 @@
 "use strict";
 /* The records of a script, as its definition reads them, and a script as a link holds it. */
 const records = (() => {
-  /* Each record with the number of the line that it begins in, counted from 1. */
+  /* Each record with the number of the line that it begins in, counted from 1, and with the text from the end of the record
+     before it to its own end. What follows the last record belongs to it. */
   function split(text) {
     const all = [];
-    let field = "", row = [], quoted = false, line = 1, began = 1, i = text.charCodeAt(0) === 0xFEFF ? 1 : 0;
-    const end_row = () => {
-      if (row.length || field) all.push({ fields: [...row, field], line: began });
+    let field = "", row = [], quoted = false, line = 1, began = 1, from = 0, i = text.charCodeAt(0) === 0xFEFF ? 1 : 0;
+    const end_row = (to) => {
+      if (row.length || field) {
+        all.push({ fields: [...row, field], line: began, written: text.slice(from, to) });
+        from = to;
+      }
       row = [];
       field = "";
     };
@@ -18,24 +22,51 @@ const records = (() => {
         else if (text[i + 1] === '"') { field += c; i++; } else quoted = false;
       } else if (c === '"' && field === "") quoted = true;
       else if (c === ",") { row.push(field); field = ""; }
-      else if (c === "\n" || c === "\r") { end_row(); began = line; }
+      else if (c === "\r" && text[i + 1] === "\n") { i++; line++; end_row(i + 1); began = line; }
+      else if (c === "\n" || c === "\r") { end_row(i + 1); began = line; }
       else field += c;
     }
-    end_row();
+    end_row(text.length);
+    const last = all.at(-1);
+    if (last) last.written = quoted ? undefined : last.written + text.slice(from);
     return all;
   }
 
   const letters = (receptions) => receptions.match(/G\d*|L|R/g) ?? [];
-  function row_of({ fields, line }) {
+  function row_of({ fields, line, written }) {
     const [command = "", argument = "", free = "", receptions = ""] = fields;
-    return { command, argument, free, receptions: letters(receptions), line };
+    return { command, argument, free, receptions: letters(receptions), line, written };
   }
   const read = (text) => split(text).map(row_of);
   const empty = (receivers) => ({ command: "-", argument: "", free: "1", receptions: Array(receivers).fill("G") });
 
   const field = (s) => /[",\n\r]/.test(s) ? `"${s.replaceAll('"', '""')}"` : s;
   const write_row = (r) => `${field(r.command)},${field(r.argument)},${r.free},${r.receptions.join("")}\n`;
-  const write = (rows) => rows.map(write_row).join("");
+
+  /* A row as it was read, if it was not edited since: a malformed row stays as it is until somebody edits it. */
+  const as_read = ({ written }, is_last) => is_last || /[\n\r]$/.test(written) ? written : `${written}\n`;
+  const write_one = (row, i, rows) => row.written === undefined ? write_row(row) : as_read(row, i === rows.length - 1);
+  const write = (rows) => rows.map(write_one).join("");
+
+  /* Changes parts of a row, if they differ. */
+  function edit(row, parts) {
+    if (Object.entries(parts).some(([name, value]) => row[name] !== value)) Object.assign(row, parts, { written: undefined });
+  }
+
+  /* Changes what a receiver does in a row. */
+  function edit_reception(row, receiver, letter) {
+    if (!row.receptions[receiver] || row.receptions[receiver] === letter) return;
+    row.receptions[receiver] = letter;
+    row.written = undefined;
+  }
+
+  /* Gives a row so many receivers. */
+  function edit_receivers(row, count) {
+    if (row.receptions.length === count) return;
+    while (row.receptions.length < count) row.receptions.push("G");
+    row.receptions.length = count;
+    row.written = undefined;
+  }
 
   /* A script as letters of a link, and back. A few letters can hold many bytes, so both ways have a bound of bytes. */
   const MOST = 8000, MOST_PLAIN = 4_000_000;
@@ -70,5 +101,5 @@ const records = (() => {
     return new TextDecoder("utf-8", { fatal: true }).decode(bytes);
   }
 
-  return { empty, pack, read, unpack, write };
+  return { edit, edit_receivers, edit_reception, empty, pack, read, unpack, write };
 })();

@@ -54,7 +54,7 @@ const script_tab = (() => {
 
   function set_reception(slot, receiver, letter) {
     const row = state.rows[slot];
-    if (row?.receptions[receiver]) row.receptions[receiver] = letter;
+    if (row) records.edit_reception(row, receiver, letter);
   }
 
   /* The rows were edited: plays them, and notes the script for the undo. */
@@ -78,7 +78,7 @@ const script_tab = (() => {
     $("argument").hidden = !takes;
     if (!row) return false;
     const free = $("free").checked ? "1" : "0";
-    Object.assign(row, { command: $("command").value, argument: takes ? $("argument").value : "", free });
+    records.edit(row, { command: $("command").value, argument: takes ? $("argument").value : "", free });
     return true;
   }
 
@@ -98,13 +98,10 @@ const script_tab = (() => {
   }
 
   function resize() {
-    const n = receivers(), count = Number($("script-slots").value);
+    const n = receivers(), count = Number($("script-slots").value), is_other = n !== (state.rows[0]?.receptions.length ?? n);
     while (state.rows.length < count) state.rows.push(records.empty(n));
     state.rows.length = count;
-    for (const row of state.rows) {
-      while (row.receptions.length < n) row.receptions.push("G");
-      row.receptions.length = n;
-    }
+    if (is_other) for (const row of state.rows) records.edit_receivers(row, n);
     state.chosen = Math.max(0, Math.min(state.chosen, n - 1));
     edited({ fit: true });
   }

@@ -281,6 +281,27 @@ def typed_in_time(b):
     check("and it can be done again", of(b, "#script-text", "value"), script.replace("HELLO", "HELLO YOU"))
 
 
+def edits_of_one_row(b):
+    """An edit leaves the other rows as they were written: malformed ones, quotes, empty lines and line ends as well."""
+    wanted = '-,,1,GG\r\n\n-,,1,GXG\n"-",,"1",GG\n\n-,"",1,GX'
+    open_script(b, f"{wanted}\n\n", m=8, k=0)
+    fault = text_of(b, "#script-fault")
+    b.run("script_tab.timeline.move(0)")
+    call(b, "probe.choose", "command", "restart")
+    text = wanted.replace("-,,1,GG\r\n", "restart,,1,GG\n", 1)
+    check("an edit changes its row alone", of(b, "#script-text", "value"), f"{text}\n\n")
+    check("and the fault stays", (text_of(b, "#script-fault"), "row 2 (line 3)" in fault), (fault, True))
+    click(b, "#script-undo")
+    check("undone", b.run("script_tab.state.text"), f"{wanted}\n\n")
+    call(b, "script_tab.open", wanted.replace("\r", ""), {"m": 8, "k": 0})
+    call(b, "probe.choose", "script-slots", 5)
+    settle(b)
+    check("another slot changes no row", of(b, "#script-text", "value"), wanted.replace("\r", "") + "\n-,,1,GG\n")
+    b.run("script_tab.timeline.move(1)")
+    call(b, "probe.choose", "command", "restart")
+    check("an edited row is written anew", of(b, "#script-text", "value").splitlines()[1], "restart,,1,GG")
+
+
 def names_and_tags(b):
     open_script(b, "".join(f"{line}GG\n" for line in example("chanson.csv").decode().splitlines()), m=8, k=0)
     names = b.run("script_tab.timeline.lanes.map(lane => lane.name.trim())")
@@ -806,8 +827,8 @@ def policy(b, url):
     check("and nothing be fetched", sorted(asked), [])
 
 
-PARTS = (the_first_log, the_first_script, typed_in_time, names_and_tags, a_mix_of_tags, flag_bit_alone, restarts, the_dwell, files,
-         files_at_the_default, files_of_bytes, names_of_files, no_old_results, faults, warnings, explained, witnesses, keyboard,
+PARTS = (the_first_log, the_first_script, typed_in_time, edits_of_one_row, names_and_tags, a_mix_of_tags, flag_bit_alone, restarts,
+         the_dwell, files, files_at_the_default, files_of_bytes, names_of_files, no_old_results, faults, warnings, explained, witnesses, keyboard,
          screen_reader, contrast_and_width, same_lines_of_examples, same_help_and_refusals, same_lines_by_chance, large)
 
 
