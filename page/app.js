@@ -74,7 +74,6 @@ const page = (() => {
     $("no-engine").hidden = false;
     $("no-engine").textContent = "This browser cannot run the program. It needs WebAssembly with 64-bit memory: Chrome or Edge 133, "
       + `Firefox 134, or later. (${error.message})`;
-    for (const it of TABS) $(it).inert = true;
   }
 
   async function open_address() {
@@ -89,7 +88,8 @@ const page = (() => {
   }
 
   async function begin() {
-    try { await rdsrt.load(); } catch (error) { no_engine(error); return; }
+    try { await rdsrt.load(); } catch (error) { no_engine(error); return; } finally { $("loading").hidden = true; }
+    document.querySelector("main").hidden = false;
     tab_keys();
     examples("log", log_tab.open);
     examples("script", script_tab.open);

@@ -783,6 +783,24 @@ def large(b):
         check(f"{words[0]} of many slots", got == program(words, data)[1], True)
 
 
+IN_SIGHT = "[...document.querySelectorAll('#loading, noscript p, #no-engine, main, .verdict')].filter(e => e.checkVisibility())"
+
+
+def before_the_program(b, url):
+    """Until the program is there, and without scripts, the page shows one sentence and no verdict with a green edge."""
+    undo = b.before_load("WebAssembly.instantiate = () => new Promise(() => {})")
+    b.go(url)
+    check("a page that loads", b.run(f"{IN_SIGHT}.map(e => e.textContent)"), ["The page loads its program."])
+    undo()
+    b.ask("Emulation.setScriptExecutionDisabled", value=True)
+    b.go(url)
+    check("a page without scripts", b.run(f"{IN_SIGHT}.map(e => e.textContent)"),
+          ["This page needs JavaScript. The program rdsrt does the same in a terminal."])
+    b.ask("Emulation.setScriptExecutionDisabled", value=False)
+    visit(b, url)
+    check("a page with its program", b.run(f"{IN_SIGHT}.map(e => e.tagName)"), ["MAIN", "DIV"])
+
+
 def no_wide_memory(b, url):
     """A browser that can't load the module."""
     undo = b.before_load("WebAssembly.instantiate = () => Promise.reject(new Error('no memory of 64 bits'))")
@@ -790,6 +808,7 @@ def no_wide_memory(b, url):
     check("a browser without such a memory gets a sentence", text_of(b, "#no-engine"),
           "This browser cannot run the program. It needs WebAssembly with 64-bit memory: Chrome or Edge 133, "
           "Firefox 134, or later. (no memory of 64 bits)")
+    check("and nothing else", b.run(f"{IN_SIGHT}.map(e => e.id)"), ["no-engine"])
     undo()
 
 
@@ -828,8 +847,8 @@ def policy(b, url):
 
 
 PARTS = (the_first_log, the_first_script, typed_in_time, edits_of_one_row, names_and_tags, a_mix_of_tags, flag_bit_alone, restarts,
-         the_dwell, files, files_at_the_default, files_of_bytes, names_of_files, no_old_results, faults, warnings, explained, witnesses, keyboard,
-         screen_reader, contrast_and_width, same_lines_of_examples, same_help_and_refusals, same_lines_by_chance, large)
+         the_dwell, files, files_at_the_default, files_of_bytes, names_of_files, no_old_results, faults, warnings, explained, witnesses,
+         keyboard, screen_reader, contrast_and_width, same_lines_of_examples, same_help_and_refusals, same_lines_by_chance, large)
 
 
 def main():
@@ -846,6 +865,7 @@ def main():
                 part(b)
             links(b, url)
         check("the browser's console is empty", b.complaints(), [])
+        before_the_program(b, url)
         no_wide_memory(b, url)
         nothing_fetched(b, folder)
         policy(b, url)
