@@ -29,6 +29,14 @@ def ran(*words):
     return done.returncode, done.stdout.decode()
 
 
+def notes(folder, outputs, *words):
+    """What is printed on standard error, in the order of the logs."""
+    environment = {**os.environ, "RDSRT": PROGRAM, "LC_ALL": "C"}
+    done = subprocess.run([MANY, folder, outputs, *words], stdin=subprocess.DEVNULL, capture_output=True, timeout=SECONDS,
+                          env=environment)
+    return sorted(done.stderr.decode().splitlines())
+
+
 def run(check):
     with tempfile.TemporaryDirectory() as place:
         folder = os.path.join(place, "some logs")
@@ -42,6 +50,12 @@ def run(check):
                   (1, "".join(f"{line}\n" for line in SUMMARIES[task])))
             got = {name: open(os.path.join(outputs, name), encoding="utf-8").read() for name in os.listdir(outputs)}
             check(f"many-logs: outputs of {task}", got, {name + ".out": it for name, it in OUTPUTS[task].items()})
+        told = notes(folder, outputs, "audit", "--pi", "C201")
+        begins = ["bad: fault line 2: ", "changed: slot 1 (line 2): ", "empty: no group of C201 in 0 slots. The yes says nothing"]
+        check("many-logs: each note has the name of its log", [note[:len(begin)] for note, begin in zip(told, begins)], begins)
+        check("many-logs: no other note", len(told), len(begins))
+        check("many-logs: faults alone", [it[:18] for it in notes(folder, outputs, "audit", "--pi", "C201", "--quiet")],
+              [begins[0][:18]])
         for name in ("bad", "changed"):
             os.remove(os.path.join(folder, name + ".log"))
         check("many-logs: all done", ran(folder, outputs, "audit", "--pi", "C201")[0], 0)
