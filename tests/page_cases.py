@@ -35,7 +35,8 @@ CONTRAST = 4.5
 TABS = ("log", "script", "dwell")
 PROBE = os.path.join(ROOT, "tests/page_probe.js")
 SCHEMES = ("light", "dark")
-PHONES = (390, 320)
+# widths of windows: a phone, and 400 % zoom of 1,280 px
+NARROW = (390, 320)
 READY = "page.state.ready || !document.getElementById('no-engine').hidden"
 HI = "C201 2140 4849 0D20"
 NOTHING = "---- ---- ---- ----"
@@ -759,12 +760,12 @@ def contrast_and_width(b):
             seen, low = call(b, "probe.contrasts", CONTRAST)
             check(f"contrast of {name}, {scheme}", (seen > 10, low), (True, []))
     b.scheme("light")
-    for width in PHONES:
-        b.size(width, 844)
+    for width in NARROW:
+        b.size(width, 844, is_phone=False)
         for name in TABS:
             call(b, "page.tab", name)
             settle(b)
-            check(f"{name} is as wide as a phone of {width}", b.run("document.documentElement.scrollWidth <= innerWidth"), True)
+            check(f"{name} fits a window of {width} px", b.run("document.documentElement.scrollWidth"), width)
     b.size(1280, 900)
 
 
