@@ -103,8 +103,8 @@ const lines = (() => {
   const ADVICE = ". To look for lost slots";
   const note_of = (all, begin) => (all.find((note) => note.startsWith(begin)) ?? "").split(ADVICE)[0];
 
-  /* What a group is to the text services. */
-  const NOTHING = 0, TEXT = 1, NAME = 2, TAGS = 3, OTHER = 4;
+  /* What a group is to the text services. In a list of codes, KIND masks the kind, and FLAG marks a text whose A/B flag is 1. */
+  const NOTHING = 0, TEXT = 1, NAME = 2, TAGS = 3, OTHER = 4, KIND = 7, FLAG = 8, FLAG_BIT = 0x10;
   function code_of(group, pi) {
     if (!group || (pi !== null && group[0] !== pi)) return NOTHING;
     const kind = group[1] >> 11;
@@ -114,7 +114,10 @@ const lines = (() => {
   }
   function codes_of(groups, count, pi) {
     const codes = new Uint8Array(count);
-    for (let i = 0; i < count; i++) codes[i] = code_of(groups[i], pi);
+    for (let i = 0; i < count; i++) {
+      const kind = code_of(groups[i], pi);
+      codes[i] = kind === TEXT && groups[i][1] & FLAG_BIT ? kind | FLAG : kind;
+    }
     return codes;
   }
 
@@ -122,6 +125,6 @@ const lines = (() => {
     "GENRE"];
   const class_of = (number) => number < CLASSES.length ? `ITEM.${CLASSES[number]}` : String(number);
 
-  const CODES = { NOTHING, TEXT, NAME, TAGS, OTHER };
+  const CODES = { NOTHING, TEXT, NAME, TAGS, OTHER, KIND, FLAG };
   return { ...CODES, LOST, View, class_of, code_of, codes_of, note_of, notes, read, seconds, slots_of, time };
 })();

@@ -2,17 +2,30 @@
 /* Draws the lanes of a timeline on a canvas. What is out of sight isn't drawn, so a frame costs what its pixels do and not
    what its slots do. A lane is { name, short, kind: "ticks" | "bars" | "marks", codes | runs | marks, group, gap, strong }. */
 const painter = (() => {
-  const AXIS = 24, TICKS = 18, BARS = 24, FONT = "system-ui, 'Noto Sans', 'DejaVu Sans', sans-serif";
-  const INKS = ["card", "text", "dim", "line", "lane", "chosen", "accent", "bad", "wrong", "cursor", "stale", "stale-text"];
+  const AXIS = 24, TICKS = 20, BARS = 24, FONT = "system-ui, 'Noto Sans', 'DejaVu Sans', sans-serif";
+  const INKS = ["card", "text", "dim", "line", "lane", "chosen", "accent", "bad", "wrong", "cursor", "stale", "stale-text", "on-bar",
+    "on-wrong"];
   const STEPS = [1, 2, 5, 10, 20, 50, 100, 200, 500, 1000, 2000, 5000, 10000, 20000, 50000, 100000];
+  /* The heights [from, to] of a tick by the code of its slot: kinds differ in shape as well as in colour. */
+  const SHAPES = {
+    [lines.TEXT]: [[0, 16]], [lines.TEXT | lines.FLAG]: [[0, 6], [10, 16]],
+    [lines.NAME]: [[0, 7]], [lines.TAGS]: [[9, 16]], [lines.OTHER]: [[6, 10]], [lines.NOTHING]: [[14, 16]],
+  };
+  const CODES = { [lines.TEXT]: "t1", [lines.TEXT | lines.FLAG]: "t5", [lines.NAME]: "t2", [lines.TAGS]: "t3", [lines.OTHER]: "t4" };
 
-  /* The colours of the page, as its style has them now. */
+  /* The colours of the page, as its style has them now: in forced colours those of the system. */
   function inks(root) {
-    const style = getComputedStyle(root), ink = (name) => style.getPropertyValue(`--${name}`).trim();
-    const all = {};
+    const probe = root.appendChild(document.createElement("i")), all = { codes: [] };
+    probe.style.forcedColorAdjust = "none";
+    const ink = (name) => {
+      probe.style.color = `var(--${name})`;
+      return getComputedStyle(probe).color;
+    };
     for (const name of INKS) all[name] = ink(name);
     all.tints = [0, 1, 2, 3, 4, 5, 6, 7].map((i) => ink(`c${i}`));
-    all.codes = ["transparent", ink("t1"), ink("t2"), ink("t3"), ink("t4")];
+    for (const [code, name] of Object.entries(CODES)) all.codes[code] = ink(name);
+    all.is_forced = matchMedia("(forced-colors: active)").matches;
+    probe.remove();
     return all;
   }
 
@@ -78,9 +91,8 @@ const painter = (() => {
     const first = Math.max(0, Math.floor(sight.from)), last = Math.min(lane.codes.length, Math.ceil(sight.from + sight.across));
     for (let s = first; s < last; s++) {
       const code = lane.codes[s], x = sight.x(s), w = Math.max(1, each - gap);
-      c.fillStyle = code > 0 ? ink.codes[code] : ink.bad;
-      if (code > 0) c.fillRect(x, y + 2, w, h - 4);
-      else if (lane.losses) c.fillRect(x, y + h / 2 - 1, w, 2);
+      c.fillStyle = ink.codes[code] ?? ink.bad;
+      if (code > 0 || lane.losses) for (const [from, to] of SHAPES[code]) c.fillRect(x, y + 2 + from, w, to - from);
       if (!lane.lost?.has(s)) continue;
       c.strokeStyle = ink.bad;
       c.lineWidth = 1.6;
@@ -110,7 +122,7 @@ const painter = (() => {
         from = px;
       }
     };
-    c.fillStyle = ink.codes[4];
+    c.fillStyle = ink.codes[lines.OTHER];
     strokes((n) => Math.round((1 - n) * (h - 4)), (full, x, w) => { if (full) c.fillRect(x, y + h - 2 - full, w, full); });
     if (!lane.losses) return;
     c.fillStyle = ink.bad;
@@ -130,17 +142,35 @@ const painter = (() => {
     });
   }
 
+  /* An outline within these bounds. */
+  function outline(c, x, y, w, h, color) {
+    c.strokeStyle = color;
+    c.lineWidth = 1.5;
+    c.beginPath();
+    c.roundRect(x + 0.75, y + 0.75, Math.max(0.5, w - 1.5), h - 1.5, 3.5);
+    c.stroke();
+    c.lineWidth = 1;
+  }
+
+  /* The ground of a bar: full in the colour of its broadcast, hollow where it is stale, and hatched where nobody sent it. */
+  function ground(c, run, x0, w, lane, sight, ink) {
+    const { top: y, height: h } = lane, is_stale = run.old && !run.mix;
+    c.fillStyle = run.mix ? ink.wrong : run.old ? ink.stale : ink.tints[run.tint ?? 0];
+    if (is_stale && w > 4) outline(c, x0, y + 1, w, h - 2, ink.stale);
+    else box(c, x0, y + 1, w, h - 2, w > 8);
+    if (run.mix && w > 3) hatch(c, x0, y, w, h, sight.width, ink);
+    if (ink.is_forced && !is_stale && w > 2) outline(c, x0, y + 1, w, h - 2, ink.text);
+  }
+
   function bar(c, run, x0, x1, lane, sight, ink) {
     const { top: y, height: h } = lane, w = Math.max(1, x1 - x0 - (x1 - x0 > 6 ? 1 : 0));
-    c.fillStyle = run.mix ? ink.wrong : run.old ? ink.stale : ink.tints[run.tint ?? 0];
-    box(c, x0, y + 1, w, h - 2, w > 8);
-    if (run.mix && w > 3) hatch(c, x0, y, w, h, sight.width, ink);
+    ground(c, run, x0, w, lane, sight, ink);
     if (w <= 22) return;
     const said = (run.mix ? "⚠ " : "") + run.label, start = Math.max(x0, sight.gutter) + 6;
     clipped(c, x0, y, w - 3, h, () => {
       c.fillStyle = ink.wrong;
       if (run.mix) c.fillRect(start - 4, y + 4, c.measureText(said).width + 8, h - 8);
-      c.fillStyle = run.old && !run.mix ? ink["stale-text"] : "#fff";
+      c.fillStyle = run.mix ? ink["on-wrong"] : run.old ? ink["stale-text"] : ink["on-bar"];
       c.fillText(said, start, y + h / 2 + 0.5);
     });
   }
@@ -184,6 +214,8 @@ const painter = (() => {
     const { top: y, height: h } = lane, left = sight.gutter, is_chosen = lane.group !== undefined && lane.group === sight.chosen;
     c.fillStyle = is_chosen ? ink.chosen : ink.lane;
     c.fillRect(left, y, sight.room, h);
+    c.fillStyle = ink.cursor;
+    if (is_chosen) c.fillRect(left - 4, y, 3, h);
     clipped(c, 0, y, left - 6, h, () => {
       c.font = `${lane.strong ? "600 " : ""}12px ${FONT}`;
       c.fillStyle = is_chosen || lane.strong ? ink.text : ink.dim;
@@ -212,6 +244,19 @@ const painter = (() => {
     c.fill();
   }
 
+  /* Draws a swatch of a legend, which shows the code of a slot, or a bar that is a "mix" or "stale". */
+  function swatch(canvas, ink) {
+    const { shows } = canvas.dataset, w = 14, scale = 2, c = canvas.getContext("2d");
+    Object.assign(canvas, { width: w * scale, height: TICKS * scale });
+    c.scale(scale, scale);
+    c.fillStyle = ink.lane;
+    c.fillRect(0, 0, w, TICKS);
+    const sight = { from: 0, across: 1, room: w, gutter: 0, width: w, x: (slot) => slot * w };
+    const lane = { top: 0, height: TICKS, codes: [Number(shows)], losses: true };
+    if (shows === "mix" || shows === "stale") ground(c, { mix: shows === "mix", old: true }, 0, w, lane, sight, ink);
+    else wide_ticks(c, lane, sight, ink);
+  }
+
   /* All of it, in the colours `ink`. `sight` says what is in sight: from, across, room, gutter, width, cursor, chosen, x. */
   function paint(c, lanes, sight, ink, height) {
     c.textBaseline = "middle";
@@ -220,5 +265,5 @@ const painter = (() => {
     cursor(c, sight, ink, height);
   }
 
-  return { FONT, inks, paint, place };
+  return { AXIS, FONT, inks, paint, place, swatch };
 })();

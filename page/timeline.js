@@ -1,6 +1,9 @@
 "use strict";
 /* A timeline of slots: which of them are in sight, the chosen one, and the keys, the wheel and the pointer on it. */
 class Timeline {
+  /* The modes of a page that change its colours. */
+  static MODES = ["(prefers-color-scheme: dark)", "(forced-colors: active)"];
+
   constructor(root, { label, on_move, on_paint = () => false, on_key = () => false, on_lane = () => {} }) {
     Object.assign(this, { root, on_move, on_paint, on_key, on_lane });
     Object.assign(this, { lanes: [], count: 1, from: 0, across: 1, cursor: 0, chosen: null, changes: [] });
@@ -23,8 +26,16 @@ class Timeline {
     this.canvas.addEventListener("keydown", (e) => this.key(e));
     this.canvas.addEventListener("wheel", (e) => this.wheel(e), { passive: false });
     this.measure();
+    this.recolour();
     new ResizeObserver(() => this.draw()).observe(this.canvas);
-    matchMedia("(prefers-color-scheme: dark)").addEventListener("change", () => this.draw());
+    for (const mode of Timeline.MODES) matchMedia(mode).addEventListener("change", () => this.recolour());
+  }
+
+  /* Takes the colours of the page anew, for the lanes and for the swatches of the legend beside them. */
+  recolour() {
+    this.ink = painter.inks(this.root);
+    for (const canvas of this.root.parentElement.querySelectorAll(".legend canvas")) painter.swatch(canvas, this.ink);
+    this.draw();
   }
 
   show(lanes, count, { fit = false } = {}) {
@@ -176,7 +187,7 @@ class Timeline {
     const c = canvas.getContext("2d");
     c.setTransform(scale, 0, 0, scale, 0, 0);
     c.clearRect(0, 0, width, height);
-    painter.paint(c, this.lanes, this, painter.inks(this.root), height);
+    painter.paint(c, this.lanes, this, this.ink, height);
     this.scroll.max = Math.max(0, this.count - this.across);
     this.scroll.value = this.from;
     this.scroll.hidden = this.across >= this.count;

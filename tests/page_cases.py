@@ -31,7 +31,8 @@ SECONDS = 60
 # milliseconds in which 100,000 slots are opened, and a frame of them is drawn
 OPENING, FRAME = 2000, 50
 SLOTS = 100_000
-CONTRAST = 4.5
+# of texts, and of shapes without a text
+CONTRAST, GRAPHIC_CONTRAST = 4.5, 3
 TABS = ("log", "script", "dwell")
 PROBE = os.path.join(ROOT, "tests/page_probe.js")
 SCHEMES = ("light", "dark")
@@ -314,8 +315,39 @@ def names_and_tags(b):
     check("tags have their colour", b.run(f"{sent}.includes(lines.TAGS)"), True)
     open_script(b, example("mix.csv").decode(), m=8, k=0)
     wanted = ["text" if "sent C201 2" in line else "other" for line in printed(b).splitlines() if " sent " in line]
-    got = b.run(f"{sent}.filter(code => code).map(code => ['', 'text', 'name', 'tags', 'other'][code])")
+    got = b.run(f"{sent}.filter(code => code).map(code => ['', 'text', 'name', 'tags', 'other'][code & lines.KIND])")
     check("announcements of tags have not", (got, "other" in got), (wanted, True))
+
+
+def kinds_of_groups(b):
+    """Kinds of groups differ in shape, and so do texts by their A/B flag. The legend shows the shapes of the lanes."""
+    log = "".join(f"{line}\n" for line in (HI, YO, GROUPS[4], GROUPS[7], GROUPS[6], NOTHING))
+    verdict_of(b, log, 8)
+    check("the codes of slots", b.run("[...log_tab.timeline.lanes[0].codes]"), [1, 9, 2, 3, 4, 0])
+    kinds = b.run("log_tab.state.slots.map(group => lines.code_of(group, 0xC201))")
+    check("and the kinds of their groups", kinds, [1, 1, 2, 3, 4, 0])
+    for scheme in SCHEMES:
+        b.scheme(scheme)
+        settle(b)
+        legend = call(b, "probe.swatches", "log")
+        check(f"the legend, {scheme}", list(legend), ["text, flag A", "text, flag B", "name", "tags", "other", "lost", "never sent", "stale"])
+        shapes = list(legend.values())[:6]
+        check(f"shapes differ, {scheme}", (len(set(shapes)), [it for it in shapes if "#" not in it]), (6, []))
+        check(f"the lane has the shapes of the legend, {scheme}", b.run("probe.ticks(log_tab.timeline, 6)"), shapes)
+        check(f"ticks, bars and marks stand out, {scheme}", call(b, "probe.faint", GRAPHIC_CONTRAST), [])
+    b.scheme("light")
+
+
+def reduced_motion(b):
+    """Nothing moves if the reader wants no motion."""
+    moves = """[...document.querySelectorAll('*')].filter(it => {
+        const { transitionDuration, animationName, scrollBehavior } = getComputedStyle(it);
+        return transitionDuration !== '0s' || animationName !== 'none' || scrollBehavior !== 'auto';
+    }).length"""
+    check("displays change softly", b.run(moves) > 0, True)
+    b.scheme("light", **{"prefers-reduced-motion": "reduce"})
+    check("nothing moves with reduced motion", b.run(moves), 0)
+    b.scheme("light")
 
 
 def a_mix_of_tags(b):
@@ -849,6 +881,7 @@ def policy(b, url):
 
 PARTS = (the_first_log, the_first_script, typed_in_time, edits_of_one_row, names_and_tags, a_mix_of_tags, flag_bit_alone, restarts,
          the_dwell, files, files_at_the_default, files_of_bytes, names_of_files, no_old_results, faults, warnings, explained, witnesses,
+         kinds_of_groups, reduced_motion,
          keyboard, screen_reader, contrast_and_width, same_lines_of_examples, same_help_and_refusals, same_lines_by_chance, large)
 
 

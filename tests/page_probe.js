@@ -52,6 +52,31 @@ const probe = (() => {
     return [box.left + timeline.x(slot + 0.5), box.top + lane.top + lane.height / 2];
   }
 
+  // ---- what a canvas shows
+
+  /* The rows of a canvas at this place, top to bottom: # where the colour is not that of the first row. */
+  const reader = document.createElement("canvas").getContext("2d", { willReadFrequently: true });
+  function column(canvas, x, top, height) {
+    const scale = canvas.width / canvas.clientWidth;
+    Object.assign(reader.canvas, { width: canvas.width, height: canvas.height });
+    reader.drawImage(canvas, 0, 0);
+    const at = (y) => String(reader.getImageData(Math.floor(x * scale), Math.floor((top + y + 0.5) * scale), 1, 1).data);
+    return Array.from({ length: height }, (_, y) => at(y) === at(0) ? "." : "#").join("");
+  }
+
+  /* The shapes of the swatches of a tab's legend, by their words. */
+  function swatches(tab) {
+    const all = [...at(tab).querySelectorAll(".legend span")].filter((it) => it.querySelector("canvas"));
+    return Object.fromEntries(all.map((it) => [it.textContent.trim(), column(it.querySelector("canvas"), 7, 0, 20)]));
+  }
+
+  /* The shapes of the slots of a timeline's first lane, up to this one. */
+  function ticks(timeline, count) {
+    timeline.paint();
+    const { canvas, lanes: [lane] } = timeline;
+    return Array.from({ length: count }, (_, slot) => column(canvas, timeline.x(slot + 0.5), lane.top, lane.height));
+  }
+
   // ---- contrast, by the formula of WCAG 2
 
   const painter_of_one = document.createElement("canvas").getContext("2d", { willReadFrequently: true });
@@ -93,10 +118,11 @@ const probe = (() => {
 
   /* Pairs of colours that the canvas draws on each other. */
   const PAIRS = [
-    ...[0, 1, 2, 3, 4, 5, 6, 7].map((i) => ["white", `c${i}`]), ["white", "wrong"], ["stale-text", "stale"],
-    ["dim", "card"], ["dim", "lane"],
-    ...["lane", "chosen", "card"].flatMap((on) => [["text", on], ["bad", on]]),
+    ...[0, 1, 2, 3, 4, 5, 6, 7].map((i) => ["white", `c${i}`]), ["white", "wrong"], ["dim", "card"], ["dim", "lane"],
+    ...["lane", "chosen", "card"].flatMap((on) => [["text", on], ["bad", on], ["stale-text", on]]),
   ];
+  /* And those of ticks, bars and marks that have no text. */
+  const GRAPHICS = ["lane", "chosen"].flatMap((on) => ["t1", "t2", "t3", "t4", "t5", "stale", "accent", "bad"].map((it) => [it, on]));
 
   /* How many texts are in sight, and those whose contrast is too low. */
   function contrasts(least) {
@@ -107,6 +133,9 @@ const probe = (() => {
     const low = [...all, ...drawn].filter(([, a, b]) => ratio(a, b) < least).map(([what, a, b]) => `${what} ${ratio(a, b).toFixed(2)}`);
     return [all.length, low];
   }
+
+  /* The graphics whose contrast to their lane is too low. */
+  const faint = (least) => GRAPHICS.filter(([a, b]) => ratio(colour(a), colour(b)) < least).map((pair) => pair.join(" on "));
 
   // ---- many slots
 
@@ -179,5 +208,7 @@ const probe = (() => {
     return ran;
   }
 
-  return { choose, chosen_line, colour, contrasts, drop, large, many, pick, place, run, tempt, type_and_leave };
+  return {
+    choose, chosen_line, colour, contrasts, drop, faint, large, many, pick, place, run, swatches, tempt, ticks, type_and_leave,
+  };
 })();
