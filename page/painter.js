@@ -142,24 +142,26 @@ const painter = (() => {
     });
   }
 
-  /* An outline within these bounds. */
-  function outline(c, x, y, w, h, color) {
+  /* An outline within these bounds, dashed if it is that of a stale bar. */
+  function outline(c, x, y, w, h, { color, dashes = [] }) {
     c.strokeStyle = color;
     c.lineWidth = 1.5;
+    c.setLineDash(dashes);
     c.beginPath();
     c.roundRect(x + 0.75, y + 0.75, Math.max(0.5, w - 1.5), h - 1.5, 3.5);
     c.stroke();
+    c.setLineDash([]);
     c.lineWidth = 1;
   }
 
-  /* The ground of a bar: full in the colour of its broadcast, hollow where it is stale, and hatched where nobody sent it. */
+  /* The ground of a bar: full in the colour of its broadcast, hollow and dashed where it is stale, and hatched where nobody sent it. */
   function ground(c, run, x0, w, lane, sight, ink) {
     const { top: y, height: h } = lane, is_stale = run.old && !run.mix;
     c.fillStyle = run.mix ? ink.wrong : run.old ? ink.stale : ink.tints[run.tint ?? 0];
-    if (is_stale && w > 4) outline(c, x0, y + 1, w, h - 2, ink.stale);
+    if (is_stale && w > 4) outline(c, x0, y + 1, w, h - 2, { color: ink.stale, dashes: [4, 2] });
     else box(c, x0, y + 1, w, h - 2, w > 8);
     if (run.mix && w > 3) hatch(c, x0, y, w, h, sight.width, ink);
-    if (ink.is_forced && !is_stale && w > 2) outline(c, x0, y + 1, w, h - 2, ink.text);
+    if (ink.is_forced && !is_stale && w > 2) outline(c, x0, y + 1, w, h - 2, { color: ink.text });
   }
 
   function bar(c, run, x0, x1, lane, sight, ink) {

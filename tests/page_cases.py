@@ -338,6 +338,35 @@ def kinds_of_groups(b):
     b.scheme("light")
 
 
+def forced_colours(b):
+    """In the system's own colours all can be told apart that is chosen, red, or of a kind. The canvas takes those colours."""
+    grounds = "[...document.querySelectorAll('{}')].map(it => getComputedStyle(it).backgroundColor)"
+    for scheme in SCHEMES:
+        first_examples(b)
+        b.scheme(scheme, **{"forced-colors": "active"})
+        settle(b)
+        check("the canvas has the system's text colour", b.run("log_tab.timeline.ink.text"), b.run("getComputedStyle(document.body).color"))
+        first, *others = b.run(grounds.format("nav button"))
+        call(b, "page.tab", "log")
+        check("the chosen tab", (first not in others, len(set(others))), (True, 1))
+        mixed, calm = b.run(grounds.format("#log-radio .lcd")), b.run(grounds.format("#log-alone .lcd"))
+        check("a display that is red", (of(b, "#log-radio", "className"), mixed != calm), ("radio mixed", True))
+        call(b, "page.tab", "script")
+        first, *others = b.run(grounds.format(".brush label"))
+        check("the chosen brush", (first not in others, len(set(others))), (True, 1))
+        for tab in TABS[:2]:
+            call(b, "page.tab", tab)
+            drawn = b.run(f"[...document.querySelectorAll('#{tab} .legend canvas')].map(it => it.toDataURL())")
+            check(f"the swatches of {tab}", (len(drawn), len(set(drawn))), (8, 8))
+    edges = []
+    for log in (f"{HI}\n", f"{HI}\n{GROUPS[2]}\n", "", "bad\n"):
+        verdict_of(b, log, 8)
+        edges.append(b.run("getComputedStyle(document.querySelector('#verdict')).borderLeftStyle"))
+    check("the edges of verdicts", edges, ["solid", "double", "dotted", "dashed"])
+    b.scheme("light")
+    first_examples(b)
+
+
 def reduced_motion(b):
     """Nothing moves if the reader wants no motion."""
     moves = """[...document.querySelectorAll('*')].filter(it => {
@@ -881,7 +910,7 @@ def policy(b, url):
 
 PARTS = (the_first_log, the_first_script, typed_in_time, edits_of_one_row, names_and_tags, a_mix_of_tags, flag_bit_alone, restarts,
          the_dwell, files, files_at_the_default, files_of_bytes, names_of_files, no_old_results, faults, warnings, explained, witnesses,
-         kinds_of_groups, reduced_motion,
+         kinds_of_groups, forced_colours, reduced_motion,
          keyboard, screen_reader, contrast_and_width, same_lines_of_examples, same_help_and_refusals, same_lines_by_chance, large)
 
 
