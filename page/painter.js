@@ -6,6 +6,8 @@ const painter = (() => {
   const INKS = ["card", "text", "dim", "line", "lane", "chosen", "accent", "bad", "wrong", "cursor", "stale", "stale-text", "on-bar",
     "on-wrong"];
   const STEPS = [1, 2, 5, 10, 20, 50, 100, 200, 500, 1000, 2000, 5000, 10000, 20000, 50000, 100000];
+  /* Marks closer than this, in pixels, are drawn as strokes. */
+  const NEAR = 12;
   /* The heights [from, to] of a tick by the code of its slot: kinds differ in shape as well as in colour. */
   const SHAPES = {
     [lines.TEXT]: [[0, 16]], [lines.TEXT | lines.FLAG]: [[0, 6], [10, 16]],
@@ -189,24 +191,59 @@ const painter = (() => {
     }
   }
 
+  /* A mark at its slot: a flag, or a diamond on a pole if it is bad. */
+  function mark(c, x, { top: y, height: h }, is_bad, ink) {
+    const middle = y + h / 2, half = h / 2 - 3;
+    c.fillStyle = is_bad ? ink.bad : ink.accent;
+    if (is_bad) c.fillRect(x - 1, y + 1, 2, h - 2);
+    c.beginPath();
+    c.moveTo(x, is_bad ? middle : middle - half);
+    if (is_bad) c.lineTo(x + 5, middle - 6);
+    c.lineTo(x + (is_bad ? 10 : 7), middle);
+    if (is_bad) c.lineTo(x + 5, middle + 6);
+    c.lineTo(x, is_bad ? middle : middle + half);
+    c.fill();
+  }
+
+  /* A text as far as it has room: cut and with an ellipsis, or empty if fewer than three letters fit. */
+  function fitted(c, text, room) {
+    if (room < 16) return "";
+    if (c.measureText(text).width <= room) return text;
+    let low = 0, high = text.length;
+    while (low < high) {
+      const mid = (low + high + 1) >> 1;
+      if (c.measureText(`${text.slice(0, mid)}…`).width <= room) low = mid; else high = mid - 1;
+    }
+    return low < 3 ? "" : `${text.slice(0, low).trimEnd()}…`;
+  }
+
+  /* Strokes in a calm colour where marks are too close for their shapes: the higher, the more marks a column has. */
+  function crowds(c, counts, { top: y, height: h }, sight, ink) {
+    c.fillStyle = ink.dim;
+    counts.forEach((n, px) => {
+      const tall = Math.min(h - 6, 5 + 3 * Math.log2(n + 1));
+      if (n) c.fillRect(sight.gutter + px, y + h - 3 - tall, 1, tall);
+    });
+  }
+
+  /* Marks with their labels, each label only as far as the next mark. Bad marks are drawn last, so that none hides them. */
   function marks(c, lane, sight, ink) {
-    const { top: y, height: h, marks: all } = lane, end = sight.from + sight.across;
-    c.font = `11px ${FONT}`;
-    let free = -Infinity, drawn = -Infinity;
+    const { marks: all } = lane, end = sight.from + sight.across, middle = lane.top + lane.height / 2 + 0.5;
+    const counts = new Uint32Array(Math.ceil(sight.room) + 1), apart = [], bad = [];
+    const at = (i) => i < 0 ? -Infinity : i < all.length ? sight.x(all[i].at) : Infinity;
     for (let i = first_behind(all, sight.from - 1); i < all.length && all[i].at <= end; i++) {
-      const mark = all[i], x = sight.x(mark.at);
-      if (x - drawn < 1 && !mark.bad) continue;
-      drawn = x;
-      c.fillStyle = mark.bad ? ink.bad : ink.accent;
-      c.beginPath();
-      c.moveTo(x, y + 3);
-      c.lineTo(x + 7, y + h / 2);
-      c.lineTo(x, y + h - 3);
-      c.fill();
-      if (x <= free) continue;
-      c.fillStyle = mark.bad ? ink.bad : ink.text;
-      c.fillText(mark.label, x + 10, y + h / 2 + 0.5);
-      free = x + 14 + c.measureText(mark.label).width;
+      const x = at(i), is_apart = x - at(i - 1) >= NEAR && at(i + 1) - x >= NEAR;
+      if (all[i].bad) bad.push(i);
+      else if (is_apart) apart.push(i);
+      else if (x >= sight.gutter) counts[Math.floor(x - sight.gutter)]++;
+    }
+    crowds(c, counts, lane, sight, ink);
+    c.font = `11px ${FONT}`;
+    for (const i of [...apart, ...bad]) {
+      const x = at(i), is_bad = all[i].bad, from = x + (is_bad ? 13 : 10);
+      mark(c, x, lane, is_bad, ink);
+      c.fillStyle = is_bad ? ink.bad : ink.text;
+      c.fillText(fitted(c, all[i].label, at(i + 1) - from - 4), from, middle);
     }
   }
 

@@ -338,6 +338,24 @@ def kinds_of_groups(b):
     b.scheme("light")
 
 
+def marks(b):
+    """A label of a mark ends before the next mark. Marks without room are strokes in a calm colour, beside which a bad one is seen."""
+    log = "".join(f"{line}\n" for line in (GROUPS[2], GROUPS[3], "C201 2150 4E45 5753", "C201 2151 2031 320D")) * 2500
+    verdict_of(b, log, 8)
+    b.run("log_tab.timeline.fit()")
+    seen = b.run("probe.columns_of(log_tab.timeline, 'events', 'accent', 'dim', 'bad')")
+    check("many marks are no bar", (seen["accent"], seen["dim"] > seen["width"] / 2, seen["bad"] > 1), (0, True, True))
+    check("and have no labels", b.run("probe.labels(log_tab.timeline, 'events')"), [])
+    for across, is_cut in ((26, True), (12, False)):
+        b.run(f"Object.assign(log_tab.timeline, {{ from: 100, across: {across} }})")
+        told = b.run("probe.labels(log_tab.timeline, 'events')")
+        places = b.run("log_tab.timeline.lanes[1].marks.map(mark => log_tab.timeline.x(mark.at))")
+        over = [text for text, left, right in told if any(left < x <= right for x in places)]
+        check(f"no mark is on a label in {across} slots", (over, len(told) >= across / 2 - 1), ([], True))
+        check(f"labels of {across} slots", {text.endswith("…") for text, *_ in told}, {is_cut})
+    first_examples(b)
+
+
 def forced_colours(b):
     """In the system's own colours all can be told apart that is chosen, red, or of a kind. The canvas takes those colours."""
     grounds = "[...document.querySelectorAll('{}')].map(it => getComputedStyle(it).backgroundColor)"
@@ -910,7 +928,7 @@ def policy(b, url):
 
 PARTS = (the_first_log, the_first_script, typed_in_time, edits_of_one_row, names_and_tags, a_mix_of_tags, flag_bit_alone, restarts,
          the_dwell, files, files_at_the_default, files_of_bytes, names_of_files, no_old_results, faults, warnings, explained, witnesses,
-         kinds_of_groups, forced_colours, reduced_motion,
+         kinds_of_groups, marks, forced_colours, reduced_motion,
          keyboard, screen_reader, contrast_and_width, same_lines_of_examples, same_help_and_refusals, same_lines_by_chance, large)
 
 

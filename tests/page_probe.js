@@ -77,6 +77,35 @@ const probe = (() => {
     return Array.from({ length: count }, (_, slot) => column(canvas, timeline.x(slot + 0.5), lane.top, lane.height));
   }
 
+  const lane_of = (timeline, name) => timeline.lanes.find((lane) => lane.name === name);
+
+  /* The labels that a timeline draws into a lane, each with its left and its right end. */
+  function labels(timeline, name) {
+    const { prototype } = CanvasRenderingContext2D, { fillText } = prototype, { top, height } = lane_of(timeline, name), all = [];
+    prototype.fillText = function (text, x, y) {
+      if (text && x >= timeline.gutter && y > top && y < top + height) all.push([text, x, x + this.measureText(text).width]);
+      fillText.call(this, text, x, y);
+    };
+    timeline.paint();
+    prototype.fillText = fillText;
+    return all;
+  }
+
+  /* In how many columns of a lane, of which number, each of these colours is to be seen. */
+  function columns_of(timeline, name, ...inks) {
+    timeline.paint();
+    const { canvas, room, gutter, ink } = timeline, { top, height } = lane_of(timeline, name), width = Math.floor(room);
+    Object.assign(reader.canvas, { width: canvas.width, height: canvas.height });
+    reader.drawImage(canvas, 0, 0);
+    const { data } = reader.getImageData(gutter, top, width, height), told = { width };
+    for (const name of inks) {
+      const [r, g, b] = rgba(ink[name]), is = (i) => data[i] === r && data[i + 1] === g && data[i + 2] === b;
+      const shows = (x) => Array.from({ length: height }, (_, y) => is(4 * (y * width + x))).includes(true);
+      told[name] = Array.from({ length: width }, (_, x) => shows(x)).filter(Boolean).length;
+    }
+    return told;
+  }
+
   // ---- contrast, by the formula of WCAG 2
 
   const painter_of_one = document.createElement("canvas").getContext("2d", { willReadFrequently: true });
@@ -209,6 +238,6 @@ const probe = (() => {
   }
 
   return {
-    choose, chosen_line, colour, contrasts, drop, faint, large, many, pick, place, run, swatches, tempt, ticks, type_and_leave,
+    choose, chosen_line, colour, columns_of, contrasts, drop, faint, labels, large, many, pick, place, run, swatches, tempt, ticks, type_and_leave,
   };
 })();
