@@ -2,7 +2,7 @@
 /* Draws the lanes of a timeline on a canvas. What is out of sight isn't drawn, so a frame costs what its pixels do and not
    what its slots do. A lane is { name, short, kind: "ticks" | "bars" | "marks", codes | runs | marks, group, gap, strong }. */
 const painter = (() => {
-  const AXIS = 24, TICKS = 20, BARS = 24, FONT = "system-ui, 'Noto Sans', 'DejaVu Sans', sans-serif";
+  const AXIS = 24, TICKS = 20, BARS = 22, FONT = "system-ui, 'Noto Sans', 'DejaVu Sans', sans-serif";
   const INKS = ["card", "text", "dim", "line", "lane", "chosen", "accent", "bad", "wrong", "cursor", "stale", "stale-text", "on-bar",
     "on-wrong"];
   const STEPS = [1, 2, 5, 10, 20, 50, 100, 200, 500, 1000, 2000, 5000, 10000, 20000, 50000, 100000];

@@ -848,6 +848,23 @@ def contrast_and_width(b):
     b.size(1280, 900)
 
 
+def whole_width(b):
+    """Timeline and displays take the width of the window, and the timeline is in sight in it. Prose stays readable."""
+    first_examples(b)
+    box = "document.querySelector('{}').getBoundingClientRect()"
+    for width in (1920, 1280):
+        b.size(width, 900)
+        for tab in TABS[:2]:
+            call(b, "page.tab", tab)
+            settle(b)
+            for part in (f"#{tab}-time", f"#{tab} .stage"):
+                check(f"{part} in {width} px", b.run(f"{box.format(part)}.width") >= width - 60, True)
+            check(f"the end of {tab}'s timeline in {width} px", b.run(f"scrollTo(0, 0), {box.format(f'#{tab}-time')}.bottom <= 900"), True)
+            wide = b.run("[...document.querySelectorAll('.hint, .verdict p, .problem, footer p')].filter(it => it.clientWidth > 46 * 16).length")
+            check(f"lines of prose in {width} px", wide, 0)
+    b.size(1280, 900)
+
+
 # ---- many slots, and none
 
 
@@ -928,7 +945,7 @@ def policy(b, url):
 
 PARTS = (the_first_log, the_first_script, typed_in_time, edits_of_one_row, names_and_tags, a_mix_of_tags, flag_bit_alone, restarts,
          the_dwell, files, files_at_the_default, files_of_bytes, names_of_files, no_old_results, faults, warnings, explained, witnesses,
-         kinds_of_groups, marks, forced_colours, reduced_motion,
+         kinds_of_groups, marks, forced_colours, reduced_motion, whole_width,
          keyboard, screen_reader, contrast_and_width, same_lines_of_examples, same_help_and_refusals, same_lines_by_chance, large)
 
 
