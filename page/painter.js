@@ -283,6 +283,16 @@ const painter = (() => {
     c.fill();
   }
 
+  /* The slots that are selected on the axis. */
+  function selection(c, sight, ink, height) {
+    const [x0, x1] = sight.span.map((slot) => Math.min(sight.gutter + sight.room, Math.max(sight.gutter, sight.x(slot))));
+    c.fillStyle = ink.cursor;
+    c.globalAlpha = 0.25;
+    c.fillRect(x0, 0, x1 - x0, height - 6);
+    c.globalAlpha = 1;
+    for (const x of [x0, x1]) c.fillRect(x - 1, 0, 2, height - 6);
+  }
+
   /* Draws a swatch of a legend, which shows the code of a slot, or a bar that is a "mix" or "stale". */
   function swatch(canvas, ink) {
     const { shows } = canvas.dataset, w = 14, scale = 2, c = canvas.getContext("2d");
@@ -296,12 +306,14 @@ const painter = (() => {
     else wide_ticks(c, lane, sight, ink);
   }
 
-  /* All of it, in the colours `ink`. `sight` says what is in sight: from, across, room, gutter, width, cursor, chosen, x. */
+  /* All of it, in the colours `ink`. `sight` says what is in sight: from, across, room, gutter, width, cursor, chosen, x; and
+     the slots that are being selected, if any: span. */
   function paint(c, lanes, sight, ink, height) {
     c.textBaseline = "middle";
     axis(c, sight, ink, height);
     for (const lane of lanes) lane_of(c, lane, sight, ink);
     cursor(c, sight, ink, height);
+    if (sight.span) selection(c, sight, ink, height);
   }
 
   return { AXIS, FONT, inks, paint, place, swatch };

@@ -1,16 +1,18 @@
 "use strict";
 /* A timeline of slots: which of them are in sight, the chosen one, and the keys, the wheel and the pointer on it. */
 class Timeline {
+  /* The fewest slots in sight. */
+  static LEAST = 8;
   /* The modes of a page that change its colours. */
   static MODES = ["(prefers-color-scheme: dark)", "(forced-colors: active)"];
 
   constructor(root, { label, on_move, on_paint = () => false, on_key = () => false, on_lane = () => {} }) {
     Object.assign(this, { root, on_move, on_paint, on_key, on_lane });
-    Object.assign(this, { lanes: [], count: 1, from: 0, across: 1, cursor: 0, chosen: null, changes: [] });
+    Object.assign(this, { lanes: [], count: 1, from: 0, across: 1, cursor: 0, chosen: null, span: null, changes: [] });
     root.innerHTML = `<div class="time-bar"><output></output><span class="space"></span>
-      <button type="button" data-do="out" title="Smaller (−)" aria-label="Smaller">−</button>
-      <button type="button" data-do="in" title="Larger (+)" aria-label="Larger">+</button>
-      <button type="button" data-do="fit" title="All slots">All</button>
+      <button type="button" data-do="out" title="Show more slots (− or S)" aria-label="Zoom out">−</button>
+      <button type="button" data-do="in" title="Show fewer slots (+ or W)" aria-label="Zoom in">+</button>
+      <button type="button" data-do="fit" title="Show all slots (0)">All</button>
       <button type="button" data-do="prev" title="Last change (P)">‹ change</button>
       <button type="button" data-do="next" title="Next change (N)">change ›</button>
       <button type="button" data-do="save" title="Save the timeline as a picture">Picture</button></div>
@@ -23,6 +25,8 @@ class Timeline {
     this.scroll.oninput = () => { this.from = Number(this.scroll.value); this.draw(); };
     for (const button of root.querySelectorAll("button")) button.onclick = () => this.act(button.dataset.do);
     this.canvas.addEventListener("pointerdown", (e) => this.down(e));
+    this.canvas.addEventListener("dblclick", (e) => { if (this.is_axis(e)) this.act("fit"); });
+    this.canvas.addEventListener("pointermove", (e) => { this.canvas.style.cursor = this.is_axis(e) ? "col-resize" : ""; });
     this.canvas.addEventListener("keydown", (e) => this.key(e));
     this.canvas.addEventListener("wheel", (e) => this.wheel(e), { passive: false });
     this.measure();
@@ -76,16 +80,33 @@ class Timeline {
   within(from) { return Math.min(Math.max(0, this.count - this.across), Math.max(0, from)); }
   fit() { this.from = 0; this.across = this.count; }
 
+  /* Shows this many slots, at least LEAST; a place that is in sight keeps its place, or the middle does. */
   zoom(by, at = this.cursor + 0.5) {
-    const across = Math.min(this.count, Math.max(8, this.across * by)), share = (at - this.from) / this.across;
+    const is_seen = at >= this.from && at <= this.from + this.across, to = is_seen ? at : this.from + this.across / 2;
+    const across = Math.min(this.count, Math.max(Timeline.LEAST, this.across * by)), share = (to - this.from) / this.across;
     this.across = across;
-    this.from = this.within(at - share * across);
+    this.from = this.within(to - share * across);
+    this.draw();
+  }
+
+  /* Shows these slots, as large as they can be. */
+  zoom_to(from, to) {
+    this.across = Math.min(this.count, Math.max(Timeline.LEAST, to - from));
+    this.from = this.within((from + to - this.across) / 2);
+    this.draw();
+  }
+
+  /* Shows later slots, by this share of those in sight, or earlier ones. */
+  slide(by) {
+    this.from = this.within(this.from + by * this.across);
     this.draw();
   }
 
   act(what) {
     if (what === "in") this.zoom(0.5);
     if (what === "out") this.zoom(2);
+    if (what === "back") this.slide(-0.25);
+    if (what === "on") this.slide(0.25);
     if (what === "fit") { this.fit(); this.draw(); }
     if (what === "save") picture.save(this);
     if (what === "next") this.move(this.changes.find((c) => c > this.cursor) ?? this.cursor);
@@ -99,13 +120,23 @@ class Timeline {
       if (this.cursor >= this.from + this.across) this.from = this.cursor - this.across * 7 / 8;
       this.from = this.within(this.from);
     }
-    const shown = this.on_move(this.cursor);
-    const said = `slot ${this.cursor.toLocaleString("en")} of ${this.count.toLocaleString("en")} · ${lines.time(this.cursor)}`;
+    const shown = this.on_move(this.cursor), said = this.place();
     this.said.textContent = said;
     this.canvas.setAttribute("aria-valuemax", this.count - 1);
     this.canvas.setAttribute("aria-valuenow", this.cursor);
     this.canvas.setAttribute("aria-valuetext", shown ? `${said}. ${shown}` : said);
     this.draw();
+  }
+
+  /* The chosen slot in words. */
+  place() {
+    return `slot ${this.cursor.toLocaleString("en")} of ${this.count.toLocaleString("en")} · ${lines.time(this.cursor)}`;
+  }
+
+  /* Whether a pointer is on the axis: the row of slot numbers. */
+  is_axis(e) {
+    const box = this.canvas.getBoundingClientRect();
+    return e.clientY - box.top < painter.AXIS && e.clientX - box.left >= this.gutter;
   }
 
   lane_at(y) { return this.lanes.find((l) => y >= l.top && y < l.top + l.height); }
@@ -115,10 +146,22 @@ class Timeline {
     this.canvas.focus();
     const box = this.canvas.getBoundingClientRect(), lane = this.lane_at(e.clientY - box.top);
     const slot = (ev) => Math.min(this.count - 1, Math.max(0, this.slot(ev.clientX - box.left)));
+    if (this.is_axis(e)) { this.select(e, slot); return; }
     if (lane?.group !== undefined) { this.chosen = lane.group; this.on_lane(lane.group); }
     if (e.clientX - box.left < this.gutter) { this.draw(); return; }
     const brush = this.on_paint(lane, slot(e), slot(e), e);
     this.drag(e, slot, brush, (from, to) => this.on_paint(lane, from, to, e));
+  }
+
+  /* Follows a pointer on an element from its press to its end. */
+  static follow(element, e, go, end) {
+    const stop = (ev) => {
+      for (const [kind, what] of hears) element.removeEventListener(kind, what);
+      end(ev);
+    };
+    const hears = [["pointermove", go], ["pointerup", stop], ["pointercancel", stop]];
+    element.setPointerCapture(e.pointerId);
+    for (const [kind, what] of hears) element.addEventListener(kind, what);
   }
 
   /* From the press of a pointer to its end: a brush over slots, a move of what is in sight, or a choice. */
@@ -137,14 +180,31 @@ class Timeline {
         this.draw();
       }
     };
-    const end = (ev) => {
-      for (const [kind, what] of hears) this.canvas.removeEventListener(kind, what);
+    Timeline.follow(this.canvas, e, go, (ev) => {
       if (!moved || brush) this.move(slot(ev), { keep: true });
       if (brush) this.on_paint(null);
+    });
+  }
+
+  /* On the axis: a drag selects slots, and its end shows them as large as they can be. A click chooses a slot. */
+  select(e, slot) {
+    const start = e.clientX, first = slot(e);
+    const go = (ev) => {
+      if (!this.span && Math.abs(ev.clientX - start) <= 3) return;
+      const now = Math.min(Math.ceil(this.from + this.across) - 1, Math.max(Math.floor(this.from), slot(ev)));
+      const from = Math.min(first, now), to = Math.max(first, now) + 1;
+      this.span = [from, to];
+      this.said.textContent = `slots ${from.toLocaleString("en")} to ${(to - 1).toLocaleString("en")} · ${lines.time(to - from)}`;
+      this.draw();
     };
-    const hears = [["pointermove", go], ["pointerup", end], ["pointercancel", end]];
-    this.canvas.setPointerCapture(e.pointerId);
-    for (const [kind, what] of hears) this.canvas.addEventListener(kind, what);
+    Timeline.follow(this.canvas, e, go, (ev) => {
+      const { span } = this;
+      this.span = null;
+      this.said.textContent = this.place();
+      if (span && ev.type === "pointerup") this.zoom_to(...span);
+      else if (!span) this.move(first, { keep: true });
+      this.draw();
+    });
   }
 
   wheel(e) {
@@ -159,17 +219,20 @@ class Timeline {
     }
   }
 
+  /* A key is first the tab's, then the timeline's. */
   key(e) {
     if (e.altKey) return;
-    const steps = { ArrowRight: 1, ArrowLeft: -1, PageDown: 16, PageUp: -16 };
-    const acts = { "+": "in", "=": "in", "-": "out", n: "next", p: "prev" };
-    const key = e.key.length === 1 ? e.key.toLowerCase() : e.key, plain = !e.ctrlKey && !e.metaKey;
-    if (plain && key in steps) this.move(this.cursor + steps[key]);
-    else if (plain && key === "Home") this.move(0);
-    else if (plain && key === "End") this.move(this.count - 1);
-    else if (plain && key in acts) this.act(acts[key]);
-    else if (!this.on_key(key, e)) return;
-    e.preventDefault();
+    const key = e.key.length === 1 ? e.key.toLowerCase() : e.key, is_plain = !e.ctrlKey && !e.metaKey;
+    if (this.on_key(key, e) || (is_plain && this.own_key(key))) e.preventDefault();
+  }
+
+  /* Does what a key of every timeline does; answers whether it is one. */
+  own_key(key) {
+    const steps = { ArrowRight: 1, ArrowLeft: -1, PageDown: 16, PageUp: -16, Home: -Infinity, End: Infinity };
+    const acts = { "+": "in", "=": "in", w: "in", "-": "out", s: "out", a: "back", d: "on", 0: "fit", n: "next", p: "prev" };
+    if (key in steps) this.move(this.cursor + steps[key]);
+    else if (key in acts) this.act(acts[key]);
+    return key in steps || key in acts;
   }
 
   draw() {

@@ -356,6 +356,39 @@ def marks(b):
     first_examples(b)
 
 
+def zooming(b):
+    """A drag over the axis and keys zoom and move the part in sight. The keys of the tabs stay as they were."""
+    first_examples(b)
+    call(b, "page.tab", "script")
+    sight, said = "(t => [t.from, t.across])(script_tab.timeline)", lambda: text_of(b, "#script-time output")
+    axis = lambda slot: call(b, "((slot) => probe.axis(script_tab.timeline, slot))", slot)
+    press = lambda key: b.key(key, f"Key{key.upper()}" if key.isalpha() else "", ord(key.upper()))
+    count, held = b.run("script_tab.timeline.count"), []
+    call(b, "script_tab.timeline.move", 10)
+    b.drag(axis(20), axis(39), lambda: held.extend([b.run("script_tab.timeline.span"), said()]))
+    check("the selected slots are shown while the pointer is held", held, [[20, 40], "slots 20 to 39 · 1.75 s"])
+    got = b.run(sight), b.run("script_tab.timeline.span"), said()
+    check("and all in sight once it is not", got, ([20, 20], None, f"slot 10 of {count} · 0.88 s"))
+    for key, wanted in (("d", [25, 20]), ("a", [20, 20]), ("w", [25, 10]), ("s", [20, 20]), ("0", [0, count])):
+        press(key)
+        check(f"the key {key}", b.run(sight), wanted)
+    b.drag(axis(31), axis(29))
+    check("a short selection shows eight slots", b.run(sight), [26.5, 8])
+    for clicks in (1, 2):
+        b.drag(axis(29), axis(29), clicks=clicks)
+    check("a double click on the axis shows all slots", (b.run(sight), b.run("script_tab.timeline.cursor")), ([0, count], 29))
+    press("n")
+    changes = b.run("[...script_tab.timeline.changes]")
+    check("N goes to the next change", b.run("script_tab.timeline.cursor"), min(it for it in changes if it > 29))
+    press("p")
+    at = b.run("script_tab.timeline.cursor")
+    check("P goes to the one before", at, max(it for it in changes if it <= 29))
+    for key in "lgr":
+        press(key)
+        check(f"{key} edits a reception", b.run(f"script_tab.state.rows[{at}].receptions[script_tab.state.chosen]"), key.upper())
+    first_examples(b)
+
+
 def forced_colours(b):
     """In the system's own colours all can be told apart that is chosen, red, or of a kind. The canvas takes those colours."""
     grounds = "[...document.querySelectorAll('{}')].map(it => getComputedStyle(it).backgroundColor)"
@@ -945,7 +978,7 @@ def policy(b, url):
 
 PARTS = (the_first_log, the_first_script, typed_in_time, edits_of_one_row, names_and_tags, a_mix_of_tags, flag_bit_alone, restarts,
          the_dwell, files, files_at_the_default, files_of_bytes, names_of_files, no_old_results, faults, warnings, explained, witnesses,
-         kinds_of_groups, marks, forced_colours, reduced_motion, whole_width,
+         kinds_of_groups, marks, zooming, forced_colours, reduced_motion, whole_width,
          keyboard, screen_reader, contrast_and_width, same_lines_of_examples, same_help_and_refusals, same_lines_by_chance, large)
 
 

@@ -52,6 +52,12 @@ const probe = (() => {
     return [box.left + timeline.x(slot + 0.5), box.top + lane.top + lane.height / 2];
   }
 
+  /* The place of a slot's number on the axis. */
+  function axis(timeline, slot) {
+    const [x, y] = place(timeline, slot, () => true);
+    return [x, y - timeline.lanes[0].top - timeline.lanes[0].height / 2 + 8];
+  }
+
   // ---- what a canvas shows
 
   /* The rows of a canvas at this place, top to bottom: # where the colour is not that of the first row. */
@@ -238,6 +244,6 @@ const probe = (() => {
   }
 
   return {
-    choose, chosen_line, colour, columns_of, contrasts, drop, faint, labels, large, many, pick, place, run, swatches, tempt, ticks, type_and_leave,
+    axis, choose, chosen_line, colour, columns_of, contrasts, drop, faint, labels, large, many, pick, place, run, swatches, tempt, ticks, type_and_leave,
   };
 })();
