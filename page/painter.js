@@ -2,7 +2,7 @@
 /* Draws the lanes of a timeline on a canvas. What is out of sight isn't drawn, so a frame costs what its pixels do and not
    what its slots do. A lane is { name, short, kind: "ticks" | "bars" | "marks", codes | runs | marks, group, gap, strong }. */
 const painter = (() => {
-  const AXIS = 24, TICKS = 20, BARS = 22, FONT = "system-ui, 'Noto Sans', 'DejaVu Sans', sans-serif";
+  const AXIS = 24, TICKS = 20, BARS = 22, OVERVIEW = 30, FONT = "system-ui, 'Noto Sans', 'DejaVu Sans', sans-serif";
   const INKS = ["card", "text", "dim", "line", "lane", "chosen", "accent", "bad", "wrong", "cursor", "stale", "stale-text", "on-bar",
     "on-wrong"];
   const STEPS = [1, 2, 5, 10, 20, 50, 100, 200, 500, 1000, 2000, 5000, 10000, 20000, 50000, 100000];
@@ -293,6 +293,56 @@ const painter = (() => {
     for (const x of [x0, x1]) c.fillRect(x - 1, 0, 2, height - 6);
   }
 
+  /* The columns of the overview: those in which a change, a bad mark or a mix begins, and those of mixes. */
+  function columns(lanes, sight) {
+    const width = Math.ceil(sight.room), [calm, bad, mixed] = [0, 0, 0].map(() => new Uint8Array(width));
+    const column = (slot) => Math.min(width - 1, Math.floor(slot / sight.across * sight.room));
+    for (const { marks: all = [] } of lanes) for (const { at, bad: is_bad } of all) (is_bad ? bad : calm)[column(at)] = 1;
+    for (const { runs = [], strong } of lanes) for (const { from, to, mix, label } of runs) {
+      if (mix) mixed.fill(1, column(from), column(to) + 1);
+      if (mix || (strong && label !== null)) (mix ? bad : calm)[column(from)] = 1;
+    }
+    return { calm, bad, mixed };
+  }
+
+  /* All slots on one strip: below the share of each column that brought a group, above the changes. What is bad is red. */
+  function overview(c, lanes, sight, ink) {
+    const { gutter: left, room } = sight, top = 2, h = OVERVIEW - 4, half = h / 2, lane = lanes.find((it) => it.kind === "ticks");
+    const { calm, bad, mixed } = columns(lanes, sight);
+    const strokes = (all, color, from, high, w) => {
+      c.fillStyle = color;
+      all.forEach((is, px) => { if (is) c.fillRect(left + px, top + from, w, high); });
+    };
+    c.fillStyle = ink.lane;
+    c.fillRect(left, top, room, h);
+    c.fillStyle = ink.dim;
+    c.font = `12px ${FONT}`;
+    c.textBaseline = "middle";
+    c.fillText(left < 100 ? "all" : "all slots", 4, top + half);
+    c.fillStyle = ink.codes[lines.OTHER];
+    shares(lane ?? { codes: [], sums: [0] }, sight).forEach((none, px) => {
+      const full = Math.round((1 - none) * (half - 3));
+      c.fillRect(left + px, top + h - full, 1, full);
+    });
+    strokes(calm, ink.text, 0, half - 3, 1);
+    strokes(mixed, ink.bad, half - 2, 4, 1);
+    strokes(bad, ink.bad, 0, h, 2);
+  }
+
+  /* The frame of the slots in sight on the overview, from x0 to x1, and the chosen slot. What is out of sight is paler. */
+  function frame(c, x0, x1, cursor, { gutter, room }, ink) {
+    const middle = (x0 + x1) / 2, half = Math.max(4, (x1 - x0) / 2), end = gutter + room;
+    const from = Math.max(gutter, middle - half), to = Math.min(end, middle + half);
+    c.fillStyle = ink.card;
+    c.globalAlpha = 0.55;
+    c.fillRect(gutter, 0, from - gutter, OVERVIEW);
+    c.fillRect(to, 0, end - to, OVERVIEW);
+    c.globalAlpha = 1;
+    c.fillStyle = ink.cursor;
+    c.fillRect(cursor - 0.5, 2, 1.5, OVERVIEW - 4);
+    outline(c, from - 1, 0.5, to - from + 2, OVERVIEW - 1, { color: ink.cursor });
+  }
+
   /* Draws a swatch of a legend, which shows the code of a slot, or a bar that is a "mix" or "stale". */
   function swatch(canvas, ink) {
     const { shows } = canvas.dataset, w = 14, scale = 2, c = canvas.getContext("2d");
@@ -316,5 +366,5 @@ const painter = (() => {
     if (sight.span) selection(c, sight, ink, height);
   }
 
-  return { AXIS, FONT, inks, paint, place, swatch };
+  return { AXIS, FONT, OVERVIEW, frame, inks, overview, paint, place, swatch };
 })();

@@ -17,10 +17,11 @@ class Timeline {
       <button type="button" data-do="next" title="Next change (N)">change ›</button>
       <button type="button" data-do="save" title="Save the timeline as a picture">Picture</button></div>
       <canvas tabindex="0" role="slider" aria-orientation="horizontal" aria-valuemin="0"></canvas>
-      <input type="range" class="scroll" aria-label="Part of the timeline in sight" min="0" step="any">`;
+      <div class="overview"><canvas></canvas><input type="range" class="scroll" aria-label="Slots in sight" min="0" step="any"></div>`;
     this.canvas = root.querySelector("canvas");
     this.canvas.setAttribute("aria-label", label);
     this.said = root.querySelector("output");
+    this.overview = root.querySelector(".overview canvas");
     this.scroll = root.querySelector(".scroll");
     this.scroll.oninput = () => { this.from = Number(this.scroll.value); this.draw(); };
     for (const button of root.querySelectorAll("button")) button.onclick = () => this.act(button.dataset.do);
@@ -28,6 +29,7 @@ class Timeline {
     this.canvas.addEventListener("dblclick", (e) => { if (this.is_axis(e)) this.act("fit"); });
     this.canvas.addEventListener("pointermove", (e) => { this.canvas.style.cursor = this.is_axis(e) ? "col-resize" : ""; });
     this.canvas.addEventListener("keydown", (e) => this.key(e));
+    this.overview.addEventListener("pointerdown", (e) => this.overview_down(e));
     this.canvas.addEventListener("wheel", (e) => this.wheel(e), { passive: false });
     this.measure();
     this.recolour();
@@ -38,6 +40,7 @@ class Timeline {
   /* Takes the colours of the page anew, for the lanes and for the swatches of the legend beside them. */
   recolour() {
     this.ink = painter.inks(this.root);
+    this.strip = null;
     for (const canvas of this.root.parentElement.querySelectorAll(".legend canvas")) painter.swatch(canvas, this.ink);
     this.draw();
   }
@@ -49,6 +52,7 @@ class Timeline {
     if (fit || was !== this.count) this.fit();
     for (const lane of lanes) if (lane.kind === "ticks") lane.sums = Timeline.sums(lane.codes);
     this.changes = this.all_changes();
+    this.strip = null;
     this.move(Math.min(this.cursor, this.count - 1), { keep: true });
   }
 
@@ -207,6 +211,23 @@ class Timeline {
     });
   }
 
+  /* On the overview: the frame is dragged, and a press beside it brings the slots there into sight first. */
+  overview_down(e) {
+    if (e.button) return;
+    const left = this.overview.getBoundingClientRect().left + this.gutter;
+    const at = (ev) => (ev.clientX - left) / this.room * this.count, slack = 4 / this.room * this.count, first = at(e);
+    const is_frame = first >= this.from - slack && first <= this.from + this.across + slack;
+    const offset = is_frame ? first - this.from : this.across / 2;
+    const go = (ev) => {
+      this.from = this.within(at(ev) - offset);
+      this.draw();
+    };
+    e.preventDefault();
+    this.scroll.focus({ preventScroll: true });
+    go(e);
+    Timeline.follow(this.overview, e, go, () => {});
+  }
+
   wheel(e) {
     const x = e.clientX - this.canvas.getBoundingClientRect().left, by = e.shiftKey ? e.deltaY : e.deltaX;
     if (e.ctrlKey || e.metaKey) {
@@ -241,18 +262,39 @@ class Timeline {
     requestAnimationFrame(() => { this.waits = false; this.paint(); });
   }
 
-  paint() {
-    const width = this.measure(), scale = devicePixelRatio || 1;
-    if (!width) return;
-    const height = painter.place(this.lanes), { canvas } = this, [w, h] = [width, height].map((n) => Math.round(n * scale));
+  /* Makes a canvas this large, for the pixels of the screen; gives what draws on it. */
+  static sized(canvas, width, height) {
+    const scale = devicePixelRatio || 1, [w, h] = [width, height].map((n) => Math.round(n * scale));
     if (canvas.style.height !== `${height}px`) canvas.style.height = `${height}px`;
     if (canvas.width !== w || canvas.height !== h) Object.assign(canvas, { width: w, height: h });
     const c = canvas.getContext("2d");
     c.setTransform(scale, 0, 0, scale, 0, 0);
     c.clearRect(0, 0, width, height);
-    painter.paint(c, this.lanes, this, this.ink, height);
+    return c;
+  }
+
+  paint() {
+    const width = this.measure(), height = painter.place(this.lanes);
+    if (!width) return;
+    painter.paint(Timeline.sized(this.canvas, width, height), this.lanes, this, this.ink, height);
+    this.paint_overview(width);
+    const to = Math.ceil(this.from + this.across) - 1, told = [Math.floor(this.from), to].map((slot) => slot.toLocaleString("en"));
     this.scroll.max = Math.max(0, this.count - this.across);
     this.scroll.value = this.from;
-    this.scroll.hidden = this.across >= this.count;
+    this.scroll.setAttribute("aria-valuetext", `slots ${told.join(" to ")} of ${this.count.toLocaleString("en")}`);
+  }
+
+  /* Draws the overview: all slots, which are drawn once, and the frame of those in sight. */
+  paint_overview(width) {
+    const { gutter, room, count, ink } = this, height = painter.OVERVIEW;
+    if (!this.strip || this.strip.shown !== width) {
+      const canvas = document.createElement("canvas"), sight = { from: 0, across: count, gutter, room, width };
+      canvas.style.width = `${width}px`;
+      painter.overview(Timeline.sized(canvas, width, height), this.lanes, sight, ink);
+      this.strip = Object.assign(canvas, { shown: width });
+    }
+    const c = Timeline.sized(this.overview, width, height), x = (slot) => gutter + slot / count * room;
+    c.drawImage(this.strip, 0, 0, width, height);
+    painter.frame(c, x(this.from), x(this.from + this.across), x(this.cursor + 0.5), { gutter, room }, ink);
   }
 }

@@ -389,6 +389,35 @@ def zooming(b):
     first_examples(b)
 
 
+def the_overview(b):
+    """A strip of all slots below the lanes, with a frame that is dragged, clicked and moved by key."""
+    log = f"{HI}\n" * 400 + f"{NOTHING}\n" * 400 + f"{HI}\n" * 150 + f"{GROUPS[2]}\n" + f"{HI}\n" * 49
+    verdict_of(b, log, 8)
+    canvas = "document.querySelector('#log-time .overview canvas')"
+    box = "log_tab.timeline"
+    place = lambda slot: b.run(f"probe.on_overview({box}, {slot})")
+    check("no other height than its own", of(b, "#log-time .overview", "offsetHeight"), 30)
+    seen = [b.run(f"probe.column({canvas}, {box}.gutter + (({slot}) + 0.5) / {box}.count * {box}.room, 2, 26)") for slot in (200, 600, 950)]
+    check("groups, none, and a bad mark in it", ["#" in it for it in seen], [True, False, True])
+    check("the bad mark is red", call(b, "probe.reds", "log"), True)
+    b.run(f"{box}.zoom_to(100, 200)")
+    b.run(f"{box}.paint()")
+    b.drag(place(900), place(900))
+    check("a click brings slots into sight", abs(b.run(f"{box}.from") - 850) < 3, True)
+    b.drag(place(880), place(480))
+    check("the frame is dragged", abs(b.run(f"{box}.from") - 450) < 5, True)
+    check("the pointer is on the strip", b.run("document.activeElement.className"), "scroll")
+    before = b.run(f"{box}.from")
+    b.key("ArrowRight", number=39)
+    check("a key moves it", b.run(f"{box}.from") > before, True)
+    check("a reader is told the slots", of(b, "#log-time .scroll", "ariaValueText").endswith(" of 1,000"), True)
+    b.key("Tab", number=9, modifiers=8)
+    b.key("Tab", number=9)
+    focus = b.run("[document.activeElement.className, getComputedStyle(document.querySelector('#log-time .overview')).outlineStyle]")
+    check("the focus is to be seen", focus, ["scroll", "solid"])
+    first_examples(b)
+
+
 def forced_colours(b):
     """In the system's own colours all can be told apart that is chosen, red, or of a kind. The canvas takes those colours."""
     grounds = "[...document.querySelectorAll('{}')].map(it => getComputedStyle(it).backgroundColor)"
@@ -978,7 +1007,7 @@ def policy(b, url):
 
 PARTS = (the_first_log, the_first_script, typed_in_time, edits_of_one_row, names_and_tags, a_mix_of_tags, flag_bit_alone, restarts,
          the_dwell, files, files_at_the_default, files_of_bytes, names_of_files, no_old_results, faults, warnings, explained, witnesses,
-         kinds_of_groups, marks, zooming, forced_colours, reduced_motion, whole_width,
+         kinds_of_groups, marks, zooming, the_overview, forced_colours, reduced_motion, whole_width,
          keyboard, screen_reader, contrast_and_width, same_lines_of_examples, same_help_and_refusals, same_lines_by_chance, large)
 
 

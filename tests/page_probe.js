@@ -58,6 +58,13 @@ const probe = (() => {
     return [x, y - timeline.lanes[0].top - timeline.lanes[0].height / 2 + 8];
   }
 
+  /* The place of a slot on the overview. */
+  function on_overview(timeline, slot) {
+    timeline.root.scrollIntoView();
+    const { left, top, height } = timeline.overview.getBoundingClientRect();
+    return [left + timeline.gutter + (slot + 0.5) / timeline.count * timeline.room, top + height / 2];
+  }
+
   // ---- what a canvas shows
 
   /* The rows of a canvas at this place, top to bottom: # where the colour is not that of the first row. */
@@ -68,6 +75,15 @@ const probe = (() => {
     reader.drawImage(canvas, 0, 0);
     const at = (y) => String(reader.getImageData(Math.floor(x * scale), Math.floor((top + y + 0.5) * scale), 1, 1).data);
     return Array.from({ length: height }, (_, y) => at(y) === at(0) ? "." : "#").join("");
+  }
+
+  /* Whether the overview of a tab shows something in the colour of what is bad. */
+  function reds(tab) {
+    const { overview, ink } = { log: log_tab, script: script_tab }[tab].timeline, [r, g, b] = rgba(ink.bad);
+    Object.assign(reader.canvas, { width: overview.width, height: overview.height });
+    reader.drawImage(overview, 0, 0);
+    const { data } = reader.getImageData(0, 0, overview.width, overview.height);
+    return data.some((v, i) => i % 4 === 0 && v === r && data[i + 1] === g && data[i + 2] === b);
   }
 
   /* The shapes of the swatches of a tab's legend, by their words. */
@@ -244,6 +260,6 @@ const probe = (() => {
   }
 
   return {
-    axis, choose, chosen_line, colour, columns_of, contrasts, drop, faint, labels, large, many, pick, place, run, swatches, tempt, ticks, type_and_leave,
+    axis, choose, chosen_line, colour, column, columns_of, contrasts, drop, faint, labels, large, many, on_overview, pick, place, reds, run, swatches, tempt, ticks, type_and_leave,
   };
 })();
