@@ -927,6 +927,30 @@ def whole_width(b):
     b.size(1280, 900)
 
 
+def on_a_phone(b):
+    """The verdict and the timeline come first, then the displays. Tab keys go from top to bottom."""
+    b.size(390, 844)
+    first_examples(b)
+    call(b, "page.tab", "log")
+    settled_verdict(b)
+    end = lambda query, side: b.run(f"scrollTo(0, 0), document.querySelector('{query}').getBoundingClientRect().{side}")
+    check("the verdict is in sight", (end("#verdict", "top") <= 500) or end("#verdict", "top"), True)
+    check("the timeline is near", (end("#log-time", "bottom") <= 1000) or end("#log-time", "bottom"), True)
+    for tab, places in (("log", "#verdict, #log-time, #log-radio"), ("script", "#script-count, #script-time, #script-air")):
+        call(b, "page.tab", tab)
+        settle(b)
+        tops = [end(query, "top") for query in places.split(", ")]
+        check(f"the order of {tab}", tops, sorted(tops))
+        b.run("document.activeElement?.blur(); getSelection().removeAllRanges()")
+        seen = []
+        for _ in range(30):
+            b.key("Tab", number=9)
+            seen.append(b.run("document.activeElement === document.body ? null : scrollY + document.activeElement.getBoundingClientRect().bottom"))
+        reached = [it for it in seen[:seen.index(None) if None in seen else None]]
+        check(f"the tab key goes down in {tab}", [it for it, after in zip(reached, reached[1:]) if after < it - 60], [])
+    b.size(1280, 900)
+
+
 # ---- many slots, and none
 
 
@@ -1007,7 +1031,7 @@ def policy(b, url):
 
 PARTS = (the_first_log, the_first_script, typed_in_time, edits_of_one_row, names_and_tags, a_mix_of_tags, flag_bit_alone, restarts,
          the_dwell, files, files_at_the_default, files_of_bytes, names_of_files, no_old_results, faults, warnings, explained, witnesses,
-         kinds_of_groups, marks, zooming, the_overview, forced_colours, reduced_motion, whole_width,
+         kinds_of_groups, marks, zooming, the_overview, forced_colours, reduced_motion, whole_width, on_a_phone,
          keyboard, screen_reader, contrast_and_width, same_lines_of_examples, same_help_and_refusals, same_lines_by_chance, large)
 
 
