@@ -103,32 +103,42 @@ const painter = (() => {
     }
   }
 
-  /* What share of the slots of each column brought nothing. */
+  /* What each column shows if there are more slots than pixels: the share of its slots that brought nothing, and the code of
+     its texts. This code is OTHER if the column has no texts, or texts with both flags. */
   function shares(lane, sight) {
-    const part = (px) => Math.min(lane.codes.length, Math.floor(sight.from + px / sight.room * sight.across)), none = [];
+    const part = (px) => Math.min(lane.codes.length, Math.floor(sight.from + px / sight.room * sight.across)), all = [];
     for (let px = 0; px < sight.room; px++) {
-      const a = part(px), b = Math.max(a + 1, part(px + 1));
+      const a = part(px), b = Math.max(a + 1, part(px + 1)), count = (kind) => lane.sums[kind][b] - lane.sums[kind][a];
       if (a >= lane.codes.length) break;
-      none.push((lane.sums[b] - lane.sums[a]) / (b - a));
+      const low = count("low"), high = count("high"), text = high ? lines.TEXT | lines.FLAG : lines.TEXT;
+      all.push({ none: count("none") / (b - a), code: (low > 0) === (high > 0) ? lines.OTHER : text });
     }
-    return none;
+    return all;
   }
 
-  /* More slots than pixels: each column shows the share that brought a group. Equal columns side by side are one stroke. */
+  /* More slots than pixels: each column shows the share that brought a group, and looks as its texts do if they have one flag.
+     Equal columns side by side are one stroke. */
   function narrow_ticks(c, lane, sight, ink) {
-    const { top: y, height: h } = lane, none = shares(lane, sight);
+    const { top: y, height: h } = lane, all = shares(lane, sight);
     const strokes = (level, draw) => {
-      for (let px = 0, from = 0; px <= none.length; px++) {
-        if (px < none.length && level(none[px]) === level(none[from])) continue;
-        if (px > from) draw(level(none[from]), sight.gutter + from, px - from);
+      const levels = all.map(level);
+      for (let px = 0, from = 0; px <= levels.length; px++) {
+        if (px < levels.length && levels[px] === levels[from]) continue;
+        if (px > from && levels[from]) draw(levels[from], sight.gutter + from, px - from, all[from]);
         from = px;
       }
     };
-    c.fillStyle = ink.codes[lines.OTHER];
-    strokes((n) => Math.round((1 - n) * (h - 4)), (full, x, w) => { if (full) c.fillRect(x, y + h - 2 - full, w, full); });
+    const full = (none) => Math.round((1 - none) * (h - 4));
+    strokes(({ none, code }) => full(none) && 16 * full(none) + code, (_, x, w, { none, code }) => {
+      c.fillStyle = ink.codes[code];
+      for (const [from, to] of SHAPES[code === lines.OTHER ? lines.TEXT : code]) {
+        const top = Math.max(from, h - 4 - full(none));
+        if (top < to) c.fillRect(x, y + 2 + top, w, to - top);
+      }
+    });
     if (!lane.losses) return;
     c.fillStyle = ink.bad;
-    strokes((n) => n > 0.5, (is, x, w) => { if (is) c.fillRect(x, y + h - 3, w, 2); });
+    strokes(({ none }) => none > 0.5, (_, x, w) => c.fillRect(x, y + h - 3, w, 2));
   }
 
   const ticks = (c, lane, sight, ink) => (sight.room / sight.across >= 2 ? wide_ticks : narrow_ticks)(c, lane, sight, ink);
@@ -320,7 +330,7 @@ const painter = (() => {
     c.textBaseline = "middle";
     c.fillText(left < 100 ? "all" : "all slots", 4, top + half);
     c.fillStyle = ink.codes[lines.OTHER];
-    shares(lane ?? { codes: [], sums: [0] }, sight).forEach((none, px) => {
+    shares(lane ?? { codes: [] }, sight).forEach(({ none }, px) => {
       const full = Math.round((1 - none) * (half - 3));
       c.fillRect(left + px, top + h - full, 1, full);
     });

@@ -56,11 +56,15 @@ class Timeline {
     this.move(Math.min(this.cursor, this.count - 1), { keep: true });
   }
 
-  /* How many of the slots before each one brought nothing. */
+  /* How many of the slots before each one brought nothing, a text with the A/B flag 0, and one with the flag 1. */
   static sums(codes) {
-    const all = new Int32Array(codes.length + 1);
-    for (let i = 0; i < codes.length; i++) all[i + 1] = all[i] + (codes[i] === 0 ? 1 : 0);
-    return all;
+    const [none, low, high] = [0, 0, 0].map(() => new Int32Array(codes.length + 1));
+    for (let i = 0; i < codes.length; i++) {
+      none[i + 1] = none[i] + (codes[i] === lines.NOTHING ? 1 : 0);
+      low[i + 1] = low[i] + (codes[i] === lines.TEXT ? 1 : 0);
+      high[i + 1] = high[i] + (codes[i] === (lines.TEXT | lines.FLAG) ? 1 : 0);
+    }
+    return { none, low, high };
   }
 
   all_changes() {

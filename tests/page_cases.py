@@ -336,6 +336,14 @@ def kinds_of_groups(b):
         check(f"the lane has the shapes of the legend, {scheme}", b.run("probe.ticks(log_tab.timeline, 6)"), shapes)
         check(f"ticks, bars and marks stand out, {scheme}", call(b, "probe.faint", GRAPHIC_CONTRAST), [])
     b.scheme("light")
+    other = f"{GROUPS[6]}\n"
+    verdict_of(b, f"{HI}\n{other}" * 1000 + f"{YO}\n{other}" * 1000 + other * 2000 + f"{HI}\n{YO}\n" * 1000, 8)
+    b.run("log_tab.timeline.fit()")
+    four = b.run("[1000, 3000, 5000, 7000].map(slot => probe.ticks(log_tab.timeline, slot + 1, slot)[0])")
+    alike = [shapes[0], shapes[1], shapes[0], shapes[0]]
+    check("columns of many slots have the shape of their flag", four, alike)
+    inks = b.run("[1000, 3000, 5000, 7000].map(slot => probe.shares_of(log_tab.timeline, slot))")
+    check("and its shade, or none", inks, [1, 9, 4, 4])
 
 
 def marks(b):

@@ -92,11 +92,21 @@ const probe = (() => {
     return Object.fromEntries(all.map((it) => [it.textContent.trim(), column(it.querySelector("canvas"), 7, 0, 20)]));
   }
 
-  /* The shapes of the slots of a timeline's first lane, up to this one. */
-  function ticks(timeline, count) {
+  /* The shapes of the slots of a timeline's first lane from one to before another. */
+  function ticks(timeline, to, from = 0) {
     timeline.paint();
     const { canvas, lanes: [lane] } = timeline;
-    return Array.from({ length: count }, (_, slot) => column(canvas, timeline.x(slot + 0.5), lane.top, lane.height));
+    return Array.from({ length: to - from }, (_, i) => column(canvas, timeline.x(from + i + 0.5), lane.top, lane.height));
+  }
+
+  /* The code whose colour a slot's column of the first lane has. */
+  function shares_of(timeline, slot) {
+    timeline.paint();
+    const { canvas, ink, lanes: [lane] } = timeline;
+    Object.assign(reader.canvas, { width: canvas.width, height: canvas.height });
+    reader.drawImage(canvas, 0, 0);
+    const got = String(reader.getImageData(Math.floor(timeline.x(slot)), lane.top + 4, 1, 1).data);
+    return ink.codes.findIndex((color) => color && String(rgba(color)) === got);
   }
 
   const lane_of = (timeline, name) => timeline.lanes.find((lane) => lane.name === name);
@@ -260,6 +270,7 @@ const probe = (() => {
   }
 
   return {
-    axis, choose, chosen_line, colour, column, columns_of, contrasts, drop, faint, labels, large, many, on_overview, pick, place, reds, run, swatches, tempt, ticks, type_and_leave,
+    axis, choose, chosen_line, colour, column, columns_of, contrasts, drop, faint, labels, large, many, on_overview, pick, place, reds,
+    run, shares_of, swatches, tempt, ticks, type_and_leave,
   };
 })();
