@@ -334,7 +334,7 @@ const painter = (() => {
       const full = Math.round((1 - none) * (half - 3));
       c.fillRect(left + px, top + h - full, 1, full);
     });
-    strokes(calm, ink.text, 0, half - 3, 1);
+    strokes(calm, ink.dim, 0, half - 3, 1);
     strokes(mixed, ink.bad, half - 2, 4, 1);
     strokes(bad, ink.bad, 0, h, 2);
   }
