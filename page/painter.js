@@ -15,7 +15,7 @@ const painter = (() => {
   };
   const CODES = { [lines.TEXT]: "t1", [lines.TEXT | lines.FLAG]: "t5", [lines.NAME]: "t2", [lines.TAGS]: "t3", [lines.OTHER]: "t4" };
 
-  /* The colours of the page, as its style has them now: in forced colours those of the system. */
+  /* Returns the colours of the page's style. In forced colours these are the system's. */
   function inks(root) {
     const probe = root.appendChild(document.createElement("i")), all = { codes: [] };
     probe.style.forcedColorAdjust = "none";
@@ -103,7 +103,7 @@ const painter = (() => {
     }
   }
 
-  /* What each column shows if there are more slots than pixels: the share of its slots that brought nothing, and the code of
+  /* Returns of each column, if there are more slots than pixels, the share of its slots that brought nothing, and the code of
      its texts. This code is OTHER if the column has no texts, or texts with both flags. */
   function shares(lane, sight) {
     const part = (px) => Math.min(lane.codes.length, Math.floor(sight.from + px / sight.room * sight.across)), all = [];
@@ -116,7 +116,7 @@ const painter = (() => {
     return all;
   }
 
-  /* More slots than pixels: each column shows the share that brought a group, and looks as its texts do if they have one flag.
+  /* Draws more slots than pixels: each column shows the share that brought a group, and its texts' flag if they have only one.
      Equal columns side by side are one stroke. */
   function narrow_ticks(c, lane, sight, ink) {
     const { top: y, height: h } = lane, all = shares(lane, sight);
@@ -154,7 +154,7 @@ const painter = (() => {
     });
   }
 
-  /* An outline within these bounds, dashed if it is that of a stale bar. */
+  /* Draws an outline within these bounds. */
   function outline(c, x, y, w, h, { color, dashes = [] }) {
     c.strokeStyle = color;
     c.lineWidth = 1.5;
@@ -166,7 +166,7 @@ const painter = (() => {
     c.lineWidth = 1;
   }
 
-  /* The ground of a bar: full in the colour of its broadcast, hollow and dashed where it is stale, and hatched where nobody sent it. */
+  /* Draws a bar without its label: filled in the colour of its broadcast, an outline of dashes if stale, hatched if nobody sent it. */
   function ground(c, run, x0, w, lane, sight, ink) {
     const { top: y, height: h } = lane, is_stale = run.old && !run.mix;
     c.fillStyle = run.mix ? ink.wrong : run.old ? ink.stale : ink.tints[run.tint ?? 0];
@@ -201,7 +201,7 @@ const painter = (() => {
     }
   }
 
-  /* A mark at its slot: a flag, or a diamond on a pole if it is bad. */
+  /* Draws a mark at its slot: a flag, or a diamond on a pole if it is bad. */
   function mark(c, x, { top: y, height: h }, is_bad, ink) {
     const middle = y + h / 2, half = h / 2 - 3;
     c.fillStyle = is_bad ? ink.bad : ink.accent;
@@ -215,7 +215,7 @@ const painter = (() => {
     c.fill();
   }
 
-  /* A text as far as it has room: cut and with an ellipsis, or empty if fewer than three letters fit. */
+  /* Returns the part of a text that fits: with an ellipsis if it is cut, and empty if fewer than three letters fit. */
   function fitted(c, text, room) {
     if (room < 16) return "";
     if (c.measureText(text).width <= room) return text;
@@ -227,7 +227,7 @@ const painter = (() => {
     return low < 3 ? "" : `${text.slice(0, low).trimEnd()}…`;
   }
 
-  /* Strokes in a calm colour where marks are too close for their shapes: the higher, the more marks a column has. */
+  /* Draws marks that are too close for their shapes as strokes in a calm colour. A column of more marks has a higher stroke. */
   function crowds(c, counts, { top: y, height: h }, sight, ink) {
     c.fillStyle = ink.dim;
     counts.forEach((n, px) => {
@@ -236,7 +236,7 @@ const painter = (() => {
     });
   }
 
-  /* Marks with their labels, each label only as far as the next mark. Bad marks are drawn last, so that none hides them. */
+  /* Draws marks and their labels. A label ends before the next mark. Bad marks come last, so that no other mark hides them. */
   function marks(c, lane, sight, ink) {
     const { marks: all } = lane, end = sight.from + sight.across, middle = lane.top + lane.height / 2 + 0.5;
     const counts = new Uint32Array(Math.ceil(sight.room) + 1), apart = [], bad = [];
@@ -293,7 +293,7 @@ const painter = (() => {
     c.fill();
   }
 
-  /* The slots that are selected on the axis. */
+  /* Shades the slots that are selected on the axis. */
   function selection(c, sight, ink, height) {
     const [x0, x1] = sight.span.map((slot) => Math.min(sight.gutter + sight.room, Math.max(sight.gutter, sight.x(slot))));
     c.fillStyle = ink.cursor;
@@ -303,7 +303,7 @@ const painter = (() => {
     for (const x of [x0, x1]) c.fillRect(x - 1, 0, 2, height - 6);
   }
 
-  /* The columns of the overview: those in which a change, a bad mark or a mix begins, and those of mixes. */
+  /* Returns the columns of the overview with a change, with a bad mark or the start of a mix, and with a mix. */
   function columns(lanes, sight) {
     const width = Math.ceil(sight.room), [calm, bad, mixed] = [0, 0, 0].map(() => new Uint8Array(width));
     const column = (slot) => Math.min(width - 1, Math.floor(slot / sight.across * sight.room));
@@ -315,7 +315,7 @@ const painter = (() => {
     return { calm, bad, mixed };
   }
 
-  /* All slots on one strip: below the share of each column that brought a group, above the changes. What is bad is red. */
+  /* Draws all slots on one strip: the changes above, the share of groups in each column below. Bad marks and mixes are red. */
   function overview(c, lanes, sight, ink) {
     const { gutter: left, room } = sight, top = 2, h = OVERVIEW - 4, half = h / 2, lane = lanes.find((it) => it.kind === "ticks");
     const { calm, bad, mixed } = columns(lanes, sight);
@@ -339,7 +339,7 @@ const painter = (() => {
     strokes(bad, ink.bad, 0, h, 2);
   }
 
-  /* The frame of the slots in sight on the overview, from x0 to x1, and the chosen slot. What is out of sight is paler. */
+  /* Draws the frame of the slots in sight on the overview, from x0 to x1, and the chosen slot. Slots out of sight are paler. */
   function frame(c, x0, x1, cursor, { gutter, room }, ink) {
     const middle = (x0 + x1) / 2, half = Math.max(4, (x1 - x0) / 2), end = gutter + room;
     const from = Math.max(gutter, middle - half), to = Math.min(end, middle + half);
@@ -353,7 +353,7 @@ const painter = (() => {
     outline(c, from - 1, 0.5, to - from + 2, OVERVIEW - 1, { color: ink.cursor });
   }
 
-  /* Draws a swatch of a legend, which shows the code of a slot, or a bar that is a "mix" or "stale". */
+  /* Draws a swatch of a legend: a tick by its code, or a bar that is a "mix" or "stale". */
   function swatch(canvas, ink) {
     const { shows } = canvas.dataset, w = 14, scale = 2, c = canvas.getContext("2d");
     Object.assign(canvas, { width: w * scale, height: TICKS * scale });

@@ -37,7 +37,7 @@ class Timeline {
     for (const mode of Timeline.MODES) matchMedia(mode).addEventListener("change", () => this.recolour());
   }
 
-  /* Takes the colours of the page anew, for the lanes and for the swatches of the legend beside them. */
+  /* Reads the colours of the page again, and draws the lanes and the swatches of the legend beside them. */
   recolour() {
     this.ink = painter.inks(this.root);
     this.strip = null;
@@ -56,7 +56,7 @@ class Timeline {
     this.move(Math.min(this.cursor, this.count - 1), { keep: true });
   }
 
-  /* How many of the slots before each one brought nothing, a text with the A/B flag 0, and one with the flag 1. */
+  /* Counts the slots before each slot: those with no group, with a text of flag A, and with a text of flag B. */
   static sums(codes) {
     const [none, low, high] = [0, 0, 0].map(() => new Int32Array(codes.length + 1));
     for (let i = 0; i < codes.length; i++) {
@@ -88,7 +88,7 @@ class Timeline {
   within(from) { return Math.min(Math.max(0, this.count - this.across), Math.max(0, from)); }
   fit() { this.from = 0; this.across = this.count; }
 
-  /* Shows this many slots, at least LEAST; a place that is in sight keeps its place, or the middle does. */
+  /* Shows more or fewer slots by this factor, at least LEAST. The slot `at` keeps its place if it is in sight; if not, the middle does. */
   zoom(by, at = this.cursor + 0.5) {
     const is_seen = at >= this.from && at <= this.from + this.across, to = is_seen ? at : this.from + this.across / 2;
     const across = Math.min(this.count, Math.max(Timeline.LEAST, this.across * by)), share = (to - this.from) / this.across;
@@ -97,7 +97,7 @@ class Timeline {
     this.draw();
   }
 
-  /* Shows these slots, as large as they can be. */
+  /* Shows these slots as large as possible. */
   zoom_to(from, to) {
     this.across = Math.min(this.count, Math.max(Timeline.LEAST, to - from));
     this.from = this.within((from + to - this.across) / 2);
@@ -136,12 +136,12 @@ class Timeline {
     this.draw();
   }
 
-  /* The chosen slot in words. */
+  /* Returns the chosen slot in words. */
   place() {
     return `slot ${this.cursor.toLocaleString("en")} of ${this.count.toLocaleString("en")} · ${lines.time(this.cursor)}`;
   }
 
-  /* Whether a pointer is on the axis: the row of slot numbers. */
+  /* Returns whether a pointer is on the axis, the row of slot numbers. */
   is_axis(e) {
     const box = this.canvas.getBoundingClientRect();
     return e.clientY - box.top < painter.AXIS && e.clientX - box.left >= this.gutter;
@@ -194,7 +194,7 @@ class Timeline {
     });
   }
 
-  /* On the axis: a drag selects slots, and its end shows them as large as they can be. A click chooses a slot. */
+  /* Selects slots by a drag on the axis, and shows them as large as possible at its end. A click chooses a slot. */
   select(e, slot) {
     const start = e.clientX, first = slot(e);
     const go = (ev) => {
@@ -215,7 +215,7 @@ class Timeline {
     });
   }
 
-  /* On the overview: the frame is dragged, and a press beside it brings the slots there into sight first. */
+  /* Drags the frame of the overview. A press beside the frame brings the slots there into sight first. */
   overview_down(e) {
     if (e.button) return;
     const left = this.overview.getBoundingClientRect().left + this.gutter;
@@ -244,14 +244,14 @@ class Timeline {
     }
   }
 
-  /* A key is first the tab's, then the timeline's. */
+  /* Asks the tab for a key first, then the timeline. */
   key(e) {
     if (e.altKey) return;
     const key = e.key.length === 1 ? e.key.toLowerCase() : e.key, is_plain = !e.ctrlKey && !e.metaKey;
     if (this.on_key(key, e) || (is_plain && this.own_key(key))) e.preventDefault();
   }
 
-  /* Does what a key of every timeline does; answers whether it is one. */
+  /* Acts on a key that each timeline has. Returns whether it is one. */
   own_key(key) {
     const steps = { ArrowRight: 1, ArrowLeft: -1, PageDown: 16, PageUp: -16, Home: -Infinity, End: Infinity };
     const acts = { "+": "in", "=": "in", w: "in", "-": "out", s: "out", a: "back", d: "on", 0: "fit", n: "next", p: "prev" };
@@ -266,7 +266,7 @@ class Timeline {
     requestAnimationFrame(() => { this.waits = false; this.paint(); });
   }
 
-  /* Makes a canvas this large, for the pixels of the screen; gives what draws on it. */
+  /* Gives a canvas this size, in pixels of the screen, and returns its clean context. */
   static sized(canvas, width, height) {
     const scale = devicePixelRatio || 1, [w, h] = [width, height].map((n) => Math.round(n * scale));
     if (canvas.style.height !== `${height}px`) canvas.style.height = `${height}px`;
@@ -288,14 +288,14 @@ class Timeline {
     this.scroll.setAttribute("aria-valuetext", `slots ${told.join(" to ")} of ${this.count.toLocaleString("en")}`);
   }
 
-  /* Draws the overview: all slots, which are drawn once, and the frame of those in sight. */
+  /* Draws the overview: a strip of all slots, kept for the next frame, and the frame of those in sight. */
   paint_overview(width) {
-    const { gutter, room, count, ink } = this, height = painter.OVERVIEW;
-    if (!this.strip || this.strip.shown !== width) {
+    const { gutter, room, count, ink } = this, height = painter.OVERVIEW, shown = `${width} ${devicePixelRatio}`;
+    if (!this.strip || this.strip.shown !== shown) {
       const canvas = document.createElement("canvas"), sight = { from: 0, across: count, gutter, room, width };
       canvas.style.width = `${width}px`;
       painter.overview(Timeline.sized(canvas, width, height), this.lanes, sight, ink);
-      this.strip = Object.assign(canvas, { shown: width });
+      this.strip = Object.assign(canvas, { shown });
     }
     const c = Timeline.sized(this.overview, width, height), x = (slot) => gutter + slot / count * room;
     c.drawImage(this.strip, 0, 0, width, height);
