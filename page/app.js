@@ -6,6 +6,8 @@ const page = (() => {
   /* The M and the K of a file: those that the program takes without options. */
   const DEFAULTS = { m: 128, k: 0 };
   const decoder = new TextDecoder("utf-8", { ignoreBOM: true });
+  /* The bytes of a file by which a script is told from a log. */
+  const BEGIN = 10_000;
 
   function tab(name, focus = false) {
     for (const it of TABS) {
@@ -37,16 +39,17 @@ const page = (() => {
 
   /* Opens a file. The program gets its bytes as they are. The text that the page shows keeps a byte-order mark. */
   async function open_file(file) {
-    const input = new Uint8Array(await file.arrayBuffer()), text = decoder.decode(input), to_script = is_script(file.name, text);
-    (to_script ? script_tab : log_tab).open(text, { ...DEFAULTS, input, file: file.name });
+    const input = new Uint8Array(await file.arrayBuffer()), how = { ...DEFAULTS, file: file.name };
+    const to_script = is_script(file.name, decoder.decode(input.subarray(0, BEGIN)));
     tab(to_script ? "script" : "log");
+    if (to_script) script_tab.open(decoder.decode(input), { ...how, input }); else await log_tab.open(input, how);
   }
 
   function examples(what, open) {
     const all = RDSRT_EXAMPLES[what], select = $(`${what}-example`);
     const use = () => {
       const it = all[select.value];
-      if (it) open(it.from ? rdsrt.run(it.from, it.text).output : it.text, { ...it, example: select.value });
+      return it && open(it.from ? rdsrt.run(it.from, it.text).output : it.text, { ...it, example: select.value });
     };
     select.replaceChildren(...all.map((it, i) => new Option(it.name, i)), new Option("your own", ""));
     select.onchange = use;
@@ -56,7 +59,7 @@ const page = (() => {
       target.value = "";
       if (file) open_file(file);
     };
-    use();
+    return use();
   }
 
   function drops() {
@@ -88,12 +91,13 @@ const page = (() => {
   }
 
   async function begin() {
-    try { await rdsrt.load(); } catch (error) { no_engine(error); return; } finally { $("loading").hidden = true; }
+    let compiled;
+    try { compiled = await rdsrt.load(); } catch (error) { no_engine(error); return; } finally { $("loading").hidden = true; }
     document.querySelector("main").hidden = false;
     tab_keys();
-    examples("log", log_tab.open);
+    for (const it of [log_tab, script_tab, dwell_tab]) it.begin(compiled);
     examples("script", script_tab.open);
-    for (const it of [log_tab, script_tab, dwell_tab]) it.begin();
+    await examples("log", log_tab.open);
     for (const form of document.forms) form.onsubmit = (e) => e.preventDefault();
     $("command-form").addEventListener("submit", script_tab.command_changed);
     drops();

@@ -1,13 +1,23 @@
 #!/usr/bin/env python3
-"""Writes engine.js and examples.js: the module and the examples, as scripts, so that the page opens from a disk too.
+"""Writes engine.js and examples.js, the module and the examples, and page.js, the scripts of the page in one. All are
+scripts, so that the page opens from a disk too.
 
-usage: build.py MODULE EXAMPLES OUT
+usage: build.py MODULE EXAMPLES OUT      writes all of them
+       build.py --scripts OUT            writes page.js alone
 """
 import base64
 import gzip
 import json
 import os
+import re
 import sys
+
+HERE = os.path.dirname(os.path.abspath(__file__))
+# Each script uses only names of scripts before it. A worker runs those of WORKER.
+WORKER = ["lines.js", "rdsrt.js", "flag_alone.js", "logfile.js", "arrivals.js", "witness.js", "worker.js"]
+PAGE = ["lines.js", "rdsrt.js", "records.js", "flag_alone.js", "logfile.js", "painter.js", "picture.js", "timeline.js", "parts.js",
+        "undo.js", "log_worker.js", "log_text.js", "groups.js", "changes.js", "verdict.js", "log.js", "script.js", "dwell.js", "app.js"]
+DEFINED = re.compile(r"^(?:const|class) (\w+)", re.M)
 
 ENCODE = ["encode", "--pi", "C201", "--pty", "10", "--m", "8"]
 LOGS = [
@@ -46,11 +56,42 @@ def write(out, name, constant, value):
         file.write(f'"use strict";\nconst {constant} = {json.dumps(value, ensure_ascii=False, indent=1)};\n')
 
 
+def read(name):
+    with open(os.path.join(HERE, name), encoding="utf-8") as file:
+        return file.read()
+
+
+def joined(names):
+    """The scripts in one, in this order. No script may use a name that a later one defines."""
+    texts = [read(name) for name in names]
+    defined = [DEFINED.findall(text) for text in texts]
+    for i, (name, text) in enumerate(zip(names, texts)):
+        code = re.sub(r"/\*.*?\*/", "", text, flags=re.S)
+        early = [later for all_later in defined[i + 1:] for later in all_later if re.search(rf"(?<![.\w]){later}\s*[.(]", code)]
+        if early:
+            sys.exit(f"build.py: {name} uses {', '.join(early)}, which a later script defines")
+    return "".join(text if not i else text.replace('"use strict";\n', "", 1) for i, text in enumerate(texts))
+
+
+def write_scripts(out):
+    """Writes page.js: the text of the worker's scripts, and the scripts of the page."""
+    missing = {name for name in os.listdir(HERE) if name.endswith(".js")} - {*WORKER, *PAGE}
+    if missing:
+        sys.exit(f"build.py: no order for {', '.join(sorted(missing))}")
+    page = joined(PAGE).replace('"use strict";\n', "", 1)
+    with open(os.path.join(out, "page.js"), "w", encoding="utf-8") as file:
+        file.write(f'"use strict";\nconst RDSRT_WORKER = {json.dumps(joined(WORKER), ensure_ascii=False)};\n{page}')
+
+
 def main():
+    if sys.argv[1:2] == ["--scripts"]:
+        write_scripts(sys.argv[2])
+        return
     module, examples, out = sys.argv[1:]
     with open(module, "rb") as file:
         packed = gzip.compress(file.read(), 9, mtime=0)
     write(out, "engine.js", "RDSRT_ENGINE", base64.b64encode(packed).decode())
+    write_scripts(out)
     scripts = [*shown(examples, SCRIPTS), restarts()]
     write(out, "examples.js", "RDSRT_EXAMPLES", {"log": list(shown(examples, LOGS)), "script": scripts})
 

@@ -5,10 +5,15 @@ const flag_alone = (() => {
   const LONGEST = 65535;
   const LIMIT = `The flag bit alone is shown for the first ${LONGEST.toLocaleString("en")} slots only.`;
 
-  /* What a receiver shows that gets these lines, one a slot. */
-  function decoded(pi, got) {
-    const { output } = rdsrt.run(["decode", "--pi", pi, "--m", String(LONGEST)], `${got.join("\n")}\n`);
-    return lines.read(output, got.length).views[0] ?? new lines.View();
+  /* What a receiver shows that gets this log of so many slots. */
+  function decoded(pi, input, count) {
+    const { output } = rdsrt.run(["decode", "--pi", pi, "--m", String(LONGEST)], input);
+    return lines.read(output, count).views[0] ?? new lines.View();
+  }
+
+  /* What it shows of the first LONGEST slots of a log. */
+  function of_log(pi, bytes, { count, starts }) {
+    return count > LONGEST ? decoded(pi, bytes.subarray(0, starts[LONGEST]), LONGEST) : decoded(pi, bytes, count);
   }
 
   /* What it shows of the first LONGEST slots, if it gets these lines and restarts in these slots. */
@@ -19,12 +24,12 @@ const flag_alone = (() => {
       const life = got.slice(from, starts[i + 1] ?? ends);
       view.clear(from);
       // many restarts in a row need no call each
-      if (life.some((line) => line !== lines.LOST)) view.take(decoded(pi, life), from);
+      if (life.some((line) => line !== lines.LOST)) view.take(decoded(pi, `${life.join("\n")}\n`, life.length), from);
     });
     return view.finish(ends);
   }
 
   const limit = (count) => count > LONGEST ? LIMIT : "";
   const none_at = (slot) => slot < LONGEST ? "no text" : "not shown here";
-  return { limit, none_at, receive };
+  return { limit, none_at, of_log, receive };
 })();

@@ -2,8 +2,7 @@
 /* What logs, scripts, the program's lines and its notes say: docs/FORMATS.md has the forms of all but the notes. */
 const lines = (() => {
   const LOST = "---- ---- ---- ----";
-  const SLOT = 104 / 1187.5, BLOCK = "(?:[0-9A-Fa-f]{4}|----)";
-  const SKIPPED = /^(?:\r?$|[<#%])/, SLOT_LINE = new RegExp(`^${BLOCK}(?: ${BLOCK}){3}(?:\r?$| )`);
+  const SLOT = 104 / 1187.5;
   const SHOWN = /^(?:none$|"|[01] [01]$|\S+ ")/;
 
   const seconds = (slots) => slots * SLOT;
@@ -15,26 +14,9 @@ const lines = (() => {
     return minutes < 60 ? short : `${Math.floor(minutes / 60)} h ${short}`;
   }
 
-  /* The slots of a log up to the first malformed line: four words, or null if nothing was received; the blocks of each one's
-     line and its number. */
-  function slots_of(log) {
-    const slots = [], logged = [], at = [];
-    const all = log.split("\n");
-    for (let i = 0; i < all.length; i++) {
-      const line = all[i];
-      if (SKIPPED.test(line)) continue;
-      if (!SLOT_LINE.test(line)) break;
-      const blocks = line.slice(0, 19);
-      slots.push(blocks.includes("-") ? null : blocks.split(" ").map((word) => parseInt(word, 16)));
-      logged.push(blocks);
-      at.push(i);
-    }
-    return { slots, logged, at };
-  }
-
   /* What each part showed, as runs [from, to) with a value; null where nothing was shown. */
   class View {
-    constructor() { this.parts = { text: [], name: [], item: [], tag1: [], tag2: [] }; }
+    constructor(parts = { text: [], name: [], item: [], tag1: [], tag2: [] }) { this.parts = parts; }
 
     change(part, slot, value) {
       const runs = this.parts[part], last = runs[runs.length - 1];
@@ -54,8 +36,8 @@ const lines = (() => {
     }
 
     /* Shows nothing of these parts from the slot on. */
-    clear(slot, ...parts) {
-      const all = parts.length ? parts : Object.keys(this.parts);
+    clear(slot, ...which) {
+      const all = which.length ? which : Object.keys(this.parts);
       for (const part of all) if ((this.at(part, slot)?.value ?? null) !== null) this.change(part, slot, null);
     }
 
@@ -103,21 +85,27 @@ const lines = (() => {
   const ADVICE = ". To look for lost slots";
   const note_of = (all, begin) => (all.find((note) => note.startsWith(begin)) ?? "").split(ADVICE)[0];
 
+  /* The second block has the group type and its version, TP and PTY, and the bits of the service: for a text its A/B flag
+     and its segment. */
+  const KIND_SHIFT = 11, FLAG_BIT = 0x10, TEXT_SEGMENT = 0x0F, NAME_SEGMENT = 0x01;
+  const type_of = (group) => `${group[1] >> 12}${group[1] >> KIND_SHIFT & 1 ? "B" : "A"}`;
+
   /* What a group is to the text services. In a list of codes, KIND masks the kind, and FLAG marks a text whose A/B flag is 1. */
-  const NOTHING = 0, TEXT = 1, NAME = 2, TAGS = 3, OTHER = 4, KIND = 7, FLAG = 8, FLAG_BIT = 0x10;
+  const NOTHING = 0, TEXT = 1, NAME = 2, TAGS = 3, OTHER = 4, KIND = 7, FLAG = 8;
   function code_of(group, pi) {
     if (!group || (pi !== null && group[0] !== pi)) return NOTHING;
-    const kind = group[1] >> 11;
+    const kind = group[1] >> KIND_SHIFT;
     if (kind === 4) return TEXT;
     if (kind === 20) return NAME;
     return kind === 22 ? TAGS : OTHER;
   }
+  function marked_code_of(group, pi) {
+    const kind = code_of(group, pi);
+    return kind === TEXT && group[1] & FLAG_BIT ? kind | FLAG : kind;
+  }
   function codes_of(groups, count, pi) {
     const codes = new Uint8Array(count);
-    for (let i = 0; i < count; i++) {
-      const kind = code_of(groups[i], pi);
-      codes[i] = kind === TEXT && groups[i][1] & FLAG_BIT ? kind | FLAG : kind;
-    }
+    for (let i = 0; i < count; i++) codes[i] = marked_code_of(groups[i], pi);
     return codes;
   }
 
@@ -126,5 +114,8 @@ const lines = (() => {
   const class_of = (number) => number < CLASSES.length ? `ITEM.${CLASSES[number]}` : String(number);
 
   const CODES = { NOTHING, TEXT, NAME, TAGS, OTHER, KIND, FLAG };
-  return { ...CODES, LOST, View, class_of, code_of, codes_of, note_of, notes, read, seconds, slots_of, time };
+  const BITS = { FLAG_BIT, NAME_SEGMENT, TEXT_SEGMENT };
+  return {
+    ...BITS, ...CODES, LOST, View, class_of, code_of, codes_of, marked_code_of, note_of, notes, read, seconds, SLOT, time, type_of,
+  };
 })();

@@ -1,33 +1,26 @@
 "use strict";
-/* The tab of a log: the receiver's display, the audit's answer, and the lost slots. */
+/* The tab of a log: the receiver's display, the audit's answer, and the lost slots. The program runs in workers. */
 const log_tab = (() => {
-  const { $, make } = parts;
+  const { $ } = parts;
   const PI = "C201", MOST_PROGRAMMES = 12;
-  const NO_WITNESS = ": no burst of lost slots makes a mix of a text or a name. A tag or two bursts may still make one. "
-    + "A no says that a rule was broken.";
-  const STOPPED = ": the search stopped there. There may be a mix. A no says that a rule was broken.";
-  /* The cure of each fault, as in docs/FORMATS.md. */
-  const CURES = {
-    EarlyFlag: "Keep each text on air for at least M + K slots, and flip the flag only for a new text.",
-    Changed: "Flip the flag with every change, even of one word.",
-    NotOneText: "Send printable characters, end the text with one carriage return, fill its segment with spaces, and send no segment "
-      + "past it.",
-    EarlyTag: "Send the first tags M + K slots after the start of their text.",
-    TagOutside: "Count the start from 0, send the number of characters less one as the length, and set the tags after their text.",
-  };
-  const WHOLE_NAME = "A name has eight printable characters, filled with spaces.";
-  const OTHER_TAGS = "If this 11A is not RT+, empty its lines before the audit.";
-  /* Milliseconds that the page has to draw the answer before a witness is looked for. */
-  const DRAWN = 30;
-  const PARTS = [["name", "name"], ["tag1", "first tag"], ["tag2", "second tag"]];
+  /* Milliseconds after which the page shows that it waits for an answer. */
+  const PATIENCE = 150;
+  const PARTS = [["name", "name (PTYN)"], ["tag1", "first tag"], ["tag2", "second tag"]];
   const KINDS = ["nothing", "text", "name", "tags", "other"];
-  const state = {
-    text: "", input: "", lost: new Set(), slots: [], logged: [], at: [], heard: [], view: new lines.View(), alone: new lines.View(),
-    mixed: () => false, turn: 0, witness: null, result: null,
-  };
+  const CLOCK = /\d\d:\d\d:\d\d/, LONGEST_TIME = 80;
+  const encoder = new TextEncoder(), decoder = new TextDecoder();
+  const NO_LOG = { count: 0, end: 0, words: [], missing: [], starts: [], numbers: [] };
+  const NO_TIMES = { timed: 0, absent: 0, breaks: 0 };
+  const empty = () => ({
+    log: NO_LOG, times: NO_TIMES, programmes: [], groups: 0, codes: new Uint8Array(0), view: new lines.View(), alone: new lines.View(),
+    mixed: () => false, whole: null, witness: null, result: null, audits: new Map(),
+  });
+  const state = { text: "", bytes: new Uint8Array(0), lost: new Set(), number: 0, opening: 0, turn: 0, judged: 0, drawn: 0, work: Promise.resolve(), ...empty() };
+  const workers = {};
   const timeline = new Timeline($("log-time"), {
     label: "Slot of the log",
     on_move: show_slot,
+    clock,
     on_paint: (lane, from, to, e) => {
       if (lane && from === to && (e.shiftKey || (lane.lost && $("log-click").checked))) lose([from]);
       return false;
@@ -39,110 +32,218 @@ const log_tab = (() => {
     },
   });
 
+  /* Keeps what is under way, so that a test can wait for it. */
+  const working = (promise) => { state.work = promise; return promise; };
+
   /* Loses these slots, or gives back those that are lost. */
   function lose(slots) {
     for (const slot of slots) if (!state.lost.delete(slot)) state.lost.add(slot);
-    look({ fit: false });
+    return look();
   }
 
-  function programmes(slots) {
-    const counts = new Map();
-    for (const group of slots) if (group) counts.set(group[0], (counts.get(group[0]) ?? 0) + 1);
-    const all = [...counts].sort((a, b) => b[1] - a[1]).slice(0, MOST_PROGRAMMES);
-    return all.length ? all : [[parseInt(PI, 16), 0]];
-  }
-
-  /* Opens a log: its text, and the program's input, which for a file is the file's bytes. */
-  function open(text, { pi, m, k, lost = [], example = "", file = "", input = text } = {}) {
-    Object.assign(state, { text, input, lost: new Set(lost) });
+  /* Opens a log: its text, or the bytes of its file. Returns when its display and its verdict are shown. */
+  function open(content, { pi, m, k, lost = [], example = "", file = "" } = {}) {
+    const bytes = typeof content === "string" ? encoder.encode(content) : content;
+    for (const worker of Object.values(workers)) worker.drop();
+    Object.assign(state, empty(), { bytes, lost: new Set(lost) });
     parts.name_file("log", file);
     $("log-example").value = example;
-    const all = programmes(lines.slots_of(text).slots);
-    const options = all.map(([p, n]) => new Option(`${parts.hex(p)} (${parts.counted(n, "group")})`, parts.hex(p)));
-    $("log-pi").replaceChildren(...options);
-    if (all.some(([p]) => parts.hex(p) === pi)) $("log-pi").value = pi;
     if (m) $("log-m").value = m;
     if (k !== undefined) $("log-k").value = k;
-    parts.fill("log-text", text);
-    look({ fit: true });
+    state.text = log_text.open(bytes);
+    return working(read(pi));
+  }
+
+  /* Reads the log in the workers, and looks at it. */
+  async function read(pi) {
+    const opening = ++state.opening, { bytes } = state, done = wait("Reading the log");
+    state.turn++;
+    const opened = await workers.display.ask("open", { bytes }, (share) => { $("log-progress").value = share; });
+    done();
+    if (state.opening !== opening || !opened) return;
+    const { starts, count, missing } = opened.log;
+    for (const name of ["audit", "search"]) workers[name].ask("keep", { bytes, log: { starts, count } });
+    let groups = 0;
+    for (let slot = 0; slot < count; slot++) groups += missing[slot] ? 0 : 1;
+    Object.assign(state, opened, { groups });
+    offer_programmes(pi);
+    await look({ fit: true });
+    if (state.opening !== opening) return;
     const shown = state.view.parts.text.filter((run) => run.value !== null);
     const mix = shown.find((run) => state.mixed("text", run.value)) ?? shown.at(-1);
     timeline.move(mix ? mix.from : 0, { keep: true });
   }
 
-  /* The log as a receiver gets it: a lost slot's line is one of missing blocks. */
-  function received() {
-    if (!state.lost.size) return state.input;
-    const all = state.text.split("\n");
-    for (const slot of state.lost) if (state.at[slot] !== undefined) all[state.at[slot]] = lines.LOST;
-    return all.join("\n");
+  /* The programmes of the log, to choose one of them. */
+  function offer_programmes(pi) {
+    const found = state.programmes.slice(0, MOST_PROGRAMMES), all = found.length ? found : [[parseInt(PI, 16), 0]];
+    const options = all.map(([p, n]) => new Option(`${parts.hex(p)} (${parts.counted(n, "group")})`, parts.hex(p)));
+    $("log-pi").replaceChildren(...options);
+    if (all.some(([p]) => parts.hex(p) === pi)) $("log-pi").value = pi;
   }
 
-  function look({ fit }) {
-    const problem = parts.problem_of($("log-form"));
+  /* Shows after a while that the page waits; the answer ends this. */
+  function wait(what) {
+    const begins = () => {
+      $("log").setAttribute("aria-busy", "true");
+      $("log-wait").hidden = false;
+      $("log-waits").textContent = what;
+      $("log-progress").removeAttribute("value");
+      if (state.judged !== state.turn) verdict.show_none(`${what} …`, "");
+      if (state.log === NO_LOG) timeline.show([], 1);
+    };
+    clearTimeout(wait.timer);
+    const timer = wait.timer = setTimeout(begins, PATIENCE);
+    return () => {
+      clearTimeout(timer);
+      if (wait.timer !== timer) return;
+      $("log").removeAttribute("aria-busy");
+      $("log-wait").hidden = true;
+    };
+  }
+
+  /* Asks the workers for the display and for the verdict, with what the form holds now. */
+  const look = (how = {}) => working(answer(how));
+  async function answer({ fit = false }) {
+    const turn = ++state.turn, problem = parts.problem_of($("log-form"));
     if (problem) { show_problem(problem, { fit }); return; }
-    const pi = $("log-pi").value, m = $("log-m").value, k = $("log-k").value, number = parseInt(pi, 16);
-    const { slots, logged, at } = lines.slots_of(state.text), count = slots.length;
-    const heard = slots.map((group, slot) => state.lost.has(slot) ? null : group);
-    Object.assign(state, { slots, logged, at, number, heard });
-    const words = ["decode", "--pi", pi, "--m", m], audit_words = ["audit", "--pi", pi, "--m", m, "--k", k];
-    const decode = rdsrt.run(words, received()), audit = rdsrt.run(audit_words, state.input);
-    state.view = lines.read(decode.output, count).views[0] ?? new lines.View();
-    state.alone = flag_alone.receive(pi, logged.map((line, slot) => state.lost.has(slot) ? lines.LOST : line));
-    state.mixed = mixed_by(words, pi, count);
-    state.result = { decode, audit };
-    const no = /^no (\d+) (\w+)/.exec(audit.output);
-    timeline.title = `rdsrt ${words.join(" ")}`;
-    timeline.show(lanes(no, count), count, { fit });
-    show_verdict({ audit, no, m: Number(m), k: Number(k) });
+    const [pi, m, k] = ["pi", "m", "k"].map((name) => $(`log-${name}`).value), asked = { pi, m, k, lost: [...state.lost] };
+    const done = wait(`Decoding with M = ${Number(m).toLocaleString("en")}`);
     $("log-unlose").hidden = !state.lost.size;
-    $("log-limit").textContent = flag_alone.limit(count);
-    $("log-limit").hidden = !flag_alone.limit(count);
-    tell_lines([["log", words, decode], ["audit", audit_words, audit]]);
+    Object.assign(state, { no: null, witness: null });
+    try {
+      await Promise.all([display(asked, turn, fit), judge(asked, turn)]);
+    } catch (error) {
+      if (state.turn === turn) show_problem(`${error.message}.`, { fit });
+    }
+    done();
+    if (state.turn === turn) working(Promise.all([search(asked, turn), judge_others(asked, turn)]));
+  }
+
+  /* What is shown of these slots; what a receiver shows that loses none is kept. */
+  async function decode(asked) {
+    if (!asked.lost.length && state.whole?.pi === asked.pi && state.whole.m === asked.m) return state.whole;
+    const got = await workers.display.askNewest("decode", asked);
+    if (!got) return undefined;
+    const shown = { ...got, pi: asked.pi, m: asked.m, view: new lines.View(got.view), alone: new lines.View(got.alone) };
+    if (!asked.lost.length) state.whole = shown;
+    return shown;
+  }
+
+  async function display(asked, turn, fit) {
+    const shown = await decode(asked), whole = shown && asked.lost.length ? await decode({ ...asked, lost: [] }) : shown;
+    if (state.turn !== turn || !whole) return;
+    const { view, alone, codes, output, notes } = shown, { log } = state;
+    const number = parseInt(asked.pi, 16), result = { ...state.result, decode: { output, notes } };
+    Object.assign(state, { view, alone, codes, number, result, drawn: turn });
+    // nobody sent what neither receiver shows that loses nothing
+    const sent = asked.lost.length ? parts.all_shown(whole.view, whole.alone) : null;
+    state.mixed = sent ? (part, value) => !sent.has(parts.key_of(part, value)) : () => false;
+    timeline.title = `rdsrt decode --pi ${asked.pi} --m ${asked.m}`;
+    timeline.show(lanes(), log.count, { fit });
+    changes.show(view, state.mixed, { go_to: does.go_to, clock });
+    changes.move(timeline.cursor);
+    $("log-limit").textContent = flag_alone.limit(log.count);
+    $("log-limit").hidden = !flag_alone.limit(log.count);
+    tell_lines("log", timeline.title, output);
+  }
+
+  /* The audit's answer; each is kept. */
+  async function audit({ pi, m, k }, worker = "audit") {
+    const key = [pi, m, k].join(" "), { audits } = state;
+    if (audits.has(key)) return audits.get(key);
+    const got = await workers[worker].askNewest("audit", { pi, m, k });
+    if (got) audits.set(key, got);
+    return got;
+  }
+
+  async function judge(asked, turn) {
+    const got = await audit(asked);
+    if (state.turn !== turn || !got) return;
+    const { log, groups, times } = state, pi = parseInt(asked.pi, 16), m = Number(asked.m), k = Number(asked.k);
+    const no = verdict.show({ audit: got, log, groups, pi, m, k, times }, does);
+    Object.assign(state, { result: { ...state.result, audit: got }, no, judged: turn });
+    tell_lines("audit", `rdsrt audit --pi ${asked.pi} --m ${asked.m} --k ${asked.k}`, got.output);
+    // the answer has a mark in the lane of events
+    if (no && state.drawn === turn) timeline.show(lanes(), log.count);
+  }
+
+  /* Looks for a witness after a no. */
+  async function search(asked, turn) {
+    const { no } = state;
+    if (!no) return;
+    const found = await workers.search.askNewest("witness", { pi: asked.pi, m: Number(asked.m), no: no.slot });
+    if (state.turn !== turn || !found) return;
+    state.witness = found;
+    verdict.show_witness(found, does);
+  }
+
+  /* Asks for the answers with other dwells, one after the other, and shows each one. */
+  async function judge_others(asked, turn) {
+    if (!state.groups || !state.result.audit || /^fault/m.test(state.result.audit.output)) return;
+    verdict.offer_dwells(Number(asked.m), does);
+    for (const m of verdict.DWELLS) {
+      const got = await audit({ ...asked, m: String(m) }, "search");
+      if (state.turn !== turn || !got) return;
+      verdict.show_dwell(m, verdict.no_of(got));
+    }
+  }
+
+  /* What the buttons of the verdict do. */
+  const does = {
+    go_to: (slot) => { timeline.move(slot); timeline.canvas.focus(); },
+    show_line: (number) => log_text.go_to(state.log.end, number),
+    choose_dwell: (m) => { $("log-m").value = m; look(); },
+    fill,
+    /* Loses these slots alone, and goes to the one in which the mix is shown. */
+    async lose(slot, first, last) {
+      state.lost = new Set(Array.from({ length: last - first + 1 }, (_, i) => first + i));
+      await look();
+      does.go_to(slot);
+    },
+  };
+
+  /* Opens the log with a line for each slot that its times say it lacks. */
+  async function fill() {
+    const name = $("log-file-name").textContent, m = $("log-m").value, pi = $("log-pi").value;
+    const { bytes } = await workers.display.ask("fill", { m: Number(m) });
+    if (!bytes) { show_problem("The times are so far apart that the page does not add the lost slots. Use examples/slots."); return; }
+    await open(bytes, { pi, m, k: $("log-k").value, file: `${name || "log"}, with its lost slots` });
   }
 
   /* Shows why nothing is decoded, and no result of what was there before. */
-  function show_problem(problem, { fit }) {
-    const none = { slots: [], logged: [], at: [], heard: [], result: null, witness: null };
-    Object.assign(state, none, { view: new lines.View(), alone: new lines.View(), mixed: () => false });
-    state.turn++;
+  function show_problem(problem, { fit = false } = {}) {
+    Object.assign(state, { view: new lines.View(), alone: new lines.View(), mixed: () => false, result: null, witness: null, no: null });
+    state.codes = new Uint8Array(0);
     timeline.title = "";
-    timeline.show([], lines.slots_of(state.text).slots.length, { fit });
-    $("verdict").className = "verdict fault";
-    $("verdict").replaceChildren(make("h2", { textContent: "No verdict" }), make("p", { textContent: problem }));
+    timeline.show([], state.log.count, { fit });
+    changes.show(state.view, state.mixed, { go_to: does.go_to, clock });
+    verdict.show_none("No verdict", problem);
     $("log-limit").hidden = true;
-    for (const name of ["log", "audit"]) {
-      $(`${name}-command`).textContent = "";
-      parts.fill(`${name}-lines`, "");
-    }
+    for (const name of ["log", "audit"]) tell_lines(name, "", "");
   }
 
-  /* Nobody sent what neither receiver shows that loses nothing. */
-  function mixed_by(words, pi, count) {
-    if (!state.lost.size) return () => false;
-    const whole = lines.read(rdsrt.run(words, state.input).output, count).views[0];
-    const sent = parts.all_shown(whole, flag_alone.receive(pi, state.logged));
-    return (part, value) => !sent.has(parts.key_of(part, value));
+  function tell_lines(name, command, output) {
+    $(`${name}-command`).textContent = command;
+    parts.fill(`${name}-lines`, output);
   }
 
-  function tell_lines(all) {
-    for (const [name, words, got] of all) {
-      $(`${name}-command`).textContent = `rdsrt ${words.join(" ")}`;
-      parts.fill(`${name}-lines`, got.output);
-    }
-  }
+  // ---- the lanes
+
+  /* The group that the receiver got in a slot; null if it got none. */
+  const heard = (slot) => state.lost.has(slot) ? null : logfile.groupAt(state.log, slot);
 
   /* Why the text or the name that was shown before this slot is shown no longer. */
-  const why_gone = (part, slot) => parts.why_gone(part, state.heard[slot], state.number);
+  const why_gone = (part, slot) => parts.why_gone(part, heard(slot), state.number);
 
-  function events(no) {
-    const marks = [];
+  function events() {
+    const marks = [], { no } = state;
     for (const part of ["text", "name"]) {
       state.view.parts[part].forEach((run, i, all) => {
         if (run.value === null && i && all[i - 1].value !== null) marks.push(parts.mark(run.from, `${part}: ${why_gone(part, run.from)}`));
       });
     }
-    if (no) marks.push(parts.mark(Number(no[1]), no[2], true));
+    if (no) marks.push(parts.mark(no.slot, no.fault, true));
     return marks.sort((a, b) => a.at - b.at);
   }
 
@@ -158,13 +259,13 @@ const log_tab = (() => {
     });
   }
 
-  function lanes(no, count) {
-    const tint = parts.tinter(), { view, alone: other, mixed } = state, codes = lines.codes_of(state.heard, count, state.number);
+  function lanes() {
+    const tint = parts.tinter(), { view, alone: other, mixed, codes, lost } = state;
     const bars = (it, part) => parts.bars(it, part, tint, mixed);
     const lane = (name, short, runs, more) => ({ name, short, kind: "bars", runs, gap: 3, ...more });
     const all = [
-      { name: "received", kind: "ticks", codes, losses: true, lost: state.lost },
-      { name: "events", kind: "marks", marks: events(no) },
+      { name: "received", kind: "ticks", codes, losses: true, lost },
+      { name: "events", kind: "marks", marks: events() },
       lane("text", "text", bars(view, "text"), { strong: true, gap: 10 }),
     ];
     for (const [part, name] of PARTS) if (parts.shows(view, part)) all.push(lane(name, name, bars(view, part)));
@@ -174,129 +275,38 @@ const log_tab = (() => {
     return all;
   }
 
-  // ---- the verdict
-
-  const button = (text, what) => Object.assign(make("button", { type: "button", textContent: text }), { onclick: what });
-  const says = (strong, text) => make("p", {}, make("b", { textContent: strong }), ` ${text}`);
-  const go_to = (slot) => button(`slot ${slot.toLocaleString("en")}`, () => { timeline.move(slot); timeline.canvas.focus(); });
-
-  function show_verdict({ audit, no, m, k }) {
-    const root = $("verdict"), yes = audit.output.startsWith("yes "), told = [];
-    const is_empty = yes && state.slots.every((group) => group === null);
-    root.className = `verdict${no ? " no" : is_empty ? " empty" : yes ? "" : " fault"}`;
-    state.turn++;
-    if (is_empty) told.push(...empty());
-    else if (yes) told.push(...passed(m));
-    else if (no) told.push(...refused(audit, no, m));
-    else told.push(...faulty(audit));
-    const about = `The audit reads the log as sent, with M + K = ${m + k} slots (${lines.time(m + k)}).`;
-    root.replaceChildren(...told, make("p", { className: "small", textContent: about }));
-  }
-
-  /* The dwell of a verdict, for its heading. */
-  const with_dwell = (m) => `with M = ${m.toLocaleString("en")} (${lines.time(m)})`;
-
-  /* A yes over a log without a group. The programmes to choose are those of its groups. */
-  function empty() {
-    const count = state.slots.length, has = count ? `no whole group in ${parts.counted(count, "slot")}` : "no slots";
-    return [
-      make("h2", { textContent: "Nothing to audit" }),
-      make("p", { textContent: `The log has ${has}. The program answers yes, and this yes means nothing.` }),
-    ];
-  }
-
-  /* A yes; it covers the slots that were recorded. */
-  function passed(m) {
-    const { slots } = state, missing = slots.filter((group) => group === null).length;
-    const kept = missing ? `The recorded ${slots.length - missing === 1 ? "slot keeps" : "slots keep"}`
-      : slots.length === 1 ? "The one slot keeps" : `All ${parts.counted(slots.length, "slot")} keep`;
-    const of = missing ? "the recorded texts" : "two texts";
-    const all = [
-      make("h2", { textContent: `✓ Passes ${with_dwell(m)}` }),
-      make("p", { textContent: `${kept} the rules. No receiver with this M shows a mix of ${of}, whichever groups it loses.` }),
-    ];
-    const few = `${missing.toLocaleString("en")} of ${parts.counted(slots.length, "slot")} ${missing === 1 ? "is" : "are"} missing`;
-    return missing ? [...all, says(few, "(no whole group). The yes covers only the others.")] : all;
-  }
-
-  /* What the encoder should do after a fault in this slot. */
-  function cure(fault, slot) {
-    const is_name = lines.code_of(state.slots[slot], state.number) === lines.NAME;
-    if (fault === "NotOneText" && is_name) return WHOLE_NAME;
-    return fault === "EarlyTag" ? `${CURES[fault]} ${OTHER_TAGS}` : CURES[fault] ?? "";
-  }
-
-  function refused(audit, no, m) {
-    const slot = Number(no[1]), note = lines.note_of(audit.notes, "slot "), rule = note.slice(`slot ${slot}`.length);
-    const about = make("p", { className: "witness", textContent: "Looking for lost slots that make a mix …" });
-    look_for_witness(about, slot, m);
-    return [
-      make("h2", {}, "✗ ", make("code", { textContent: no[2] }), ` ${with_dwell(m)}`),
-      make("p", {}, "First in ", go_to(slot), `${rule}. This slot is ${lines.time(slot)} after the first.`),
-      says("What the encoder should do:", cure(no[2], slot)),
-      about,
-    ];
-  }
-
-  function faulty(audit) {
-    const line = /^fault line (\d+)/.exec(audit.output), note = lines.note_of(audit.notes, "fault ") || audit.output.trim();
-    if (!line) return [make("h2", { textContent: "No verdict" }), make("p", { textContent: `${note}.` })];
-    const number = Number(line[1]);
-    return [
-      make("h2", { textContent: `Line ${number.toLocaleString("en")} is malformed` }),
-      make("p", { textContent: `${note}. The page does not show the lines after it.` }),
-      make("p", {}, button("Show the line", () => parts.go_to_line("log-text", number))),
-    ];
-  }
-
-  /* Looks for a witness after a no in this slot, unless the log was changed meanwhile. */
-  function look_for_witness(about, no, m) {
-    const turn = state.turn;
-    state.witness = null;
-    setTimeout(() => {
-      if (state.turn !== turn) return;
-      state.witness = witness.find({ logged: state.logged, pi: parts.hex(state.number), m, no });
-      about.replaceChildren(...witness_words(state.witness));
-    }, DRAWN);
-  }
-
-  function witness_words({ slot, lost, shown, upto }) {
-    if (!lost || !shown.length) {
-      const is_done = upto === null || upto === undefined;
-      const words = is_done ? NO_WITNESS : ` up to slot ${upto.toLocaleString("en")}${STOPPED}`;
-      return [make("b", { textContent: "No witness" }), words];
-    }
-    const [first, last] = lost, slots = first === last ? `slot ${first}` : `slots ${first} to ${last}`;
-    const what = make("code", { textContent: shown.join("; ") }), do_so = button(`Lose ${slots}`, () => be_witness(slot, first, last));
-    return [make("b", { textContent: "A witness:" }), ` a receiver that loses ${slots} shows a text that nobody sent: `, what, ". ", do_so];
-  }
-
-  /* Loses these slots alone, and goes to the one in which the mix is shown. */
-  function be_witness(slot, first, last) {
-    state.lost = new Set(Array.from({ length: last - first + 1 }, (_, i) => first + i));
-    look({ fit: false });
-    timeline.move(slot);
-    timeline.canvas.focus();
-  }
-
   // ---- a slot
 
+  /* The clock time at the end of a slot's line; empty if it has none. */
+  function clock(slot) {
+    if (slot >= state.log.count) return "";
+    const start = state.log.starts[slot] + logfile.BLOCKS, end = Math.min(logfile.endOf(state.bytes, start), start + LONGEST_TIME);
+    return CLOCK.exec(decoder.decode(state.bytes.subarray(start, end)))?.[0] ?? "";
+  }
+
   function show_slot(slot) {
-    const group = state.slots[slot], sent = group ? `${KINDS[lines.code_of(group, state.number)]} group` : "nothing received";
+    const group = logfile.groupAt(state.log, slot), sent = group ? `${KINDS[lines.code_of(group, state.number)]} group` : "nothing received";
     const what = !state.result ? "" : state.lost.has(slot) ? "lost" : sent, run = state.view.at("text", slot);
     const none = run && run.value === null && run.from > 0 ? why_gone("text", run.from) : "no text";
     const { mixed } = state, ours = { led: what, mixed, none }, simple = { mixed, none: flag_alone.none_at(slot) };
     parts.radio($("log-radio"), "The receiver, with the dwell", state.view, slot, ours);
     parts.radio($("log-alone"), "Flag bit alone: decode --m 65535", state.alone, slot, simple);
+    if (state.log.count) log_text.move(state.log.starts[slot], state.log.numbers[slot]);
+    $("log-group").textContent = state.log.count ? groups.of_slot(state.log, slot, state.number) : "";
+    changes.move(slot);
     if (!state.result) return "Not decoded.";
     const shown = parts.in_words(state.view, slot, ours), other = parts.in_words(state.alone, slot, simple);
     return `${what}. The receiver shows ${shown}. With the flag bit alone: ${other}.`;
   }
 
-  function begin() {
-    for (const id of ["log-pi", "log-m", "log-k"]) $(id).oninput = parts.soon(() => look({ fit: false }));
+  /* Begins with the compiled program. */
+  function begin(compiled) {
+    for (const name of ["display", "audit", "search"]) workers[name] = new LogWorker(compiled);
+    for (const id of ["log-pi", "log-m", "log-k"]) $(id).oninput = parts.soon(() => look());
     $("log-text").oninput = parts.soon(() => open($("log-text").value, { pi: $("log-pi").value }));
-    $("log-unlose").onclick = () => { state.lost.clear(); look({ fit: false }); };
+    $("log-unlose").onclick = () => { state.lost.clear(); look(); };
+    log_text.begin();
+    changes.begin();
   }
 
   return { begin, look, lose, open, state, timeline };

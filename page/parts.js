@@ -155,5 +155,5 @@ const parts = (() => {
   }
 
   const lanes = { all_shown, bars, mark, shows, shows_tags, tag_bars, tinter };
-  return { $, ...lanes, counted, entitle, fill, go_to_line, hex, in_words, key_of, make, name_file, problem_of, radio, soon, why_gone };
+  return { $, ...lanes, counted, entitle, fill, go_to_line, hex, in_words, key_of, label_of, make, name_file, problem_of, radio, soon, why_gone };
 })();

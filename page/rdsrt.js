@@ -5,17 +5,21 @@ const rdsrt = (() => {
   const encoder = new TextEncoder(), decoder = new TextDecoder();
   let module = null;
 
-  /* The module comes packed in engine.js: a page that was opened from a disk may fetch nothing. */
+  /* Compiles the module, which comes packed in engine.js: a page that was opened from a disk may fetch nothing. */
   async function load() {
     const packed = Uint8Array.from(atob(RDSRT_ENGINE), (c) => c.charCodeAt(0));
     const plain = new Blob([packed]).stream().pipeThrough(new DecompressionStream("gzip"));
-    const made = await WebAssembly.instantiate(await new Response(plain).arrayBuffer(), {});
-    module = made.instance.exports;
+    const compiled = await WebAssembly.compile(await new Response(plain).arrayBuffer());
+    await begin(compiled);
+    return compiled;
   }
+
+  /* Begins with a module that is compiled already. */
+  async function begin(compiled) { module = (await WebAssembly.instantiate(compiled, {})).exports; }
 
   /* Where words, input, output, notes and heap of one run lie, behind what is the module's own. */
   function layout(words, input, room, heap) {
-    const up = (n) => (n + 15) & ~15, ended = up(Number(module.__heap_base.value));
+    const up = (n) => 16 * Math.ceil(n / 16), ended = up(Number(module.__heap_base.value));
     const at = { ended, words: ended + 64 };
     at.input = up(at.words + words);
     at.output = up(at.input + input);
@@ -70,5 +74,5 @@ const rdsrt = (() => {
     }
   }
 
-  return { load, run };
+  return { begin, load, run };
 })();

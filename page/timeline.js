@@ -6,15 +6,15 @@ class Timeline {
   /* The modes of a page that change its colours. */
   static MODES = ["(prefers-color-scheme: dark)", "(forced-colors: active)"];
 
-  constructor(root, { label, on_move, on_paint = () => false, on_key = () => false, on_lane = () => {} }) {
-    Object.assign(this, { root, on_move, on_paint, on_key, on_lane });
-    Object.assign(this, { lanes: [], count: 1, from: 0, across: 1, cursor: 0, chosen: null, span: null, changes: [] });
+  constructor(root, { label, on_move, on_paint = () => false, on_key = () => false, on_lane = () => {}, clock = () => "" }) {
+    Object.assign(this, { root, on_move, on_paint, on_key, on_lane, clock });
+    Object.assign(this, { lanes: [], count: 1, from: 0, across: 1, cursor: 0, chosen: null, span: null, changes: [], texts: [] });
     root.innerHTML = `<div class="time-bar"><output></output><span class="space"></span>
       <button type="button" data-do="out" title="Show more slots (− or S)" aria-label="Zoom out">−</button>
       <button type="button" data-do="in" title="Show fewer slots (+ or W)" aria-label="Zoom in">+</button>
       <button type="button" data-do="fit" title="Show all slots (0)">All</button>
-      <button type="button" data-do="prev" title="Last change (P)">‹ change</button>
-      <button type="button" data-do="next" title="Next change (N)">change ›</button>
+      <button type="button" data-do="prev" title="Previous text (P). Previous change of any part: Shift+P">‹ text</button>
+      <button type="button" data-do="next" title="Next text (N). Next change of any part: Shift+N">text ›</button>
       <button type="button" data-do="save" title="Save the timeline as a picture">Picture</button></div>
       <canvas tabindex="0" role="slider" aria-orientation="horizontal" aria-valuemin="0"></canvas>
       <div class="overview"><canvas></canvas><input type="range" class="scroll" aria-label="Slots in sight" min="0" step="any"></div>`;
@@ -41,7 +41,7 @@ class Timeline {
   recolour() {
     this.ink = painter.inks(this.root);
     this.strip = null;
-    for (const canvas of this.root.parentElement.querySelectorAll(".legend canvas")) painter.swatch(canvas, this.ink);
+    for (const canvas of this.root.closest("[role=tabpanel]").querySelectorAll(".legend canvas")) painter.swatch(canvas, this.ink);
     this.draw();
   }
 
@@ -52,6 +52,7 @@ class Timeline {
     if (fit || was !== this.count) this.fit();
     for (const lane of lanes) if (lane.kind === "ticks") lane.sums = Timeline.sums(lane.codes);
     this.changes = this.all_changes();
+    this.texts = lanes.filter((lane) => lane.strong).flatMap((lane) => lane.runs.filter((run) => run.label !== null).map((run) => run.from));
     this.strip = null;
     this.move(Math.min(this.cursor, this.count - 1), { keep: true });
   }
@@ -117,8 +118,16 @@ class Timeline {
     if (what === "on") this.slide(0.25);
     if (what === "fit") { this.fit(); this.draw(); }
     if (what === "save") picture.save(this);
-    if (what === "next") this.move(this.changes.find((c) => c > this.cursor) ?? this.cursor);
-    if (what === "prev") this.move(this.changes.findLast((c) => c < this.cursor) ?? this.cursor);
+    if (what === "next") this.step(this.texts, 1);
+    if (what === "prev") this.step(this.texts, -1);
+    if (what === "next-any") this.step(this.changes, 1);
+    if (what === "prev-any") this.step(this.changes, -1);
+  }
+
+  /* Goes to the next of these slots, or to the one before. */
+  step(slots, by) {
+    const to = by > 0 ? slots.find((slot) => slot > this.cursor) : slots.findLast((slot) => slot < this.cursor);
+    this.move(to ?? this.cursor);
   }
 
   move(slot, { keep = false } = {}) {
@@ -136,9 +145,10 @@ class Timeline {
     this.draw();
   }
 
-  /* Returns the chosen slot in words. */
+  /* Returns the chosen slot in words, with its clock time if it has one. */
   place() {
-    return `slot ${this.cursor.toLocaleString("en")} of ${this.count.toLocaleString("en")} · ${lines.time(this.cursor)}`;
+    const clock = this.clock(this.cursor), slot = `slot ${this.cursor.toLocaleString("en")} of ${this.count.toLocaleString("en")}`;
+    return `${slot} · ${lines.time(this.cursor)}${clock ? ` · ${clock}` : ""}`;
   }
 
   /* Returns whether a pointer is on the axis, the row of slot numbers. */
@@ -248,13 +258,16 @@ class Timeline {
   key(e) {
     if (e.altKey) return;
     const key = e.key.length === 1 ? e.key.toLowerCase() : e.key, is_plain = !e.ctrlKey && !e.metaKey;
-    if (this.on_key(key, e) || (is_plain && this.own_key(key))) e.preventDefault();
+    if (this.on_key(key, e) || (is_plain && this.own_key(e.shiftKey && "np".includes(key) ? key.toUpperCase() : key))) e.preventDefault();
   }
 
   /* Acts on a key that each timeline has. Returns whether it is one. */
   own_key(key) {
     const steps = { ArrowRight: 1, ArrowLeft: -1, PageDown: 16, PageUp: -16, Home: -Infinity, End: Infinity };
-    const acts = { "+": "in", "=": "in", w: "in", "-": "out", s: "out", a: "back", d: "on", 0: "fit", n: "next", p: "prev" };
+    const acts = {
+      "+": "in", "=": "in", w: "in", "-": "out", s: "out", a: "back", d: "on", 0: "fit", n: "next", p: "prev", N: "next-any",
+      P: "prev-any",
+    };
     if (key in steps) this.move(this.cursor + steps[key]);
     else if (key in acts) this.act(acts[key]);
     return key in steps || key in acts;

@@ -1,8 +1,8 @@
 #!/usr/bin/env python3
-"""Cases of the page in a real browser: it prints what the program prints, it shows what it should, and it can be used.
+"""Cases of the page in real browsers: it prints what the program prints, it shows what it should, and it can be used.
 
 usage: page_cases.py PAGE     the page's folder, as page/build writes it
-       page_cases.py          whether there is a browser, by the status alone
+       page_cases.py          returns status 0 if there is a browser
 
 The program is the one that the gate left, crates/rdsrt/out/rdsrt. The last line is `N passed, M failed`.
 """
@@ -22,6 +22,7 @@ from http.server import BaseHTTPRequestHandler, ThreadingHTTPServer
 
 sys.dont_write_bytecode = True
 import browser
+import firefox
 
 ROOT = os.path.dirname(os.path.dirname(os.path.abspath(__file__)))
 PROGRAM = os.path.join(ROOT, "crates/rdsrt/out/rdsrt")
@@ -44,6 +45,8 @@ NOTHING = "---- ---- ---- ----"
 GROUPS = [HI, "C201 2150 594F 0D20", "C201 2140 4A41 5A5A", "C201 2141 2046 4D0D", "C201 A140 504F 5020",
           "C201 A141 4D49 5820", "C201 3156 0000 4BD7", "C201 B158 8012 0985", "F000 2140 4849 0D20", NOTHING]
 
+# the browser of the cases that run
+where = ""
 outcomes = []
 
 
@@ -51,7 +54,7 @@ def check(name, got, wanted):
     """Notes the case, and prints it where it failed."""
     outcomes.append(got == wanted)
     if got != wanted:
-        print(f"FAILED: {name}: {got!r:.600} in place of {wanted!r:.600}", flush=True)
+        print(f"FAILED: {where}: {name}: {got!r:.600} in place of {wanted!r:.600}", flush=True)
 
 
 def example(name):
@@ -72,9 +75,16 @@ def program(words, data):
 # ---- the page
 
 
+def idle(b):
+    """Waits until the page has all its answers."""
+    b.run("probe.idle()")
+
+
 def call(b, what, *given):
     """What a function of the page gives for these values."""
-    return b.run(f"{what}({', '.join(map(json.dumps, given))})")
+    got = b.run(f"{what}({', '.join(map(json.dumps, given))})")
+    idle(b)
+    return got
 
 
 def of(b, query, what):
@@ -88,6 +98,7 @@ def text_of(b, query):
 
 def click(b, query):
     b.run(f"document.querySelector({json.dumps(query)}).click()")
+    idle(b)
 
 
 def shown(b, radio):
@@ -96,6 +107,7 @@ def shown(b, radio):
 
 def settle(b):
     b.run("new Promise(done => setTimeout(done, 250))")
+    idle(b)
 
 
 def visit(b, url):
@@ -385,12 +397,18 @@ def zooming(b):
     for clicks in (1, 2):
         b.drag(axis(29), axis(29), clicks=clicks)
     check("a double click on the axis shows all slots", (b.run(sight), b.run("script_tab.timeline.cursor")), ([0, count], 29))
+    texts = b.run("script_tab.state.air.parts.text.filter(run => run.value !== null).map(run => run.from)")
+    call(b, "script_tab.timeline.move", texts[0])
     press("n")
-    changes = b.run("[...script_tab.timeline.changes]")
-    check("N goes to the next change", b.run("script_tab.timeline.cursor"), min(it for it in changes if it > 29))
+    check("N goes to the next text", b.run("script_tab.timeline.cursor"), texts[1])
     press("p")
     at = b.run("script_tab.timeline.cursor")
-    check("P goes to the one before", at, max(it for it in changes if it <= 29))
+    check("P goes to the one before", at, texts[0])
+    changes = b.run("[...script_tab.timeline.changes]")
+    b.key("N", "KeyN", 78, modifiers=8)
+    check("Shift and N go to the next change of any part", b.run("script_tab.timeline.cursor"), min(it for it in changes if it > at))
+    b.key("P", "KeyP", 80, modifiers=8)
+    check("Shift and P go back", b.run("script_tab.timeline.cursor"), at)
     for key in "lgr":
         press(key)
         check(f"{key} edits a reception", b.run(f"script_tab.state.rows[{at}].receptions[script_tab.state.chosen]"), key.upper())
@@ -786,6 +804,185 @@ def warnings(b):
     check("no refused set", (text_of(b, "#script-note"), of(b, "#script-note", "hidden")), ("", True))
 
 
+# ---- a log of one's own
+
+
+DWELLS = (8, 16, 32, 64, 128, 256, 512, 1024)
+
+
+def other_dwells(b):
+    """Under the verdict stands the program's answer for each other dwell. Yes and no are not monotone in M."""
+    dice = random.Random(SEED)
+    logs = [EVERY_100, example("flags.log").decode(), *("".join(f"{dice.choice(GROUPS[:8])}\n" for _ in range(20)) for _ in range(5))]
+    for number, log in enumerate(logs):
+        for k in (0, 3):
+            call(b, "log_tab.open", log, {"pi": "C201", "m": 128, "k": k})
+            got = b.run("[...document.querySelectorAll('#dwells button')].map(it => it.textContent)")
+            answers = [program(["audit", "--pi", "C201", "--m", str(m), "--k", str(k)], log.encode())[0] for m in DWELLS]
+            check(f"answers for log {number}, K {k}", got, [f"{m:,} {'✗' if no else '✓'}" for m, no in zip(DWELLS, answers)])
+    call(b, "log_tab.open", EVERY_100, {"pi": "C201", "m": 128, "k": 0})
+    click(b, "#dwells [data-m='64']")
+    check("a button chooses its dwell", (of(b, "#log-m", "value"), text_of(b, "#verdict h2")), ("64", "✓ Passes with M = 64 (5.61 s)"))
+    call(b, "log_tab.open", f"{NOTHING}\n", {"pi": "C201", "m": 8, "k": 0})
+    check("no answers without a group", of(b, "#dwells", "hidden"), True)
+
+
+def with_times(dice):
+    """A log of groups with times, as RDS Spy writes them or in seconds, with breaks, and lines that have none."""
+    now, lines, spy = dice.randrange(10 ** 6) / 100, [], dice.random() < 0.6
+    for _ in range(dice.randrange(2, 40)):
+        now = max(0, now + dice.choice([0.0876, 0.09, 0.18, 1, 3.5, -50, 0, 0.11, 90_000] if dice.random() < 0.3 else [0.0876]))
+        day, rest = divmod(now, 86_400)
+        spy_time = f"@2024/{6 + int(day) // 28:02d}/{1 + int(day) % 28:02d} {int(rest // 3600):02d}:{int(rest // 60 % 60):02d}:{rest % 60:05.2f}"
+        time_of_line = (" " + (spy_time if spy else f"seen {now:.3f}")) if dice.random() < 0.95 else dice.choice(["", " @2024/13/01 00:00:00.00", " -1", " x"])
+        lines.append(dice.choice(GROUPS[:8]) + time_of_line + dice.choice(["", "", "  "]))
+        if dice.random() < 0.1:
+            lines.append(dice.choice(["", "# note", "<x>"]))
+    return dice.choice(["\n", "\r\n"]).join(lines) + dice.choice(["\n", ""])
+
+
+def lost_by_time(b):
+    """A log whose times have gaps: the verdict is not green, and a button adds the lost slots as examples/slots does."""
+    dice, offered = random.Random(SEED), 0
+    for number in range(60):
+        log, m = with_times(dice), dice.choice([8, 128])
+        call(b, "log_tab.open", log, {"pi": "C201", "m": m, "k": 0})
+        done = subprocess.run([os.path.join(EXAMPLES, "slots"), "--m", str(m)], input=log.encode(), capture_output=True, timeout=SECONDS)
+        has_more = len(done.stdout.splitlines()) > b.run("log_tab.state.times.timed")
+        is_offered = "Add the lost slots" in text_of(b, "#verdict")
+        check(f"times {number}: offered", is_offered, has_more)
+        if not is_offered:
+            continue
+        offered += 1
+        check(f"times {number}: no green", of(b, "#verdict", "className") in ("verdict empty", "verdict no"), True)
+        b.run("[...document.querySelectorAll('#verdict button')].find(it => it.textContent === 'Add the lost slots').click()")
+        idle(b)
+        check(f"times {number}: added as by examples/slots", of(b, "#log-text", "value"), done.stdout.decode())
+    check("lost slots were offered", offered > 20, True)
+    hour = f"{HI} @2026/11/26 10:00:00.00\nC201 2150 4A4F 0D20 @2026/11/26 11:00:00.00\n"
+    call(b, "log_tab.open", hour, {"pi": "C201", "m": 128, "k": 0})
+    said = ("Lost slots: By the times of the lines, 41,105 slots are not in this log. "
+            "The audit takes the lines as slots without a gap, so this answer may be wrong. Add the lost slots")
+    check("an hour without a group", said in text_of(b, "#verdict") or text_of(b, "#verdict"), True)
+    b.run("log_tab.timeline.move(1)")
+    check("the clock of a slot", "11:00:00" in text_of(b, "#log-time output") + text_of(b, "#log-changes"), True)
+
+
+def lines_of_a_log(b):
+    """The page reads lines as the program does: which are slots, which are none, and which is malformed."""
+    dice = random.Random(SEED)
+    odd = ["", "\r", " ", "#", "<x>", "%", "\ufeff", "hello", HI + " @x", HI + "\r", HI + "x", HI + "\r ", HI[:-1], "C201  2140 4849 0D20",
+           "c201 a14F 4849 0d20", "C201 ---- 4849 0D20", NOTHING, "---- --- 4849 0D20", "C201-2140 4849 0D20", " " + HI, "C201 21G0 4849 0D20"]
+    for number in range(150):
+        some = [dice.choice(odd) if dice.random() < 0.12 else dice.choice(GROUPS) for _ in range(dice.randrange(30))]
+        log = "\n".join(some) + dice.choice(["", "\n"])
+        call(b, "log_tab.open", log, {"pi": "C201", "m": 8, "k": 0})
+        good = log.split("\n")
+        bad = re.match(r"fault line (\d+)", program(["audit", "--pi", "C201", "--m", "65535"], log.encode())[1].splitlines()[-1])
+        before = "\n".join(good[:int(bad[1]) - 1]) + "\n" if bad else log
+        slots = program(["decode", "--pi", "C201", "--m", "1"], before.encode())[0]
+        count = sum(1 for line in before.split("\n") if line.strip("\r") and line[0] not in "<#%")
+        check(f"slots of odd log {number}", (b.run("log_tab.state.log.count"), slots), (count, 0))
+
+
+def listed(b):
+    return b.run("[...document.querySelectorAll('#log-changes button')].map(it => [...it.children].map(part => part.textContent))")
+
+
+def list_of_changes(b):
+    """The list has each text, name and tag from its slot on; a field filters it, and a row goes to its slot."""
+    call(b, "probe.choose", "log-example", 1)
+    name = {"text": "text", "name": "name (PTYN)", "tag1": "tag", "tag2": "tag"}
+    wanted = []
+    for slot, part, rest in re.findall(r"^(\d+) (text|name|tag1|tag2) (.*)$", text_of(b, "#log-lines"), re.M):
+        if rest != "none":
+            kind, _, said = rest.partition(' "')
+            wanted.append([slot, name[part], said[:-1] if not kind.startswith('"') else rest[1:-1], kind])
+    got = listed(b)
+    check("the list of changes", [[slot, part] for slot, _, part, _ in got], [[slot, part] for slot, part, _, _ in wanted])
+    check("and what they are", [said in shown_there for (_, _, said, _), (_, _, _, shown_there) in zip(wanted, got)], [True] * len(wanted))
+    call(b, "probe.choose", "log-find", "beyonc")
+    settle(b)
+    check("the field filters", ({"beyonc" in said.lower() for *_, said in listed(b)}, text_of(b, "#log-found")),
+          ({True}, f"{len(listed(b))} of {len(wanted)} changes"))
+    click(b, "#log-changes li:last-child button")
+    check("a row goes to its slot", b.run("log_tab.timeline.cursor"), int(listed(b)[-1][0]))
+    check("and is marked", b.run("document.querySelector('#log-changes [aria-current] .slot').textContent"), listed(b)[-1][0])
+    call(b, "probe.choose", "log-find", "")
+    settle(b)
+    call(b, "log_tab.open", "".join(f"C201 21{4 + s % 2}0 {0x4130 + s // 100:04X} {0x2000 + 0x30 + s // 10 % 10:04X}\nC201 21{4 + s % 2}1 {0x3000 + s % 10 * 256 + 13:04X} 2020\n"
+                                    for s in range(1000)), {"pi": "C201", "m": 8, "k": 0})
+    rows = len(listed(b))
+    b.run("log_tab.timeline.move(900)")
+    slot = b.run("document.querySelector('#log-changes [aria-current] .slot').textContent")
+    check("a long list is laid out in part, around the slot", (rows <= 100, len(listed(b)) <= 100, abs(int(slot.replace(",", "")) - 900) < 4), (True,) * 3)
+    first_examples(b)
+
+
+GROUP_WORDS = [
+    ("C201 2140 4849 0D20", "2A RadioText · flag A · segment 0 · “HI” · C201 2140 4849 0D20"),
+    ("C201 2153 6E63 8220", "2A RadioText · flag B · segment 3 · “ncé ” · C201 2153 6E63 8220"),
+    ("C201 A151 4D49 5820", "10A programme type name (PTYN) · flag B · segment 1 · “MIX ” · C201 A151 4D49 5820"),
+    ("C201 3156 0000 4BD7", "3A announcement of a data service · AID 4BD7 (RadioText Plus) in group 11A · C201 3156 0000 4BD7"),
+    ("C201 0548 1234 5649", "0A station name (PS), not read · C201 0548 1234 5649"),
+    ("C201 E140 1234 5649", "14A, not read · C201 E140 1234 5649"),
+    ("F201 2140 4849 0D20", "2A · F201 2140 4849 0D20 · another programme"),
+    ("C201 ---- 4849 0D20", "C201 ---- 4849 0D20 · not whole, so it counts as lost"),
+    (NOTHING, "nothing received"),
+]
+
+
+def words_of_groups(b):
+    """The group of the chosen slot in words: type, flag, segment, characters and blocks."""
+    call(b, "log_tab.open", "".join(f"{line}\n" for line, _ in GROUP_WORDS), {"pi": "C201", "m": 8, "k": 0})
+    for slot, (line, words) in enumerate(GROUP_WORDS):
+        b.run(f"log_tab.timeline.move({slot})")
+        check(f"the group {line}", text_of(b, "#log-group"), words)
+    first_examples(b)
+
+
+# a day of slots: a text every 342 slots, in two segments
+DAY = 982_000
+
+
+def day_of_slots():
+    out = []
+    for slot in range(DAY):
+        number = slot // 342
+        text = f"{number:04d}JAZ".encode() + b"\r"
+        half = text[:4] if slot % 2 == 0 else text[4:]
+        out.append(f"C201 21{4 + number % 2}{slot % 2} {half[:2].hex().upper()} {half[2:].hex().upper()}")
+    return "\n".join(out) + "\n"
+
+
+def a_day(b):
+    """A day's log blocks no frame for more than 100 ms, and is laid out in windows."""
+    log = day_of_slots()
+    b.run("window.pieces = []")
+    for at in range(0, len(log), 4_000_000):
+        b.run(f"pieces.push({json.dumps(log[at:at + 4_000_000])})")
+    b.run("window.day = new File([pieces.join('')], 'day.log'); window.pieces = null; undefined")
+    b.run("document.querySelector('#log-text').closest('details').open = true")
+    steps = {"opened": "page.open_file(day)", "loses a slot": "log_tab.lose([500])", "another M": "probe.choose('log-m', 100)",
+             "at the end": "log_tab.timeline.move(981999)", "its list": "probe.choose('log-find', '28')"}
+    for name, step in steps.items():
+        longest = b.run(f"probe.longest_task(async () => {{ await ({step}); await new Promise(done => setTimeout(done, 300)); await probe.idle(); }})")
+        print(f"a day {name}: longest task {longest:.0f} ms", flush=True)
+        check(f"a day {name}: no task of more than 100 ms", longest <= 100 or longest, True)
+    check("its verdict", text_of(b, "#verdict h2"), "✓ Passes with M = 100 (8.76 s)")
+    text = of(b, "#log-text", "value")
+    check("its text is a window around the slot", (len(text) <= 100_000, text.endswith(log[-20:]), of(b, "#log-text", "readOnly")), (True,) * 3)
+    b.run(f"window.day = new File([{json.dumps(log[:10_000_000])}, 'bad\\n', {json.dumps(log[:100_000])}], 'bad.log'); undefined")
+    b.run("page.open_file(day)")
+    idle(b)
+    b.run("[...document.querySelectorAll('#verdict button')].at(-1).click()")
+    check("the line of a fault is shown", (text_of(b, "#verdict h2"), call(b, "probe.chosen_line", "log-text")),
+          ("Line 500,001 is malformed", "bad"))
+    b.run("window.day = null; document.querySelector('#log-text').closest('details').open = false")
+    call(b, "probe.choose", "log-find", "")
+    first_examples(b)
+
+
 # ---- after a no
 
 
@@ -1038,31 +1235,59 @@ def policy(b, url):
 
 
 PARTS = (the_first_log, the_first_script, typed_in_time, edits_of_one_row, names_and_tags, a_mix_of_tags, flag_bit_alone, restarts,
-         the_dwell, files, files_at_the_default, files_of_bytes, names_of_files, no_old_results, faults, warnings, explained, witnesses,
-         kinds_of_groups, marks, zooming, the_overview, forced_colours, reduced_motion, whole_width, on_a_phone,
-         keyboard, screen_reader, contrast_and_width, same_lines_of_examples, same_help_and_refusals, same_lines_by_chance, large)
+         the_dwell, files_at_the_default, files_of_bytes, names_of_files, no_old_results, faults, warnings, other_dwells, lost_by_time,
+         lines_of_a_log, list_of_changes, words_of_groups, explained, witnesses, kinds_of_groups, marks, zooming,
+         the_overview, keyboard, same_lines_of_examples, same_help_and_refusals,
+         same_lines_by_chance)
+# these ask what only Chromium's protocol has, or measure
+CHROMIUM_PARTS = (files, forced_colours, reduced_motion, whole_width, on_a_phone, screen_reader, contrast_and_width, large, a_day)
+
+
+def cases_of(b, folder, parts):
+    """Runs the cases in a browser."""
+    url = f"file://{folder}/index.html"
+    visit(b, url)
+    check("the program runs in this browser", text_of(b, "#no-engine"), "")
+    if outcomes[-1]:
+        for part in parts:
+            part(b)
+        links(b, url)
+    check("the browser's console is empty", b.complaints(), [])
+    no_wide_memory(b, url)
+    nothing_fetched(b, folder)
+    policy(b, url)
+    return url
+
+
+def in_chromium(folder):
+    b = browser.Browser()
+    try:
+        before_the_program(b, cases_of(b, folder, PARTS + CHROMIUM_PARTS))
+    finally:
+        b.close()
+
+
+def in_firefox(folder):
+    b = firefox.Browser()
+    try:
+        cases_of(b, folder, PARTS)
+    finally:
+        b.close()
+
+
+BROWSERS = {"Chromium": (browser.program, in_chromium, "chromium"), "Firefox": (firefox.program, in_firefox, "firefox-esr")}
 
 
 def main():
+    global where
     if len(sys.argv) < 2:
-        return 0 if browser.program() else 1
-    folder = os.path.abspath(sys.argv[1])
-    url = f"file://{folder}/index.html"
-    b = browser.Browser()
-    try:
-        visit(b, url)
-        check("the program runs in this browser", text_of(b, "#no-engine"), "")
-        if outcomes[-1]:
-            for part in PARTS:
-                part(b)
-            links(b, url)
-        check("the browser's console is empty", b.complaints(), [])
-        before_the_program(b, url)
-        no_wide_memory(b, url)
-        nothing_fetched(b, folder)
-        policy(b, url)
-    finally:
-        b.close()
+        return 0 if any(found() for found, _, _ in BROWSERS.values()) else 1
+    for name, (found, run, package) in BROWSERS.items():
+        where = name
+        if found():
+            run(os.path.abspath(sys.argv[1]))
+        else:
+            print(f"skipped: the page in {name} (apt-get install {package})", flush=True)
     failed = outcomes.count(False)
     print(f"{len(outcomes) - failed} passed, {failed} failed")
     return 1 if failed else 0

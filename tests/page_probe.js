@@ -212,10 +212,33 @@ const probe = (() => {
   const best = (what) => Math.min(what(), what(), what());
 
   /* How long it takes to open a text and to draw it. */
-  const opening = (tab, text) => best(() => timed(() => {
-    tab.open(text, { m: 128, k: 0 });
-    tab.timeline.paint();
-  }));
+  async function opening(tab, text) {
+    const all = [];
+    for (let i = 0; i < 3; i++) {
+      const from = performance.now();
+      await tab.open(text, { m: 128, k: 0 });
+      tab.timeline.paint();
+      all.push(performance.now() - from);
+    }
+    return Math.min(...all);
+  }
+
+  /* The longest task of the page, in milliseconds, while this goes on; tasks of less than 50 ms count as 0. */
+  async function longest_task(what) {
+    let longest = 0;
+    const watcher = new PerformanceObserver((list) => { for (const { duration } of list.getEntries()) longest = Math.max(longest, duration); });
+    watcher.observe({ type: "longtask" });
+    await what();
+    await new Promise((done) => setTimeout(done, 100));
+    watcher.disconnect();
+    return longest;
+  }
+
+  /* Waits until the log tab has all its answers. */
+  async function idle() {
+    let work;
+    do { work = log_tab.state.work; await work; } while (work !== log_tab.state.work);
+  }
 
   /* The longest of 40 frames that show more and fewer slots, the last all of them. */
   function frame(timeline) {
@@ -236,17 +259,17 @@ const probe = (() => {
   }
 
   /* Milliseconds of the commands, of opening and of frames, over so many slots; `many` keeps the script and its log. */
-  function large(count) {
+  async function large(count) {
     many.script = script_of(count);
     const encoded = rdsrt.run(["encode", "--pi", "C201"], many.script.replaceAll("GLGGGGGG", ""));
     many.log = encoded.output;
     const audit = rdsrt.run(["audit", "--pi", "C201"], many.log), decode = rdsrt.run(["decode", "--pi", "C201"], many.log);
     const told = { encode: encoded.ms, audit: audit.ms, decode: decode.ms, heap: decode.heap, verdict: audit.output };
     page.tab("log");
-    told.open_log = opening(log_tab, many.log);
+    told.open_log = await opening(log_tab, many.log);
     told.log_frame = frame(log_tab.timeline);
     page.tab("script");
-    told.open_script = opening(script_tab, many.script);
+    told.open_script = await opening(script_tab, many.script);
     told.script_frame = frame(script_tab.timeline);
     return told;
   }
@@ -270,7 +293,7 @@ const probe = (() => {
   }
 
   return {
-    axis, choose, chosen_line, colour, column, columns_of, contrasts, drop, faint, labels, large, many, on_overview, pick, place, reds,
+    axis, choose, chosen_line, colour, column, columns_of, contrasts, drop, faint, idle, labels, large, longest_task, many, on_overview, pick, place, reds,
     run, shares_of, swatches, tempt, ticks, type_and_leave,
   };
 })();

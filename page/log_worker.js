@@ -1,0 +1,54 @@
+"use strict";
+/* Asks a worker to run the program over one log: worker.js. */
+class LogWorker {
+  constructor(compiled) {
+    this.compiled = compiled;
+    this.start();
+  }
+
+  /* The worker comes from a text of the page: a page that was opened from a disk may load no script for it. */
+  start() {
+    const url = URL.createObjectURL(new Blob([RDSRT_WORKER], { type: "text/javascript" }));
+    this.worker = new Worker(url);
+    URL.revokeObjectURL(url);
+    Object.assign(this, { waiting: new Map(), newest: new Map(), last: 0 });
+    this.worker.onmessage = ({ data }) => this.hear(data);
+    this.ask("begin", this.compiled);
+  }
+
+  hear({ id, done, answer, error }) {
+    const asked = this.waiting.get(id);
+    if (done !== undefined) { asked.tell(done); return; }
+    this.waiting.delete(id);
+    if (error === undefined) asked.resolve(answer); else asked.reject(new Error(error));
+  }
+
+  /* Asks for one thing. `tell` hears which share of it is done. */
+  ask(call, given, tell = () => {}) {
+    const id = ++this.last;
+    return new Promise((resolve, reject) => {
+      this.waiting.set(id, { resolve, reject, tell });
+      this.worker.postMessage({ id, call, given });
+    });
+  }
+
+  /* Asks once the same call is done. Of the calls that wait so, only the newest is asked; the others get no answer. */
+  async askNewest(call, given) {
+    const before = this.newest.get(call)?.answer;
+    this.newest.set(call, { given });
+    await before;
+    if (this.newest.get(call)?.given !== given) return undefined;
+    const answer = this.ask(call, given);
+    this.newest.set(call, { given, answer });
+    return answer;
+  }
+
+  /* Drops all that was asked: its callers get no answer. */
+  drop() {
+    if (![...this.waiting.values()].length) return;
+    const { waiting } = this;
+    this.worker.terminate();
+    this.start();
+    for (const { resolve } of waiting.values()) resolve(undefined);
+  }
+}
