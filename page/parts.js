@@ -25,7 +25,7 @@ const parts = (() => {
     const is_bad = ({ value, min, max }) => !/^\d+$/.test(value) || Number(value) < Number(min) || Number(value) > Number(max);
     const bad = [...form.querySelectorAll("[type=number]")].find(is_bad), number = (n) => Number(n).toLocaleString("en");
     if (!bad) return "";
-    return `${bad.labels[0].textContent.trim()} must be a whole number from ${number(bad.min)} to ${number(bad.max)}.`;
+    return `${bad.dataset.name ?? bad.labels[0].textContent.trim()} must be a whole number from ${number(bad.min)} to ${number(bad.max)}.`;
   }
 
   /* Puts the name of the open tab's file into the title of the page. */

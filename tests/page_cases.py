@@ -400,6 +400,53 @@ def the_dwell(b):
     check("the chosen tab is told", told, ["false", "false", "true"])
 
 
+def dwell_shows(b):
+    """The two answers for texts that change every so many seconds, without their buttons, and the time of the first card."""
+    answers = b.run("[...document.querySelectorAll('#answers p')].map(p => p.textContent)")
+    return [*answers, *b.run("[...document.querySelectorAll('.card.first strong')].map(card => card.textContent)")]
+
+
+def the_dwell_of_texts(b):
+    """The largest M for texts that change every so many seconds; numbers and sliders in step; numbers out of bounds."""
+    call(b, "page.tab", "dwell")
+    for field, number in (("m", 128), ("k", 0), ("f", 50), ("s", 15)):
+        call(b, "probe.choose", f"dwell-{field}", number)
+    answer = "{} M + K can be at most {}. {} The chosen M + K = {} {}. {}"
+    rules = (("Safe:", "Each text must stay on air for at least M + K slots."),
+             ("With our own encoder:", "It keeps each text on air for 2 (M + K) slots."))
+    wanted = [answer.format(rules[0][0], "171 slots (15.0 s)", rules[0][1], 128, "fits", "Set M = 171"),
+              answer.format(rules[1][0], "85 slots (7.44 s)", rules[1][1], 128, "is too large", "Set M = 85"), "11.2 s"]
+    check("texts of 15 s", dwell_shows(b), wanted)
+    b.run("[...document.querySelectorAll('#answers button')].at(-1).click()")
+    check("the button sets M", [of(b, "#dwell-m", "value"), *dwell_shows(b)],
+          ["85", wanted[0].replace("128", "85"), wanted[1].replace("128 is too large", "85 fits"), "7.44 s"])
+    check("no slot of the slider is 85", (of(b, "#m-range", "value"), of(b, "#m-range", "ariaValueText")), ("64", "85 slots, 7.44 s"))
+    call(b, "probe.choose", "m-range", 65)
+    check("the slider sets M", of(b, "#dwell-m", "value"), "91")
+    call(b, "probe.choose", "dwell-k", 90)
+    ends = [it.endswith(told) for it, told in zip(dwell_shows(b), ("Set M = 81", "With K = 90 no M fits."))]
+    check("a K for one answer alone", ends, [True, True])
+    check("the slider follows K", of(b, "#k-range", "value"), "90")
+    call(b, "probe.choose", "dwell-k", 0)
+    for seconds in (1, 22, 208, 3600, 86400):
+        call(b, "probe.choose", "dwell-s", seconds)
+        slots = seconds * 2375 // 208
+        got = [int(re.search("at most ([0-9,]+) slots", it)[1].replace(",", "")) for it in dwell_shows(b)[:2]]
+        check(f"texts of {seconds} s", got, [slots, slots // 2])
+    check("M ends at its bound", "Set M = 65,535" in dwell_shows(b)[0], True)
+    for field, name, low, high in (("m", "Dwell M", 1, "65,535"), ("k", "Late K", 0, "1,024"), ("f", "Slots free for texts", 5, 100),
+                                   ("s", "The time between texts in seconds", 1, "86,400")):
+        was = of(b, f"#dwell-{field}", "value")
+        for value in (str(low - 1), str(int(str(high).replace(",", "")) + 1), "", "1e2"):
+            call(b, "probe.choose", f"dwell-{field}", value)
+            got = text_of(b, "#dwell-fault"), dwell_shows(b), text_of(b, "#ladder")
+            check(f"dwell-{field} {value!r}", got, (f"{name} must be a whole number from {low} to {high}.", [], ""))
+        call(b, "probe.choose", f"dwell-{field}", was)
+    check("and a good number again", (of(b, "#dwell-fault", "hidden"), len(dwell_shows(b))), (True, 3))
+    for field, number in (("m", 128), ("s", 15)):
+        call(b, "probe.choose", f"dwell-{field}", number)
+
+
 # ---- files, links, faults
 
 
@@ -706,7 +753,7 @@ def keyboard(b):
         "log": ["tab-log", "log-example", "log-file", "log-pi", "log-m", "log-k", "CANVAS", "log-click", "SUMMARY"],
         "script": ["tab-script", "script-example", "script-file", "script-m", "script-n", "script-slots", "command", "free", "brush",
                    "script-save", "script-share", "CANVAS", "SUMMARY"],
-        "dwell": ["tab-dwell", "m-range", "k-range", "f-range"],
+        "dwell": ["tab-dwell", "m-range", "k-range", "f-range", "dwell-m", "dwell-k", "dwell-f", "dwell-s"],
     }
     first_examples(b)
     for name in TABS:
@@ -847,7 +894,7 @@ def policy(b, url):
 
 
 PARTS = (the_first_log, the_first_script, typed_in_time, edits_of_one_row, names_and_tags, a_mix_of_tags, flag_bit_alone, restarts,
-         the_dwell, files, files_at_the_default, files_of_bytes, names_of_files, no_old_results, faults, warnings, explained, witnesses,
+         the_dwell, the_dwell_of_texts, files, files_at_the_default, files_of_bytes, names_of_files, no_old_results, faults, warnings, explained, witnesses,
          keyboard, screen_reader, contrast_and_width, same_lines_of_examples, same_help_and_refusals, same_lines_by_chance, large)
 
 
