@@ -1,5 +1,5 @@
 "use strict";
-/* The records of a script, as its definition reads them, and a script as a link holds it. */
+/* The records of a script, as its definition reads them. */
 const records = (() => {
   /* Each record with the number of the line that it begins in, counted from 1, and with the text from the end of the record
      before it to its own end. What follows the last record belongs to it. */
@@ -68,38 +68,5 @@ const records = (() => {
     row.written = undefined;
   }
 
-  /* A script as letters of a link, and back. A few letters can hold many bytes, so both ways have a bound of bytes. */
-  const MOST = 8000, MOST_PLAIN = 4_000_000;
-  const TOO_LARGE = "The link holds a script of more than 4 MB. The page does not open it.";
-  /* Reads the stream up to a bound, and no further; throws beyond it. */
-  async function squeezed(bytes, by, most = Infinity) {
-    const reader = new Blob([bytes]).stream().pipeThrough(by).getReader(), pieces = [];
-    let length = 0;
-    for (;;) {
-      const { done, value } = await reader.read();
-      if (done) break;
-      length += value.length;
-      if (length > most) {
-        await reader.cancel();
-        throw new RangeError(TOO_LARGE);
-      }
-      pieces.push(value);
-    }
-    return new Uint8Array(await new Blob(pieces).arrayBuffer());
-  }
-  async function pack(text) {
-    const plain = new TextEncoder().encode(text);
-    if (plain.length > MOST_PLAIN) return null;
-    const bytes = await squeezed(plain, new CompressionStream("deflate-raw"));
-    if (bytes.length > MOST) return null;
-    return btoa(String.fromCharCode(...bytes)).replaceAll("+", "-").replaceAll("/", "_").replace(/=+$/, "");
-  }
-  async function unpack(packed) {
-    const plain = atob(packed.replaceAll("-", "+").replaceAll("_", "/"));
-    const packed_bytes = Uint8Array.from(plain, (c) => c.charCodeAt(0));
-    const bytes = await squeezed(packed_bytes, new DecompressionStream("deflate-raw"), MOST_PLAIN);
-    return new TextDecoder("utf-8", { fatal: true }).decode(bytes);
-  }
-
-  return { edit, edit_receivers, edit_reception, empty, pack, read, unpack, write };
+  return { edit, edit_receivers, edit_reception, empty, read, write };
 })();

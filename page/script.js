@@ -7,7 +7,7 @@ const script_tab = (() => {
   const UNPLAYED = "not played";
   const state = {
     rows: [], played: 0, chosen: 0, pty: "10", air: new lines.View(), said: { views: [], sent: [] }, alone: [], heard: [],
-    replies: new Map(), spans: new Map(), mixed: () => false, text: "", opened: { text: "", input: "", file: "" },
+    replies: new Map(), spans: new Map(), mixed: () => false, text: "", opened: { text: "", input: "", file: "", example: "" }, saved: "",
   };
   const timeline = new Timeline($("script-time"), {
     label: "Slot of the script",
@@ -119,8 +119,7 @@ const script_tab = (() => {
   /* Opens a script: its text, and the program's input for this text, which for a file is the file's bytes. */
   function open(text, { m, k, pty = "10", is_edit = false, example = "", file = "", input = text } = {}) {
     state.pty = pty;
-    if (!is_edit) state.opened = { text, input, file };
-    if (!is_edit) $("script-example").value = example;
+    if (!is_edit) Object.assign(state, { opened: { text, input, file, example }, saved: text });
     if (m) $("script-m").value = m;
     if (k !== undefined) $("script-k").value = k;
     take(text);
@@ -133,10 +132,18 @@ const script_tab = (() => {
     else if (first) timeline.move(Math.min(state.rows.length - 1, first.from + Number($("script-m").value)), { keep: true });
   }
 
-  function play({ fit = false, text = state.text } = {}) {
-    const { opened } = state, is_opened = text === opened.text, input = is_opened ? opened.input : text;
-    state.text = text;
+  /* Names the example or the file of the text, and drops the link of another text. Gives the program's input for the text. */
+  function name_input() {
+    const { opened, text } = state, is_opened = text === opened.text;
+    $("script-example").value = is_opened ? opened.example : "";
     parts.name_file("script", opened.file && !is_opened ? `${opened.file}, edited` : opened.file);
+    links.keep("script", { text, options: options() });
+    return is_opened ? opened.input : text;
+  }
+
+  function play({ fit = false, text = state.text } = {}) {
+    state.text = text;
+    const input = name_input();
     parts.fill("script-text", text);
     const problem = too_much() || parts.problem_of($("script-form"));
     if (problem) { show_problem(problem); return; }
@@ -390,35 +397,34 @@ const script_tab = (() => {
 
   // ---- saving, and a link
 
-  const save = () => picture.save_as("script.csv", new Blob([records.write(state.rows)], { type: "text/csv" }));
+  /* Whether there are edits that nobody saved. */
+  function is_unsaved() {
+    played_soon.now();
+    return state.text !== state.saved && state.text !== state.opened.text;
+  }
+
+  function save() {
+    played_soon.now();
+    state.saved = state.text;
+    picture.save_as("script.csv", new Blob([state.text], { type: "text/csv" }));
+  }
+
+  const options = () => `m=${$("script-m").value}&k=${$("script-k").value}&pty=${state.pty}`;
 
   async function link() {
-    const packed = await records.pack(records.write(state.rows)), root = $("script-link");
-    root.hidden = packed === null;
-    if (packed === null) { tell_saved("This script is too long for a link: save it as a file."); return; }
-    const [here] = location.href.split("#"), options = `m=${$("script-m").value}&k=${$("script-k").value}&pty=${state.pty}`;
-    root.value = `${here}#script=${packed}&${options}`;
-    root.focus();
-    root.select();
-    try {
-      await navigator.clipboard.writeText(root.value);
-      tell_saved("The link was copied.");
-    } catch { tell_saved("This is the link: copy it."); }
+    played_soon.now();
+    const { text, chosen } = state, sight = `${links.sight_of(timeline)}&receiver=${chosen}`;
+    if (await links.give("script", { text, options: options(), sight }, save)) state.saved = text;
   }
-  const tell_saved = (text) => { $("script-saved").textContent = text; };
 
-  /* Opens the script that the address holds, if it holds one. */
+  /* Opens the script of a link. */
   async function open_link(hash) {
-    const given = new URLSearchParams(hash);
-    const within = (name, low, high) => {
-      const number = /^\d{1,5}$/.test(given.get(name) ?? "") ? Number(given.get(name)) : NaN;
-      return number >= low && number <= high ? String(number) : undefined;
-    };
-    // the name of the tab alone, as it stands in the address after a look at it, is no link
-    if (!given.get("script")) return false;
-    const text = await records.unpack(given.get("script"));
+    const it = await links.read("script", hash), { text, within } = it;
     open(text, { m: within("m", 1, 65535), k: within("k", 0, 1024), pty: within("pty", 0, 31) });
-    return true;
+    state.chosen = within("receiver", 0, receivers() - 1) ?? state.chosen;
+    timeline.chosen = receivers() ? state.chosen : null;
+    links.look(timeline, it);
+    links.hold("script", { text, options: options() }, hash);
   }
 
   function begin() {
@@ -434,5 +440,5 @@ const script_tab = (() => {
     for (const [id, what] of Object.entries(buttons)) $(id).onclick = what;
   }
 
-  return { begin, command_changed, edited, open, open_link, play, state, timeline, undo };
+  return { begin, command_changed, edited, is_unsaved, open, open_link, play, state, timeline, undo };
 })();

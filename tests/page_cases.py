@@ -7,6 +7,7 @@ usage: page_cases.py PAGE     the page's folder, as page/build writes it
 The program is the one that the gate left, crates/rdsrt/out/rdsrt. The last line is `N passed, M failed`.
 """
 import base64
+import contextlib
 import json
 import os
 import random
@@ -18,7 +19,7 @@ import tempfile
 import threading
 import time
 import zlib
-from http.server import BaseHTTPRequestHandler, ThreadingHTTPServer
+from http.server import BaseHTTPRequestHandler, SimpleHTTPRequestHandler, ThreadingHTTPServer
 
 sys.dont_write_bytecode = True
 import browser
@@ -102,6 +103,11 @@ def visit(b, url):
     with open(PROBE, encoding="utf-8") as probe:
         b.run(probe.read() + ";window.probe = probe; undefined")
     return b.until(READY)
+
+
+def reload(b):
+    """Loads the page anew from its address."""
+    visit(b, b.run("location.href"))
 
 
 def open_script(b, text, **options):
@@ -608,8 +614,8 @@ def packed(script):
 def links(b, url):
     open_script(b, example("late.csv").decode(), m=4, k=2, pty="10")
     click(b, "#script-share")
-    b.until("!!document.getElementById('script-link').value")
-    link, before = of(b, "#script-link", "value"), printed(b)
+    b.until("location.hash.includes('script=')")
+    link, before = b.run("location.href"), printed(b)
     visit(b, link)
     check("a link opens its script", (printed(b), hidden(b), len(link) < 2000), (before, ["log", "dwell"], True))
     visit(b, f"{url}#script=nonsense")
@@ -624,6 +630,131 @@ def links(b, url):
     click(b, "#script-share")
     settle(b)
     check("a script that is too long for one", text_of(b, "#script-saved"), "This script is too long for a link: save it as a file.")
+
+
+@contextlib.contextmanager
+def served(folder):
+    """Serves the page's folder; gives the page's address."""
+    class Handler(SimpleHTTPRequestHandler):
+        def __init__(self, *given):
+            super().__init__(*given, directory=folder)
+
+        def log_message(self, *_):
+            pass
+
+    server = ThreadingHTTPServer(("127.0.0.1", 0), Handler)
+    threading.Thread(target=server.serve_forever, daemon=True).start()
+    try:
+        yield f"http://127.0.0.1:{server.server_port}/index.html"
+    finally:
+        server.shutdown()
+        server.server_close()
+
+
+SIGHT = "[script_tab.timeline.cursor, script_tab.state.chosen, script_tab.timeline.from, script_tab.timeline.across]"
+
+
+def script_link(b):
+    """What the page says and shows of the script's link, whether the address has it, and the list of examples."""
+    shows = of(b, "#script-link", "checkVisibility()"), b.run("location.hash.includes('script=')")
+    return [text_of(b, "#script-saved"), *shows, of(b, "#script-example", "value")]
+
+
+def links_of_a_server(b, folder):
+    """A link opens its script, slot, receiver and zoom, stays in the address as long as it is right, and goes with an edit."""
+    with served(folder) as url:
+        visit(b, url)
+        click(b, "#tab-script")
+        call(b, "probe.choose", "script-example", 1)
+        b.run("script_tab.state.chosen = 1; script_tab.timeline.zoom(0.3, 20); script_tab.timeline.move(23, { keep: true })")
+        click(b, "#script-share")
+        b.until("document.querySelector('#script-saved').textContent !== ''")
+        check("a link is copied", script_link(b)[0] in ("The link was copied.", "This is the link: copy it."), True)
+        link, before, made = of(b, "#script-link", "value"), printed(b), script_link(b)
+        check("the address is the link", (b.run("location.href"), made[1:]), (link, [True, True, "1"]))
+        sight = b.run(f"{SIGHT}.map(Math.round)")
+        check("it was zoomed", (sight[:2], sight[3] < 30), ([23, 1], True))
+        call(b, "probe.choose", "command", "restart")
+        check("an edit drops the link", script_link(b), ["", False, False, ""])
+        click(b, "#script-undo")
+        check("an undo has it in the address again", script_link(b), ["", False, True, "1"])
+        call(b, "page.tab", "log")
+        check("another tab has its own address", b.run("location.hash"), "#log")
+        visit(b, link)
+        check("the link opens all that", [printed(b), b.run(SIGHT), hidden(b)], [before, sight, ["log", "dwell"]])
+        reload(b)
+        check("and a reload too", [printed(b), b.run(SIGHT), hidden(b)], [before, sight, ["log", "dwell"]])
+        for more in ("&slot=9999999&from=-1&across=0&receiver=9", "&slot=x&from=1e9&across=1e9&receiver="):
+            visit(b, re.sub("&slot=.*", "", link) + more)
+            check(f"a link with {more}", [printed(b), b.run(f"{SIGHT}[3] > 7 && {SIGHT}[1] < 2")], [before, True])
+
+
+def links_from_disk(b, url):
+    """A link of a page on a disk is of no use to others: the page says so, and offers to save the script."""
+    visit(b, url)
+    open_script(b, example("late.csv").decode(), m=4, k=2)
+    click(b, "#script-share")
+    b.until("document.querySelector('#script-saved').textContent !== ''")
+    check("a link from disk", script_link(b)[:3],
+          ["This page was opened from a disk, so its links are of no use to others. Save the file and share it. Save the script", False,
+           True])
+    with tempfile.TemporaryDirectory() as saved:
+        b.ask("Browser.setDownloadBehavior", behavior="allow", downloadPath=saved)
+        click(b, "#script-saved button")
+        check("its script is saved", waited_for(os.path.join(saved, "script.csv")), example("late.csv"))
+
+
+def asked(b, does):
+    """Does it, and answers whether the page asks of unsaved edits and what it asks to keep; the keys answer no and then yes."""
+    got = []
+    for key in ("Escape", "Enter"):
+        before = of(b, "#script-text", "value")
+        does()
+        settle(b)
+        got.append(b.run("document.activeElement.id"))
+        if key == "Enter":
+            b.key("Tab", number=9)
+            b.key("Enter", number=13, text="\r")
+        else:
+            b.key("Escape", number=27)
+        settle(b)
+        got.append(of(b, "#script-text", "value") == before)
+    return [*got, of(b, "#ask", "open")]
+
+
+def unsaved_edits(b, url):
+    """Nothing is opened over unsaved edits before a yes, and the browser asks before it leaves them."""
+    leaves = "window.dispatchEvent(new Event('beforeunload', { cancelable: true }))"
+    script, other = example("tunnel.csv").decode(), example("late.csv").decode()
+    with tempfile.TemporaryDirectory() as saved:
+        b.ask("Browser.setDownloadBehavior", behavior="allow", downloadPath=saved)
+        visit(b, url)
+        ways = (("an example", lambda: call(b, "probe.choose", "script-example", 2)),
+                ("a file", lambda: call(b, "probe.pick", "script-file", "own.csv", other)),
+                ("a dropped file", lambda: call(b, "probe.drop", "own.csv", other)),
+                ("a link", lambda: b.run(f"location.hash = 'script={packed(other.encode())}&m=4&k=2'")))
+        for what, does in ways:
+            open_script(b, script, m=8, k=0)
+            b.run("script_tab.timeline.move(3)")
+            check(f"{what}: nothing is unsaved before", b.run(leaves), True)
+            call(b, "probe.choose", "command", "restart")
+            check(f"{what}: an edit is unsaved", b.run(leaves), False)
+            check(f"{what} over unsaved edits", asked(b, does), ["ask-no", True, "ask-no", False, False])
+            check(f"{what} is opened after a yes", (of(b, "#script-text", "value"), b.run(leaves)), (other, True))
+        open_script(b, script, m=8, k=0)
+        call(b, "probe.choose", "command", "restart")
+        call(b, "probe.drop", "own.log", f"{HI}\n")
+        settle(b)
+        check("a log over a script asks nothing", (of(b, "#ask", "open"), hidden(b)), (False, ["script", "dwell"]))
+        for asks in (True, False):
+            b.events.clear()
+            visit(b, url)
+            questions = [it["type"] for it in b.told("Page.javascriptDialogOpening")]
+            check(f"the browser asks before it leaves the page: {asks}", questions, ["beforeunload"] if asks else [])
+            open_script(b, script, m=8, k=0)
+            call(b, "probe.choose", "command", "restart")
+            click(b, "#script-save")
+            check("a saved script is not unsaved", (waited_for(os.path.join(saved, "script.csv")) != b"", b.run(leaves)), (True, True))
 
 
 def faults(b):
@@ -861,9 +992,9 @@ def no_wide_memory(b, url):
 
 def nothing_fetched(b, folder):
     fetched = b.fetched()
-    away = [it for it in fetched if not it.startswith((f"file://{folder}/", "data:", "blob:", "about:"))]
+    away = [it for it in fetched if not it.startswith((f"file://{folder}/", "http://127.0.0.1:", "data:", "blob:", "about:"))]
     check("nothing is fetched but the page's files", away, [])
-    here = {re.sub("[?#].*", "", it).rsplit("/", 1)[-1] for it in fetched if it.startswith("file:")}
+    here = {re.sub("[?#].*", "", it).rsplit("/", 1)[-1] for it in fetched if it.startswith(("file:", "http:"))}
     check("and these are in its folder", (sorted(here - set(os.listdir(folder))), len(here) > 10), ([], True))
 
 
@@ -911,6 +1042,9 @@ def main():
             for part in PARTS:
                 part(b)
             links(b, url)
+            links_of_a_server(b, folder)
+            links_from_disk(b, url)
+            unsaved_edits(b, url)
         check("the browser's console is empty", b.complaints(), [])
         before_the_program(b, url)
         no_wide_memory(b, url)
