@@ -24,12 +24,47 @@ const script_tab = (() => {
 
   // ---- edits
 
+  const LOOK = "look";
+  const letter_of_brush = () => document.querySelector("[name=brush]:checked").value;
+
   function brush(lane, from, to) {
-    const letter = document.querySelector("[name=brush]:checked").value;
+    const letter = letter_of_brush();
     if (lane === null) { edited(); return true; }
-    if (letter === "look" || lane?.group === undefined) return false;
+    if (letter === LOOK || lane?.group === undefined) return false;
     for (let s = from; s <= to; s++) set_reception(s, lane.group, letter);
+    show_stroke(lane.group, from, to);
     return true;
+  }
+
+  /* Shows a stroke of the brush on a receiver before the script is played. */
+  function show_stroke(receiver, from, to) {
+    const ticks = timeline.lanes.find((lane) => lane.kind === "ticks" && lane.group === receiver);
+    const ends = Math.min(to + 1, ticks?.codes.length ?? 0);
+    for (let s = from; s < ends; s++) ticks.codes[s] = code_heard(state.rows[s].receptions[receiver], s);
+    if (ticks) ticks.sums = Timeline.sums(ticks.codes);
+    timeline.draw();
+  }
+
+  const BRUSHES = { L: "lose", G: "get", R: "restart in" };
+
+  /* Says how the brush works while it is on. */
+  function show_brush() {
+    const does = BRUSHES[letter_of_brush()];
+    $("brush-on").textContent = does ? `A click or a drag on a receiver makes it ${does} the slots. Escape returns to “look”.` : "";
+    timeline.canvas.classList.remove("brushes");
+  }
+
+  /* Escape puts the brush away. */
+  function put_brush_away(e) {
+    if (e.key !== "Escape" || letter_of_brush() === LOOK) return;
+    document.querySelector(`[name=brush][value=${LOOK}]`).checked = true;
+    show_brush();
+  }
+
+  /* The pointer over a receiver has the form of a brush while the brush is on. */
+  function point(e) {
+    const lane = timeline.lane_at(e.clientY - timeline.canvas.getBoundingClientRect().top);
+    timeline.canvas.classList.toggle("brushes", lane?.group !== undefined && letter_of_brush() !== LOOK);
   }
 
   function key(name, e) {
@@ -257,9 +292,15 @@ const script_tab = (() => {
     state.alone = got.map((each, i) => flag_alone.receive(PI, each, restarts_of(i)));
   }
 
+  /* The colour of a slot in which a receiver does this. A group that has nothing to do with texts isn't printed. */
+  function code_heard(letter, slot) {
+    const source = source_of(letter, slot);
+    return source < 0 ? lines.NOTHING : lines.code_of(state.said.sent[source], null) || lines.OTHER;
+  }
+
   function codes_heard(i, count) {
-    const codes = lines.codes_of(state.heard[i], count, null);
-    for (let s = 0; s < count; s++) if (!codes[s] && state.rows[s].receptions[i]?.[0] === "G") codes[s] = lines.OTHER;
+    const codes = new Uint8Array(count);
+    for (let s = 0; s < count; s++) codes[s] = code_heard(state.rows[s].receptions[i], s);
     return codes;
   }
 
@@ -435,6 +476,9 @@ const script_tab = (() => {
       area.selectionStart = area.selectionEnd = at;
     });
     for (const id of ["command", "free"]) $(id).onchange = command_changed;
+    for (const it of document.querySelectorAll("[name=brush]")) it.onchange = show_brush;
+    $("script").addEventListener("keydown", put_brush_away);
+    timeline.canvas.addEventListener("pointermove", point);
     $("argument").oninput = argument_typed;
     const buttons = { "script-undo": () => back(-1), "script-redo": () => back(1), "script-save": save, "script-share": link };
     for (const [id, what] of Object.entries(buttons)) $(id).onclick = what;

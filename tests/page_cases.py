@@ -265,6 +265,42 @@ def brush(b):
     check("a stroke is undone as one", b.run(got), "GGGGGGGGG")
 
 
+def mouse(b, kind, at, buttons=1):
+    b.ask("Input.dispatchMouseEvent", type=kind, x=at[0], y=at[1], button="left", buttons=buttons, clickCount=1)
+
+
+def brush_at_once(b):
+    """The lane shows a stroke while the pointer is down, before the script is played. The brush is seen, and Escape ends it."""
+    open_script(b, "-,,1,GG\n" * 40, m=8, k=0)
+    lane = "script_tab.timeline.lanes.find(lane => lane.kind === 'ticks' && lane.group === 1)"
+    codes, drawn = f"[...{lane}.codes.slice(8, 17)]", "script_tab.timeline.canvas.toDataURL()"
+    pointer = "script_tab.timeline.canvas.classList.contains('brushes')"
+    places = [b.run(f"probe.place(script_tab.timeline, {slot}, lane => lane.group === 1)") for slot in (10, 14)]
+    mouse(b, "mouseMoved", places[0], 0)
+    check("no brush", (text_of(b, "#brush-on"), b.run(pointer)), ("", False))
+    click(b, "[name=brush][value=L]")
+    mouse(b, "mouseMoved", places[0], 0)
+    check("the brush is seen", (text_of(b, "#brush-on"), b.run(pointer)),
+          ("A click or a drag on a receiver makes it lose the slots. Escape returns to “look”.", True))
+    settle(b)
+    before = b.run(drawn)
+    for kind, place, wanted in (("mousePressed", places[0], [4, 4, 0, 4, 4, 4, 4, 4, 4]),
+                                ("mouseMoved", places[1], [4, 4, 0, 0, 0, 0, 0, 4, 4])):
+        mouse(b, kind, place)
+        settle(b)
+        got = b.run(codes), b.run(drawn) != before, of(b, "#script-undo", "disabled")
+        check(f"{kind}: the lane shows it", got, (wanted, True, True))
+        before = b.run(drawn)
+    mouse(b, "mouseReleased", places[1], 0)
+    check("and as well once it is played", (b.run(codes), of(b, "#script-undo", "disabled")), ([4, 4, 0, 0, 0, 0, 0, 4, 4], False))
+    b.key("Escape", number=27)
+    mouse(b, "mouseMoved", places[0], 0)
+    brushes = b.run("document.querySelector('[name=brush]:checked').value")
+    check("Escape ends it", (brushes, text_of(b, "#brush-on"), b.run(pointer)), ("look", "", False))
+    b.drag(*places)
+    check("and a drag changes nothing more", b.run(codes), [4, 4, 0, 0, 0, 0, 0, 4, 4])
+
+
 def typed_in_time(b):
     """A text belongs to the slot that it was typed for, even if another slot is chosen before the page plays it."""
     open_script(b, "-,,1,G\n" * 12, m=1, k=0)
@@ -1024,7 +1060,7 @@ def policy(b, url):
     check("and nothing be fetched", sorted(asked), [])
 
 
-PARTS = (the_first_log, the_first_script, typed_in_time, edits_of_one_row, names_and_tags, a_mix_of_tags, flag_bit_alone, restarts,
+PARTS = (the_first_log, the_first_script, brush_at_once, typed_in_time, edits_of_one_row, names_and_tags, a_mix_of_tags, flag_bit_alone, restarts,
          the_dwell, the_dwell_of_texts, files, files_at_the_default, files_of_bytes, names_of_files, no_old_results, faults, warnings, explained, witnesses,
          keyboard, screen_reader, contrast_and_width, same_lines_of_examples, same_help_and_refusals, same_lines_by_chance, large)
 
