@@ -823,6 +823,32 @@ def faults(b):
         check(f"slot {slot} behind it is not played", all_shown, ["— not played —"] * 3)
 
 
+BAD_ROW = re.compile(r"fault row (\d+) \(line (\d+)\)")
+SOME_ROWS = ["-,,1,G"] * 6 + ['"-","",1,G', '""', "", "", '-,"a\n,b",1,G', '-,"a""b",1,G', '-,"a"b,1,G', '"a\n\nb"', "restart,,1,G"]
+
+
+def rows_of_faults(b):
+    """The page shows the line of the row that the program names: rows of two quotation marks, empty lines, each line end."""
+    dice, seen = random.Random(SEED), set()
+    scripts = ['-,,1,G\n""\n-,,1,G\n', '""\r-,,1,G\r', '-,,1,G\r-,,1,G\r\r-,,2,G\r', "-,,1,G\r-,x,1,G"]
+    for _ in range(60):
+        rows, end = [dice.choice(SOME_ROWS) for _ in range(dice.randrange(1, 12))], dice.choice(["\n", "\r\n", "\r", None])
+        scripts.append("".join(row.replace("\n", end or "\n") + (end or dice.choice(["\n", "\r\n", "\r"])) for row in rows))
+    for script in scripts:
+        # the program counts line feeds, so it is asked about the script with line feeds alone
+        plain = re.sub("\r\n?", "\n", script).rstrip("\n") + "\n"
+        told = BAD_ROW.search("".join(run_program(["sim", "--pi", "C201"], plain.encode())[2]))
+        open_script(b, script, m=128, k=0)
+        got = BAD_ROW.search(text_of(b, "#script-fault"))
+        check(f"the row of {script!r}", got and got[1], told and told[1])
+        if not told or not got:
+            continue
+        click(b, "#script-fault button")
+        check(f"the line of {script!r}", call(b, "probe.chosen_line", "script-text"), plain.split("\n")[int(told[2]) - 1])
+        seen.add(plain.split("\n")[int(told[2]) - 1])
+    check("several kinds of bad rows", len(seen) > 4 or seen, True)
+
+
 def warnings(b):
     """A yes over a log without a group of the programme, and the first set that came too early."""
     means_nothing = "The program answers yes, and this yes means nothing."
@@ -1060,9 +1086,11 @@ def policy(b, url):
     check("and nothing be fetched", sorted(asked), [])
 
 
-PARTS = (the_first_log, the_first_script, brush_at_once, typed_in_time, edits_of_one_row, names_and_tags, a_mix_of_tags, flag_bit_alone, restarts,
-         the_dwell, the_dwell_of_texts, files, files_at_the_default, files_of_bytes, names_of_files, no_old_results, faults, warnings, explained, witnesses,
-         keyboard, screen_reader, contrast_and_width, same_lines_of_examples, same_help_and_refusals, same_lines_by_chance, large)
+PARTS = (the_first_log, the_first_script, brush_at_once, typed_in_time, edits_of_one_row, names_and_tags, a_mix_of_tags,
+         flag_bit_alone, restarts, the_dwell, the_dwell_of_texts, files,
+         files_at_the_default, files_of_bytes, names_of_files, no_old_results, faults, rows_of_faults, warnings, explained,
+         witnesses, keyboard, screen_reader, contrast_and_width, same_lines_of_examples, same_help_and_refusals, same_lines_by_chance,
+         large)
 
 
 def main():
