@@ -80,6 +80,7 @@ const page = (() => {
   }
 
   function drops() {
+    select.value = Math.max(0, all.findIndex((it) => it.is_first));
     const over = (is) => document.body.classList.toggle("over", is);
     document.ondragover = (e) => { e.preventDefault(); over(true); };
     document.ondragleave = (e) => { if (!e.relatedTarget) over(false); };

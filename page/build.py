@@ -4,7 +4,9 @@
 usage: build.py MODULE EXAMPLES OUT
 """
 import base64
+import csv
 import gzip
+import io
 import json
 import os
 import sys
@@ -41,6 +43,16 @@ def shown(folder, rows):
             yield {"name": name, "text": text.read(), **how}
 
 
+def tunnel(folder, receiver=1):
+    """The log of mix.csv with the slots lost that this receiver loses: one example, which the page opens first."""
+    with open(os.path.join(folder, "mix.csv"), encoding="utf-8", newline="") as file:
+        rows = list(csv.reader(file))
+    text = io.StringIO()
+    csv.writer(text, lineterminator="\n").writerows([*row[:3], ""] for row in rows)
+    lost = [slot for slot, row in enumerate(rows) if row[3][receiver] == "L"]
+    return {"name": "A long tunnel", "text": text.getvalue(), "from": ENCODE, "pi": "C201", "m": 8, "lost": lost, "is_first": True}
+
+
 def write(out, name, constant, value):
     with open(os.path.join(out, name), "w", encoding="utf-8") as file:
         file.write(f'"use strict";\nconst {constant} = {json.dumps(value, ensure_ascii=False, indent=1)};\n')
@@ -51,8 +63,8 @@ def main():
     with open(module, "rb") as file:
         packed = gzip.compress(file.read(), 9, mtime=0)
     write(out, "engine.js", "RDSRT_ENGINE", base64.b64encode(packed).decode())
-    scripts = [*shown(examples, SCRIPTS), restarts()]
-    write(out, "examples.js", "RDSRT_EXAMPLES", {"log": list(shown(examples, LOGS)), "script": scripts})
+    logs, scripts = [*shown(examples, LOGS), tunnel(examples)], [*shown(examples, SCRIPTS), restarts()]
+    write(out, "examples.js", "RDSRT_EXAMPLES", {"log": logs, "script": scripts})
 
 
 if __name__ == "__main__":

@@ -65,8 +65,8 @@ const log_tab = (() => {
     if (k !== undefined) $("log-k").value = k;
     parts.fill("log-text", text);
     look({ fit: true });
-    const shown = state.view.parts.text.filter((run) => run.value !== null);
-    const mix = shown.find((run) => state.mixed("text", run.value)) ?? shown.at(-1);
+    const [shown, simple] = [state.view, state.alone].map((view) => view.parts.text.filter((run) => run.value !== null));
+    const is_mix = (run) => state.mixed("text", run.value), mix = shown.find(is_mix) ?? simple.find(is_mix) ?? shown.at(-1);
     timeline.move(mix ? mix.from : 0, { keep: true });
   }
 
@@ -291,6 +291,7 @@ const log_tab = (() => {
     if (!state.result) return "Not decoded.";
     const shown = parts.in_words(state.view, slot, ours), other = parts.in_words(state.alone, slot, simple);
     return `${what}. The receiver shows ${shown}. With the flag bit alone: ${other}.`;
+    $("log-why").textContent = parts.why_no_mix(state.view, state.alone, slot, mixed);
   }
 
   function begin() {

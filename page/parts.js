@@ -124,7 +124,29 @@ const parts = (() => {
 
   /* Why a text or a name is shown no longer: the next has begun, or nothing of it came for the dwell. */
   const OF = { text: lines.TEXT, name: lines.NAME };
-  const why_gone = (part, group, pi) => lines.code_of(group, pi) === OF[part] ? "the next begins" : "forgotten";
+  const NEXT = "the next begins";
+  const why_gone = (part, group, pi) => lines.code_of(group, pi) === OF[part] ? NEXT : "forgotten";
+
+  /* Why a text or a name is shown no longer in this slot, if it was shown up to the slot `from`. `heard` has the group of each
+     slot. The next begins if its segments came within the dwell: before that slot those of the last one, and then its own. */
+  function why_none(part, heard, { from, slot, pi, m }) {
+    const is_part = (at) => lines.code_of(heard[at], pi) === OF[part];
+    const last_before = (at) => {
+      do at--; while (at >= 0 && !is_part(at));
+      return at;
+    };
+    const begins = is_part(from) && from - last_before(from) < m && slot - last_before(slot + 1) < m;
+    return begins ? NEXT : "forgotten";
+  }
+
+  /* Beside a mix of the receiver with the flag bit alone: why the one with the dwell shows no text. Empty in other slots. */
+  function why_no_mix(view, alone, slot, mixed) {
+    const value = (it) => it?.at("text", slot)?.value ?? null;
+    if (value(alone) === null || !mixed("text", value(alone)) || value(view) !== null) return "";
+    const next = view?.parts.text.find((run) => run.from > slot && run.value !== null);
+    const shows = next ? `It shows the next one when it is whole: in slot ${next.from.toLocaleString("en")}.` : "";
+    return `The receiver with the dwell has dropped its segments of the old text. ${shows}`.trim();
+  }
 
   const later = new Map();
   function put(element, text) {
@@ -155,5 +177,9 @@ const parts = (() => {
   }
 
   const lanes = { all_shown, bars, mark, shows, shows_tags, tag_bars, tinter };
-  return { $, ...lanes, counted, entitle, fill, go_to_line, hex, in_words, key_of, make, name_file, problem_of, radio, soon, why_gone };
+  const texts = { counted, hex, in_words, key_of };
+  const why = { NEXT, why_gone, why_no_mix, why_none };
+  return {
+    $, ...lanes, ...texts, ...why, entitle, fill, go_to_line, make, name_file, problem_of, radio, soon,
+  };
 })();

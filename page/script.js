@@ -187,7 +187,7 @@ const script_tab = (() => {
     const played = played_of(got.output, count), said = lines.read(got.output, played), tint = parts.tinter();
     const broadcast = on_air(said.replies, played, tint);
     const replies = new Map(said.replies.map((it) => [it.slot, it]));
-    Object.assign(state, { said, replies, played, air: broadcast.air, result: got, spaced: Number(m) + Number(k) });
+    Object.assign(state, { said, replies, played, air: broadcast.air, result: got, m: Number(m), spaced: Number(m) + Number(k) });
     const sent = parts.all_shown(state.air);
     state.mixed = (part, value) => !sent.has(parts.key_of(part, value));
     state.spans = spans(state.air.parts.text);
@@ -402,7 +402,9 @@ const script_tab = (() => {
   /* Why receiver i shows no text in this slot, if it showed one up to the slot `from`. */
   function why_gone(from, slot, i) {
     if (state.rows.slice(from, slot + 1).some((row) => row.receptions[i] === "R")) return "restarted";
-    return parts.why_gone("text", state.heard[i]?.[from], parseInt(PI, 16));
+    const why = parts.why_none("text", state.heard[i], { from, slot, pi: parseInt(PI, 16), m: state.m });
+    const is_silent = (state.air.at("text", slot)?.value ?? null) === null;
+    return why === parts.NEXT && is_silent ? "the encoder is silent" : why;
   }
 
   function show_slot(slot) {
@@ -421,6 +423,7 @@ const script_tab = (() => {
     show_command(slot, row);
     if (!is_played) return `${UNPLAYED}.`;
     const air = `On air ${parts.in_words(state.air, slot)}.`;
+    $("script-why").textContent = parts.why_no_mix(view, simple, slot, mixed);
     const shown = parts.in_words(view, slot, { mixed }), other_shown = parts.in_words(simple, slot, its);
     return n ? `${air} Receiver ${i} ${got}: ${shown}. With the flag bit alone: ${other_shown}.` : air;
   }

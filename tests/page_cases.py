@@ -203,6 +203,7 @@ def lost(b):
 
 def the_first_log(b):
     call(b, "page.tab", "log")
+    call(b, "probe.choose", "log-example", 0)
     settled_verdict(b)
     check("its verdict", text_of(b, "#verdict h2 code"), "EarlyFlag")
     check("it shows the mix", (shown(b, "log-radio"), of(b, "#log-radio", "className")), ("JAZZMIX", "radio mixed"))
@@ -495,6 +496,37 @@ def the_dwell_of_texts(b):
 def hidden(b):
     """The tabs that are not open."""
     return [name for name in TABS if of(b, f"#{name}", "hidden")]
+
+
+def why_no_text(b):
+    """The examples open on a mix of the flag bit alone beside the dwell, and say why that one shows no text."""
+    reload(b)
+    lines = program(["sim", "--pi", "C201", "--m", "8"], example("mix.csv"))[1]
+    slot = re.search("^(\\d+) r1 text", lines, re.M)[1]
+    told = ("The receiver with the dwell has dropped its segments of the old text. It shows the next one when it is whole: in slot "
+            f"{slot}.")
+    for tab in ("log", "script"):
+        call(b, "page.tab", tab)
+        kinds = [of(b, f"#{tab}-{it}", "classList.contains('mixed')") for it in ("radio", "alone")]
+        check(f"the first of {tab}", (kinds, text_of(b, f"#{tab}-why")), ([False, True], told))
+        b.run(f"{tab}_tab.timeline.move({slot})")
+        check(f"and where {tab} shows it", (shown(b, f"{tab}-radio"), text_of(b, f"#{tab}-why")), ("B7: closed today", ""))
+
+
+def causes(b):
+    """Why no text is shown: the next one begins, the encoder went silent, or nothing came for the dwell."""
+    rows = ["-,,1,G"] * 48
+    rows[8], rows[24], rows[28] = "text,The first of two texts,1,G", "text,Another one of so many words,1,G", "restart,,1,G"
+    silent = "".join(f"{row}\n" for row in rows)
+    rows = [f"-,,1,{'L' if 20 <= slot < 28 else 'G'}" for slot in range(48)]
+    rows[8] = "text,HI,1,G"
+    lost = "".join(f"{row}\n" for row in rows)
+    begins, silence = "the next begins", "the encoder is silent"
+    for script, wanted in ((silent, {26: begins, 27: begins, 30: silence, 46: silence}), (lost, {28: "forgotten"})):
+        open_script(b, script, m=8, k=0)
+        for slot, word in wanted.items():
+            b.run(f"script_tab.timeline.move({slot})")
+            check(f"why no text is shown in slot {slot}", shown(b, "script-radio"), f"— {word} —")
 
 
 def files(b):
@@ -1087,7 +1119,7 @@ def policy(b, url):
 
 
 PARTS = (the_first_log, the_first_script, brush_at_once, typed_in_time, edits_of_one_row, names_and_tags, a_mix_of_tags,
-         flag_bit_alone, restarts, the_dwell, the_dwell_of_texts, files,
+         flag_bit_alone, why_no_text, causes, restarts, the_dwell, the_dwell_of_texts, files,
          files_at_the_default, files_of_bytes, names_of_files, no_old_results, faults, rows_of_faults, warnings, explained,
          witnesses, keyboard, screen_reader, contrast_and_width, same_lines_of_examples, same_help_and_refusals, same_lines_by_chance,
          large)
