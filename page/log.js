@@ -240,11 +240,11 @@ const log_tab = (() => {
 
   function faulty(audit) {
     const line = /^fault line (\d+)/.exec(audit.output), note = lines.note_of(audit.notes, "fault ") || audit.output.trim();
-    if (!line) return [make("h2", { textContent: "No verdict" }), make("p", { textContent: `${note}.` })];
+    if (!line) return [make("h2", { textContent: "No verdict" }), make("p", {}, ...parts.told(`${note}.`))];
     const number = Number(line[1]);
     return [
       make("h2", { textContent: `Line ${number.toLocaleString("en")} is malformed` }),
-      make("p", { textContent: `${note}. The page does not show the lines after it.` }),
+      make("p", {}, ...parts.told(`${note}.`), " The page does not show the lines after it."),
       make("p", {}, button("Show the line", () => parts.go_to_line("log-text", number))),
     ];
   }

@@ -28,16 +28,31 @@ const parts = (() => {
     return `${bad.dataset.name ?? bad.labels[0].textContent.trim()} must be a whole number from ${number(bad.min)} to ${number(bad.max)}.`;
   }
 
+  /* A text of a file for a sentence of the page: characters that control or that turn the direction are shown as escapes. */
+  const CONTROLS = /[\u0000-\u001F\u007F-\u009F\u061C\u200E\u200F\u2028-\u202E\u2066-\u2069\uFEFF]/g;
+  const escaped = (text) => text.replace(CONTROLS, (c) => `\\u${hex(c.charCodeAt(0))}`);
+
+  /* Such a text as an element that cannot reorder the words around it. */
+  const isolated = (text) => make("bdi", { textContent: escaped(text) });
+
+  /* Splits a note of the program into nodes, and isolates its quoted part. */
+  function told(note) {
+    const [, before, quoted, after] = /^([^"']*)(".*"|'.*')?(.*)$/s.exec(note);
+    return quoted ? [before, isolated(quoted), escaped(after)] : [escaped(note)];
+  }
+
   /* Puts the name of the open tab's file into the title of the page. */
   const TITLE = document.title;
   function entitle() {
     const name = document.querySelector("[role=tabpanel]:not([hidden]) .file-name")?.textContent;
-    document.title = name ? `${name} – ${TITLE}` : TITLE;
+    // the title has no elements, so two characters isolate a name of other letters
+    const isolated = /^[ -~]*$/.test(name) ? name : `\u2068${name}\u2069`;
+    document.title = name ? `${isolated} – ${TITLE}` : TITLE;
   }
 
-  /* Shows beside the field of a tab which file the tab holds; nothing if it holds none. */
-  function name_file(tab, name) {
-    $(`${tab}-file-name`).textContent = name;
+  /* Shows beside the field of a tab which file the tab holds, and whether it was edited; nothing if it holds none. */
+  function name_file(tab, name, is_edited = false) {
+    $(`${tab}-file-name`).replaceChildren(...(name ? [isolated(name), is_edited ? ", edited" : ""] : []));
     entitle();
   }
 
@@ -177,7 +192,7 @@ const parts = (() => {
   }
 
   const lanes = { all_shown, bars, mark, shows, shows_tags, tag_bars, tinter };
-  const texts = { counted, hex, in_words, key_of };
+  const texts = { counted, hex, in_words, isolated, key_of, told };
   const why = { NEXT, why_gone, why_no_mix, why_none };
   return {
     $, ...lanes, ...texts, ...why, entitle, fill, go_to_line, make, name_file, problem_of, radio, soon,

@@ -5,6 +5,8 @@ const script_tab = (() => {
   const COMMANDS = ["-", "text", "name", "tags", "restart"], PI = "C201";
   const HINTS = { text: "the text", name: "the name", tags: "1 1 4 0 3 1 7 7" };
   const UNPLAYED = "not played";
+  /* The most letters of an argument that the form takes: a text has 64 characters, and an escape is four letters. */
+  const LONG_ARGUMENT = 400;
   const state = {
     rows: [], played: 0, chosen: 0, pty: "10", air: new lines.View(), said: { views: [], sent: [] }, alone: [], heard: [],
     replies: new Map(), spans: new Map(), mixed: () => false, text: "", opened: { text: "", input: "", file: "", example: "" }, saved: "",
@@ -112,8 +114,8 @@ const script_tab = (() => {
     const row = state.rows[timeline.cursor], takes = ["text", "name", "tags"].includes($("command").value);
     $("argument").hidden = !takes;
     if (!row) return false;
-    const free = $("free").checked ? "1" : "0";
-    records.edit(row, { command: $("command").value, argument: takes ? $("argument").value : "", free });
+    const free = $("free").checked ? "1" : "0", argument = $("argument").readOnly ? row.argument : $("argument").value;
+    records.edit(row, { command: $("command").value, argument: takes ? argument : "", free });
     return true;
   }
 
@@ -171,7 +173,7 @@ const script_tab = (() => {
   function name_input() {
     const { opened, text } = state, is_opened = text === opened.text;
     $("script-example").value = is_opened ? opened.example : "";
-    parts.name_file("script", opened.file && !is_opened ? `${opened.file}, edited` : opened.file);
+    parts.name_file("script", opened.file, !is_opened);
     links.keep("script", { text, options: options() });
     return is_opened ? opened.input : text;
   }
@@ -378,7 +380,7 @@ const script_tab = (() => {
     const { fault } = state.said, root = $("script-fault"), row = /^fault row (\d+)/.exec(fault ?? "");
     root.hidden = !fault;
     if (!fault) return;
-    root.textContent = `${lines.note_of(state.result.notes, fault) || fault}.`;
+    root.replaceChildren(...parts.told(`${lines.note_of(state.result.notes, fault) || fault}.`));
     const bad = row && records.read(text)[Number(row[1]) - 1];
     if (!bad) return;
     const go = parts.make("button", { type: "button", textContent: "Show the line" });
@@ -429,10 +431,17 @@ const script_tab = (() => {
   }
 
   function show_command(slot, row) {
+  /* The field shows the begin of an argument that is far too long, and takes no letters then. */
+  function show_argument(argument) {
+    const is_long = argument.length > LONG_ARGUMENT;
+    $("argument").value = is_long ? `${argument.slice(0, LONG_ARGUMENT)}…` : argument;
+    $("argument").readOnly = is_long;
+  }
+
     $("at-slot").textContent = `Slot ${slot.toLocaleString("en")}`;
-    if (document.activeElement !== $("argument")) {
+    if (document.activeElement !== $("argument") || $("argument").readOnly) {
       $("command").value = COMMANDS.includes(row?.command) ? row.command : "-";
-      $("argument").value = row?.argument ?? "";
+      show_argument(row?.argument ?? "");
     }
     $("argument").hidden = !($("command").value in HINTS);
     $("argument").placeholder = HINTS[$("command").value] ?? "";

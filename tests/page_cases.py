@@ -548,6 +548,52 @@ def files(b):
         check("a saved picture", (data[:8], struct.unpack(">I", data[16:20])), (b"\x89PNG\r\n\x1a\n", (2400,)))
 
 
+def long_fields(b):
+    """A field of 3 MB is printed nowhere: the fault does not quote it, and the form shows its begin."""
+    long = "A" * 3_000_000
+    for script, left in ((f"{long},,1,G\n", 0), (f"text,{long},1,G\n-,,1,G\n", 401), (f"-,,1,{long}\n", 0)):
+        call(b, "probe.drop", "own.csv", script)
+        settle(b)
+        sizes = b.run("[document.body.textContent, document.body.innerText].map(text => text.includes('A'.repeat(500)))")
+        note = run_program(["sim", "--pi", "C201"], script.encode())[2][-1]
+        got = text_of(b, "#script-fault").partition(". The rows after")[0], sizes, of(b, "#argument", "value.length")
+        check(f"a field of 3 MB in {script[:8]}", got, (note, [False, False], left))
+    open_script(b, f"text,{long},1,G\n-,,1,G\n", m=8, k=0)
+    b.run("script_tab.timeline.move(0)")
+    b.run("document.getElementById('free').click()")
+    row = b.run("(row => [row.argument.length, row.free])(script_tab.state.rows[0])")
+    check("an edit keeps it", [*row, of(b, "#argument", "readOnly")], [len(long), "0", True])
+    b.run("script_tab.timeline.move(1)")
+    check("and a short one can be typed", (of(b, "#argument", "readOnly"), of(b, "#argument", "value")), (False, ""))
+    call(b, "log_tab.open", f"{long}\n", {"m": 8})
+    settle(b)
+    check("nor is a line of 3 MB", b.run("document.body.textContent.includes('A'.repeat(100))"), False)
+
+
+TURNS = "\u061c\u200e\u200f\u202a\u202b\u202c\u202d\u202e\u2066\u2067\u2068\u2069"
+
+
+def directions(b):
+    """No text of a file turns the words of the page around it: it is isolated, and marks of direction are escapes."""
+    title = "RadioText, slot by slot"
+    for mark in [*TURNS, "\x1b", "\x85"]:
+        open_script(b, f"text,a{mark}b,1,G\n", m=8, k=0)
+        found = set(text_of(b, "#script-fault")) & set(TURNS + "\x1b\x85")
+        check(f"U+{ord(mark):04X} in a fault", (found, of(b, "#script-fault", "hidden")), (set(), False))
+    open_script(b, "text,\u0639,1,G\n", m=8, k=0)
+    check("a quoted letter is isolated", text_of(b, "#script-fault bdi"), "'\u0639'")
+    verdict_of(b, "C201 \u202e \u0639\n", 8)
+    quoted = text_of(b, "#verdict bdi")
+    check("a quoted line is isolated", (quoted[:6], set(quoted) & set(TURNS)), ('"C201 ', set()))
+    for name, wanted in (("a\u202egol.csv", "a\\u202Egol.csv"), ("\u0639.csv", "\u0639.csv")):
+        call(b, "probe.drop", name, "-,,1,G\n")
+        settle(b)
+        got = [text_of(b, "#script-file-name bdi")]
+        isolated = wanted if wanted.isascii() else f"\u2068{wanted}\u2069"
+        check(f"a file's name {wanted}", (got, b.run("document.title")), ([wanted], f"{isolated} – {title}"))
+    first_examples(b)
+
+
 # three texts of two segments, each for 100 slots
 EVERY_100 = "".join(f"C201 21{flag}0 {first}\nC201 21{flag}1 {second}\n" * 50 for flag, first, second in
                     ((4, "4A41 5A5A", "2046 4D0D"), (5, "4E45 5753", "2031 320D"), (4, "504F 5020", "4D49 580D")))
@@ -1119,7 +1165,7 @@ def policy(b, url):
 
 
 PARTS = (the_first_log, the_first_script, brush_at_once, typed_in_time, edits_of_one_row, names_and_tags, a_mix_of_tags,
-         flag_bit_alone, why_no_text, causes, restarts, the_dwell, the_dwell_of_texts, files,
+         flag_bit_alone, why_no_text, causes, restarts, the_dwell, the_dwell_of_texts, files, long_fields, directions,
          files_at_the_default, files_of_bytes, names_of_files, no_old_results, faults, rows_of_faults, warnings, explained,
          witnesses, keyboard, screen_reader, contrast_and_width, same_lines_of_examples, same_help_and_refusals, same_lines_by_chance,
          large)

@@ -27,10 +27,11 @@ const probe = (() => {
   /* A file of this text, or of these bytes. */
   const file = (name, content) => new File([typeof content === "string" ? content : Uint8Array.from(content)], name);
 
-  /* Drops such a file on the page. */
-  function drop(name, content) {
+  /* Drops such files on the page, each a name and a content. */
+  const drop = (name, content) => drop_all([[name, content]]);
+  function drop_all(all) {
     const data = new DataTransfer();
-    data.items.add(file(name, content));
+    for (const [name, content] of all) data.items.add(file(name, content));
     document.querySelector("h1").dispatchEvent(new DragEvent("drop", { dataTransfer: data, bubbles: true, cancelable: true }));
   }
 
@@ -179,5 +180,5 @@ const probe = (() => {
     return ran;
   }
 
-  return { choose, chosen_line, colour, contrasts, drop, large, many, pick, place, run, tempt, type_and_leave };
+  return { choose, chosen_line, colour, contrasts, drop, drop_all, large, many, pick, place, run, tempt, type_and_leave };
 })();
