@@ -56,15 +56,25 @@ const page = (() => {
   async function open_file(file) {
     const input = new Uint8Array(await file.arrayBuffer()), text = decoder.decode(input);
     const name = is_script(file.name, text) ? "script" : "log";
-    await replaces(name, () => {
+    $("left-out").replaceChildren();
+    return replaces(name, () => {
       WITH_INPUT[name].open(text, { ...DEFAULTS, input, file: file.name });
       tab(name);
+      return true;
     });
+  }
+
+  /* Opens the first of the dropped files, and says how many it left out. */
+  async function open_dropped([first, ...others]) {
+    if (!first || !(await open_file(first)) || !others.length) return;
+    const left = ` and left out ${parts.counted(others.length, "other file")}.`;
+    $("left-out").replaceChildren("The page shows one file at a time. It opened ", parts.isolated(first.name), left);
   }
 
   function examples(what, open) {
     const all = RDSRT_EXAMPLES[what], select = $(`${what}-example`);
     const use = () => {
+      $("left-out").replaceChildren();
       const it = all[select.value];
       if (it) open(it.from ? rdsrt.run(it.from, it.text).output : it.text, { ...it, example: select.value });
     };
@@ -87,7 +97,7 @@ const page = (() => {
     document.ondrop = (e) => {
       e.preventDefault();
       over(false);
-      if (e.dataTransfer.files[0]) open_file(e.dataTransfer.files[0]);
+      open_dropped(e.dataTransfer.files);
     };
   }
 

@@ -548,6 +548,18 @@ def files(b):
         check("a saved picture", (data[:8], struct.unpack(">I", data[16:20])), (b"\x89PNG\r\n\x1a\n", (2400,)))
 
 
+def several_files(b):
+    """Of several dropped files the page opens the first, and says how many it left out."""
+    open_script(b, "")
+    script, told = example("tunnel.csv").decode(), "The page shows one file at a time. It opened {} and left out {}."
+    for names, left, tab in ((["a.csv", "b.log"], "1 other file", "script"), (["<b>.log", "b.csv", "c"], "2 other files", "log"),
+                             (["a.csv"], "", "script")):
+        call(b, "probe.drop_all", [[name, script if name.endswith(".csv") else HI] for name in names])
+        settle(b)
+        got = text_of(b, "#left-out"), hidden(b), text_of(b, f"#{tab}-file-name")
+        check(f"dropped: {names}", got, (told.format(names[0], left) if left else "", [it for it in TABS if it != tab], names[0]))
+
+
 def long_fields(b):
     """A field of 3 MB is printed nowhere: the fault does not quote it, and the form shows its begin."""
     long = "A" * 3_000_000
@@ -586,11 +598,11 @@ def directions(b):
     quoted = text_of(b, "#verdict bdi")
     check("a quoted line is isolated", (quoted[:6], set(quoted) & set(TURNS)), ('"C201 ', set()))
     for name, wanted in (("a\u202egol.csv", "a\\u202Egol.csv"), ("\u0639.csv", "\u0639.csv")):
-        call(b, "probe.drop", name, "-,,1,G\n")
+        call(b, "probe.drop_all", [[name, "-,,1,G\n"], ["b", ""]])
         settle(b)
-        got = [text_of(b, "#script-file-name bdi")]
+        got = [text_of(b, "#script-file-name bdi"), text_of(b, "#left-out bdi")]
         isolated = wanted if wanted.isascii() else f"\u2068{wanted}\u2069"
-        check(f"a file's name {wanted}", (got, b.run("document.title")), ([wanted], f"{isolated} – {title}"))
+        check(f"a file's name {wanted}", (got, b.run("document.title")), ([wanted] * 2, f"{isolated} – {title}"))
     first_examples(b)
 
 
@@ -1165,7 +1177,7 @@ def policy(b, url):
 
 
 PARTS = (the_first_log, the_first_script, brush_at_once, typed_in_time, edits_of_one_row, names_and_tags, a_mix_of_tags,
-         flag_bit_alone, why_no_text, causes, restarts, the_dwell, the_dwell_of_texts, files, long_fields, directions,
+         flag_bit_alone, why_no_text, causes, restarts, the_dwell, the_dwell_of_texts, files, several_files, long_fields, directions,
          files_at_the_default, files_of_bytes, names_of_files, no_old_results, faults, rows_of_faults, warnings, explained,
          witnesses, keyboard, screen_reader, contrast_and_width, same_lines_of_examples, same_help_and_refusals, same_lines_by_chance,
          large)
