@@ -39,6 +39,8 @@ const log_tab = (() => {
     },
   });
 
+  timeline.displays = () => parts.displays("log-radio", "log-alone");
+
   /* Loses these slots, or gives back those that are lost. */
   function lose(slots) {
     for (const slot of slots) if (!state.lost.delete(slot)) state.lost.add(slot);

@@ -85,7 +85,13 @@ const parts = (() => {
       make("div", { className: "lcd" }, said("name", at("name") ?? " "), said(text === null ? "text none" : "text", text ?? `— ${none} —`),
         make("div", { className: "tags" }, ...pieces)));
     root.classList.toggle("mixed", bad);
+    const values = { name: at("name") ?? "", text: text ?? `— ${none} —`, tags: tags.map(said_of) };
+    displayed.set(root.id, { root, caption, led, ...values, mixed: bad, is_none: text === null });
   }
+
+  /* Returns the displays of these elements, for a picture. */
+  const displayed = new Map();
+  const displays = (...ids) => ids.map((id) => displayed.get(id)).filter((it) => it);
 
   /* What a display shows, in words. Each part that nobody sent has words of its own. */
   const WORDS = { text: (text) => `“${text}”`, name: (name) => `name ${name.trim()}`, tag1: said_of, tag2: said_of };
@@ -195,6 +201,6 @@ const parts = (() => {
   const texts = { counted, hex, in_words, isolated, key_of, told };
   const why = { NEXT, why_gone, why_no_mix, why_none };
   return {
-    $, ...lanes, ...texts, ...why, entitle, fill, go_to_line, make, name_file, problem_of, radio, soon,
+    $, ...lanes, ...texts, ...why, displays, entitle, fill, go_to_line, make, name_file, problem_of, radio, soon,
   };
 })();

@@ -18,6 +18,7 @@ const script_tab = (() => {
     on_paint: brush,
     on_key: key,
   });
+  timeline.displays = () => parts.displays("script-air", "script-radio", "script-alone");
   const undo = new Undo((it) => {
     $("script-undo").disabled = !it.has(-1);
     $("script-redo").disabled = !it.has(1);

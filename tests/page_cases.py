@@ -606,6 +606,32 @@ def directions(b):
     first_examples(b)
 
 
+def pictures(b):
+    """The picture has the title, the displays of the chosen slot, the lanes and the legend, in the colours of the page."""
+    for scheme in SCHEMES:
+        b.scheme(scheme)
+        for tab in ("log", "script"):
+            call(b, "page.tab", tab)
+            call(b, "probe.choose", f"{tab}-example", 4 if tab == "log" else 0)
+            settle(b)
+            shows = f"document.querySelectorAll('#{tab} .radio figcaption span, #{tab} .radio .text')"
+            displays = b.run(f"[...{shows}].map(it => it.textContent).filter(text => text)")
+            legend = b.run(f"[...document.querySelectorAll('#{tab} .legend > span')].map(it => it.textContent)")
+            all_texts = b.run(f"probe.pictured({tab}_tab.timeline)")
+            texts = [text for _, text, _ in all_texts]
+            drawn = " ".join(texts)
+            missing = [it for it in displays if it not in drawn and it not in drawn.replace("  ", " ")]
+            check(f"{scheme} {tab}: the displays are drawn", (len(displays) > 4, missing), (True, []))
+            check(f"{scheme} {tab}: the title is first, the legend last", (texts[0], texts[-len(legend):]),
+                  (b.run(f"{tab}_tab.timeline.title"), legend))
+            colours = {ink for _, _, ink in all_texts[-len(legend):]}
+            dim = b.run("getComputedStyle(document.documentElement).getPropertyValue('--dim').trim()")
+            check(f"{scheme} {tab}: its colour", colours, {dim})
+            check(f"{scheme} {tab}: a mix is marked", any(text.startswith("⚠ nobody sent") for text in texts), True)
+    b.scheme("light")
+    first_examples(b)
+
+
 # three texts of two segments, each for 100 slots
 EVERY_100 = "".join(f"C201 21{flag}0 {first}\nC201 21{flag}1 {second}\n" * 50 for flag, first, second in
                     ((4, "4A41 5A5A", "2046 4D0D"), (5, "4E45 5753", "2031 320D"), (4, "504F 5020", "4D49 580D")))
@@ -1178,7 +1204,7 @@ def policy(b, url):
 
 PARTS = (the_first_log, the_first_script, brush_at_once, typed_in_time, edits_of_one_row, names_and_tags, a_mix_of_tags,
          flag_bit_alone, why_no_text, causes, restarts, the_dwell, the_dwell_of_texts, files, several_files, long_fields, directions,
-         files_at_the_default, files_of_bytes, names_of_files, no_old_results, faults, rows_of_faults, warnings, explained,
+         pictures, files_at_the_default, files_of_bytes, names_of_files, no_old_results, faults, rows_of_faults, warnings, explained,
          witnesses, keyboard, screen_reader, contrast_and_width, same_lines_of_examples, same_help_and_refusals, same_lines_by_chance,
          large)
 

@@ -109,6 +109,17 @@ const probe = (() => {
     return [all.length, low];
   }
 
+  /* The texts of a timeline's picture from the top down, with their colours. */
+  function pictured(timeline) {
+    const all = [], { fillText } = CanvasRenderingContext2D.prototype;
+    CanvasRenderingContext2D.prototype.fillText = function (text, x, y) {
+      all.push([Math.round(this.getTransform().f / 2 + y), text, this.fillStyle]);
+      fillText.call(this, text, x, y);
+    };
+    try { picture.drawn(timeline); } finally { CanvasRenderingContext2D.prototype.fillText = fillText; }
+    return all.sort(([a], [b]) => a - b);
+  }
+
   // ---- many slots
 
   const many = {};
@@ -180,5 +191,5 @@ const probe = (() => {
     return ran;
   }
 
-  return { choose, chosen_line, colour, contrasts, drop, drop_all, large, many, pick, place, run, tempt, type_and_leave };
+  return { choose, chosen_line, colour, contrasts, drop, drop_all, large, many, pick, pictured, place, run, tempt, type_and_leave };
 })();
