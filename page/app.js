@@ -80,6 +80,7 @@ const page = (() => {
     };
     select.replaceChildren(...all.map((it, i) => new Option(it.name, i)), new Option("your own", ""));
     select.onchange = () => replaces(what, use, () => { select.value = ""; });
+    select.value = Math.max(0, all.findIndex((it) => it.is_first));
     // an empty field hears the choice of the same file again
     $(`${what}-file`).onchange = ({ target }) => {
       const [file] = target.files;
@@ -90,7 +91,6 @@ const page = (() => {
   }
 
   function drops() {
-    select.value = Math.max(0, all.findIndex((it) => it.is_first));
     const over = (is) => document.body.classList.toggle("over", is);
     document.ondragover = (e) => { e.preventDefault(); over(true); };
     document.ondragleave = (e) => { if (!e.relatedTarget) over(false); };
@@ -107,7 +107,7 @@ const page = (() => {
       + `Firefox 134, or later. (${error.message})`;
   }
 
-  /* Opens what the address holds; answers which tab it names. */
+  /* Opens the link of the address, if it has one. Returns the tab that the address names. */
   async function open_address() {
     const hash = location.hash.slice(1), name = links.tab_of(hash);
     if (!name) return TABS.includes(hash) ? hash : "log";

@@ -1,10 +1,10 @@
 "use strict";
-/* Links that hold a script, and the address of the page. A link has the letters of the text, the options, the slot and the
-   zoom. */
+/* Links that hold a log or a script, and the address of the page. A link has the letters of the text, the options, the slot
+   and the zoom. */
 const links = (() => {
   const { $, make } = parts;
   /* A few letters can hold many bytes, so both ways have a bound of bytes. */
-  const MOST = 8000, MOST_PLAIN = 4_000_000, TOO_LARGE = "too large";
+  const MOST = 8000, MOST_PLAIN = 4_000_000, MOST_LOST = 100_000, TOO_LARGE = "too large";
   const FROM_DISK = "This page was opened from a disk, so its links are of no use to others. Save the file and share it. ";
   /* The link of each tab: the text and the options that it holds, its hash, and whether the tab still holds them. */
   const held = {};
@@ -128,11 +128,34 @@ const links = (() => {
     else timeline.draw();
   }
 
+  // ---- lost slots
+
+  /* Slots as a link has them: 2-4.9 is 2, 3, 4 and 9. */
+  function in_letters(slots) {
+    const spans = [];
+    for (const slot of [...slots].sort((a, b) => a - b)) {
+      const last = spans.at(-1);
+      if (last && last[1] + 1 === slot) last[1] = slot; else spans.push([slot, slot]);
+    }
+    return spans.map(([first, last]) => first === last ? first : `${first}-${last}`).join(".");
+  }
+
+  /* The slots of these letters, at most MOST_LOST. Other letters give none. */
+  function slots_of(letters) {
+    const all = [];
+    if (!/^\d{1,7}(-\d{1,7})?(\.\d{1,7}(-\d{1,7})?)*$/.test(letters ?? "")) return all;
+    for (const span of letters.split(".")) {
+      const [first, last = first] = span.split("-").map(Number);
+      for (let slot = first; slot <= last && all.length < MOST_LOST; slot++) all.push(slot);
+    }
+    return all;
+  }
+
   /* Why a link was not opened. */
   function why_not(tab, error) {
     if (error.message === TOO_LARGE) return `The link holds a ${tab} of more than 4 MB. The page does not open it.`;
     return `The link has no ${tab}.`;
   }
 
-  return { give, hold, keep, look, put_address, read, sight_of, tab_of, tell, why_not };
+  return { give, hold, in_letters, keep, look, put_address, read, sight_of, slots_of, tab_of, tell, why_not };
 })();

@@ -81,6 +81,7 @@ const log_tab = (() => {
   }
 
   function look({ fit }) {
+    links.keep("log", { text: state.text, options: options() });
     const problem = parts.problem_of($("log-form"));
     if (problem) { show_problem(problem, { fit }); return; }
     const pi = $("log-pi").value, m = $("log-m").value, k = $("log-k").value, number = parseInt(pi, 16);
@@ -290,17 +291,33 @@ const log_tab = (() => {
     const { mixed } = state, ours = { led: what, mixed, none }, simple = { mixed, none: flag_alone.none_at(slot) };
     parts.radio($("log-radio"), "The receiver, with the dwell", state.view, slot, ours);
     parts.radio($("log-alone"), "Flag bit alone: decode --m 65535", state.alone, slot, simple);
+    $("log-why").textContent = parts.why_no_mix(state.view, state.alone, slot, mixed);
     if (!state.result) return "Not decoded.";
     const shown = parts.in_words(state.view, slot, ours), other = parts.in_words(state.alone, slot, simple);
     return `${what}. The receiver shows ${shown}. With the flag bit alone: ${other}.`;
-    $("log-why").textContent = parts.why_no_mix(state.view, state.alone, slot, mixed);
+  }
+
+  // ---- a link
+
+  const lost_options = () => state.lost.size ? `&lost=${links.in_letters(state.lost)}` : "";
+  const options = () => `pi=${$("log-pi").value}&m=${$("log-m").value}&k=${$("log-k").value}${lost_options()}`;
+  const save = () => picture.save_as("log.log", new Blob([state.input], { type: "text/plain" }));
+  const link = () => links.give("log", { text: state.text, options: options(), sight: links.sight_of(timeline) }, save);
+
+  /* Opens the log of a link. */
+  async function open_link(hash) {
+    const it = await links.read("log", hash), { text, given, within } = it, lost = links.slots_of(given.get("lost"));
+    await open(text, { pi: given.get("pi"), m: within("m", 1, 65535), k: within("k", 0, 1024), lost });
+    links.look(timeline, it);
+    links.hold("log", { text, options: options() }, hash);
   }
 
   function begin() {
+    $("log-share").onclick = link;
     for (const id of ["log-pi", "log-m", "log-k"]) $(id).oninput = parts.soon(() => look({ fit: false }));
     $("log-text").oninput = parts.soon(() => open($("log-text").value, { pi: $("log-pi").value }));
     $("log-unlose").onclick = () => { state.lost.clear(); look({ fit: false }); };
   }
 
-  return { begin, look, lose, open, state, timeline };
+  return { begin, look, lose, open, open_link, state, timeline };
 })();

@@ -423,15 +423,14 @@ const script_tab = (() => {
     parts.radio($("script-air"), "On air", state.air, slot, { led: air_led, none: or_unplayed("silence") });
     parts.radio($("script-radio"), named("with the dwell"), view, slot, ours);
     parts.radio($("script-alone"), named("flag bit alone"), simple, slot, its);
+    $("script-why").textContent = parts.why_no_mix(view, simple, slot, mixed);
     show_command(slot, row);
     if (!is_played) return `${UNPLAYED}.`;
     const air = `On air ${parts.in_words(state.air, slot)}.`;
-    $("script-why").textContent = parts.why_no_mix(view, simple, slot, mixed);
     const shown = parts.in_words(view, slot, { mixed }), other_shown = parts.in_words(simple, slot, its);
     return n ? `${air} Receiver ${i} ${got}: ${shown}. With the flag bit alone: ${other_shown}.` : air;
   }
 
-  function show_command(slot, row) {
   /* The field shows the begin of an argument that is far too long, and takes no letters then. */
   function show_argument(argument) {
     const is_long = argument.length > LONG_ARGUMENT;
@@ -439,6 +438,7 @@ const script_tab = (() => {
     $("argument").readOnly = is_long;
   }
 
+  function show_command(slot, row) {
     $("at-slot").textContent = `Slot ${slot.toLocaleString("en")}`;
     if (document.activeElement !== $("argument") || $("argument").readOnly) {
       $("command").value = COMMANDS.includes(row?.command) ? row.command : "-";

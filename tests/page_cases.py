@@ -841,6 +841,47 @@ def links_of_a_server(b, folder):
             check(f"a link with {more}", [printed(b), b.run(f"{SIGHT}[3] > 7 && {SIGHT}[1] < 2")], [before, True])
 
 
+LOG_STATE = ("(({ timeline: { cursor, from, across }, state: { lost } }) => [document.getElementById('log-lines').textContent, "
+             "[...lost].sort((a, b) => a - b), cursor, from, across, "
+             "...['pi', 'm', 'k'].map(it => document.getElementById(`log-${it}`).value)])(log_tab)")
+
+
+def log_links(b, folder):
+    """A link of a log holds the log, the options, the lost slots, the slot and the zoom, and it stays in the address."""
+    told, address = lambda: text_of(b, "#log-saved"), "location.hash.includes('log=')"
+    with served(folder) as url:
+        visit(b, url)
+        call(b, "page.tab", "log")
+        call(b, "log_tab.open", EVERY_100, {"pi": "C201", "m": 100, "k": 3, "lost": [2, 3, 4, 9, 100]})
+        settle(b)
+        b.run("log_tab.timeline.zoom(0.1, 90); log_tab.timeline.move(103, { keep: true })")
+        b.run("(it => { it.from = Math.round(it.from); it.across = Math.round(it.across); })(log_tab.timeline)")
+        before = b.run(LOG_STATE)
+        click(b, "#log-share")
+        b.until("document.getElementById('log-saved').textContent !== ''")
+        link = of(b, "#log-link", "value")
+        check("the address is the link", (b.run("location.href"), len(link) < 1000, "lost=2-4.9.100" in link), (link, True, True))
+        b.run("log_tab.lose([7])")
+        settle(b)
+        check("a lost slot drops the link", (told(), b.run(address), of(b, "#log-link", "hidden")), ("", False, True))
+        b.run("log_tab.lose([7])")
+        settle(b)
+        check("and without it the address has it again", (told(), b.run(address)), ("", True))
+        visit(b, link)
+        check("the link opens all that", [b.run(LOG_STATE), hidden(b)], [before, ["script", "dwell"]])
+        for more in ("&lost=1-9999999.0-9999999", "&lost=1-&m=0&k=1025&pi=FFFF&slot=-1", "&lost=<b>"):
+            visit(b, re.sub("&.*", "", link) + more)
+            state = b.run(LOG_STATE)
+            check(f"a link with {more}", (told(), state[5:], len(state[1]) <= 100_000), ("", ["C201", "8", "0"], True))
+        visit(b, f"{url}#log=nonsense")
+        check("a link that holds none", told(), "The link has no log.")
+        dice = random.Random(SEED)
+        call(b, "log_tab.open", "".join(f"# {dice.random()}\n" for _ in range(20_000)))
+        click(b, "#log-share")
+        b.until("document.getElementById('log-saved').textContent !== ''")
+        check("a log that is too long for one", told(), "This log is too long for a link: save it as a file.")
+
+
 def links_from_disk(b, url):
     """A link of a page on a disk is of no use to others: the page says so, and offers to save the script."""
     visit(b, url)
@@ -1059,7 +1100,7 @@ def first_examples(b):
 def keyboard(b):
     """The tab key reaches all that can be used in each tab, and the arrows choose the tabs."""
     wanted = {
-        "log": ["tab-log", "log-example", "log-file", "log-pi", "log-m", "log-k", "CANVAS", "log-click", "SUMMARY"],
+        "log": ["tab-log", "log-example", "log-file", "log-pi", "log-m", "log-k", "log-share", "CANVAS", "log-click", "SUMMARY"],
         "script": ["tab-script", "script-example", "script-file", "script-m", "script-n", "script-slots", "command", "free", "brush",
                    "script-save", "script-share", "CANVAS", "SUMMARY"],
         "dwell": ["tab-dwell", "m-range", "k-range", "f-range", "dwell-m", "dwell-k", "dwell-f", "dwell-s"],
@@ -1223,6 +1264,7 @@ def main():
                 part(b)
             links(b, url)
             links_of_a_server(b, folder)
+            log_links(b, folder)
             links_from_disk(b, url)
             unsaved_edits(b, url)
         check("the browser's console is empty", b.complaints(), [])
