@@ -6,7 +6,9 @@ usage: build.py MODULE EXAMPLES OUT      writes all of them
        build.py --scripts OUT            writes page.js alone
 """
 import base64
+import csv
 import gzip
+import io
 import json
 import os
 import re
@@ -16,7 +18,7 @@ HERE = os.path.dirname(os.path.abspath(__file__))
 # Each script uses only names of scripts before it. A worker runs those of WORKER.
 WORKER = ["lines.js", "rdsrt.js", "flag_alone.js", "logfile.js", "arrivals.js", "witness.js", "worker.js"]
 PAGE = ["lines.js", "rdsrt.js", "records.js", "flag_alone.js", "logfile.js", "painter.js", "picture.js", "timeline.js", "parts.js",
-        "undo.js", "log_worker.js", "log_text.js", "groups.js", "changes.js", "verdict.js", "log.js", "script.js", "dwell.js", "app.js"]
+        "undo.js", "links.js", "log_worker.js", "log_text.js", "groups.js", "changes.js", "verdict.js", "log.js", "script.js", "dwell.js", "app.js"]
 DEFINED = re.compile(r"^(?:const|class) (\w+)", re.M)
 
 ENCODE = ["encode", "--pi", "C201", "--pty", "10", "--m", "8"]
@@ -49,6 +51,16 @@ def shown(folder, rows):
     for name, file, how in rows:
         with open(os.path.join(folder, file), encoding="utf-8") as text:
             yield {"name": name, "text": text.read(), **how}
+
+
+def tunnel(folder, receiver=1):
+    """The log of mix.csv with the slots lost that this receiver loses: one example, which the page opens first."""
+    with open(os.path.join(folder, "mix.csv"), encoding="utf-8", newline="") as file:
+        rows = list(csv.reader(file))
+    text = io.StringIO()
+    csv.writer(text, lineterminator="\n").writerows([*row[:3], ""] for row in rows)
+    lost = [slot for slot, row in enumerate(rows) if row[3][receiver] == "L"]
+    return {"name": "A long tunnel", "text": text.getvalue(), "from": ENCODE, "pi": "C201", "m": 8, "lost": lost, "is_first": True}
 
 
 def write(out, name, constant, value):
@@ -92,8 +104,8 @@ def main():
         packed = gzip.compress(file.read(), 9, mtime=0)
     write(out, "engine.js", "RDSRT_ENGINE", base64.b64encode(packed).decode())
     write_scripts(out)
-    scripts = [*shown(examples, SCRIPTS), restarts()]
-    write(out, "examples.js", "RDSRT_EXAMPLES", {"log": list(shown(examples, LOGS)), "script": scripts})
+    logs, scripts = [*shown(examples, LOGS), tunnel(examples)], [*shown(examples, SCRIPTS), restarts()]
+    write(out, "examples.js", "RDSRT_EXAMPLES", {"log": logs, "script": scripts})
 
 
 if __name__ == "__main__":

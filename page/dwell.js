@@ -1,8 +1,11 @@
 "use strict";
-/* The tab of the dwell: M, K and the share of free slots in seconds. */
+/* The tab of the dwell: M, K and the share of free slots in seconds, and the M for texts that change every so many seconds. */
 const dwell_tab = (() => {
   const { $, make } = parts;
   const LONGEST = 32, HOUR = 3600, WIDTH = 960, MOST = 65535;
+  /* The number at a place of a slider. The slider of M counts tenths of a power of two. */
+  const OF_SLIDER = { m: (at) => Math.min(MOST, Math.round(2 ** (at / 10))), k: Number, f: Number };
+  const TO_SLIDER = { m: (number) => Math.round(10 * Math.log2(number)), k: Number, f: Number };
 
   const rate = (n) => n >= 10 ? Math.floor(n).toLocaleString("en") : n.toFixed(1);
   const card = (big, small, first) =>
@@ -45,20 +48,73 @@ const dwell_tab = (() => {
     return `<svg viewBox="0 0 ${WIDTH} 190" role="img" aria-label="${said}">${bars.join("")}${times.join("")}</svg>`;
   }
 
+  /* The whole slots in so many whole seconds: a slot has 104 bits, and a second has 1187.5. */
+  const slots_in = (seconds) => Math.floor(seconds * 1187.5 / 104);
+
+  /* One answer: the largest M + K, whether the chosen one fits, and a button that sets the largest M for the chosen K. */
+  function answer(whose, because, most, { m, k }) {
+    const best = Math.min(MOST, most - k), fits = m + k <= most ? "fits" : "is too large";
+    const chosen = `The chosen M + K = ${(m + k).toLocaleString("en")} ${fits}.`;
+    const text = ` M + K can be at most ${parts.counted(most, "slot")} (${lines.time(most)}). ${because} ${chosen} `;
+    const set = make("button", { type: "button", textContent: `Set M = ${best.toLocaleString("en")}` });
+    set.onclick = () => {
+      $("dwell-m").value = best;
+      choose();
+      $("dwell-m").focus();
+    };
+    return make("p", {}, make("b", { textContent: whose }), text, best > 0 ? set : `With K = ${k} no M fits.`);
+  }
+
+  /* The M for texts that change every so many seconds: by safety alone, and with our own encoder. */
+  function answers(seconds, chosen) {
+    const slots = slots_in(seconds);
+    return [
+      answer("Safe:", "Each text must stay on air for at least M + K slots.", slots, chosen),
+      answer("With our own encoder:", "It keeps each text on air for 2 (M + K) slots.", Math.floor(slots / 2), chosen),
+    ];
+  }
+
+  /* Shows why the numbers have no result, and no result of other numbers. */
+  function show_problem(problem) {
+    for (const id of ["cards", "ladder", "answers"]) $(id).replaceChildren();
+    for (const name of ["m", "k", "f"]) $(`${name}-said`).textContent = "";
+    $("ladder").hidden = true;
+    $("dwell-fault").textContent = problem;
+    $("dwell-fault").hidden = false;
+  }
+
+  /* Puts a slider where its number is, and says the number in words. */
+  function say(name, number, text) {
+    const slider = $(`${name}-range`);
+    if (OF_SLIDER[name](slider.value) !== number) slider.value = TO_SLIDER[name](number);
+    slider.setAttribute("aria-valuetext", `${number} ${text}`);
+    $(`${name}-said`).textContent = text;
+  }
+
+  const in_time = (slots) => `${slots === 1 ? "slot" : "slots"}, ${lines.time(slots)}`;
+
   function choose() {
-    const chosen = (name) => Number($(`${name}-range`).value), in_seconds = (n) => `${parts.counted(n, "slot")}, ${lines.time(n)}`;
-    const m = Math.min(MOST, Math.round(2 ** (chosen("m") / 10))), k = chosen("k"), free = chosen("f") / 100;
-    const said = { m: in_seconds(m), k: k ? in_seconds(k) : "none: no buffer between", f: `${Math.round(free * 100)} %` };
-    for (const [name, text] of Object.entries(said)) {
-      $(`${name}-said`).textContent = text;
-      $(`${name}-range`).setAttribute("aria-valuetext", text);
-    }
-    $("cards").replaceChildren(...cards({ m, d: m + k, free }));
+    const problem = parts.problem_of($("dwell-form"));
+    if (problem) { show_problem(problem); return; }
+    const [m, k, f, seconds] = ["m", "k", "f", "s"].map((name) => Number($(`dwell-${name}`).value));
+    say("m", m, in_time(m));
+    say("k", k, k ? in_time(k) : "slots: no buffer between");
+    say("f", f, "%");
+    $("dwell-fault").hidden = true;
+    $("ladder").hidden = false;
+    $("answers").replaceChildren(...answers(seconds, { m, k }));
+    $("cards").replaceChildren(...cards({ m, d: m + k, free: f / 100 }));
     $("ladder").innerHTML = ladder(m + k);
   }
 
   function begin() {
-    for (const id of ["m-range", "k-range", "f-range"]) $(id).oninput = choose;
+    for (const name of ["m", "k", "f"]) {
+      $(`${name}-range`).oninput = () => {
+        $(`dwell-${name}`).value = OF_SLIDER[name]($(`${name}-range`).value);
+        choose();
+      };
+    }
+    for (const name of ["m", "k", "f", "s"]) $(`dwell-${name}`).oninput = choose;
     choose();
   }
   return { begin };

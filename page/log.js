@@ -8,7 +8,7 @@ const log_tab = (() => {
   const PARTS = [["name", "name (PTYN)"], ["tag1", "first tag"], ["tag2", "second tag"]];
   const KINDS = ["nothing", "text", "name", "tags", "other"];
   const CLOCK = /\d\d:\d\d:\d\d/, LONGEST_TIME = 80;
-  const encoder = new TextEncoder(), decoder = new TextDecoder();
+  const encoder = new TextEncoder(), decoder = new TextDecoder("utf-8", { ignoreBOM: true });
   const NO_LOG = { count: 0, end: 0, words: [], missing: [], starts: [], numbers: [] };
   const NO_TIMES = { timed: 0, absent: 0, breaks: 0 };
   const empty = () => ({
@@ -32,6 +32,8 @@ const log_tab = (() => {
     },
   });
 
+  timeline.displays = () => parts.displays("log-radio", "log-alone");
+
   /* Keeps what is under way, so that a test can wait for it. */
   const working = (promise) => { state.work = promise; return promise; };
 
@@ -50,7 +52,8 @@ const log_tab = (() => {
     $("log-example").value = example;
     if (m) $("log-m").value = m;
     if (k !== undefined) $("log-k").value = k;
-    state.text = log_text.open(bytes);
+    state.text = bytes.length > links.MOST_PLAIN ? null : decoder.decode(bytes);
+    log_text.open(bytes);
     return working(read(pi));
   }
 
@@ -69,8 +72,8 @@ const log_tab = (() => {
     offer_programmes(pi);
     await look({ fit: true });
     if (state.opening !== opening) return;
-    const shown = state.view.parts.text.filter((run) => run.value !== null);
-    const mix = shown.find((run) => state.mixed("text", run.value)) ?? shown.at(-1);
+    const [shown, simple] = [state.view, state.alone].map((view) => view.parts.text.filter((run) => run.value !== null));
+    const is_mix = (run) => state.mixed("text", run.value), mix = shown.find(is_mix) ?? simple.find(is_mix) ?? shown.at(-1);
     timeline.move(mix ? mix.from : 0, { keep: true });
   }
 
@@ -105,6 +108,7 @@ const log_tab = (() => {
   /* Asks the workers for the display and for the verdict, with what the form holds now. */
   const look = (how = {}) => working(answer(how));
   async function answer({ fit = false }) {
+    links.keep("log", { text: state.text, options: options() });
     const turn = ++state.turn, problem = parts.problem_of($("log-form"));
     if (problem) { show_problem(problem, { fit }); return; }
     const [pi, m, k] = ["pi", "m", "k"].map((name) => $(`log-${name}`).value), asked = { pi, m, k, lost: [...state.lost] };
@@ -291,6 +295,7 @@ const log_tab = (() => {
     const { mixed } = state, ours = { led: what, mixed, none }, simple = { mixed, none: flag_alone.none_at(slot) };
     parts.radio($("log-radio"), "The receiver, with the dwell", state.view, slot, ours);
     parts.radio($("log-alone"), "Flag bit alone: decode --m 65535", state.alone, slot, simple);
+    $("log-why").textContent = parts.why_no_mix(state.view, state.alone, slot, mixed);
     if (state.log.count) log_text.move(state.log.starts[slot], state.log.numbers[slot]);
     $("log-group").textContent = state.log.count ? groups.of_slot(state.log, slot, state.number) : "";
     changes.move(slot);
@@ -299,8 +304,24 @@ const log_tab = (() => {
     return `${what}. The receiver shows ${shown}. With the flag bit alone: ${other}.`;
   }
 
+  // ---- a link
+
+  const lost_options = () => state.lost.size ? `&lost=${links.in_letters(state.lost)}` : "";
+  const options = () => `pi=${$("log-pi").value}&m=${$("log-m").value}&k=${$("log-k").value}${lost_options()}`;
+  const save = () => picture.save_as("log.log", new Blob([state.bytes], { type: "text/plain" }));
+  const link = () => links.give("log", { text: state.text, options: options(), sight: links.sight_of(timeline) }, save);
+
+  /* Opens the log of a link. */
+  async function open_link(hash) {
+    const it = await links.read("log", hash), { text, given, within } = it, lost = links.slots_of(given.get("lost"));
+    await open(text, { pi: given.get("pi"), m: within("m", 1, 65535), k: within("k", 0, 1024), lost });
+    links.look(timeline, it);
+    links.hold("log", { text, options: options() }, hash);
+  }
+
   /* Begins with the compiled program. */
   function begin(compiled) {
+    $("log-share").onclick = link;
     for (const name of ["display", "audit", "search"]) workers[name] = new LogWorker(compiled);
     for (const id of ["log-pi", "log-m", "log-k"]) $(id).oninput = parts.soon(() => look());
     $("log-text").oninput = parts.soon(() => open($("log-text").value, { pi: $("log-pi").value }));
@@ -309,5 +330,5 @@ const log_tab = (() => {
     changes.begin();
   }
 
-  return { begin, look, lose, open, state, timeline };
+  return { begin, look, lose, open, open_link, state, timeline };
 })();

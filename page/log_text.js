@@ -7,15 +7,14 @@ const log_text = (() => {
   const decoder = new TextDecoder("utf-8", { ignoreBOM: true });
   const state = { bytes: new Uint8Array(0), at: 0, number: 1, isLong: false };
 
-  /* Shows a log. Returns its text if it is short, and nothing if it is long. */
+  /* Shows a log. */
   function open(bytes) {
-    const isLong = bytes.length > MOST, text = isLong ? "" : decoder.decode(bytes);
+    const isLong = bytes.length > MOST;
     Object.assign(state, { bytes, isLong, at: 0, number: 1 });
     $("log-text").readOnly = isLong;
     $("log-text-part").hidden = !isLong;
-    parts.fill("log-text", text);
+    parts.fill("log-text", isLong ? "" : decoder.decode(bytes));
     lay_out();
-    return text;
   }
 
   /* Returns where the window begins, and the number of its first line. */

@@ -25,19 +25,34 @@ const parts = (() => {
     const is_bad = ({ value, min, max }) => !/^\d+$/.test(value) || Number(value) < Number(min) || Number(value) > Number(max);
     const bad = [...form.querySelectorAll("[type=number]")].find(is_bad), number = (n) => Number(n).toLocaleString("en");
     if (!bad) return "";
-    return `${bad.labels[0].textContent.trim()} must be a whole number from ${number(bad.min)} to ${number(bad.max)}.`;
+    return `${bad.dataset.name ?? bad.labels[0].textContent.trim()} must be a whole number from ${number(bad.min)} to ${number(bad.max)}.`;
+  }
+
+  /* A text of a file for a sentence of the page: characters that control or that turn the direction are shown as escapes. */
+  const CONTROLS = /[\u0000-\u001F\u007F-\u009F\u061C\u200E\u200F\u2028-\u202E\u2066-\u2069\uFEFF]/g;
+  const escaped = (text) => text.replace(CONTROLS, (c) => `\\u${hex(c.charCodeAt(0))}`);
+
+  /* Such a text as an element that cannot reorder the words around it. */
+  const isolated = (text) => make("bdi", { textContent: escaped(text) });
+
+  /* Splits a note of the program into nodes, and isolates its quoted part. */
+  function told(note) {
+    const [, before, quoted, after] = /^([^"']*)(".*"|'.*')?(.*)$/s.exec(note);
+    return quoted ? [before, isolated(quoted), escaped(after)] : [escaped(note)];
   }
 
   /* Puts the name of the open tab's file into the title of the page. */
   const TITLE = document.title;
   function entitle() {
     const name = document.querySelector("[role=tabpanel]:not([hidden]) .file-name")?.textContent;
-    document.title = name ? `${name} – ${TITLE}` : TITLE;
+    // the title has no elements, so two characters isolate a name of other letters
+    const isolated = /^[ -~]*$/.test(name) ? name : `\u2068${name}\u2069`;
+    document.title = name ? `${isolated} – ${TITLE}` : TITLE;
   }
 
-  /* Shows beside the field of a tab which file the tab holds; nothing if it holds none. */
-  function name_file(tab, name) {
-    $(`${tab}-file-name`).textContent = name;
+  /* Shows beside the field of a tab which file the tab holds, and whether it was edited; nothing if it holds none. */
+  function name_file(tab, name, is_edited = false) {
+    $(`${tab}-file-name`).replaceChildren(...(name ? [isolated(name), is_edited ? ", edited" : ""] : []));
     entitle();
   }
 
@@ -70,7 +85,13 @@ const parts = (() => {
       make("div", { className: "lcd" }, said("name", at("name") ?? " "), said(text === null ? "text none" : "text", text ?? `— ${none} —`),
         make("div", { className: "tags" }, ...pieces)));
     root.classList.toggle("mixed", bad);
+    const values = { name: at("name") ?? "", text: text ?? `— ${none} —`, tags: tags.map(said_of) };
+    displayed.set(root.id, { root, caption, led, ...values, mixed: bad, is_none: text === null });
   }
+
+  /* Returns the displays of these elements, for a picture. */
+  const displayed = new Map();
+  const displays = (...ids) => ids.map((id) => displayed.get(id)).filter((it) => it);
 
   /* What a display shows, in words. Each part that nobody sent has words of its own. */
   const WORDS = { text: (text) => `“${text}”`, name: (name) => `name ${name.trim()}`, tag1: said_of, tag2: said_of };
@@ -124,7 +145,29 @@ const parts = (() => {
 
   /* Why a text or a name is shown no longer: the next has begun, or nothing of it came for the dwell. */
   const OF = { text: lines.TEXT, name: lines.NAME };
-  const why_gone = (part, group, pi) => lines.code_of(group, pi) === OF[part] ? "the next begins" : "forgotten";
+  const NEXT = "the next begins";
+  const why_gone = (part, group, pi) => lines.code_of(group, pi) === OF[part] ? NEXT : "forgotten";
+
+  /* Why a text or a name is shown no longer in this slot, if it was shown up to the slot `from`. `heard` has the group of each
+     slot. The next begins if its segments came within the dwell: before that slot those of the last one, and then its own. */
+  function why_none(part, heard, { from, slot, pi, m }) {
+    const is_part = (at) => lines.code_of(heard[at], pi) === OF[part];
+    const last_before = (at) => {
+      do at--; while (at >= 0 && !is_part(at));
+      return at;
+    };
+    const begins = is_part(from) && from - last_before(from) < m && slot - last_before(slot + 1) < m;
+    return begins ? NEXT : "forgotten";
+  }
+
+  /* Beside a mix of the receiver with the flag bit alone: why the one with the dwell shows no text. Empty in other slots. */
+  function why_no_mix(view, alone, slot, mixed) {
+    const value = (it) => it?.at("text", slot)?.value ?? null;
+    if (value(alone) === null || !mixed("text", value(alone)) || value(view) !== null) return "";
+    const next = view?.parts.text.find((run) => run.from > slot && run.value !== null);
+    const shows = next ? `It shows the next one when it is whole: in slot ${next.from.toLocaleString("en")}.` : "";
+    return `The receiver with the dwell has dropped its segments of the old text. ${shows}`.trim();
+  }
 
   const later = new Map();
   function put(element, text) {
@@ -155,5 +198,9 @@ const parts = (() => {
   }
 
   const lanes = { all_shown, bars, mark, shows, shows_tags, tag_bars, tinter };
-  return { $, ...lanes, counted, entitle, fill, go_to_line, hex, in_words, key_of, label_of, make, name_file, problem_of, radio, soon, why_gone };
+  const texts = { counted, hex, in_words, isolated, key_of, label_of, told };
+  const why = { NEXT, why_gone, why_no_mix, why_none };
+  return {
+    $, ...lanes, ...texts, ...why, displays, entitle, fill, go_to_line, make, name_file, problem_of, radio, soon,
+  };
 })();

@@ -1,7 +1,9 @@
 "use strict";
-/* A timeline as a picture, and what else the page gives to save. */
+/* A timeline as a picture with its displays and its legend, and files to save. `timeline.displays` gives the displays of the
+   chosen slot: { root, caption, led, name, text, tags, mixed, is_none }. */
 const picture = (() => {
-  const SCALE = 2, WIDTH = 1200, EDGE = 16, TITLE = 34;
+  const SCALE = 2, WIDTH = 1200, EDGE = 16, TITLE = 34, GAP = 14, DISPLAY = 156, LEGEND = 30, SIDE = 12;
+  const MONO = "ui-monospace, 'DejaVu Sans Mono', monospace";
 
   function save_as(name, blob) {
     const link = document.createElement("a"), url = URL.createObjectURL(blob);
@@ -11,13 +13,88 @@ const picture = (() => {
     setTimeout(() => URL.revokeObjectURL(url), 10000);
   }
 
-  /* What is in sight of the timeline, in the colours of the page, with a line above that says what it is. */
+  function box(c, colour, x, y, width, height, round) {
+    c.fillStyle = colour;
+    c.beginPath();
+    c.roundRect(x, y, width, height, round);
+    c.fill();
+  }
+
+  /* The lines of a text of this width: it is cut behind a space, or in a word that is too long. */
+  function wrapped(c, text, width) {
+    const all = [];
+    for (let rest = text; rest;) {
+      let end = rest.length;
+      while (end > 1 && c.measureText(rest.slice(0, end)).width > width) end--;
+      const space = end < rest.length ? rest.lastIndexOf(" ", end) : -1;
+      if (space > 0) end = space + 1;
+      all.push(rest.slice(0, end));
+      rest = rest.slice(end);
+    }
+    return all;
+  }
+
+  /* A display at x, in the colours that the page gives it now. */
+  function display(c, { root, caption, led, name, text, tags, mixed, is_none }, x, width) {
+    const colour = (query, what) => getComputedStyle(query ? root.querySelector(query) : root)[what];
+    const inner = x + 22, room = width - 44;
+    const write = (words, font, ink, at, y, align = "left") => {
+      Object.assign(c, { font, fillStyle: ink, textAlign: align });
+      c.fillText(words, at, y);
+    };
+    box(c, colour("", "backgroundColor"), x, 0, width, DISPLAY, 14);
+    box(c, colour(".lcd", "backgroundColor"), x + 10, 30, width - 20, DISPLAY - 40, 9);
+    write(caption, `600 12px ${painter.FONT}`, colour("", "color"), x + 14, 20);
+    write(mixed ? `⚠ ${led}` : led, `12px ${painter.FONT}`, colour(".led", "color"), x + width - 14, 20, "right");
+    write(name, `14px ${MONO}`, colour(".lcd", "color"), inner, 52);
+    c.font = `18px ${MONO}`;
+    const ink = colour(is_none ? ".none" : ".lcd", "color"), all = wrapped(c, text, room);
+    all.slice(0, 3).forEach((line, i) => write(line, `18px ${MONO}`, ink, inner, 76 + 22 * i));
+    write(tags.join("   "), `12px ${MONO}`, colour(".lcd", "color"), inner, DISPLAY - 18);
+    c.textAlign = "left";
+  }
+
+  function displays(c, all, width) {
+    const each = (width - GAP * (all.length - 1)) / all.length;
+    all.forEach((it, i) => display(c, it, i * (each + GAP), each));
+  }
+
+  /* A mark of the legend, by its class. */
+  function mark(c, kind, x, ink) {
+    const fills = { t0: ink.bad, t5: ink.wrong, t6: ink.stale };
+    c.fillStyle = fills[kind] ?? ink.codes[Number(kind[1])];
+    c.fillRect(x, kind === "t0" ? 5 : 0, SIDE, kind === "t0" ? 2 : SIDE);
+    if (kind !== "t5") return;
+    c.strokeStyle = ink.lane;
+    c.beginPath();
+    for (const [from, to] of [[0, SIDE / 2], [0, SIDE], [SIDE / 2, SIDE]]) {
+      c.moveTo(x + from, to);
+      c.lineTo(x + to, from);
+    }
+    c.stroke();
+  }
+
+  /* The words of the legend that the page has under this timeline. */
+  function legend(c, timeline, ink) {
+    const all = timeline.root.closest("section").querySelectorAll(".legend > span:has(i)");
+    let x = 0;
+    c.font = `13px ${painter.FONT}`;
+    for (const it of all) {
+      mark(c, it.querySelector("i").className, x, ink);
+      c.fillStyle = ink.dim;
+      c.fillText(it.textContent, x + SIDE + 6, SIDE - 1);
+      x += SIDE + 26 + c.measureText(it.textContent).width;
+    }
+  }
+
+  /* Draws the visible part of a timeline in the colours of the page: its title, the displays, the lanes and the legend. */
   function drawn(timeline) {
     const canvas = document.createElement("canvas"), ink = painter.inks(timeline.root), height = painter.place(timeline.lanes);
     const { lanes, from, across, cursor, chosen } = timeline, gutter = 132, width = WIDTH - 2 * EDGE, room = width - gutter - 4;
     const sight = { from, across, cursor, chosen, gutter, width, room, x: (slot) => gutter + (slot - from) / across * room };
+    const all = timeline.displays?.() ?? [], top = all.length ? DISPLAY + GAP : 0;
     canvas.width = WIDTH * SCALE;
-    canvas.height = (height + TITLE + 2 * EDGE) * SCALE;
+    canvas.height = (TITLE + top + height + LEGEND + 2 * EDGE) * SCALE;
     const c = canvas.getContext("2d");
     c.scale(SCALE, SCALE);
     c.fillStyle = ink.card;
@@ -26,7 +103,12 @@ const picture = (() => {
     c.font = `600 15px ${painter.FONT}`;
     c.fillText(timeline.title ?? "", EDGE, EDGE + 14);
     c.translate(EDGE, EDGE + TITLE);
+    displays(c, all, width);
+    c.translate(0, top);
     painter.paint(c, lanes, sight, ink, height);
+    c.translate(0, height + GAP);
+    c.textBaseline = "alphabetic";
+    legend(c, timeline, ink);
     return canvas;
   }
 

@@ -1,34 +1,37 @@
 "use strict";
-/* The records of a script, as its definition reads them, and a script as a link holds it. */
+/* The records of a script, as its definition reads them. */
 const records = (() => {
+  /* The states of the reader: at the start of a record, at the start of a field, in a field, in quotes, and behind a quotation
+     mark that ends or escapes. */
+  const RECORD = 0, FIELD = 1, PLAIN = 2, QUOTED = 3, AFTER_QUOTE = 4;
+
   /* Each record with the number of the line that it begins in, counted from 1, and with the text from the end of the record
-     before it to its own end. What follows the last record belongs to it. */
+     before it to its own end. The last record has the rest of the text too. The rules are those of the program's reader: a
+     carriage return ends a record too, and empty lines make no record. */
   function split(text) {
-    const all = [];
-    let field = "", row = [], quoted = false, line = 1, began = 1, from = 0, i = text.charCodeAt(0) === 0xFEFF ? 1 : 0;
+    const all = [], starts = text.charCodeAt(0) === 0xFEFF ? 1 : 0;
+    let state = RECORD, field = "", row = [], line = 1, began = 1, from = 0;
     const end_row = (to) => {
-      if (row.length || field) {
-        all.push({ fields: [...row, field], line: began, written: text.slice(from, to) });
-        from = to;
-      }
-      row = [];
-      field = "";
+      all.push({ fields: [...row, field], line: began, written: text.slice(from, to) });
+      [state, field, row, from] = [RECORD, "", [], to];
     };
-    for (; i < text.length; i++) {
-      const c = text[i];
-      if (c === "\n") line++;
-      if (quoted) {
-        if (c !== '"') field += c;
-        else if (text[i + 1] === '"') { field += c; i++; } else quoted = false;
-      } else if (c === '"' && field === "") quoted = true;
-      else if (c === ",") { row.push(field); field = ""; }
-      else if (c === "\r" && text[i + 1] === "\n") { i++; line++; end_row(i + 1); began = line; }
-      else if (c === "\n" || c === "\r") { end_row(i + 1); began = line; }
-      else field += c;
+    for (let i = starts; i < text.length; i++) {
+      const c = text[i], is_crlf = c === "\r" && text[i + 1] === "\n", ends = c === "\n" || c === "\r";
+      if (is_crlf && state !== QUOTED) i++;
+      if (state === RECORD && !ends) { state = FIELD; began = line; }
+      if (ends && !(is_crlf && state === QUOTED)) line++;
+      if (state === QUOTED) {
+        if (c === '"') state = AFTER_QUOTE; else field += c;
+      } else if (c === '"' && state === FIELD) state = QUOTED;
+      else if (c === '"' && state === AFTER_QUOTE) { state = QUOTED; field += c; }
+      else if (c === ",") { row.push(field); state = FIELD; field = ""; }
+      else if (!ends) { state = PLAIN; field += c; }
+      else if (state !== RECORD) end_row(i + 1);
     }
-    end_row(text.length);
+    const is_open = state === QUOTED;
+    if (state !== RECORD) end_row(text.length);
     const last = all.at(-1);
-    if (last) last.written = quoted ? undefined : last.written + text.slice(from);
+    if (last) last.written = is_open ? undefined : last.written + text.slice(from);
     return all;
   }
 
@@ -68,38 +71,5 @@ const records = (() => {
     row.written = undefined;
   }
 
-  /* A script as letters of a link, and back. A few letters can hold many bytes, so both ways have a bound of bytes. */
-  const MOST = 8000, MOST_PLAIN = 4_000_000;
-  const TOO_LARGE = "The link holds a script of more than 4 MB. The page does not open it.";
-  /* Reads the stream up to a bound, and no further; throws beyond it. */
-  async function squeezed(bytes, by, most = Infinity) {
-    const reader = new Blob([bytes]).stream().pipeThrough(by).getReader(), pieces = [];
-    let length = 0;
-    for (;;) {
-      const { done, value } = await reader.read();
-      if (done) break;
-      length += value.length;
-      if (length > most) {
-        await reader.cancel();
-        throw new RangeError(TOO_LARGE);
-      }
-      pieces.push(value);
-    }
-    return new Uint8Array(await new Blob(pieces).arrayBuffer());
-  }
-  async function pack(text) {
-    const plain = new TextEncoder().encode(text);
-    if (plain.length > MOST_PLAIN) return null;
-    const bytes = await squeezed(plain, new CompressionStream("deflate-raw"));
-    if (bytes.length > MOST) return null;
-    return btoa(String.fromCharCode(...bytes)).replaceAll("+", "-").replaceAll("/", "_").replace(/=+$/, "");
-  }
-  async function unpack(packed) {
-    const plain = atob(packed.replaceAll("-", "+").replaceAll("_", "/"));
-    const packed_bytes = Uint8Array.from(plain, (c) => c.charCodeAt(0));
-    const bytes = await squeezed(packed_bytes, new DecompressionStream("deflate-raw"), MOST_PLAIN);
-    return new TextDecoder("utf-8", { fatal: true }).decode(bytes);
-  }
-
-  return { edit, edit_receivers, edit_reception, empty, pack, read, unpack, write };
+  return { edit, edit_receivers, edit_reception, empty, read, write };
 })();

@@ -5,9 +5,11 @@ const script_tab = (() => {
   const COMMANDS = ["-", "text", "name", "tags", "restart"], PI = "C201";
   const HINTS = { text: "the text", name: "the name", tags: "1 1 4 0 3 1 7 7" };
   const UNPLAYED = "not played";
+  /* The most letters of an argument that the form takes: a text has 64 characters, and an escape is four letters. */
+  const LONG_ARGUMENT = 400;
   const state = {
     rows: [], played: 0, chosen: 0, pty: "10", air: new lines.View(), said: { views: [], sent: [] }, alone: [], heard: [],
-    replies: new Map(), spans: new Map(), mixed: () => false, text: "", opened: { text: "", input: "", file: "" },
+    replies: new Map(), spans: new Map(), mixed: () => false, text: "", opened: { text: "", input: "", file: "", example: "" }, saved: "",
   };
   const timeline = new Timeline($("script-time"), {
     label: "Slot of the script",
@@ -16,6 +18,7 @@ const script_tab = (() => {
     on_paint: brush,
     on_key: key,
   });
+  timeline.displays = () => parts.displays("script-air", "script-radio", "script-alone");
   const undo = new Undo((it) => {
     $("script-undo").disabled = !it.has(-1);
     $("script-redo").disabled = !it.has(1);
@@ -24,12 +27,47 @@ const script_tab = (() => {
 
   // ---- edits
 
+  const LOOK = "look";
+  const letter_of_brush = () => document.querySelector("[name=brush]:checked").value;
+
   function brush(lane, from, to) {
-    const letter = document.querySelector("[name=brush]:checked").value;
+    const letter = letter_of_brush();
     if (lane === null) { edited(); return true; }
-    if (letter === "look" || lane?.group === undefined) return false;
+    if (letter === LOOK || lane?.group === undefined) return false;
     for (let s = from; s <= to; s++) set_reception(s, lane.group, letter);
+    show_stroke(lane.group, from, to);
     return true;
+  }
+
+  /* Shows a stroke of the brush on a receiver before the script is played. */
+  function show_stroke(receiver, from, to) {
+    const ticks = timeline.lanes.find((lane) => lane.kind === "ticks" && lane.group === receiver);
+    const ends = Math.min(to + 1, ticks?.codes.length ?? 0);
+    for (let s = from; s < ends; s++) ticks.codes[s] = code_heard(state.rows[s].receptions[receiver], s);
+    if (ticks) ticks.sums = Timeline.sums(ticks.codes);
+    timeline.draw();
+  }
+
+  const BRUSHES = { L: "lose", G: "get", R: "restart in" };
+
+  /* Says how the brush works while it is on. */
+  function show_brush() {
+    const does = BRUSHES[letter_of_brush()];
+    $("brush-on").textContent = does ? `A click or a drag on a receiver makes it ${does} the slots. Escape returns to “look”.` : "";
+    timeline.canvas.classList.remove("brushes");
+  }
+
+  /* Escape puts the brush away. */
+  function put_brush_away(e) {
+    if (e.key !== "Escape" || letter_of_brush() === LOOK) return;
+    document.querySelector(`[name=brush][value=${LOOK}]`).checked = true;
+    show_brush();
+  }
+
+  /* The pointer over a receiver has the form of a brush while the brush is on. */
+  function point(e) {
+    const lane = timeline.lane_at(e.clientY - timeline.canvas.getBoundingClientRect().top);
+    timeline.canvas.classList.toggle("brushes", lane?.group !== undefined && letter_of_brush() !== LOOK);
   }
 
   function key(name, e) {
@@ -77,8 +115,8 @@ const script_tab = (() => {
     const row = state.rows[timeline.cursor], takes = ["text", "name", "tags"].includes($("command").value);
     $("argument").hidden = !takes;
     if (!row) return false;
-    const free = $("free").checked ? "1" : "0";
-    records.edit(row, { command: $("command").value, argument: takes ? $("argument").value : "", free });
+    const free = $("free").checked ? "1" : "0", argument = $("argument").readOnly ? row.argument : $("argument").value;
+    records.edit(row, { command: $("command").value, argument: takes ? argument : "", free });
     return true;
   }
 
@@ -119,8 +157,7 @@ const script_tab = (() => {
   /* Opens a script: its text, and the program's input for this text, which for a file is the file's bytes. */
   function open(text, { m, k, pty = "10", is_edit = false, example = "", file = "", input = text } = {}) {
     state.pty = pty;
-    if (!is_edit) state.opened = { text, input, file };
-    if (!is_edit) $("script-example").value = example;
+    if (!is_edit) Object.assign(state, { opened: { text, input, file, example }, saved: text });
     if (m) $("script-m").value = m;
     if (k !== undefined) $("script-k").value = k;
     take(text);
@@ -133,10 +170,18 @@ const script_tab = (() => {
     else if (first) timeline.move(Math.min(state.rows.length - 1, first.from + Number($("script-m").value)), { keep: true });
   }
 
+  /* Names the example or the file of the text, and drops the link of another text. Gives the program's input for the text. */
+  function name_input() {
+    const { opened, text } = state, is_opened = text === opened.text;
+    $("script-example").value = is_opened ? opened.example : "";
+    parts.name_file("script", opened.file, !is_opened);
+    links.keep("script", { text, options: options() });
+    return is_opened ? opened.input : text;
+  }
+
   function play({ fit = false, text = state.text } = {}) {
-    const { opened } = state, is_opened = text === opened.text, input = is_opened ? opened.input : text;
     state.text = text;
-    parts.name_file("script", opened.file && !is_opened ? `${opened.file}, edited` : opened.file);
+    const input = name_input();
     parts.fill("script-text", text);
     const problem = too_much() || parts.problem_of($("script-form"));
     if (problem) { show_problem(problem); return; }
@@ -145,7 +190,7 @@ const script_tab = (() => {
     const played = played_of(got.output, count), said = lines.read(got.output, played), tint = parts.tinter();
     const broadcast = on_air(said.replies, played, tint);
     const replies = new Map(said.replies.map((it) => [it.slot, it]));
-    Object.assign(state, { said, replies, played, air: broadcast.air, result: got, spaced: Number(m) + Number(k) });
+    Object.assign(state, { said, replies, played, air: broadcast.air, result: got, m: Number(m), spaced: Number(m) + Number(k) });
     const sent = parts.all_shown(state.air);
     state.mixed = (part, value) => !sent.has(parts.key_of(part, value));
     state.spans = spans(state.air.parts.text);
@@ -250,9 +295,15 @@ const script_tab = (() => {
     state.alone = got.map((each, i) => flag_alone.receive(PI, each, restarts_of(i)));
   }
 
+  /* The colour of a slot in which a receiver does this. A group that has nothing to do with texts isn't printed. */
+  function code_heard(letter, slot) {
+    const source = source_of(letter, slot);
+    return source < 0 ? lines.NOTHING : lines.code_of(state.said.sent[source], null) || lines.OTHER;
+  }
+
   function codes_heard(i, count) {
-    const codes = lines.codes_of(state.heard[i], count, null);
-    for (let s = 0; s < count; s++) if (!codes[s] && state.rows[s].receptions[i]?.[0] === "G") codes[s] = lines.OTHER;
+    const codes = new Uint8Array(count);
+    for (let s = 0; s < count; s++) codes[s] = code_heard(state.rows[s].receptions[i], s);
     return codes;
   }
 
@@ -330,7 +381,7 @@ const script_tab = (() => {
     const { fault } = state.said, root = $("script-fault"), row = /^fault row (\d+)/.exec(fault ?? "");
     root.hidden = !fault;
     if (!fault) return;
-    root.textContent = `${lines.note_of(state.result.notes, fault) || fault}.`;
+    root.replaceChildren(...parts.told(`${lines.note_of(state.result.notes, fault) || fault}.`));
     const bad = row && records.read(text)[Number(row[1]) - 1];
     if (!bad) return;
     const go = parts.make("button", { type: "button", textContent: "Show the line" });
@@ -354,7 +405,9 @@ const script_tab = (() => {
   /* Why receiver i shows no text in this slot, if it showed one up to the slot `from`. */
   function why_gone(from, slot, i) {
     if (state.rows.slice(from, slot + 1).some((row) => row.receptions[i] === "R")) return "restarted";
-    return parts.why_gone("text", state.heard[i]?.[from], parseInt(PI, 16));
+    const why = parts.why_none("text", state.heard[i], { from, slot, pi: parseInt(PI, 16), m: state.m });
+    const is_silent = (state.air.at("text", slot)?.value ?? null) === null;
+    return why === parts.NEXT && is_silent ? "the encoder is silent" : why;
   }
 
   function show_slot(slot) {
@@ -370,6 +423,7 @@ const script_tab = (() => {
     parts.radio($("script-air"), "On air", state.air, slot, { led: air_led, none: or_unplayed("silence") });
     parts.radio($("script-radio"), named("with the dwell"), view, slot, ours);
     parts.radio($("script-alone"), named("flag bit alone"), simple, slot, its);
+    $("script-why").textContent = parts.why_no_mix(view, simple, slot, mixed);
     show_command(slot, row);
     if (!is_played) return `${UNPLAYED}.`;
     const air = `On air ${parts.in_words(state.air, slot)}.`;
@@ -377,11 +431,18 @@ const script_tab = (() => {
     return n ? `${air} Receiver ${i} ${got}: ${shown}. With the flag bit alone: ${other_shown}.` : air;
   }
 
+  /* The field shows the begin of an argument that is far too long, and takes no letters then. */
+  function show_argument(argument) {
+    const is_long = argument.length > LONG_ARGUMENT;
+    $("argument").value = is_long ? `${argument.slice(0, LONG_ARGUMENT)}…` : argument;
+    $("argument").readOnly = is_long;
+  }
+
   function show_command(slot, row) {
     $("at-slot").textContent = `Slot ${slot.toLocaleString("en")}`;
-    if (document.activeElement !== $("argument")) {
+    if (document.activeElement !== $("argument") || $("argument").readOnly) {
       $("command").value = COMMANDS.includes(row?.command) ? row.command : "-";
-      $("argument").value = row?.argument ?? "";
+      show_argument(row?.argument ?? "");
     }
     $("argument").hidden = !($("command").value in HINTS);
     $("argument").placeholder = HINTS[$("command").value] ?? "";
@@ -390,35 +451,34 @@ const script_tab = (() => {
 
   // ---- saving, and a link
 
-  const save = () => picture.save_as("script.csv", new Blob([records.write(state.rows)], { type: "text/csv" }));
+  /* Whether there are edits that nobody saved. */
+  function is_unsaved() {
+    played_soon.now();
+    return state.text !== state.saved && state.text !== state.opened.text;
+  }
+
+  function save() {
+    played_soon.now();
+    state.saved = state.text;
+    picture.save_as("script.csv", new Blob([state.text], { type: "text/csv" }));
+  }
+
+  const options = () => `m=${$("script-m").value}&k=${$("script-k").value}&pty=${state.pty}`;
 
   async function link() {
-    const packed = await records.pack(records.write(state.rows)), root = $("script-link");
-    root.hidden = packed === null;
-    if (packed === null) { tell_saved("This script is too long for a link: save it as a file."); return; }
-    const [here] = location.href.split("#"), options = `m=${$("script-m").value}&k=${$("script-k").value}&pty=${state.pty}`;
-    root.value = `${here}#script=${packed}&${options}`;
-    root.focus();
-    root.select();
-    try {
-      await navigator.clipboard.writeText(root.value);
-      tell_saved("The link was copied.");
-    } catch { tell_saved("This is the link: copy it."); }
+    played_soon.now();
+    const { text, chosen } = state, sight = `${links.sight_of(timeline)}&receiver=${chosen}`;
+    if (await links.give("script", { text, options: options(), sight }, save)) state.saved = text;
   }
-  const tell_saved = (text) => { $("script-saved").textContent = text; };
 
-  /* Opens the script that the address holds, if it holds one. */
+  /* Opens the script of a link. */
   async function open_link(hash) {
-    const given = new URLSearchParams(hash);
-    const within = (name, low, high) => {
-      const number = /^\d{1,5}$/.test(given.get(name) ?? "") ? Number(given.get(name)) : NaN;
-      return number >= low && number <= high ? String(number) : undefined;
-    };
-    // the name of the tab alone, as it stands in the address after a look at it, is no link
-    if (!given.get("script")) return false;
-    const text = await records.unpack(given.get("script"));
+    const it = await links.read("script", hash), { text, within } = it;
     open(text, { m: within("m", 1, 65535), k: within("k", 0, 1024), pty: within("pty", 0, 31) });
-    return true;
+    state.chosen = within("receiver", 0, receivers() - 1) ?? state.chosen;
+    timeline.chosen = receivers() ? state.chosen : null;
+    links.look(timeline, it);
+    links.hold("script", { text, options: options() }, hash);
   }
 
   function begin() {
@@ -429,10 +489,13 @@ const script_tab = (() => {
       area.selectionStart = area.selectionEnd = at;
     });
     for (const id of ["command", "free"]) $(id).onchange = command_changed;
+    for (const it of document.querySelectorAll("[name=brush]")) it.onchange = show_brush;
+    $("script").addEventListener("keydown", put_brush_away);
+    timeline.canvas.addEventListener("pointermove", point);
     $("argument").oninput = argument_typed;
     const buttons = { "script-undo": () => back(-1), "script-redo": () => back(1), "script-save": save, "script-share": link };
     for (const [id, what] of Object.entries(buttons)) $(id).onclick = what;
   }
 
-  return { begin, command_changed, edited, open, open_link, play, state, timeline, undo };
+  return { begin, command_changed, edited, is_unsaved, open, open_link, play, state, timeline, undo };
 })();

@@ -68,10 +68,10 @@ const verdict = (() => {
 
   function faulty({ audit }, does) {
     const line = /^fault line (\d+)/.exec(audit.output), note = lines.note_of(audit.notes, "fault ") || audit.output.trim();
-    if (!line) return [make("h2", { textContent: "No verdict" }), make("p", { textContent: `${note}.` })];
+    if (!line) return [make("h2", { textContent: "No verdict" }), make("p", {}, ...parts.told(`${note}.`))];
     return [
       make("h2", { textContent: `Line ${number(Number(line[1]))} is malformed` }),
-      make("p", { textContent: `${note}. The page does not show the lines after it.` }),
+      make("p", {}, ...parts.told(`${note}.`), " The page does not show the lines after it."),
       make("p", {}, button("Show the line", () => does.show_line(Number(line[1])))),
     ];
   }

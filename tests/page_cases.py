@@ -7,6 +7,7 @@ usage: page_cases.py PAGE     the page's folder, as page/build writes it
 The program is the one that the gate left, crates/rdsrt/out/rdsrt. The last line is `N passed, M failed`.
 """
 import base64
+import contextlib
 import json
 import os
 import random
@@ -18,7 +19,7 @@ import tempfile
 import threading
 import time
 import zlib
-from http.server import BaseHTTPRequestHandler, ThreadingHTTPServer
+from http.server import BaseHTTPRequestHandler, SimpleHTTPRequestHandler, ThreadingHTTPServer
 
 sys.dont_write_bytecode = True
 import browser
@@ -118,6 +119,11 @@ def visit(b, url):
     return b.until(READY)
 
 
+def reload(b):
+    """Loads the page anew from its address."""
+    visit(b, b.run("location.href"))
+
+
 def open_script(b, text, **options):
     call(b, "page.tab", "script")
     call(b, "script_tab.open", text, options)
@@ -211,6 +217,7 @@ def lost(b):
 
 def the_first_log(b):
     call(b, "page.tab", "log")
+    call(b, "probe.choose", "log-example", 0)
     settled_verdict(b)
     check("its verdict", text_of(b, "#verdict h2 code"), "EarlyFlag")
     check("it shows the mix", (shown(b, "log-radio"), of(b, "#log-radio", "className")), ("JAZZMIX", "radio mixed"))
@@ -271,6 +278,42 @@ def brush(b):
     click(b, "[name=brush][value=look]")
     click(b, "#script-undo")
     check("a stroke is undone as one", b.run(got), "GGGGGGGGG")
+
+
+def mouse(b, kind, at, buttons=1):
+    b.ask("Input.dispatchMouseEvent", type=kind, x=at[0], y=at[1], button="left", buttons=buttons, clickCount=1)
+
+
+def brush_at_once(b):
+    """The lane shows a stroke while the pointer is down, before the script is played. The brush is seen, and Escape ends it."""
+    open_script(b, "-,,1,GG\n" * 40, m=8, k=0)
+    lane = "script_tab.timeline.lanes.find(lane => lane.kind === 'ticks' && lane.group === 1)"
+    codes, drawn = f"[...{lane}.codes.slice(8, 17)]", "script_tab.timeline.canvas.toDataURL()"
+    pointer = "script_tab.timeline.canvas.classList.contains('brushes')"
+    places = [b.run(f"probe.place(script_tab.timeline, {slot}, lane => lane.group === 1)") for slot in (10, 14)]
+    mouse(b, "mouseMoved", places[0], 0)
+    check("no brush", (text_of(b, "#brush-on"), b.run(pointer)), ("", False))
+    click(b, "[name=brush][value=L]")
+    mouse(b, "mouseMoved", places[0], 0)
+    check("the brush is seen", (text_of(b, "#brush-on"), b.run(pointer)),
+          ("A click or a drag on a receiver makes it lose the slots. Escape returns to “look”.", True))
+    settle(b)
+    before = b.run(drawn)
+    for kind, place, wanted in (("mousePressed", places[0], [4, 4, 0, 4, 4, 4, 4, 4, 4]),
+                                ("mouseMoved", places[1], [4, 4, 0, 0, 0, 0, 0, 4, 4])):
+        mouse(b, kind, place)
+        settle(b)
+        got = b.run(codes), b.run(drawn) != before, of(b, "#script-undo", "disabled")
+        check(f"{kind}: the lane shows it", got, (wanted, True, True))
+        before = b.run(drawn)
+    mouse(b, "mouseReleased", places[1], 0)
+    check("and as well once it is played", (b.run(codes), of(b, "#script-undo", "disabled")), ([4, 4, 0, 0, 0, 0, 0, 4, 4], False))
+    b.key("Escape", number=27)
+    mouse(b, "mouseMoved", places[0], 0)
+    brushes = b.run("document.querySelector('[name=brush]:checked').value")
+    check("Escape ends it", (brushes, text_of(b, "#brush-on"), b.run(pointer)), ("look", "", False))
+    b.drag(*places)
+    check("and a drag changes nothing more", b.run(codes), [4, 4, 0, 0, 0, 0, 0, 4, 4])
 
 
 def typed_in_time(b):
@@ -568,12 +611,90 @@ def the_dwell(b):
     check("the chosen tab is told", told, ["false", "false", "true"])
 
 
+def dwell_shows(b):
+    """The two answers for texts that change every so many seconds, without their buttons, and the time of the first card."""
+    answers = b.run("[...document.querySelectorAll('#answers p')].map(p => p.textContent)")
+    return [*answers, *b.run("[...document.querySelectorAll('.card.first strong')].map(card => card.textContent)")]
+
+
+def the_dwell_of_texts(b):
+    """The largest M for texts that change every so many seconds; numbers and sliders in step; numbers out of bounds."""
+    call(b, "page.tab", "dwell")
+    for field, number in (("m", 128), ("k", 0), ("f", 50), ("s", 15)):
+        call(b, "probe.choose", f"dwell-{field}", number)
+    answer = "{} M + K can be at most {}. {} The chosen M + K = {} {}. {}"
+    rules = (("Safe:", "Each text must stay on air for at least M + K slots."),
+             ("With our own encoder:", "It keeps each text on air for 2 (M + K) slots."))
+    wanted = [answer.format(rules[0][0], "171 slots (15.0 s)", rules[0][1], 128, "fits", "Set M = 171"),
+              answer.format(rules[1][0], "85 slots (7.44 s)", rules[1][1], 128, "is too large", "Set M = 85"), "11.2 s"]
+    check("texts of 15 s", dwell_shows(b), wanted)
+    b.run("[...document.querySelectorAll('#answers button')].at(-1).click()")
+    check("the button sets M", [of(b, "#dwell-m", "value"), *dwell_shows(b)],
+          ["85", wanted[0].replace("128", "85"), wanted[1].replace("128 is too large", "85 fits"), "7.44 s"])
+    check("no slot of the slider is 85", (of(b, "#m-range", "value"), of(b, "#m-range", "ariaValueText")), ("64", "85 slots, 7.44 s"))
+    call(b, "probe.choose", "m-range", 65)
+    check("the slider sets M", of(b, "#dwell-m", "value"), "91")
+    call(b, "probe.choose", "dwell-k", 90)
+    ends = [it.endswith(told) for it, told in zip(dwell_shows(b), ("Set M = 81", "With K = 90 no M fits."))]
+    check("a K for one answer alone", ends, [True, True])
+    check("the slider follows K", of(b, "#k-range", "value"), "90")
+    call(b, "probe.choose", "dwell-k", 0)
+    for seconds in (1, 22, 208, 3600, 86400):
+        call(b, "probe.choose", "dwell-s", seconds)
+        slots = seconds * 2375 // 208
+        got = [int(re.search("at most ([0-9,]+) slots", it)[1].replace(",", "")) for it in dwell_shows(b)[:2]]
+        check(f"texts of {seconds} s", got, [slots, slots // 2])
+    check("M ends at its bound", "Set M = 65,535" in dwell_shows(b)[0], True)
+    for field, name, low, high in (("m", "Dwell M", 1, "65,535"), ("k", "Late K", 0, "1,024"), ("f", "Slots free for texts", 5, 100),
+                                   ("s", "The time between texts in seconds", 1, "86,400")):
+        was = of(b, f"#dwell-{field}", "value")
+        for value in (str(low - 1), str(int(str(high).replace(",", "")) + 1), "", "1e2"):
+            call(b, "probe.choose", f"dwell-{field}", value)
+            got = text_of(b, "#dwell-fault"), dwell_shows(b), text_of(b, "#ladder")
+            check(f"dwell-{field} {value!r}", got, (f"{name} must be a whole number from {low} to {high}.", [], ""))
+        call(b, "probe.choose", f"dwell-{field}", was)
+    check("and a good number again", (of(b, "#dwell-fault", "hidden"), len(dwell_shows(b))), (True, 3))
+    for field, number in (("m", 128), ("s", 15)):
+        call(b, "probe.choose", f"dwell-{field}", number)
+
+
 # ---- files, links, faults
 
 
 def hidden(b):
     """The tabs that are not open."""
     return [name for name in TABS if of(b, f"#{name}", "hidden")]
+
+
+def why_no_text(b):
+    """The examples open on a mix of the flag bit alone beside the dwell, and say why that one shows no text."""
+    reload(b)
+    lines = program(["sim", "--pi", "C201", "--m", "8"], example("mix.csv"))[1]
+    slot = re.search("^(\\d+) r1 text", lines, re.M)[1]
+    told = ("The receiver with the dwell has dropped its segments of the old text. It shows the next one when it is whole: in slot "
+            f"{slot}.")
+    for tab in ("log", "script"):
+        call(b, "page.tab", tab)
+        kinds = [of(b, f"#{tab}-{it}", "classList.contains('mixed')") for it in ("radio", "alone")]
+        check(f"the first of {tab}", (kinds, text_of(b, f"#{tab}-why")), ([False, True], told))
+        b.run(f"{tab}_tab.timeline.move({slot})")
+        check(f"and where {tab} shows it", (shown(b, f"{tab}-radio"), text_of(b, f"#{tab}-why")), ("B7: closed today", ""))
+
+
+def causes(b):
+    """Why no text is shown: the next one begins, the encoder went silent, or nothing came for the dwell."""
+    rows = ["-,,1,G"] * 48
+    rows[8], rows[24], rows[28] = "text,The first of two texts,1,G", "text,Another one of so many words,1,G", "restart,,1,G"
+    silent = "".join(f"{row}\n" for row in rows)
+    rows = [f"-,,1,{'L' if 20 <= slot < 28 else 'G'}" for slot in range(48)]
+    rows[8] = "text,HI,1,G"
+    lost = "".join(f"{row}\n" for row in rows)
+    begins, silence = "the next begins", "the encoder is silent"
+    for script, wanted in ((silent, {26: begins, 27: begins, 30: silence, 46: silence}), (lost, {28: "forgotten"})):
+        open_script(b, script, m=8, k=0)
+        for slot, word in wanted.items():
+            b.run(f"script_tab.timeline.move({slot})")
+            check(f"why no text is shown in slot {slot}", shown(b, "script-radio"), f"— {word} —")
 
 
 def files(b):
@@ -593,6 +714,90 @@ def files(b):
         click(b, "#script-time [data-do=save]")
         data = waited_for(os.path.join(folder, "timeline.png"))
         check("a saved picture", (data[:8], struct.unpack(">I", data[16:20])), (b"\x89PNG\r\n\x1a\n", (2400,)))
+
+
+def several_files(b):
+    """Of several dropped files the page opens the first, and says how many it left out."""
+    open_script(b, "")
+    script, told = example("tunnel.csv").decode(), "The page shows one file at a time. It opened {} and left out {}."
+    for names, left, tab in ((["a.csv", "b.log"], "1 other file", "script"), (["<b>.log", "b.csv", "c"], "2 other files", "log"),
+                             (["a.csv"], "", "script")):
+        call(b, "probe.drop_all", [[name, script if name.endswith(".csv") else HI] for name in names])
+        settle(b)
+        got = text_of(b, "#left-out"), hidden(b), text_of(b, f"#{tab}-file-name")
+        check(f"dropped: {names}", got, (told.format(names[0], left) if left else "", [it for it in TABS if it != tab], names[0]))
+
+
+def long_fields(b):
+    """A field of 3 MB is printed nowhere: the fault does not quote it, and the form shows its begin."""
+    long = "A" * 3_000_000
+    for script, left in ((f"{long},,1,G\n", 0), (f"text,{long},1,G\n-,,1,G\n", 401), (f"-,,1,{long}\n", 0)):
+        call(b, "probe.drop", "own.csv", script)
+        settle(b)
+        sizes = b.run("[document.body.textContent, document.body.innerText].map(text => text.includes('A'.repeat(500)))")
+        note = run_program(["sim", "--pi", "C201"], script.encode())[2][-1]
+        got = text_of(b, "#script-fault").partition(". The rows after")[0], sizes, of(b, "#argument", "value.length")
+        check(f"a field of 3 MB in {script[:8]}", got, (note, [False, False], left))
+    open_script(b, f"text,{long},1,G\n-,,1,G\n", m=8, k=0)
+    b.run("script_tab.timeline.move(0)")
+    b.run("document.getElementById('free').click()")
+    row = b.run("(row => [row.argument.length, row.free])(script_tab.state.rows[0])")
+    check("an edit keeps it", [*row, of(b, "#argument", "readOnly")], [len(long), "0", True])
+    b.run("script_tab.timeline.move(1)")
+    check("and a short one can be typed", (of(b, "#argument", "readOnly"), of(b, "#argument", "value")), (False, ""))
+    call(b, "log_tab.open", f"{long}\n", {"m": 8})
+    settle(b)
+    check("nor is a line of 3 MB", b.run("document.body.textContent.includes('A'.repeat(100))"), False)
+
+
+TURNS = "\u061c\u200e\u200f\u202a\u202b\u202c\u202d\u202e\u2066\u2067\u2068\u2069"
+
+
+def directions(b):
+    """No text of a file turns the words of the page around it: it is isolated, and marks of direction are escapes."""
+    title = "RadioText, slot by slot"
+    for mark in [*TURNS, "\x1b", "\x85"]:
+        open_script(b, f"text,a{mark}b,1,G\n", m=8, k=0)
+        found = set(text_of(b, "#script-fault")) & set(TURNS + "\x1b\x85")
+        check(f"U+{ord(mark):04X} in a fault", (found, of(b, "#script-fault", "hidden")), (set(), False))
+    open_script(b, "text,\u0639,1,G\n", m=8, k=0)
+    check("a quoted letter is isolated", text_of(b, "#script-fault bdi"), "'\u0639'")
+    verdict_of(b, "C201 \u202e \u0639\n", 8)
+    quoted = text_of(b, "#verdict bdi")
+    check("a quoted line is isolated", (quoted[:6], set(quoted) & set(TURNS)), ('"C201 ', set()))
+    for name, wanted in (("a\u202egol.csv", "a\\u202Egol.csv"), ("\u0639.csv", "\u0639.csv")):
+        call(b, "probe.drop_all", [[name, "-,,1,G\n"], ["b", ""]])
+        settle(b)
+        got = [text_of(b, "#script-file-name bdi"), text_of(b, "#left-out bdi")]
+        isolated = wanted if wanted.isascii() else f"\u2068{wanted}\u2069"
+        check(f"a file's name {wanted}", (got, b.run("document.title")), ([wanted] * 2, f"{isolated} – {title}"))
+    first_examples(b)
+
+
+def pictures(b):
+    """The picture has the title, the displays of the chosen slot, the lanes and the legend, in the colours of the page."""
+    for scheme in SCHEMES:
+        b.scheme(scheme)
+        for tab in ("log", "script"):
+            call(b, "page.tab", tab)
+            call(b, "probe.choose", f"{tab}-example", 4 if tab == "log" else 0)
+            settle(b)
+            shows = f"document.querySelectorAll('#{tab} .radio figcaption span, #{tab} .radio .text')"
+            displays = b.run(f"[...{shows}].map(it => it.textContent).filter(text => text)")
+            legend = b.run(f"[...document.querySelectorAll('#{tab} .legend > span')].map(it => it.textContent)")
+            all_texts = b.run(f"probe.pictured({tab}_tab.timeline)")
+            texts = [text for _, text, _ in all_texts]
+            drawn = " ".join(texts)
+            missing = [it for it in displays if it not in drawn and it not in drawn.replace("  ", " ")]
+            check(f"{scheme} {tab}: the displays are drawn", (len(displays) > 4, missing), (True, []))
+            check(f"{scheme} {tab}: the title is first, the legend last", (texts[0], texts[-len(legend):]),
+                  (b.run(f"{tab}_tab.timeline.title"), legend))
+            colours = {ink for _, _, ink in all_texts[-len(legend):]}
+            dim = b.run("getComputedStyle(document.documentElement).getPropertyValue('--dim').trim()")
+            check(f"{scheme} {tab}: its colour", colours, {dim})
+            check(f"{scheme} {tab}: a mix is marked", any(text.startswith("⚠ nobody sent") for text in texts), True)
+    b.scheme("light")
+    first_examples(b)
 
 
 # three texts of two segments, each for 100 slots
@@ -729,8 +934,8 @@ def packed(script):
 def links(b, url):
     open_script(b, example("late.csv").decode(), m=4, k=2, pty="10")
     click(b, "#script-share")
-    b.until("!!document.getElementById('script-link').value")
-    link, before = of(b, "#script-link", "value"), printed(b)
+    b.until("location.hash.includes('script=')")
+    link, before = b.run("location.href"), printed(b)
     visit(b, link)
     check("a link opens its script", (printed(b), hidden(b), len(link) < 2000), (before, ["log", "dwell"], True))
     visit(b, f"{url}#script=nonsense")
@@ -745,6 +950,172 @@ def links(b, url):
     click(b, "#script-share")
     settle(b)
     check("a script that is too long for one", text_of(b, "#script-saved"), "This script is too long for a link: save it as a file.")
+
+
+@contextlib.contextmanager
+def served(folder):
+    """Serves the page's folder; gives the page's address."""
+    class Handler(SimpleHTTPRequestHandler):
+        def __init__(self, *given):
+            super().__init__(*given, directory=folder)
+
+        def log_message(self, *_):
+            pass
+
+    server = ThreadingHTTPServer(("127.0.0.1", 0), Handler)
+    threading.Thread(target=server.serve_forever, daemon=True).start()
+    try:
+        yield f"http://127.0.0.1:{server.server_port}/index.html"
+    finally:
+        server.shutdown()
+        server.server_close()
+
+
+SIGHT = "[script_tab.timeline.cursor, script_tab.state.chosen, script_tab.timeline.from, script_tab.timeline.across]"
+
+
+def script_link(b):
+    """What the page says and shows of the script's link, whether the address has it, and the list of examples."""
+    shows = of(b, "#script-link", "checkVisibility()"), b.run("location.hash.includes('script=')")
+    return [text_of(b, "#script-saved"), *shows, of(b, "#script-example", "value")]
+
+
+def links_of_a_server(b, folder):
+    """A link opens its script, slot, receiver and zoom, stays in the address as long as it is right, and goes with an edit."""
+    with served(folder) as url:
+        visit(b, url)
+        click(b, "#tab-script")
+        call(b, "probe.choose", "script-example", 1)
+        b.run("script_tab.state.chosen = 1; script_tab.timeline.zoom(0.3, 20); script_tab.timeline.move(23, { keep: true })")
+        click(b, "#script-share")
+        b.until("document.querySelector('#script-saved').textContent !== ''")
+        check("a link is copied", script_link(b)[0] in ("The link was copied.", "This is the link: copy it."), True)
+        link, before, made = of(b, "#script-link", "value"), printed(b), script_link(b)
+        check("the address is the link", (b.run("location.href"), made[1:]), (link, [True, True, "1"]))
+        sight = b.run(f"{SIGHT}.map(Math.round)")
+        check("it was zoomed", (sight[:2], sight[3] < 30), ([23, 1], True))
+        call(b, "probe.choose", "command", "restart")
+        check("an edit drops the link", script_link(b), ["", False, False, ""])
+        click(b, "#script-undo")
+        check("an undo has it in the address again", script_link(b), ["", False, True, "1"])
+        call(b, "page.tab", "log")
+        check("another tab has its own address", b.run("location.hash"), "#log")
+        visit(b, link)
+        check("the link opens all that", [printed(b), b.run(SIGHT), hidden(b)], [before, sight, ["log", "dwell"]])
+        reload(b)
+        check("and a reload too", [printed(b), b.run(SIGHT), hidden(b)], [before, sight, ["log", "dwell"]])
+        for more in ("&slot=9999999&from=-1&across=0&receiver=9", "&slot=x&from=1e9&across=1e9&receiver="):
+            visit(b, re.sub("&slot=.*", "", link) + more)
+            check(f"a link with {more}", [printed(b), b.run(f"{SIGHT}[3] > 7 && {SIGHT}[1] < 2")], [before, True])
+
+
+LOG_STATE = ("(({ timeline: { cursor, from, across }, state: { lost } }) => [document.getElementById('log-lines').textContent, "
+             "[...lost].sort((a, b) => a - b), cursor, from, across, "
+             "...['pi', 'm', 'k'].map(it => document.getElementById(`log-${it}`).value)])(log_tab)")
+
+
+def log_links(b, folder):
+    """A link of a log holds the log, the options, the lost slots, the slot and the zoom, and it stays in the address."""
+    told, address = lambda: text_of(b, "#log-saved"), "location.hash.includes('log=')"
+    with served(folder) as url:
+        visit(b, url)
+        call(b, "page.tab", "log")
+        call(b, "log_tab.open", EVERY_100, {"pi": "C201", "m": 100, "k": 3, "lost": [2, 3, 4, 9, 100]})
+        settle(b)
+        b.run("log_tab.timeline.zoom(0.1, 90); log_tab.timeline.move(103, { keep: true })")
+        b.run("(it => { it.from = Math.round(it.from); it.across = Math.round(it.across); })(log_tab.timeline)")
+        before = b.run(LOG_STATE)
+        click(b, "#log-share")
+        b.until("document.getElementById('log-saved').textContent !== ''")
+        link = of(b, "#log-link", "value")
+        check("the address is the link", (b.run("location.href"), len(link) < 1000, "lost=2-4.9.100" in link), (link, True, True))
+        b.run("log_tab.lose([7])")
+        settle(b)
+        check("a lost slot drops the link", (told(), b.run(address), of(b, "#log-link", "hidden")), ("", False, True))
+        b.run("log_tab.lose([7])")
+        settle(b)
+        check("and without it the address has it again", (told(), b.run(address)), ("", True))
+        visit(b, link)
+        check("the link opens all that", [b.run(LOG_STATE), hidden(b)], [before, ["script", "dwell"]])
+        for more in ("&lost=1-9999999.0-9999999", "&lost=1-&m=0&k=1025&pi=FFFF&slot=-1", "&lost=<b>"):
+            visit(b, re.sub("&.*", "", link) + more)
+            state = b.run(LOG_STATE)
+            check(f"a link with {more}", (told(), state[5:], len(state[1]) <= 100_000), ("", ["C201", "8", "0"], True))
+        visit(b, f"{url}#log=nonsense")
+        check("a link that holds none", told(), "The link has no log.")
+        dice = random.Random(SEED)
+        call(b, "log_tab.open", "".join(f"# {dice.random()}\n" for _ in range(20_000)))
+        click(b, "#log-share")
+        b.until("document.getElementById('log-saved').textContent !== ''")
+        check("a log that is too long for one", told(), "This log is too long for a link: save it as a file.")
+
+
+def links_from_disk(b, url):
+    """A link of a page on a disk is of no use to others: the page says so, and offers to save the script."""
+    visit(b, url)
+    open_script(b, example("late.csv").decode(), m=4, k=2)
+    click(b, "#script-share")
+    b.until("document.querySelector('#script-saved').textContent !== ''")
+    check("a link from disk", script_link(b)[:3],
+          ["This page was opened from a disk, so its links are of no use to others. Save the file and share it. Save the script", False,
+           True])
+    with tempfile.TemporaryDirectory() as saved:
+        b.ask("Browser.setDownloadBehavior", behavior="allow", downloadPath=saved)
+        click(b, "#script-saved button")
+        check("its script is saved", waited_for(os.path.join(saved, "script.csv")), example("late.csv"))
+
+
+def asked(b, does):
+    """Does it, and answers whether the page asks of unsaved edits and what it asks to keep; the keys answer no and then yes."""
+    got = []
+    for key in ("Escape", "Enter"):
+        before = of(b, "#script-text", "value")
+        does()
+        settle(b)
+        got.append(b.run("document.activeElement.id"))
+        if key == "Enter":
+            b.key("Tab", number=9)
+            b.key("Enter", number=13, text="\r")
+        else:
+            b.key("Escape", number=27)
+        settle(b)
+        got.append(of(b, "#script-text", "value") == before)
+    return [*got, of(b, "#ask", "open")]
+
+
+def unsaved_edits(b, url):
+    """Nothing is opened over unsaved edits before a yes, and the browser asks before it leaves them."""
+    leaves = "window.dispatchEvent(new Event('beforeunload', { cancelable: true }))"
+    script, other = example("tunnel.csv").decode(), example("late.csv").decode()
+    with tempfile.TemporaryDirectory() as saved:
+        b.ask("Browser.setDownloadBehavior", behavior="allow", downloadPath=saved)
+        visit(b, url)
+        ways = (("an example", lambda: call(b, "probe.choose", "script-example", 2)),
+                ("a file", lambda: call(b, "probe.pick", "script-file", "own.csv", other)),
+                ("a dropped file", lambda: call(b, "probe.drop", "own.csv", other)),
+                ("a link", lambda: b.run(f"location.hash = 'script={packed(other.encode())}&m=4&k=2'")))
+        for what, does in ways:
+            open_script(b, script, m=8, k=0)
+            b.run("script_tab.timeline.move(3)")
+            check(f"{what}: nothing is unsaved before", b.run(leaves), True)
+            call(b, "probe.choose", "command", "restart")
+            check(f"{what}: an edit is unsaved", b.run(leaves), False)
+            check(f"{what} over unsaved edits", asked(b, does), ["ask-no", True, "ask-no", False, False])
+            check(f"{what} is opened after a yes", (of(b, "#script-text", "value"), b.run(leaves)), (other, True))
+        open_script(b, script, m=8, k=0)
+        call(b, "probe.choose", "command", "restart")
+        call(b, "probe.drop", "own.log", f"{HI}\n")
+        settle(b)
+        check("a log over a script asks nothing", (of(b, "#ask", "open"), hidden(b)), (False, ["script", "dwell"]))
+        for asks in (True, False):
+            b.events.clear()
+            visit(b, url)
+            questions = [it["type"] for it in b.told("Page.javascriptDialogOpening")]
+            check(f"the browser asks before it leaves the page: {asks}", questions, ["beforeunload"] if asks else [])
+            open_script(b, script, m=8, k=0)
+            call(b, "probe.choose", "command", "restart")
+            click(b, "#script-save")
+            check("a saved script is not unsaved", (waited_for(os.path.join(saved, "script.csv")) != b"", b.run(leaves)), (True, True))
 
 
 def faults(b):
@@ -775,6 +1146,32 @@ def faults(b):
         b.run(f"script_tab.timeline.move({slot})")
         all_shown = [shown(b, f"script-{it}") for it in ("air", "radio", "alone")]
         check(f"slot {slot} behind it is not played", all_shown, ["— not played —"] * 3)
+
+
+BAD_ROW = re.compile(r"fault row (\d+) \(line (\d+)\)")
+SOME_ROWS = ["-,,1,G"] * 6 + ['"-","",1,G', '""', "", "", '-,"a\n,b",1,G', '-,"a""b",1,G', '-,"a"b,1,G', '"a\n\nb"', "restart,,1,G"]
+
+
+def rows_of_faults(b):
+    """The page shows the line of the row that the program names: rows of two quotation marks, empty lines, each line end."""
+    dice, seen = random.Random(SEED), set()
+    scripts = ['-,,1,G\n""\n-,,1,G\n', '""\r-,,1,G\r', '-,,1,G\r-,,1,G\r\r-,,2,G\r', "-,,1,G\r-,x,1,G"]
+    for _ in range(60):
+        rows, end = [dice.choice(SOME_ROWS) for _ in range(dice.randrange(1, 12))], dice.choice(["\n", "\r\n", "\r", None])
+        scripts.append("".join(row.replace("\n", end or "\n") + (end or dice.choice(["\n", "\r\n", "\r"])) for row in rows))
+    for script in scripts:
+        # the program counts line feeds, so it is asked about the script with line feeds alone
+        plain = re.sub("\r\n?", "\n", script).rstrip("\n") + "\n"
+        told = BAD_ROW.search("".join(run_program(["sim", "--pi", "C201"], plain.encode())[2]))
+        open_script(b, script, m=128, k=0)
+        got = BAD_ROW.search(text_of(b, "#script-fault"))
+        check(f"the row of {script!r}", got and got[1], told and told[1])
+        if not told or not got:
+            continue
+        click(b, "#script-fault button")
+        check(f"the line of {script!r}", call(b, "probe.chosen_line", "script-text"), plain.split("\n")[int(told[2]) - 1])
+        seen.add(plain.split("\n")[int(told[2]) - 1])
+    check("several kinds of bad rows", len(seen) > 4 or seen, True)
 
 
 def warnings(b):
@@ -1050,10 +1447,10 @@ def first_examples(b):
 def keyboard(b):
     """The tab key reaches all that can be used in each tab, and the arrows choose the tabs."""
     wanted = {
-        "log": ["tab-log", "log-example", "log-file", "log-pi", "log-m", "log-k", "CANVAS", "log-click", "SUMMARY"],
+        "log": ["tab-log", "log-example", "log-file", "log-pi", "log-m", "log-k", "log-share", "CANVAS", "log-click", "SUMMARY"],
         "script": ["tab-script", "script-example", "script-file", "script-m", "script-n", "script-slots", "command", "free", "brush",
                    "script-save", "script-share", "CANVAS", "SUMMARY"],
-        "dwell": ["tab-dwell", "m-range", "k-range", "f-range"],
+        "dwell": ["tab-dwell", "m-range", "k-range", "f-range", "dwell-m", "dwell-k", "dwell-f", "dwell-s"],
     }
     first_examples(b)
     for name in TABS:
@@ -1202,9 +1599,9 @@ def no_wide_memory(b, url):
 
 def nothing_fetched(b, folder):
     fetched = b.fetched()
-    away = [it for it in fetched if not it.startswith((f"file://{folder}/", "data:", "blob:", "about:"))]
+    away = [it for it in fetched if not it.startswith((f"file://{folder}/", "http://127.0.0.1:", "data:", "blob:", "about:"))]
     check("nothing is fetched but the page's files", away, [])
-    here = {re.sub("[?#].*", "", it).rsplit("/", 1)[-1] for it in fetched if it.startswith("file:")}
+    here = {re.sub("[?#].*", "", it).rsplit("/", 1)[-1] for it in fetched if it.startswith(("file:", "http:"))}
     check("and these are in its folder", (sorted(here - set(os.listdir(folder))), len(here) > 10), ([], True))
 
 
@@ -1234,8 +1631,9 @@ def policy(b, url):
     check("and nothing be fetched", sorted(asked), [])
 
 
-PARTS = (the_first_log, the_first_script, typed_in_time, edits_of_one_row, names_and_tags, a_mix_of_tags, flag_bit_alone, restarts,
-         the_dwell, files_at_the_default, files_of_bytes, names_of_files, no_old_results, faults, warnings, other_dwells, lost_by_time,
+PARTS = (the_first_log, the_first_script, brush_at_once, typed_in_time, edits_of_one_row, names_and_tags, a_mix_of_tags,
+         flag_bit_alone, why_no_text, causes, restarts, the_dwell, the_dwell_of_texts, several_files, long_fields, directions, pictures,
+         files_at_the_default, files_of_bytes, names_of_files, no_old_results, faults, rows_of_faults, warnings, other_dwells, lost_by_time,
          lines_of_a_log, list_of_changes, words_of_groups, explained, witnesses, kinds_of_groups, marks, zooming,
          the_overview, keyboard, same_lines_of_examples, same_help_and_refusals,
          same_lines_by_chance)
@@ -1252,6 +1650,10 @@ def cases_of(b, folder, parts):
         for part in parts:
             part(b)
         links(b, url)
+        links_of_a_server(b, folder)
+        log_links(b, folder)
+        links_from_disk(b, url)
+        unsaved_edits(b, url)
     check("the browser's console is empty", b.complaints(), [])
     no_wide_memory(b, url)
     nothing_fetched(b, folder)

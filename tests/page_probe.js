@@ -27,10 +27,11 @@ const probe = (() => {
   /* A file of this text, or of these bytes. */
   const file = (name, content) => new File([typeof content === "string" ? content : Uint8Array.from(content)], name);
 
-  /* Drops such a file on the page. */
-  function drop(name, content) {
+  /* Drops such files on the page, each a name and a content. */
+  const drop = (name, content) => drop_all([[name, content]]);
+  function drop_all(all) {
     const data = new DataTransfer();
-    data.items.add(file(name, content));
+    for (const [name, content] of all) data.items.add(file(name, content));
     document.querySelector("h1").dispatchEvent(new DragEvent("drop", { dataTransfer: data, bubbles: true, cancelable: true }));
   }
 
@@ -198,6 +199,17 @@ const probe = (() => {
   /* The graphics whose contrast to their lane is too low. */
   const faint = (least) => GRAPHICS.filter(([a, b]) => ratio(colour(a), colour(b)) < least).map((pair) => pair.join(" on "));
 
+  /* The texts of a timeline's picture from the top down, with their colours. */
+  function pictured(timeline) {
+    const all = [], { fillText } = CanvasRenderingContext2D.prototype;
+    CanvasRenderingContext2D.prototype.fillText = function (text, x, y) {
+      all.push([Math.round(this.getTransform().f / 2 + y), text, this.fillStyle]);
+      fillText.call(this, text, x, y);
+    };
+    try { picture.drawn(timeline); } finally { CanvasRenderingContext2D.prototype.fillText = fillText; }
+    return all.sort(([a], [b]) => a - b);
+  }
+
   // ---- many slots
 
   const many = {};
@@ -293,7 +305,8 @@ const probe = (() => {
   }
 
   return {
-    axis, choose, chosen_line, colour, column, columns_of, contrasts, drop, faint, idle, labels, large, longest_task, many, on_overview, pick, place, reds,
+    axis, choose, chosen_line, colour, column, columns_of, contrasts, drop, drop_all, faint, idle, labels, large, longest_task, many, on_overview, pick, pictured,
+    place, reds,
     run, shares_of, swatches, tempt, ticks, type_and_leave,
   };
 })();

@@ -1,0 +1,163 @@
+"use strict";
+/* Links that hold a log or a script, and the address of the page. A link has the letters of the text, the options, the slot
+   and the zoom. */
+const links = (() => {
+  const { $, make } = parts;
+  /* A few letters can hold many bytes, so both ways have a bound of bytes. */
+  const MOST = 8000, MOST_PLAIN = 4_000_000, MOST_LOST = 100_000, TOO_LARGE = "too large";
+  const FROM_DISK = "This page was opened from a disk, so its links are of no use to others. Save the file and share it. ";
+  /* The link of each tab: the text and the options that it holds, its hash, and whether the tab still holds them. */
+  const held = {};
+
+  // ---- a text as letters
+
+  /* Reads the stream up to a bound, and no further; throws beyond it. */
+  async function squeezed(bytes, by, most = Infinity) {
+    const reader = new Blob([bytes]).stream().pipeThrough(by).getReader(), pieces = [];
+    let length = 0;
+    for (;;) {
+      const { done, value } = await reader.read();
+      if (done) break;
+      length += value.length;
+      if (length > most) {
+        await reader.cancel();
+        throw new RangeError(TOO_LARGE);
+      }
+      pieces.push(value);
+    }
+    return new Uint8Array(await new Blob(pieces).arrayBuffer());
+  }
+
+  /* Returns a text as letters; null if it is too long. */
+  async function pack(text) {
+    if (text === null) return null;
+    const plain = new TextEncoder().encode(text);
+    if (plain.length > MOST_PLAIN) return null;
+    const bytes = await squeezed(plain, new CompressionStream("deflate-raw"));
+    if (bytes.length > MOST) return null;
+    return btoa(String.fromCharCode(...bytes)).replaceAll("+", "-").replaceAll("/", "_").replace(/=+$/, "");
+  }
+
+  async function unpack(packed) {
+    const plain = atob(packed.replaceAll("-", "+").replaceAll("_", "/"));
+    const packed_bytes = Uint8Array.from(plain, (c) => c.charCodeAt(0));
+    const bytes = await squeezed(packed_bytes, new DecompressionStream("deflate-raw"), MOST_PLAIN);
+    return new TextDecoder("utf-8", { fatal: true, ignoreBOM: true }).decode(bytes);
+  }
+
+  // ---- the address
+
+  /* The hash of the address while a tab is open: its link, or its name if the tab holds another input by now. */
+  const hash_of = (tab) => held[tab]?.is_now ? held[tab].hash : tab;
+
+  function put_address(tab) {
+    try { history.replaceState(null, "", `#${hash_of(tab)}`); } catch { /* some browsers refuse it to a file */ }
+  }
+
+  const is_open = (tab) => !$(tab).hidden;
+
+  /* Notes the link of a tab. */
+  function hold(tab, { text, options }, hash) {
+    held[tab] = { text, options, hash, is_now: true };
+    if (is_open(tab)) put_address(tab);
+  }
+
+  /* Drops the link of a tab if the tab holds another input by now. */
+  function keep(tab, { text, options }) {
+    const link = held[tab], is_now = link?.text === text && link.options === options;
+    if (link && link.is_now !== is_now) {
+      link.is_now = is_now;
+      if (is_open(tab)) put_address(tab);
+    }
+    if (is_now) return;
+    $(`${tab}-link`).hidden = true;
+    tell(tab, "");
+  }
+
+  // ---- making one, and opening one
+
+  const tell = (tab, ...words) => $(`${tab}-saved`).replaceChildren(...words);
+
+  /* The slot and the zoom of a timeline, as a link has them. */
+  function sight_of({ cursor, from, across, count }) {
+    const zoom = across < count ? `&from=${Math.round(from)}&across=${Math.round(across)}` : "";
+    return `slot=${cursor}${zoom}`;
+  }
+
+  /* Makes the link of a tab, and shows and copies it; answers whether it does. `save` saves the text as a file. */
+  async function give(tab, { text, options, sight }, save) {
+    const packed = await pack(text), field = $(`${tab}-link`);
+    const is_shown = packed !== null && location.protocol !== "file:";
+    field.hidden = !is_shown;
+    if (packed === null) { tell(tab, `This ${tab} is too long for a link: save it as a file.`); return false; }
+    hold(tab, { text, options }, `${tab}=${packed}&${options}&${sight}`);
+    if (is_shown) await copy(tab, field);
+    else tell(tab, FROM_DISK, make("button", { type: "button", textContent: `Save the ${tab}`, onclick: save }));
+    return is_shown;
+  }
+
+  async function copy(tab, field) {
+    [field.value] = location.href.split("#");
+    field.value += `#${hash_of(tab)}`;
+    field.focus();
+    field.select();
+    try {
+      await navigator.clipboard.writeText(field.value);
+      tell(tab, "The link was copied.");
+    } catch { tell(tab, "This is the link: copy it."); }
+  }
+
+  /* Finds the tab whose link a hash is. The name of a tab alone is no link. */
+  const tab_of = (hash) => ["log", "script"].find((tab) => new URLSearchParams(hash).get(tab));
+
+  /* Reads the text of a link, and its numbers within bounds. */
+  async function read(tab, hash) {
+    const given = new URLSearchParams(hash);
+    const within = (name, low, high) => {
+      const number = /^\d{1,7}$/.test(given.get(name) ?? "") ? Number(given.get(name)) : NaN;
+      return number >= low && number <= high ? number : undefined;
+    };
+    return { text: await unpack(given.get(tab)), given, within };
+  }
+
+  /* Shows the slot and the zoom of a link. */
+  function look(timeline, { within }) {
+    const { count } = timeline, slot = within("slot", 0, count - 1), from = within("from", 0, count - 1);
+    const across = within("across", 1, count);
+    if (across !== undefined) timeline.across = Math.max(Math.min(8, count), across);
+    if (from !== undefined) timeline.from = timeline.within(from);
+    if (slot !== undefined) timeline.move(slot, { keep: true });
+    else timeline.draw();
+  }
+
+  // ---- lost slots
+
+  /* Slots as a link has them: 2-4.9 is 2, 3, 4 and 9. */
+  function in_letters(slots) {
+    const spans = [];
+    for (const slot of [...slots].sort((a, b) => a - b)) {
+      const last = spans.at(-1);
+      if (last && last[1] + 1 === slot) last[1] = slot; else spans.push([slot, slot]);
+    }
+    return spans.map(([first, last]) => first === last ? first : `${first}-${last}`).join(".");
+  }
+
+  /* The slots of these letters, at most MOST_LOST. Other letters give none. */
+  function slots_of(letters) {
+    const all = [];
+    if (!/^\d{1,7}(-\d{1,7})?(\.\d{1,7}(-\d{1,7})?)*$/.test(letters ?? "")) return all;
+    for (const span of letters.split(".")) {
+      const [first, last = first] = span.split("-").map(Number);
+      for (let slot = first; slot <= last && all.length < MOST_LOST; slot++) all.push(slot);
+    }
+    return all;
+  }
+
+  /* Why a link was not opened. */
+  function why_not(tab, error) {
+    if (error.message === TOO_LARGE) return `The link holds a ${tab} of more than 4 MB. The page does not open it.`;
+    return `The link has no ${tab}.`;
+  }
+
+  return { MOST_PLAIN, give, hold, in_letters, keep, look, put_address, read, sight_of, slots_of, tab_of, tell, why_not };
+})();
