@@ -61,7 +61,7 @@ const page = (() => {
     $("left-out").replaceChildren();
     return replaces(name, async () => {
       tab(name);
-      if (name === "script") script_tab.open(decoder.decode(input), { ...how, input }); else await log_tab.open(input, how);
+      if (name === "script") script_tab.open(decoder.decode(input), { ...how, input }); else await log_tab.open(input, { ...how, blob: file });
       return true;
     });
   }
@@ -81,7 +81,7 @@ const page = (() => {
       return it && open(it.from ? rdsrt.run(it.from, it.text).output : it.text, { ...it, example: select.value });
     };
     select.replaceChildren(...all.map((it, i) => new Option(it.name, i)), new Option("your own", ""));
-    select.onchange = () => replaces(what, use, () => { select.value = ""; });
+    select.onchange = () => { if (select.value) replaces(what, use, () => { select.value = ""; }); };
     select.value = Math.max(0, all.findIndex((it) => it.is_first));
     // an empty field hears the choice of the same file again
     $(`${what}-file`).onchange = ({ target }) => {

@@ -71,7 +71,9 @@ const arrivals = (() => {
   function eachTimed(bytes, log, what) {
     let last = NaN;
     for (let slot = 0; slot < log.count; slot++) {
-      const start = log.starts[slot], end = logfile.endOf(bytes, start), time = timeOf(bytes, start + logfile.BLOCKS + 1, end);
+      const start = log.starts[slot];
+      if (logfile.isBare(bytes, start)) continue;
+      const end = logfile.endOf(bytes, start), time = timeOf(bytes, start + logfile.BLOCKS + 1, end);
       if (Number.isNaN(time)) continue;
       what(start, end, Number.isNaN(last) ? 1 : slotsBetween(last, time));
       last = time;

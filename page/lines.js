@@ -109,6 +109,17 @@ const lines = (() => {
     return codes;
   }
 
+  /* Counts the slots before each slot: those with no group, with a text of flag A, and with a text of flag B. */
+  function sums(codes) {
+    const [none, low, high] = [0, 0, 0].map(() => new Int32Array(codes.length + 1));
+    for (let i = 0; i < codes.length; i++) {
+      none[i + 1] = none[i] + (codes[i] === NOTHING ? 1 : 0);
+      low[i + 1] = low[i] + (codes[i] === TEXT ? 1 : 0);
+      high[i + 1] = high[i] + (codes[i] === (TEXT | FLAG) ? 1 : 0);
+    }
+    return { none, low, high };
+  }
+
   const CLASSES = ["", "TITLE", "ALBUM", "TRACKNUMBER", "ARTIST", "COMPOSITION", "MOVEMENT", "CONDUCTOR", "COMPOSER", "BAND", "COMMENT",
     "GENRE"];
   const class_of = (number) => number < CLASSES.length ? `ITEM.${CLASSES[number]}` : String(number);
@@ -116,6 +127,6 @@ const lines = (() => {
   const CODES = { NOTHING, TEXT, NAME, TAGS, OTHER, KIND, FLAG };
   const BITS = { FLAG_BIT, NAME_SEGMENT, TEXT_SEGMENT };
   return {
-    ...BITS, ...CODES, LOST, View, class_of, code_of, codes_of, marked_code_of, note_of, notes, read, seconds, SLOT, time, type_of,
+    ...BITS, ...CODES, LOST, View, class_of, code_of, codes_of, marked_code_of, note_of, notes, read, seconds, SLOT, sums, time, type_of,
   };
 })();

@@ -5,6 +5,8 @@ const log_tab = (() => {
   const PI = "C201", MOST_PROGRAMMES = 12;
   /* Milliseconds after which the page shows that it waits for an answer. */
   const PATIENCE = 150;
+  /* How many dwells after a no are searched first for a witness: most are there, and a log may be a day. */
+  const NEAR = 4;
   const PARTS = [["name", "name (PTYN)"], ["tag1", "first tag"], ["tag2", "second tag"]];
   const KINDS = ["nothing", "text", "name", "tags", "other"];
   const CLOCK = /\d\d:\d\d:\d\d/, LONGEST_TIME = 80;
@@ -34,6 +36,8 @@ const log_tab = (() => {
 
   timeline.displays = () => parts.displays("log-radio", "log-alone");
 
+  const pause = () => new Promise((done) => { setTimeout(done); });
+
   /* Keeps what is under way, so that a test can wait for it. */
   const working = (promise) => { state.work = promise; return promise; };
 
@@ -43,9 +47,10 @@ const log_tab = (() => {
     return look();
   }
 
-  /* Opens a log: its text, or the bytes of its file. Returns when its display and its verdict are shown. */
-  function open(content, { pi, m, k, lost = [], example = "", file = "" } = {}) {
+  /* Opens a log: its text, or the bytes of its file, which is `blob`. Returns when its display and its verdict are shown. */
+  function open(content, { pi, m, k, lost = [], example = "", file = "", blob } = {}) {
     const bytes = typeof content === "string" ? encoder.encode(content) : content;
+    state.blob = blob ?? new Blob([bytes]);
     for (const worker of Object.values(workers)) worker.drop();
     Object.assign(state, empty(), { bytes, lost: new Set(lost) });
     parts.name_file("log", file);
@@ -59,13 +64,13 @@ const log_tab = (() => {
 
   /* Reads the log in the workers, and looks at it. */
   async function read(pi) {
-    const opening = ++state.opening, { bytes } = state, done = wait("Reading the log");
+    const opening = ++state.opening, { blob } = state, done = wait("Reading the log");
     state.turn++;
-    const opened = await workers.display.ask("open", { bytes }, (share) => { $("log-progress").value = share; });
+    for (const name of ["audit", "search"]) workers[name].ask("keep", { blob });
+    const opened = await workers.display.ask("open", { blob }, (share) => { $("log-progress").value = share; });
     done();
     if (state.opening !== opening || !opened) return;
-    const { starts, count, missing } = opened.log;
-    for (const name of ["audit", "search"]) workers[name].ask("keep", { bytes, log: { starts, count } });
+    const { count, missing } = opened.log;
     let groups = 0;
     for (let slot = 0; slot < count; slot++) groups += missing[slot] ? 0 : 1;
     Object.assign(state, opened, { groups });
@@ -129,7 +134,12 @@ const log_tab = (() => {
     if (!asked.lost.length && state.whole?.pi === asked.pi && state.whole.m === asked.m) return state.whole;
     const got = await workers.display.askNewest("decode", asked);
     if (!got) return undefined;
-    const shown = { ...got, pi: asked.pi, m: asked.m, view: new lines.View(got.view), alone: new lines.View(got.alone) };
+    // what does not depend on M comes once
+    if (got.codes) {
+      state.known = { alone: new lines.View(got.alone), codes: got.codes };
+      Timeline.sums.set(got.codes, got.sums);
+    }
+    const shown = { ...got, ...state.known, pi: asked.pi, m: asked.m, view: new lines.View(got.view) };
     if (!asked.lost.length) state.whole = shown;
     return shown;
   }
@@ -145,11 +155,14 @@ const log_tab = (() => {
     state.mixed = sent ? (part, value) => !sent.has(parts.key_of(part, value)) : () => false;
     timeline.title = `rdsrt decode --pi ${asked.pi} --m ${asked.m}`;
     timeline.show(lanes(), log.count, { fit });
-    changes.show(view, state.mixed, { go_to: does.go_to, clock });
-    changes.move(timeline.cursor);
     $("log-limit").textContent = flag_alone.limit(log.count);
     $("log-limit").hidden = !flag_alone.limit(log.count);
     tell_lines("log", timeline.title, output);
+    // the list is laid out after the lanes are drawn
+    await pause();
+    if (state.turn !== turn) return;
+    changes.show(view, state.mixed, { go_to: does.go_to, clock });
+    changes.move(timeline.cursor);
   }
 
   /* The audit's answer; each is kept. */
@@ -174,9 +187,10 @@ const log_tab = (() => {
 
   /* Looks for a witness after a no. */
   async function search(asked, turn) {
-    const { no } = state;
+    const { no, log, bytes } = state, m = Number(asked.m);
     if (!no) return;
-    const found = await workers.search.askNewest("witness", { pi: asked.pi, m: Number(asked.m), no: no.slot });
+    const slots = no.slot + NEAR * m, near = { slots, bytes: slots < log.count ? log.starts[slots] : bytes.length };
+    const found = await workers.search.askNewest("witness", { pi: asked.pi, m, near });
     if (state.turn !== turn || !found) return;
     state.witness = found;
     verdict.show_witness(found, does);
@@ -198,7 +212,7 @@ const log_tab = (() => {
     go_to: (slot) => { timeline.move(slot); timeline.canvas.focus(); },
     show_line: (number) => log_text.go_to(state.log.end, number),
     choose_dwell: (m) => { $("log-m").value = m; look(); },
-    fill,
+    fill: () => working(fill()),
     /* Loses these slots alone, and goes to the one in which the mix is shown. */
     async lose(slot, first, last) {
       state.lost = new Set(Array.from({ length: last - first + 1 }, (_, i) => first + i));

@@ -37,6 +37,9 @@ const logfile = (() => {
     return next === RETURN && (bytes[at + 1] === undefined || bytes[at + 1] === NEWLINE);
   }
 
+  /* Returns whether a slot's line has its blocks alone. */
+  const isBare = (bytes, start) => bytes[start + BLOCKS] === undefined || bytes[start + BLOCKS] === NEWLINE;
+
   /* Writes the blocks of the line at `start` as those of slot `slot`. Returns false if it is no slot line. */
   function take(log, bytes, start, slot) {
     if (start + BLOCKS > bytes.length || !endsWell(bytes, start + BLOCKS)) return false;
@@ -59,7 +62,7 @@ const logfile = (() => {
     const log = { words: new Uint16Array(4 * most), missing: new Uint8Array(most), starts: new Uint32Array(most), numbers: new Uint32Array(most) };
     let slot = 0, start = 0, next = PER_STEP;
     for (let number = 1; start < bytes.length; number++) {
-      const isSlot = take(log, bytes, start, slot), end = endOf(bytes, start);
+      const isSlot = take(log, bytes, start, slot), end = isSlot && isBare(bytes, start) ? start + BLOCKS : endOf(bytes, start);
       if (isSlot) log.numbers[slot++] = number;
       else if (!isSkipped(bytes, start, end)) break;
       start = end + 1;
@@ -106,5 +109,5 @@ const logfile = (() => {
     return copy;
   }
 
-  return { BLOCKS, codes, endOf, groupAt, isSkipped, parse, programmes, received };
+  return { BLOCKS, codes, endOf, groupAt, isBare, parse, programmes, received };
 })();

@@ -236,7 +236,8 @@ const painter = (() => {
     });
   }
 
-  /* Draws marks and their labels. A label ends before the next mark. Bad marks come last, so that no other mark hides them. */
+  /* Draws marks and their labels. A label ends before the next mark or the lane's end. Bad marks come last, so that no other
+     mark hides them. */
   function marks(c, lane, sight, ink) {
     const { marks: all } = lane, end = sight.from + sight.across, middle = lane.top + lane.height / 2 + 0.5;
     const counts = new Uint32Array(Math.ceil(sight.room) + 1), apart = [], bad = [];
@@ -247,13 +248,14 @@ const painter = (() => {
       else if (is_apart) apart.push(i);
       else if (x >= sight.gutter) counts[Math.floor(x - sight.gutter)]++;
     }
+    const edge = sight.gutter + sight.room;
     crowds(c, counts, lane, sight, ink);
     c.font = `11px ${FONT}`;
     for (const i of [...apart, ...bad]) {
       const x = at(i), is_bad = all[i].bad, from = x + (is_bad ? 13 : 10);
       mark(c, x, lane, is_bad, ink);
       c.fillStyle = is_bad ? ink.bad : ink.text;
-      c.fillText(fitted(c, all[i].label, at(i + 1) - from - 4), from, middle);
+      c.fillText(fitted(c, all[i].label, Math.min(at(i + 1) - 4, edge) - from), from, middle);
     }
   }
 

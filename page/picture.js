@@ -2,7 +2,7 @@
 /* A timeline as a picture with its displays and its legend, and files to save. `timeline.displays` gives the displays of the
    chosen slot: { root, caption, led, name, text, tags, mixed, is_none }. */
 const picture = (() => {
-  const SCALE = 2, WIDTH = 1200, EDGE = 16, TITLE = 34, GAP = 14, DISPLAY = 156, LEGEND = 30, SIDE = 12;
+  const SCALE = 2, WIDTH = 1200, EDGE = 16, TITLE = 34, GAP = 14, DISPLAY = 156, LEGEND = 30;
   const MONO = "ui-monospace, 'DejaVu Sans Mono', monospace";
 
   function save_as(name, blob) {
@@ -59,31 +59,17 @@ const picture = (() => {
     all.forEach((it, i) => display(c, it, i * (each + GAP), each));
   }
 
-  /* A mark of the legend, by its class. */
-  function mark(c, kind, x, ink) {
-    const fills = { t0: ink.bad, t5: ink.wrong, t6: ink.stale };
-    c.fillStyle = fills[kind] ?? ink.codes[Number(kind[1])];
-    c.fillRect(x, kind === "t0" ? 5 : 0, SIDE, kind === "t0" ? 2 : SIDE);
-    if (kind !== "t5") return;
-    c.strokeStyle = ink.lane;
-    c.beginPath();
-    for (const [from, to] of [[0, SIDE / 2], [0, SIDE], [SIDE / 2, SIDE]]) {
-      c.moveTo(x + from, to);
-      c.lineTo(x + to, from);
-    }
-    c.stroke();
-  }
-
-  /* The words of the legend that the page has under this timeline. */
+  /* Draws the swatches and the words of the legend that the page has under this timeline. */
   function legend(c, timeline, ink) {
-    const all = timeline.root.closest("section").querySelectorAll(".legend > span:has(i)");
+    const all = timeline.root.closest("section").querySelectorAll(".legend > span:has(canvas)");
     let x = 0;
     c.font = `13px ${painter.FONT}`;
+    c.fillStyle = ink.dim;
     for (const it of all) {
-      mark(c, it.querySelector("i").className, x, ink);
-      c.fillStyle = ink.dim;
-      c.fillText(it.textContent, x + SIDE + 6, SIDE - 1);
-      x += SIDE + 26 + c.measureText(it.textContent).width;
+      const swatch = it.querySelector("canvas"), [width, height] = [swatch.width / SCALE, swatch.height / SCALE];
+      c.drawImage(swatch, x, 6 - height / 2, width, height);
+      c.fillText(it.textContent, x + width + 6, 11);
+      x += width + 26 + c.measureText(it.textContent).width;
     }
   }
 

@@ -44,7 +44,7 @@ const script_tab = (() => {
     const ticks = timeline.lanes.find((lane) => lane.kind === "ticks" && lane.group === receiver);
     const ends = Math.min(to + 1, ticks?.codes.length ?? 0);
     for (let s = from; s < ends; s++) ticks.codes[s] = code_heard(state.rows[s].receptions[receiver], s);
-    if (ticks) ticks.sums = Timeline.sums(ticks.codes);
+    if (ticks) ticks.sums = lines.sums(ticks.codes);
     timeline.draw();
   }
 
@@ -380,6 +380,7 @@ const script_tab = (() => {
   function tell_fault(text) {
     const { fault } = state.said, root = $("script-fault"), row = /^fault row (\d+)/.exec(fault ?? "");
     root.hidden = !fault;
+    root.replaceChildren();
     if (!fault) return;
     root.replaceChildren(...parts.told(`${lines.note_of(state.result.notes, fault) || fault}.`));
     const bad = row && records.read(text)[Number(row[1]) - 1];
@@ -405,9 +406,9 @@ const script_tab = (() => {
   /* Why receiver i shows no text in this slot, if it showed one up to the slot `from`. */
   function why_gone(from, slot, i) {
     if (state.rows.slice(from, slot + 1).some((row) => row.receptions[i] === "R")) return "restarted";
-    const why = parts.why_none("text", state.heard[i], { from, slot, pi: parseInt(PI, 16), m: state.m });
-    const is_silent = (state.air.at("text", slot)?.value ?? null) === null;
-    return why === parts.NEXT && is_silent ? "the encoder is silent" : why;
+    const why = (at) => parts.why_none("text", state.heard[i], { from, slot: at, pi: parseInt(PI, 16), m: state.m });
+    const is_silent = (at) => (state.air.at("text", at)?.value ?? null) === null;
+    return is_silent(slot) && (is_silent(from) || why(from) === parts.NEXT) ? "the encoder is silent" : why(slot);
   }
 
   function show_slot(slot) {

@@ -50,23 +50,19 @@ class Timeline {
     this.lanes = lanes;
     this.count = Math.max(1, count);
     if (fit || was !== this.count) this.fit();
-    for (const lane of lanes) if (lane.kind === "ticks") lane.sums = Timeline.sums(lane.codes);
+    for (const lane of lanes) if (lane.kind === "ticks") lane.sums = Timeline.sums_of(lane.codes);
     this.changes = this.all_changes();
     this.texts = lanes.filter((lane) => lane.strong).flatMap((lane) => lane.runs.filter((run) => run.label !== null).map((run) => run.from));
     this.strip = null;
     this.move(Math.min(this.cursor, this.count - 1), { keep: true });
   }
 
-  /* Counts the slots before each slot: those with no group, with a text of flag A, and with a text of flag B. */
-  static sums(codes) {
-    const [none, low, high] = [0, 0, 0].map(() => new Int32Array(codes.length + 1));
-    for (let i = 0; i < codes.length; i++) {
-      none[i + 1] = none[i] + (codes[i] === lines.NOTHING ? 1 : 0);
-      low[i + 1] = low[i] + (codes[i] === lines.TEXT ? 1 : 0);
-      high[i + 1] = high[i] + (codes[i] === (lines.TEXT | lines.FLAG) ? 1 : 0);
-    }
-    return { none, low, high };
+  /* Returns the sums of these codes, counted once. A worker may have counted them. */
+  static sums_of(codes) {
+    if (!Timeline.sums.has(codes)) Timeline.sums.set(codes, lines.sums(codes));
+    return Timeline.sums.get(codes);
   }
+  static sums = new WeakMap();
 
   all_changes() {
     const at = new Set();

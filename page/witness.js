@@ -2,8 +2,6 @@
 /* After a no: the slots that a receiver has to lose to show what nobody sent. The program's command `witness` finds them. */
 const witness = (() => {
   const LOSE = /^lose (\d+)(?:-(\d+))?: ((\d+) .*)$/gm, UP_TO = / up to slot (\d+)$/m;
-  /* How many dwells after the no are searched first: most witnesses are there, and a log may be a day. */
-  const NEAR = 4;
 
   function look(bytes, words) {
     const { output } = rdsrt.run(["witness", ...words], bytes);
@@ -13,13 +11,14 @@ const witness = (() => {
     return { slot: Number(slot), lost: [Number(first), Number(last ?? first)], shown: found.map((it) => it[3]), upto: null };
   }
 
-  /* Returns the slots to lose, the slot of the mix and the lines of `decode`; or the slot at which the search stopped. A
-     witness of the first part is one of the whole log if that part has a dwell after the mix. */
-  function find({ bytes, log }, { pi, m, no }) {
-    const words = ["--pi", pi, "--m", String(m)], ends = no + NEAR * m, isWhole = ends >= log.count;
-    if (isWhole) return look(bytes, words);
-    const near = look(bytes.subarray(0, log.starts[ends]), words);
-    return near.lost && near.slot + m <= ends ? near : look(bytes, words);
+  /* Returns the slots to lose, the slot of the mix and the lines of `decode`; or the slot at which the search stopped. `near` is
+     the first part of the log: its end in bytes and in slots. A witness of this part is one of the whole log if the part has a
+     dwell after the mix. The heap of the page may be too small for the whole log. */
+  function find(bytes, { pi, m, near }) {
+    const words = ["--pi", pi, "--m", String(m)], isWhole = near.bytes >= bytes.length;
+    const first = look(bytes.subarray(0, near.bytes), words);
+    if (isWhole || (first.lost && first.slot + m <= near.slots)) return first;
+    try { return look(bytes, words); } catch { return { lost: null, shown: [], upto: near.slots }; }
   }
 
   return { find };

@@ -2,7 +2,7 @@
 /* Runs the program over one log in a worker, so that the page never waits for it. Each message asks for one thing; its
    answer has the same id. */
 (() => {
-  const state = { bytes: new Uint8Array(0), log: null };
+  const state = { bytes: new Uint8Array(0), log: null, known: {} };
   const teller = (id) => (done) => postMessage({ id, done });
 
   /* The output and the notes of the program over these bytes. */
@@ -11,37 +11,52 @@
     return { output, notes };
   }
 
-  /* Keeps a log, and returns its slots and programmes. */
-  function open({ bytes }, tell) {
-    state.bytes = bytes;
-    state.log = logfile.parse(bytes, tell);
-    return { log: state.log, programmes: logfile.programmes(state.log), times: arrivals.count(bytes, state.log) };
+  /* Reads the bytes of a log: enough to audit it. A blob is handed over without a copy. */
+  async function keep({ blob }) { Object.assign(state, { bytes: new Uint8Array(await blob.arrayBuffer()), known: {} }); }
+
+  /* Reads a log, and returns copies of its slots, and its programmes. */
+  async function open({ blob }, tell) {
+    await keep({ blob });
+    const log = state.log = logfile.parse(state.bytes, tell), copy = { ...log };
+    for (const name of ["words", "missing", "starts", "numbers"]) copy[name] = log[name].slice();
+    return { log: copy, programmes: logfile.programmes(log), times: arrivals.count(state.bytes, log) };
   }
 
-  /* Keeps the bytes alone: enough to audit them. */
-  const keep = ({ bytes, log }) => { Object.assign(state, { bytes, log }); return null; };
+  /* What does not depend on M: what the flag bit alone shows, and the codes of the slots with their sums. Nothing if the page has it already. */
+  function without_dwell({ pi, lost }, bytes) {
+    const key = `${pi} ${lost.join(" ")}`, { log } = state;
+    if (state.known.key === key) return {};
+    const alone = flag_alone.of_log(pi, bytes, log).parts, codes = logfile.codes(log, parseInt(pi, 16), lost);
+    state.known = { key };
+    return { alone, codes, sums: lines.sums(codes) };
+  }
 
   /* What a receiver shows that loses these slots, with the dwell and with the flag bit alone. */
   function decode({ pi, m, lost }) {
     const { log } = state, bytes = logfile.received(state.bytes, log, lost);
     const got = run(["decode", "--pi", pi, "--m", m], bytes), view = lines.read(got.output, log.count).views[0] ?? new lines.View();
-    const alone = flag_alone.of_log(pi, bytes, log);
-    return { ...got, view: view.parts, alone: alone.parts, codes: logfile.codes(log, parseInt(pi, 16), lost) };
+    return { ...got, view: view.parts, ...without_dwell({ pi, lost }, bytes) };
   }
 
   const audit = ({ pi, m, k }) => run(["audit", "--pi", pi, "--m", m, "--k", k], state.bytes);
-  const find = ({ pi, m, no }) => witness.find(state, { pi, m, no });
+  const find = (given) => witness.find(state.bytes, given);
 
   /* The log with a line for each slot that its times say it lacks. */
   const fill = ({ m }) => ({ bytes: arrivals.filled(state.bytes, state.log, m) });
 
   const CALLS = { open, keep, decode, audit, witness: find, fill };
 
-  onmessage = async ({ data: { id, call, given } }) => {
+  /* Answers one message. */
+  async function answer_to({ id, call, given }) {
     try {
       if (call === "begin") await rdsrt.begin(given);
-      const answer = call === "begin" ? null : CALLS[call](given, teller(id));
-      postMessage({ id, answer }, answer?.codes ? [answer.codes.buffer] : []);
+      const answer = call === "begin" ? null : await CALLS[call](given, teller(id)), { codes, sums, log } = answer ?? {};
+      const arrays = [codes, ...Object.values(sums ?? {}), ...Object.values(log ?? {})].filter((it) => ArrayBuffer.isView(it));
+      postMessage({ id, answer: answer ?? null }, arrays.map((array) => array.buffer));
     } catch (error) { postMessage({ id, error: error.message }); }
-  };
+  }
+
+  // one message after the other: a call over a log waits until the log is there
+  let before = Promise.resolve();
+  onmessage = ({ data }) => { before = before.then(() => answer_to(data)); };
 })();

@@ -18,6 +18,7 @@ NAMES = ("firefox-esr", "firefox")
 SECONDS = 60
 KEYS = {"ArrowLeft": "\ue012", "ArrowRight": "\ue014", "ArrowUp": "\ue013", "ArrowDown": "\ue015", "Tab": "\ue004", "Enter": "\ue006",
         "Escape": "\ue00c", "Home": "\ue011", "End": "\ue010", "PageUp": "\ue00e", "PageDown": "\ue00f"}
+PREFERENCES = {"ui.prefersReducedMotion": 1, "browser.shell.checkDefaultBrowser": False}
 CONTROL, SHIFT = "\ue009", "\ue008"
 # as in the Chromium protocol
 WITH_CONTROL, WITH_SHIFT = 2, 8
@@ -102,7 +103,7 @@ class Browser:
         self.folder = tempfile.mkdtemp(prefix="rdsrt-page-")
         self.number, self.events = 0, []
         with open(os.path.join(self.folder, "user.js"), "w", encoding="utf-8") as prefs:
-            prefs.write('user_pref("ui.prefersReducedMotion", 1);\nuser_pref("browser.shell.checkDefaultBrowser", false);\n')
+            prefs.writelines(f"user_pref({json.dumps(name)}, {json.dumps(value)});\n" for name, value in PREFERENCES.items())
         self.process = subprocess.Popen([program(), "--headless", "--remote-debugging-port", "0", "--profile", self.folder],
                                         stdout=subprocess.DEVNULL, stderr=subprocess.PIPE)
         self.socket = Socket(*self.address(), "/session")
@@ -168,10 +169,13 @@ class Browser:
         pressed = [*held, KEYS.get(key, key)]
         self.act("key", [{"type": "keyDown", "value": it} for it in pressed] + [{"type": "keyUp", "value": it} for it in reversed(pressed)])
 
-    def drag(self, start, end):
-        """Presses the pointer at the first place, moves it to the second and lets it go."""
+    def drag(self, start, end, held=lambda: None, clicks=1):
+        """Presses the pointer at the first place, moves it to the second and lets it go, and calls `held` before that."""
         move = lambda place: {"type": "pointerMove", "x": round(place[0]), "y": round(place[1])}
-        self.act("pointer", [move(start), {"type": "pointerDown", "button": 0}, move(end), {"type": "pointerUp", "button": 0}])
+        down, up = {"type": "pointerDown", "button": 0}, {"type": "pointerUp", "button": 0}
+        self.act("pointer", [move(start), *[down, up] * (clicks - 1), down, move(end)])
+        held()
+        self.act("pointer", [up])
 
     def picture(self, path):
         """A picture of the whole page."""

@@ -78,13 +78,12 @@ const probe = (() => {
     return Array.from({ length: height }, (_, y) => at(y) === at(0) ? "." : "#").join("");
   }
 
-  /* Whether the overview of a tab shows something in the colour of what is bad. */
-  function reds(tab) {
-    const { overview, ink } = { log: log_tab, script: script_tab }[tab].timeline, [r, g, b] = rgba(ink.bad);
+  /* Whether the overview has the colour of what is bad where a slot begins. */
+  function is_red({ overview, ink, gutter, count, room }, slot) {
     Object.assign(reader.canvas, { width: overview.width, height: overview.height });
     reader.drawImage(overview, 0, 0);
-    const { data } = reader.getImageData(0, 0, overview.width, overview.height);
-    return data.some((v, i) => i % 4 === 0 && v === r && data[i + 1] === g && data[i + 2] === b);
+    const { data } = reader.getImageData(Math.floor(gutter + slot / count * room), 6, 2, 1), [r, g, b] = rgba(ink.bad);
+    return [0, 4].some((i) => data[i] === r && data[i + 1] === g && data[i + 2] === b);
   }
 
   /* The shapes of the swatches of a tab's legend, by their words. */
@@ -246,10 +245,11 @@ const probe = (() => {
     return longest;
   }
 
-  /* Waits until the log tab has all its answers. */
+  /* Waits until the log tab has all its answers, and is drawn. */
   async function idle() {
     let work;
     do { work = log_tab.state.work; await work; } while (work !== log_tab.state.work);
+    await new Promise((done) => { requestAnimationFrame(() => setTimeout(done)); });
   }
 
   /* The longest of 40 frames that show more and fewer slots, the last all of them. */
@@ -305,8 +305,7 @@ const probe = (() => {
   }
 
   return {
-    axis, choose, chosen_line, colour, column, columns_of, contrasts, drop, drop_all, faint, idle, labels, large, longest_task, many, on_overview, pick, pictured,
-    place, reds,
-    run, shares_of, swatches, tempt, ticks, type_and_leave,
+    axis, choose, chosen_line, colour, column, columns_of, contrasts, drop, drop_all, faint, idle, is_red, labels, large, longest_task,
+    many, on_overview, pick, pictured, place, run, shares_of, swatches, tempt, ticks, type_and_leave,
   };
 })();
