@@ -11,18 +11,18 @@ const page = (() => {
 
   function tab(name, focus = false) {
     for (const it of TABS) {
-      const is_on = it === name, button = $(`tab-${it}`);
-      $(it).hidden = !is_on;
-      button.setAttribute("aria-selected", is_on);
-      button.tabIndex = is_on ? 0 : -1;
-      if (is_on && focus) button.focus();
+      const isOn = it === name, button = $(`tab-${it}`);
+      $(it).hidden = !isOn;
+      button.setAttribute("aria-selected", isOn);
+      button.tabIndex = isOn ? 0 : -1;
+      if (isOn && focus) button.focus();
     }
-    links.put_address(name);
+    links.putAddress(name);
     parts.entitle();
-    for (const it of [log_tab, script_tab]) it.timeline.draw();
+    for (const it of [logTab, scriptTab]) it.timeline.draw();
   }
 
-  function tab_keys() {
+  function tabKeys() {
     TABS.forEach((name, i) => {
       const moves = { ArrowRight: (i + 1) % 3, ArrowLeft: (i + 2) % 3, Home: 0, End: 2 };
       $(`tab-${name}`).onclick = () => tab(name);
@@ -35,10 +35,10 @@ const page = (() => {
   }
 
   /* A script has a comma in its first line; no line of a log has one before its 20th byte. */
-  const is_script = (name, text) => /\.csv$/i.test(name) || /^\uFEFF?(?:\r?\n)*(?:-|text|name|tags|restart|"[a-z-]+"),/.test(text);
+  const isScript = (name, text) => /\.csv$/i.test(name) || /^\uFEFF?(?:\r?\n)*(?:-|text|name|tags|restart|"[a-z-]+"),/.test(text);
 
-  const WITH_INPUT = { log: log_tab, script: script_tab };
-  const is_unsaved = (name) => WITH_INPUT[name].is_unsaved?.() ?? false;
+  const WITH_INPUT = { log: logTab, script: scriptTab };
+  const isUnsaved = (name) => WITH_INPUT[name].isUnsaved?.() ?? false;
 
   /* Asks whether edits that nobody saved may go. Until it is answered, another question gets a no. */
   function asks() {
@@ -51,24 +51,24 @@ const page = (() => {
 
   /* Does it at once if the tab has no unsaved edits, and else after a yes. Without a yes it does the other thing. */
   function replaces(name, does, otherwise = () => {}) {
-    return is_unsaved(name) ? asks().then((is_yes) => is_yes ? does() : otherwise()) : does();
+    return isUnsaved(name) ? asks().then((isYes) => isYes ? does() : otherwise()) : does();
   }
 
   /* Opens a file. The program gets its bytes as they are. The text that the page shows keeps a byte-order mark. */
-  async function open_file(file) {
+  async function openFile(file) {
     const input = new Uint8Array(await file.arrayBuffer()), how = { ...DEFAULTS, file: file.name };
-    const name = is_script(file.name, decoder.decode(input.subarray(0, BEGIN))) ? "script" : "log";
+    const name = isScript(file.name, decoder.decode(input.subarray(0, BEGIN))) ? "script" : "log";
     $("left-out").replaceChildren();
     return replaces(name, async () => {
       tab(name);
-      if (name === "script") script_tab.open(decoder.decode(input), { ...how, input }); else await log_tab.open(input, { ...how, blob: file });
+      if (name === "script") scriptTab.open(decoder.decode(input), { ...how, input }); else await logTab.open(input, { ...how, blob: file });
       return true;
     });
   }
 
   /* Opens the first of the dropped files, and says how many it left out. */
-  async function open_dropped([first, ...others]) {
-    if (!first || !(await open_file(first)) || !others.length) return;
+  async function openDropped([first, ...others]) {
+    if (!first || !(await openFile(first)) || !others.length) return;
     const left = ` and left out ${parts.counted(others.length, "other file")}.`;
     $("left-out").replaceChildren("The page shows one file at a time. It opened ", parts.isolated(first.name), left);
   }
@@ -82,12 +82,12 @@ const page = (() => {
     };
     select.replaceChildren(...all.map((it, i) => new Option(it.name, i)), new Option("your own", ""));
     select.onchange = () => { if (select.value) replaces(what, use, () => { select.value = ""; }); };
-    select.value = Math.max(0, all.findIndex((it) => it.is_first));
+    select.value = Math.max(0, all.findIndex((it) => it.isFirst));
     // an empty field hears the choice of the same file again
     $(`${what}-file`).onchange = ({ target }) => {
       const [file] = target.files;
       target.value = "";
-      if (file) open_file(file);
+      if (file) openFile(file);
     };
     return use();
   }
@@ -99,42 +99,42 @@ const page = (() => {
     document.ondrop = (e) => {
       e.preventDefault();
       over(false);
-      open_dropped(e.dataTransfer.files);
+      openDropped(e.dataTransfer.files);
     };
   }
 
-  function no_engine(error) {
+  function noEngine(error) {
     $("no-engine").hidden = false;
     $("no-engine").textContent = "This browser cannot run the program. It needs WebAssembly with 64-bit memory: Chrome or Edge 133, "
       + `Firefox 134, or later. (${error.message})`;
   }
 
   /* Opens the link of the address, if it has one. Returns the tab that the address names. */
-  async function open_address() {
-    const hash = location.hash.slice(1), name = links.tab_of(hash);
+  async function openAddress() {
+    const hash = location.hash.slice(1), name = links.tabOf(hash);
     if (!name) return TABS.includes(hash) ? hash : "log";
-    const open = () => WITH_INPUT[name].open_link(hash).catch((error) => links.tell(name, links.why_not(name, error)));
+    const open = () => WITH_INPUT[name].openLink(hash).catch((error) => links.tell(name, links.whyNot(name, error)));
     await replaces(name, open);
     return name;
   }
 
   async function begin() {
     let compiled;
-    try { compiled = await rdsrt.load(); } catch (error) { no_engine(error); return; } finally { $("loading").hidden = true; }
+    try { compiled = await rdsrt.load(); } catch (error) { noEngine(error); return; } finally { $("loading").hidden = true; }
     document.querySelector("main").hidden = false;
-    tab_keys();
-    for (const it of [log_tab, script_tab, dwell_tab]) it.begin(compiled);
-    examples("script", script_tab.open);
-    await examples("log", log_tab.open);
+    tabKeys();
+    for (const it of [logTab, scriptTab, dwellTab]) it.begin(compiled);
+    examples("script", scriptTab.open);
+    await examples("log", logTab.open);
     for (const answer of ["yes", "no"]) $(`ask-${answer}`).onclick = () => $("ask").close(answer);
     for (const form of document.forms) form.onsubmit = (e) => e.preventDefault();
-    $("command-form").addEventListener("submit", script_tab.command_changed);
+    $("command-form").addEventListener("submit", scriptTab.commandChanged);
     drops();
-    tab(await open_address());
-    window.onhashchange = async () => { if (links.tab_of(location.hash.slice(1))) tab(await open_address()); };
-    window.onbeforeunload = (e) => { if (Object.keys(WITH_INPUT).some(is_unsaved)) e.preventDefault(); };
+    tab(await openAddress());
+    window.onhashchange = async () => { if (links.tabOf(location.hash.slice(1))) tab(await openAddress()); };
+    window.onbeforeunload = (e) => { if (Object.keys(WITH_INPUT).some(isUnsaved)) e.preventDefault(); };
     state.ready = true;
   }
   begin();
-  return { open_file, state, tab };
+  return { openFile, state, tab };
 })();

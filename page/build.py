@@ -16,9 +16,9 @@ import sys
 
 HERE = os.path.dirname(os.path.abspath(__file__))
 # Each script uses only names of scripts before it. A worker runs those of WORKER.
-WORKER = ["lines.js", "rdsrt.js", "flag_alone.js", "logfile.js", "arrivals.js", "witness.js", "worker.js"]
-PAGE = ["lines.js", "rdsrt.js", "records.js", "flag_alone.js", "logfile.js", "painter.js", "picture.js", "timeline.js", "parts.js",
-        "undo.js", "links.js", "log_worker.js", "log_text.js", "groups.js", "changes.js", "verdict.js", "log.js", "script.js", "dwell.js", "app.js"]
+WORKER = ["lines.js", "rdsrt.js", "flag-alone.js", "logfile.js", "arrivals.js", "witness.js", "worker.js"]
+PAGE = ["lines.js", "rdsrt.js", "records.js", "flag-alone.js", "logfile.js", "painter.js", "picture.js", "timeline.js", "parts.js",
+        "undo.js", "links.js", "log-worker.js", "log-text.js", "groups.js", "changes.js", "verdict.js", "log.js", "script.js", "dwell.js", "app.js"]
 DEFINED = re.compile(r"^(?:const|class) (\w+)", re.M)
 
 ENCODE = ["encode", "--pi", "C201", "--pty", "10", "--m", "8"]
@@ -60,7 +60,7 @@ def tunnel(folder, receiver=1):
     text = io.StringIO()
     csv.writer(text, lineterminator="\n").writerows([*row[:3], ""] for row in rows)
     lost = [slot for slot, row in enumerate(rows) if row[3][receiver] == "L"]
-    return {"name": "A long tunnel", "text": text.getvalue(), "from": ENCODE, "pi": "C201", "m": 8, "lost": lost, "is_first": True}
+    return {"name": "A long tunnel", "text": text.getvalue(), "from": ENCODE, "pi": "C201", "m": 8, "lost": lost, "isFirst": True}
 
 
 def write(out, name, constant, value):

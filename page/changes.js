@@ -5,15 +5,15 @@ const changes = (() => {
   /* So many rows are laid out at a time. */
   const ROWS = 100;
   const NAMES = { text: "text", name: "name (PTYN)", tag1: "tag", tag2: "tag" };
-  const state = { all: [], found: [], first: 0, now: -1, go_to: () => {}, clock: () => "" };
+  const state = { all: [], found: [], first: 0, now: -1, goTo: () => {}, clock: () => "" };
 
   /* Shows the changes of a view. `clock` gives the clock time of a slot, if the log has one. */
-  function show(view, mixed, { go_to, clock }) {
+  function show(view, mixed, { goTo, clock }) {
     const rows = (part) => view.parts[part].filter((run) => run.value !== null).map((run) => ({
-      slot: run.from, part, text: parts.label_of(run.value), isMix: mixed(part, run.value),
+      slot: run.from, part, text: parts.labelOf(run.value), isMix: mixed(part, run.value),
     }));
     const all = Object.keys(NAMES).flatMap(rows).sort((a, b) => a.slot - b.slot);
-    Object.assign(state, { all, go_to, clock, now: -1 });
+    Object.assign(state, { all, goTo, clock, now: -1 });
     find();
   }
 
@@ -23,11 +23,11 @@ const changes = (() => {
     state.found = words ? state.all.filter((row) => row.text.toLowerCase().includes(words)) : state.all;
     const { found, all } = state;
     $("log-found").textContent = words ? `${found.length.toLocaleString("en")} of ${parts.counted(all.length, "change")}` : parts.counted(all.length, "change");
-    lay_out(Math.max(0, state.now));
+    layOut(Math.max(0, state.now));
   }
 
   /* Returns the last row at or before the slot; -1 if there is none. */
-  function row_at(slot) {
+  function rowAt(slot) {
     let low = 0, high = state.found.length;
     while (low < high) {
       const middle = (low + high) >> 1;
@@ -40,14 +40,14 @@ const changes = (() => {
     const time = state.clock(row.slot) || lines.time(row.slot), { slot, part, text, isMix } = row;
     const inside = [["slot", slot.toLocaleString("en")], ["time", time], ["part", NAMES[part]], ["said", `${isMix ? "⚠ " : ""}${text}`]];
     const go = make("button", { type: "button" }, ...inside.map(([className, textContent]) => make("span", { className, textContent })));
-    go.onclick = () => state.go_to(slot);
+    go.onclick = () => state.goTo(slot);
     const it = make("li", { className: isMix ? "mix" : "" }, go);
     it.dataset.row = i;
     return it;
   }
 
   /* Lays out the rows around this one. */
-  function lay_out(around) {
+  function layOut(around) {
     const first = Math.max(0, Math.min(around - ROWS / 2, state.found.length - ROWS)), some = state.found.slice(first, first + ROWS);
     state.first = first;
     $("log-changes").replaceChildren(...some.map((row, i) => element(row, first + i)));
@@ -67,16 +67,16 @@ const changes = (() => {
 
   /* Follows the chosen slot. */
   function move(slot) {
-    const now = row_at(slot);
+    const now = rowAt(slot);
     if (now === state.now) return;
     state.now = now;
-    if (now >= 0 && (now < state.first || now >= state.first + ROWS)) lay_out(now); else mark();
+    if (now >= 0 && (now < state.first || now >= state.first + ROWS)) layOut(now); else mark();
   }
 
   function begin() {
     $("log-find").oninput = parts.soon(find);
-    $("log-earlier").onclick = () => lay_out(state.first - ROWS / 2);
-    $("log-later").onclick = () => lay_out(state.first + ROWS * 3 / 2);
+    $("log-earlier").onclick = () => layOut(state.first - ROWS / 2);
+    $("log-later").onclick = () => layOut(state.first + ROWS * 3 / 2);
   }
 
   return { begin, move, show, state };

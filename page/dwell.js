@@ -1,6 +1,6 @@
 "use strict";
 /* The tab of the dwell: M, K and the share of free slots in seconds, and the M for texts that change every so many seconds. */
-const dwell_tab = (() => {
+const dwellTab = (() => {
   const { $, make } = parts;
   const LONGEST = 32, HOUR = 3600, WIDTH = 960, MOST = 65535;
   /* The number at a place of a slider. The slider of M counts tenths of a power of two. */
@@ -49,7 +49,7 @@ const dwell_tab = (() => {
   }
 
   /* The whole slots in so many whole seconds: a slot has 104 bits, and a second has 1187.5. */
-  const slots_in = (seconds) => Math.floor(seconds * 1187.5 / 104);
+  const slotsIn = (seconds) => Math.floor(seconds * 1187.5 / 104);
 
   /* One answer: the largest M + K, whether the chosen one fits, and a button that sets the largest M for the chosen K. */
   function answer(whose, because, most, { m, k }) {
@@ -67,7 +67,7 @@ const dwell_tab = (() => {
 
   /* The M for texts that change every so many seconds: by safety alone, and with our own encoder. */
   function answers(seconds, chosen) {
-    const slots = slots_in(seconds);
+    const slots = slotsIn(seconds);
     return [
       answer("Safe:", "Each text must stay on air for at least M + K slots.", slots, chosen),
       answer("With our own encoder:", "It keeps each text on air for 2 (M + K) slots.", Math.floor(slots / 2), chosen),
@@ -75,7 +75,7 @@ const dwell_tab = (() => {
   }
 
   /* Shows why the numbers have no result, and no result of other numbers. */
-  function show_problem(problem) {
+  function showProblem(problem) {
     for (const id of ["cards", "ladder", "answers"]) $(id).replaceChildren();
     for (const name of ["m", "k", "f"]) $(`${name}-said`).textContent = "";
     $("ladder").hidden = true;
@@ -91,14 +91,14 @@ const dwell_tab = (() => {
     $(`${name}-said`).textContent = text;
   }
 
-  const in_time = (slots) => `${slots === 1 ? "slot" : "slots"}, ${lines.time(slots)}`;
+  const inTime = (slots) => `${slots === 1 ? "slot" : "slots"}, ${lines.time(slots)}`;
 
   function choose() {
-    const problem = parts.problem_of($("dwell-form"));
-    if (problem) { show_problem(problem); return; }
+    const problem = parts.problemOf($("dwell-form"));
+    if (problem) { showProblem(problem); return; }
     const [m, k, f, seconds] = ["m", "k", "f", "s"].map((name) => Number($(`dwell-${name}`).value));
-    say("m", m, in_time(m));
-    say("k", k, k ? in_time(k) : "slots: no buffer between");
+    say("m", m, inTime(m));
+    say("k", k, k ? inTime(k) : "slots: no buffer between");
     say("f", f, "%");
     $("dwell-fault").hidden = true;
     $("ladder").hidden = false;

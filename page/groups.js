@@ -14,34 +14,34 @@ const groups = (() => {
     return SHOWN.exec(rdsrt.run(["decode", "--pi", pi], text).output)?.[1] ?? "";
   }
 
-  function of_text(words, segment) {
+  function ofText(words, segment) {
     const flag = words[1] & lines.FLAG_BIT ? "B" : "A", said = characters(parts.hex(words[0]), words[2], words[3]);
     return [`flag ${flag}`, `segment ${words[1] & segment}`, ...said ? [`“${said}”`] : []];
   }
 
   /* What the group announces: a data service by its number (AID), and the group type that carries it. */
-  function of_announcement(words) {
+  function ofAnnouncement(words) {
     const service = words[1] & SERVICE, type = `${service >> 1}${service & 1 ? "B" : "A"}`;
     return [`AID ${parts.hex(words[3])}${words[3] === RADIOTEXT_PLUS ? " (RadioText Plus)" : ""} in group ${type}`];
   }
 
   function details(words, type) {
-    if (type === "2A") return of_text(words, lines.TEXT_SEGMENT);
-    if (type === "10A") return of_text(words, lines.NAME_SEGMENT);
-    return type === "3A" ? of_announcement(words) : [];
+    if (type === "2A") return ofText(words, lines.TEXT_SEGMENT);
+    if (type === "10A") return ofText(words, lines.NAME_SEGMENT);
+    return type === "3A" ? ofAnnouncement(words) : [];
   }
 
   /* Returns the words for a slot of a log: whether it was received, of which programme, and what the group is. */
-  function of_slot(log, slot, pi) {
+  function ofSlot(log, slot, pi) {
     if (slot >= log.count) return "";
     const missing = log.missing[slot], words = [...log.words.subarray(4 * slot, 4 * slot + 4)];
     const blocks = words.map((word, i) => missing & 1 << i ? "----" : parts.hex(word)).join(" ");
     if (missing) return missing === 15 ? "nothing received" : `${blocks} · not whole, so it counts as lost`;
-    const type = lines.type_of(words);
+    const type = lines.typeOf(words);
     if (words[0] !== pi) return `${type} · ${blocks} · another programme`;
     const name = TYPES[type];
     return [name ? `${type} ${name}` : `${type}, not read`, ...details(words, type), blocks].join(" · ");
   }
 
-  return { of_slot };
+  return { ofSlot };
 })();

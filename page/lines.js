@@ -52,7 +52,7 @@ const lines = (() => {
     }
   }
 
-  function value_of(part, rest) {
+  function valueOf(part, rest) {
     if (rest === "none") return null;
     if (part === "item") return rest;
     if (part === "text" || part === "name") return rest.slice(1, -1);
@@ -72,7 +72,7 @@ const lines = (() => {
         said.logged[slot] = rest;
         said.sent[slot] = rest.split(" ").map((word) => parseInt(word, 16));
       } else if (receiver === undefined && !SHOWN.test(rest)) said.replies.push({ slot, what, reply: rest });
-      else (said.views[Number(receiver ?? 0)] ??= new View()).change(what, slot, value_of(what, rest));
+      else (said.views[Number(receiver ?? 0)] ??= new View()).change(what, slot, valueOf(what, rest));
     }
     for (const view of said.views) view?.finish(count);
     return said;
@@ -83,29 +83,28 @@ const lines = (() => {
 
   /* The first note that begins so, without its advice for a terminal; empty if there is none. */
   const ADVICE = ". To look for lost slots";
-  const note_of = (all, begin) => (all.find((note) => note.startsWith(begin)) ?? "").split(ADVICE)[0];
+  const noteOf = (all, begin) => (all.find((note) => note.startsWith(begin)) ?? "").split(ADVICE)[0];
 
   /* The second block has the group type and its version, TP and PTY, and the bits of the service: for a text its A/B flag
      and its segment. */
   const KIND_SHIFT = 11, FLAG_BIT = 0x10, TEXT_SEGMENT = 0x0F, NAME_SEGMENT = 0x01;
-  const type_of = (group) => `${group[1] >> 12}${group[1] >> KIND_SHIFT & 1 ? "B" : "A"}`;
+  const typeOf = (group) => `${group[1] >> 12}${group[1] >> KIND_SHIFT & 1 ? "B" : "A"}`;
 
   /* What a group is to the text services. In a list of codes, KIND masks the kind, and FLAG marks a text whose A/B flag is 1. */
   const NOTHING = 0, TEXT = 1, NAME = 2, TAGS = 3, OTHER = 4, KIND = 7, FLAG = 8;
-  function code_of(group, pi) {
+  /* The group types of the services, with their versions: 2A, 10A and 11A. */
+  const SERVICES = { [2 << 1]: TEXT, [10 << 1]: NAME, [11 << 1]: TAGS };
+  function codeOf(group, pi) {
     if (!group || (pi !== null && group[0] !== pi)) return NOTHING;
-    const kind = group[1] >> KIND_SHIFT;
-    if (kind === 4) return TEXT;
-    if (kind === 20) return NAME;
-    return kind === 22 ? TAGS : OTHER;
+    return SERVICES[group[1] >> KIND_SHIFT] ?? OTHER;
   }
-  function marked_code_of(group, pi) {
-    const kind = code_of(group, pi);
+  function markedCodeOf(group, pi) {
+    const kind = codeOf(group, pi);
     return kind === TEXT && group[1] & FLAG_BIT ? kind | FLAG : kind;
   }
-  function codes_of(groups, count, pi) {
+  function codesOf(groups, count, pi) {
     const codes = new Uint8Array(count);
-    for (let i = 0; i < count; i++) codes[i] = marked_code_of(groups[i], pi);
+    for (let i = 0; i < count; i++) codes[i] = markedCodeOf(groups[i], pi);
     return codes;
   }
 
@@ -122,11 +121,11 @@ const lines = (() => {
 
   const CLASSES = ["", "TITLE", "ALBUM", "TRACKNUMBER", "ARTIST", "COMPOSITION", "MOVEMENT", "CONDUCTOR", "COMPOSER", "BAND", "COMMENT",
     "GENRE"];
-  const class_of = (number) => number < CLASSES.length ? `ITEM.${CLASSES[number]}` : String(number);
+  const classOf = (number) => number < CLASSES.length ? `ITEM.${CLASSES[number]}` : String(number);
 
   const CODES = { NOTHING, TEXT, NAME, TAGS, OTHER, KIND, FLAG };
   const BITS = { FLAG_BIT, NAME_SEGMENT, TEXT_SEGMENT };
   return {
-    ...BITS, ...CODES, LOST, View, class_of, code_of, codes_of, marked_code_of, note_of, notes, read, seconds, SLOT, sums, time, type_of,
+    ...BITS, ...CODES, LOST, View, classOf, codeOf, codesOf, markedCodeOf, noteOf, notes, read, seconds, SLOT, sums, time, typeOf,
   };
 })();

@@ -40,36 +40,36 @@ const links = (() => {
 
   async function unpack(packed) {
     const plain = atob(packed.replaceAll("-", "+").replaceAll("_", "/"));
-    const packed_bytes = Uint8Array.from(plain, (c) => c.charCodeAt(0));
-    const bytes = await squeezed(packed_bytes, new DecompressionStream("deflate-raw"), MOST_PLAIN);
+    const packedBytes = Uint8Array.from(plain, (c) => c.charCodeAt(0));
+    const bytes = await squeezed(packedBytes, new DecompressionStream("deflate-raw"), MOST_PLAIN);
     return new TextDecoder("utf-8", { fatal: true, ignoreBOM: true }).decode(bytes);
   }
 
   // ---- the address
 
   /* The hash of the address while a tab is open: its link, or its name if the tab holds another input by now. */
-  const hash_of = (tab) => held[tab]?.is_now ? held[tab].hash : tab;
+  const hashOf = (tab) => held[tab]?.isNow ? held[tab].hash : tab;
 
-  function put_address(tab) {
-    try { history.replaceState(null, "", `#${hash_of(tab)}`); } catch { /* some browsers refuse it to a file */ }
+  function putAddress(tab) {
+    try { history.replaceState(null, "", `#${hashOf(tab)}`); } catch { /* some browsers refuse it to a file */ }
   }
 
-  const is_open = (tab) => !$(tab).hidden;
+  const isOpen = (tab) => !$(tab).hidden;
 
   /* Notes the link of a tab. */
   function hold(tab, { text, options }, hash) {
-    held[tab] = { text, options, hash, is_now: true };
-    if (is_open(tab)) put_address(tab);
+    held[tab] = { text, options, hash, isNow: true };
+    if (isOpen(tab)) putAddress(tab);
   }
 
   /* Drops the link of a tab if the tab holds another input by now. */
   function keep(tab, { text, options }) {
-    const link = held[tab], is_now = link?.text === text && link.options === options;
-    if (link && link.is_now !== is_now) {
-      link.is_now = is_now;
-      if (is_open(tab)) put_address(tab);
+    const link = held[tab], isNow = link?.text === text && link.options === options;
+    if (link && link.isNow !== isNow) {
+      link.isNow = isNow;
+      if (isOpen(tab)) putAddress(tab);
     }
-    if (is_now) return;
+    if (isNow) return;
     $(`${tab}-link`).hidden = true;
     tell(tab, "");
   }
@@ -79,7 +79,7 @@ const links = (() => {
   const tell = (tab, ...words) => $(`${tab}-saved`).replaceChildren(...words);
 
   /* The slot and the zoom of a timeline, as a link has them. */
-  function sight_of({ cursor, from, across, count }) {
+  function sightOf({ cursor, from, across, count }) {
     const zoom = across < count ? `&from=${Math.round(from)}&across=${Math.round(across)}` : "";
     return `slot=${cursor}${zoom}`;
   }
@@ -87,18 +87,18 @@ const links = (() => {
   /* Makes the link of a tab, and shows and copies it; answers whether it does. `save` saves the text as a file. */
   async function give(tab, { text, options, sight }, save) {
     const packed = await pack(text), field = $(`${tab}-link`);
-    const is_shown = packed !== null && location.protocol !== "file:";
-    field.hidden = !is_shown;
+    const isShown = packed !== null && location.protocol !== "file:";
+    field.hidden = !isShown;
     if (packed === null) { tell(tab, `This ${tab} is too long for a link: save it as a file.`); return false; }
     hold(tab, { text, options }, `${tab}=${packed}&${options}&${sight}`);
-    if (is_shown) await copy(tab, field);
+    if (isShown) await copy(tab, field);
     else tell(tab, FROM_DISK, make("button", { type: "button", textContent: `Save the ${tab}`, onclick: save }));
-    return is_shown;
+    return isShown;
   }
 
   async function copy(tab, field) {
     [field.value] = location.href.split("#");
-    field.value += `#${hash_of(tab)}`;
+    field.value += `#${hashOf(tab)}`;
     field.focus();
     field.select();
     try {
@@ -108,7 +108,7 @@ const links = (() => {
   }
 
   /* Finds the tab whose link a hash is. The name of a tab alone is no link. */
-  const tab_of = (hash) => ["log", "script"].find((tab) => new URLSearchParams(hash).get(tab));
+  const tabOf = (hash) => ["log", "script"].find((tab) => new URLSearchParams(hash).get(tab));
 
   /* Reads the text of a link, and its numbers within bounds. */
   async function read(tab, hash) {
@@ -133,7 +133,7 @@ const links = (() => {
   // ---- lost slots
 
   /* Slots as a link has them: 2-4.9 is 2, 3, 4 and 9. */
-  function in_letters(slots) {
+  function inLetters(slots) {
     const spans = [];
     for (const slot of [...slots].sort((a, b) => a - b)) {
       const last = spans.at(-1);
@@ -143,7 +143,7 @@ const links = (() => {
   }
 
   /* The slots of these letters, at most MOST_LOST. Other letters give none. */
-  function slots_of(letters) {
+  function slotsOf(letters) {
     const all = [];
     if (!/^\d{1,7}(-\d{1,7})?(\.\d{1,7}(-\d{1,7})?)*$/.test(letters ?? "")) return all;
     for (const span of letters.split(".")) {
@@ -154,10 +154,10 @@ const links = (() => {
   }
 
   /* Why a link was not opened. */
-  function why_not(tab, error) {
+  function whyNot(tab, error) {
     if (error.message === TOO_LARGE) return `The link holds a ${tab} of more than 4 MB. The page does not open it.`;
     return `The link has no ${tab}.`;
   }
 
-  return { MOST_PLAIN, give, hold, in_letters, keep, look, put_address, read, sight_of, slots_of, tab_of, tell, why_not };
+  return { MOST_PLAIN, give, hold, inLetters, keep, look, putAddress, read, sightOf, slotsOf, tabOf, tell, whyNot };
 })();

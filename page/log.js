@@ -1,6 +1,6 @@
 "use strict";
 /* The tab of a log: the receiver's display, the audit's answer, and the lost slots. The program runs in workers. */
-const log_tab = (() => {
+const logTab = (() => {
   const { $ } = parts;
   const PI = "C201", MOST_PROGRAMMES = 12;
   /* Milliseconds after which the page shows that it waits for an answer. */
@@ -21,13 +21,13 @@ const log_tab = (() => {
   const workers = {};
   const timeline = new Timeline($("log-time"), {
     label: "Slot of the log",
-    on_move: show_slot,
+    onMove: showSlot,
     clock,
-    on_paint: (lane, from, to, e) => {
+    onPaint: (lane, from, to, e) => {
       if (lane && from === to && (e.shiftKey || (lane.lost && $("log-click").checked))) lose([from]);
       return false;
     },
-    on_key: (key) => {
+    onKey: (key) => {
       if (key !== "l") return false;
       lose([timeline.cursor]);
       return true;
@@ -53,12 +53,12 @@ const log_tab = (() => {
     state.blob = blob ?? new Blob([bytes]);
     for (const worker of Object.values(workers)) worker.drop();
     Object.assign(state, empty(), { bytes, lost: new Set(lost) });
-    parts.name_file("log", file);
+    parts.nameFile("log", file);
     $("log-example").value = example;
     if (m) $("log-m").value = m;
     if (k !== undefined) $("log-k").value = k;
     state.text = bytes.length > links.MOST_PLAIN ? null : decoder.decode(bytes);
-    log_text.open(bytes);
+    logText.open(bytes);
     return working(read(pi));
   }
 
@@ -74,16 +74,16 @@ const log_tab = (() => {
     let groups = 0;
     for (let slot = 0; slot < count; slot++) groups += missing[slot] ? 0 : 1;
     Object.assign(state, opened, { groups });
-    offer_programmes(pi);
+    offerProgrammes(pi);
     await look({ fit: true });
     if (state.opening !== opening) return;
     const [shown, simple] = [state.view, state.alone].map((view) => view.parts.text.filter((run) => run.value !== null));
-    const is_mix = (run) => state.mixed("text", run.value), mix = shown.find(is_mix) ?? simple.find(is_mix) ?? shown.at(-1);
+    const isMix = (run) => state.mixed("text", run.value), mix = shown.find(isMix) ?? simple.find(isMix) ?? shown.at(-1);
     timeline.move(mix ? mix.from : 0, { keep: true });
   }
 
   /* The programmes of the log, to choose one of them. */
-  function offer_programmes(pi) {
+  function offerProgrammes(pi) {
     const found = state.programmes.slice(0, MOST_PROGRAMMES), all = found.length ? found : [[parseInt(PI, 16), 0]];
     const options = all.map(([p, n]) => new Option(`${parts.hex(p)} (${parts.counted(n, "group")})`, parts.hex(p)));
     $("log-pi").replaceChildren(...options);
@@ -97,7 +97,7 @@ const log_tab = (() => {
       $("log-wait").hidden = false;
       $("log-waits").textContent = what;
       $("log-progress").removeAttribute("value");
-      if (state.judged !== state.turn) verdict.show_none(`${what} …`, "");
+      if (state.judged !== state.turn) verdict.showNone(`${what} …`, "");
       if (state.log === NO_LOG) timeline.show([], 1);
     };
     clearTimeout(wait.timer);
@@ -114,8 +114,8 @@ const log_tab = (() => {
   const look = (how = {}) => working(answer(how));
   async function answer({ fit = false }) {
     links.keep("log", { text: state.text, options: options() });
-    const turn = ++state.turn, problem = parts.problem_of($("log-form"));
-    if (problem) { show_problem(problem, { fit }); return; }
+    const turn = ++state.turn, problem = parts.problemOf($("log-form"));
+    if (problem) { showProblem(problem, { fit }); return; }
     const [pi, m, k] = ["pi", "m", "k"].map((name) => $(`log-${name}`).value), asked = { pi, m, k, lost: [...state.lost] };
     const done = wait(`Decoding with M = ${Number(m).toLocaleString("en")}`);
     $("log-unlose").hidden = !state.lost.size;
@@ -123,10 +123,10 @@ const log_tab = (() => {
     try {
       await Promise.all([display(asked, turn, fit), judge(asked, turn)]);
     } catch (error) {
-      if (state.turn === turn) show_problem(`${error.message}.`, { fit });
+      if (state.turn === turn) showProblem(`${error.message}.`, { fit });
     }
     done();
-    if (state.turn === turn) working(Promise.all([search(asked, turn), judge_others(asked, turn)]));
+    if (state.turn === turn) working(Promise.all([search(asked, turn), judgeOthers(asked, turn)]));
   }
 
   /* What is shown of these slots; what a receiver shows that loses none is kept. */
@@ -151,17 +151,17 @@ const log_tab = (() => {
     const number = parseInt(asked.pi, 16), result = { ...state.result, decode: { output, notes } };
     Object.assign(state, { view, alone, codes, number, result, drawn: turn });
     // nobody sent what neither receiver shows that loses nothing
-    const sent = asked.lost.length ? parts.all_shown(whole.view, whole.alone) : null;
-    state.mixed = sent ? (part, value) => !sent.has(parts.key_of(part, value)) : () => false;
+    const sent = asked.lost.length ? parts.allShown(whole.view, whole.alone) : null;
+    state.mixed = sent ? (part, value) => !sent.has(parts.keyOf(part, value)) : () => false;
     timeline.title = `rdsrt decode --pi ${asked.pi} --m ${asked.m}`;
     timeline.show(lanes(), log.count, { fit });
-    $("log-limit").textContent = flag_alone.limit(log.count);
-    $("log-limit").hidden = !flag_alone.limit(log.count);
-    tell_lines("log", timeline.title, output);
+    $("log-limit").textContent = flagAlone.limit(log.count);
+    $("log-limit").hidden = !flagAlone.limit(log.count);
+    tellLines("log", timeline.title, output);
     // the list is laid out after the lanes are drawn
     await pause();
     if (state.turn !== turn) return;
-    changes.show(view, state.mixed, { go_to: does.go_to, clock });
+    changes.show(view, state.mixed, { goTo: does.goTo, clock });
     changes.move(timeline.cursor);
   }
 
@@ -180,7 +180,7 @@ const log_tab = (() => {
     const { log, groups, times } = state, pi = parseInt(asked.pi, 16), m = Number(asked.m), k = Number(asked.k);
     const no = verdict.show({ audit: got, log, groups, pi, m, k, times }, does);
     Object.assign(state, { result: { ...state.result, audit: got }, no, judged: turn });
-    tell_lines("audit", `rdsrt audit --pi ${asked.pi} --m ${asked.m} --k ${asked.k}`, got.output);
+    tellLines("audit", `rdsrt audit --pi ${asked.pi} --m ${asked.m} --k ${asked.k}`, got.output);
     // the answer has a mark in the lane of events
     if (no && state.drawn === turn) timeline.show(lanes(), log.count);
   }
@@ -193,31 +193,31 @@ const log_tab = (() => {
     const found = await workers.search.askNewest("witness", { pi: asked.pi, m, near });
     if (state.turn !== turn || !found) return;
     state.witness = found;
-    verdict.show_witness(found, does);
+    verdict.showWitness(found, does);
   }
 
   /* Asks for the answers with other dwells, one after the other, and shows each one. */
-  async function judge_others(asked, turn) {
+  async function judgeOthers(asked, turn) {
     if (!state.groups || !state.result.audit || /^fault/m.test(state.result.audit.output)) return;
-    verdict.offer_dwells(Number(asked.m), does);
+    verdict.offerDwells(Number(asked.m), does);
     for (const m of verdict.DWELLS) {
       const got = await audit({ ...asked, m: String(m) }, "search");
       if (state.turn !== turn || !got) return;
-      verdict.show_dwell(m, verdict.no_of(got));
+      verdict.showDwell(m, verdict.noOf(got));
     }
   }
 
   /* What the buttons of the verdict do. */
   const does = {
-    go_to: (slot) => { timeline.move(slot); timeline.canvas.focus(); },
-    show_line: (number) => log_text.go_to(state.log.end, number),
-    choose_dwell: (m) => { $("log-m").value = m; look(); },
+    goTo: (slot) => { timeline.move(slot); timeline.canvas.focus(); },
+    showLine: (number) => logText.goTo(state.log.end, number),
+    chooseDwell: (m) => { $("log-m").value = m; look(); },
     fill: () => working(fill()),
     /* Loses these slots alone, and goes to the one in which the mix is shown. */
     async lose(slot, first, last) {
       state.lost = new Set(Array.from({ length: last - first + 1 }, (_, i) => first + i));
       await look();
-      does.go_to(slot);
+      does.goTo(slot);
     },
   };
 
@@ -225,23 +225,23 @@ const log_tab = (() => {
   async function fill() {
     const name = $("log-file-name").textContent, m = $("log-m").value, pi = $("log-pi").value;
     const { bytes } = await workers.display.ask("fill", { m: Number(m) });
-    if (!bytes) { show_problem("The times are so far apart that the page does not add the lost slots. Use examples/slots."); return; }
+    if (!bytes) { showProblem("The times are so far apart that the page does not add the lost slots. Use examples/slots."); return; }
     await open(bytes, { pi, m, k: $("log-k").value, file: `${name || "log"}, with its lost slots` });
   }
 
   /* Shows why nothing is decoded, and no result of what was there before. */
-  function show_problem(problem, { fit = false } = {}) {
+  function showProblem(problem, { fit = false } = {}) {
     Object.assign(state, { view: new lines.View(), alone: new lines.View(), mixed: () => false, result: null, witness: null, no: null });
     state.codes = new Uint8Array(0);
     timeline.title = "";
     timeline.show([], state.log.count, { fit });
-    changes.show(state.view, state.mixed, { go_to: does.go_to, clock });
-    verdict.show_none("No verdict", problem);
+    changes.show(state.view, state.mixed, { goTo: does.goTo, clock });
+    verdict.showNone("No verdict", problem);
     $("log-limit").hidden = true;
-    for (const name of ["log", "audit"]) tell_lines(name, "", "");
+    for (const name of ["log", "audit"]) tellLines(name, "", "");
   }
 
-  function tell_lines(name, command, output) {
+  function tellLines(name, command, output) {
     $(`${name}-command`).textContent = command;
     parts.fill(`${name}-lines`, output);
   }
@@ -252,13 +252,13 @@ const log_tab = (() => {
   const heard = (slot) => state.lost.has(slot) ? null : logfile.groupAt(state.log, slot);
 
   /* Why the text or the name that was shown before this slot is shown no longer. */
-  const why_gone = (part, slot) => parts.why_gone(part, heard(slot), state.number);
+  const whyGone = (part, slot) => parts.whyGone(part, heard(slot), state.number);
 
   function events() {
     const marks = [], { no } = state;
     for (const part of ["text", "name"]) {
       state.view.parts[part].forEach((run, i, all) => {
-        if (run.value === null && i && all[i - 1].value !== null) marks.push(parts.mark(run.from, `${part}: ${why_gone(part, run.from)}`));
+        if (run.value === null && i && all[i - 1].value !== null) marks.push(parts.mark(run.from, `${part}: ${whyGone(part, run.from)}`));
       });
     }
     if (no) marks.push(parts.mark(no.slot, no.fault, true));
@@ -267,7 +267,7 @@ const log_tab = (() => {
 
   /* Bars of the receiver with the flag bit alone, pale from where the other forgot the text that it shows. */
   function aged(runs) {
-    const gone = state.view.parts.text.filter((run) => run.value === null && why_gone("text", run.from) === "forgotten");
+    const gone = state.view.parts.text.filter((run) => run.value === null && whyGone("text", run.from) === "forgotten");
     let next = 0;
     return runs.flatMap((run) => {
       while (next < gone.length && gone[next].from <= run.from) next++;
@@ -289,7 +289,7 @@ const log_tab = (() => {
     for (const [part, name] of PARTS) if (parts.shows(view, part)) all.push(lane(name, name, bars(view, part)));
     all.push(lane("flag bit alone", "flag bit", aged(bars(other, "text")), { gap: 12 }));
     if (parts.shows(other, "name")) all.push(lane("  its name", " name", bars(other, "name")));
-    if (parts.shows_tags(other)) all.push(lane("  its tags", " tags", parts.tag_bars(other, tint, mixed)));
+    if (parts.showsTags(other)) all.push(lane("  its tags", " tags", parts.tagBars(other, tint, mixed)));
     return all;
   }
 
@@ -302,32 +302,32 @@ const log_tab = (() => {
     return CLOCK.exec(decoder.decode(state.bytes.subarray(start, end)))?.[0] ?? "";
   }
 
-  function show_slot(slot) {
-    const group = logfile.groupAt(state.log, slot), sent = group ? `${KINDS[lines.code_of(group, state.number)]} group` : "nothing received";
+  function showSlot(slot) {
+    const group = logfile.groupAt(state.log, slot), sent = group ? `${KINDS[lines.codeOf(group, state.number)]} group` : "nothing received";
     const what = !state.result ? "" : state.lost.has(slot) ? "lost" : sent, run = state.view.at("text", slot);
-    const none = run && run.value === null && run.from > 0 ? why_gone("text", run.from) : "no text";
-    const { mixed } = state, ours = { led: what, mixed, none }, simple = { mixed, none: flag_alone.none_at(slot) };
+    const none = run && run.value === null && run.from > 0 ? whyGone("text", run.from) : "no text";
+    const { mixed } = state, ours = { led: what, mixed, none }, simple = { mixed, none: flagAlone.noneAt(slot) };
     parts.radio($("log-radio"), "The receiver, with the dwell", state.view, slot, ours);
     parts.radio($("log-alone"), "Flag bit alone: decode --m 65535", state.alone, slot, simple);
-    $("log-why").textContent = parts.why_no_mix(state.view, state.alone, slot, mixed);
-    if (state.log.count) log_text.move(state.log.starts[slot], state.log.numbers[slot]);
-    $("log-group").textContent = state.log.count ? groups.of_slot(state.log, slot, state.number) : "";
+    $("log-why").textContent = parts.whyNoMix(state.view, state.alone, slot, mixed);
+    if (state.log.count) logText.move(state.log.starts[slot], state.log.numbers[slot]);
+    $("log-group").textContent = state.log.count ? groups.ofSlot(state.log, slot, state.number) : "";
     changes.move(slot);
     if (!state.result) return "Not decoded.";
-    const shown = parts.in_words(state.view, slot, ours), other = parts.in_words(state.alone, slot, simple);
+    const shown = parts.inWords(state.view, slot, ours), other = parts.inWords(state.alone, slot, simple);
     return `${what}. The receiver shows ${shown}. With the flag bit alone: ${other}.`;
   }
 
   // ---- a link
 
-  const lost_options = () => state.lost.size ? `&lost=${links.in_letters(state.lost)}` : "";
-  const options = () => `pi=${$("log-pi").value}&m=${$("log-m").value}&k=${$("log-k").value}${lost_options()}`;
-  const save = () => picture.save_as("log.log", new Blob([state.bytes], { type: "text/plain" }));
-  const link = () => links.give("log", { text: state.text, options: options(), sight: links.sight_of(timeline) }, save);
+  const lostOptions = () => state.lost.size ? `&lost=${links.inLetters(state.lost)}` : "";
+  const options = () => `pi=${$("log-pi").value}&m=${$("log-m").value}&k=${$("log-k").value}${lostOptions()}`;
+  const save = () => picture.saveAs("log.log", new Blob([state.bytes], { type: "text/plain" }));
+  const link = () => links.give("log", { text: state.text, options: options(), sight: links.sightOf(timeline) }, save);
 
   /* Opens the log of a link. */
-  async function open_link(hash) {
-    const it = await links.read("log", hash), { text, given, within } = it, lost = links.slots_of(given.get("lost"));
+  async function openLink(hash) {
+    const it = await links.read("log", hash), { text, given, within } = it, lost = links.slotsOf(given.get("lost"));
     await open(text, { pi: given.get("pi"), m: within("m", 1, 65535), k: within("k", 0, 1024), lost });
     links.look(timeline, it);
     links.hold("log", { text, options: options() }, hash);
@@ -340,9 +340,9 @@ const log_tab = (() => {
     for (const id of ["log-pi", "log-m", "log-k"]) $(id).oninput = parts.soon(() => look());
     $("log-text").oninput = parts.soon(() => open($("log-text").value, { pi: $("log-pi").value }));
     $("log-unlose").onclick = () => { state.lost.clear(); look(); };
-    log_text.begin();
+    logText.begin();
     changes.begin();
   }
 
-  return { begin, look, lose, open, open_link, state, timeline };
+  return { begin, look, lose, open, openLink, state, timeline };
 })();

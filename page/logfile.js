@@ -95,7 +95,7 @@ const logfile = (() => {
       if (missing[slot]) continue;
       group[0] = words[4 * slot];
       group[1] = words[4 * slot + 1];
-      all[slot] = lines.marked_code_of(group, pi);
+      all[slot] = lines.markedCodeOf(group, pi);
     }
     for (const slot of lost) if (slot < count) all[slot] = lines.NOTHING;
     return all;

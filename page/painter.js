@@ -26,7 +26,7 @@ const painter = (() => {
     for (const name of INKS) all[name] = ink(name);
     all.tints = [0, 1, 2, 3, 4, 5, 6, 7].map((i) => ink(`c${i}`));
     for (const [code, name] of Object.entries(CODES)) all.codes[code] = ink(name);
-    all.is_forced = matchMedia("(forced-colors: active)").matches;
+    all.isForced = matchMedia("(forced-colors: active)").matches;
     probe.remove();
     return all;
   }
@@ -44,7 +44,7 @@ const painter = (() => {
   }
 
   /* The first of these runs that ends behind the slot. */
-  function first_behind(runs, slot, from = 0) {
+  function firstBehind(runs, slot, from = 0) {
     let low = from, high = runs.length;
     while (low < high) {
       const mid = (low + high) >> 1;
@@ -88,7 +88,7 @@ const painter = (() => {
   }
 
   /* Ticks of slots that are two pixels wide, or wider. */
-  function wide_ticks(c, lane, sight, ink) {
+  function wideTicks(c, lane, sight, ink) {
     const { top: y, height: h } = lane, each = sight.room / sight.across, gap = each > 4 ? 1 : 0;
     const first = Math.max(0, Math.floor(sight.from)), last = Math.min(lane.codes.length, Math.ceil(sight.from + sight.across));
     for (let s = first; s < last; s++) {
@@ -118,7 +118,7 @@ const painter = (() => {
 
   /* Draws more slots than pixels: each column shows the share that brought a group, and its texts' flag if they have only one.
      Equal columns side by side are one stroke. */
-  function narrow_ticks(c, lane, sight, ink) {
+  function narrowTicks(c, lane, sight, ink) {
     const { top: y, height: h } = lane, all = shares(lane, sight);
     const strokes = (level, draw) => {
       const levels = all.map(level);
@@ -141,7 +141,7 @@ const painter = (() => {
     strokes(({ none }) => none > 0.5, (_, x, w) => c.fillRect(x, y + h - 3, w, 2));
   }
 
-  const ticks = (c, lane, sight, ink) => (sight.room / sight.across >= 2 ? wide_ticks : narrow_ticks)(c, lane, sight, ink);
+  const ticks = (c, lane, sight, ink) => (sight.room / sight.across >= 2 ? wideTicks : narrowTicks)(c, lane, sight, ink);
 
   function hatch(c, x0, y, w, h, width, ink) {
     clipped(c, x0, y + 1, w, h - 2, () => {
@@ -168,12 +168,12 @@ const painter = (() => {
 
   /* Draws a bar without its label: filled in the colour of its broadcast, an outline of dashes if stale, hatched if nobody sent it. */
   function ground(c, run, x0, w, lane, sight, ink) {
-    const { top: y, height: h } = lane, is_stale = run.old && !run.mix;
+    const { top: y, height: h } = lane, isStale = run.old && !run.mix;
     c.fillStyle = run.mix ? ink.wrong : run.old ? ink.stale : ink.tints[run.tint ?? 0];
-    if (is_stale && w > 4) outline(c, x0, y + 1, w, h - 2, { color: ink.stale, dashes: [4, 2] });
+    if (isStale && w > 4) outline(c, x0, y + 1, w, h - 2, { color: ink.stale, dashes: [4, 2] });
     else box(c, x0, y + 1, w, h - 2, w > 8);
     if (run.mix && w > 3) hatch(c, x0, y, w, h, sight.width, ink);
-    if (ink.is_forced && !is_stale && w > 2) outline(c, x0, y + 1, w, h - 2, { color: ink.text });
+    if (ink.isForced && !isStale && w > 2) outline(c, x0, y + 1, w, h - 2, { color: ink.text });
   }
 
   function bar(c, run, x0, x1, lane, sight, ink) {
@@ -192,26 +192,26 @@ const painter = (() => {
   function bars(c, lane, sight, ink) {
     const { runs } = lane, end = sight.from + sight.across;
     c.font = `12px ${FONT}`;
-    for (let i = first_behind(runs, sight.from); i < runs.length && runs[i].from < end;) {
+    for (let i = firstBehind(runs, sight.from); i < runs.length && runs[i].from < end;) {
       const run = runs[i], x0 = sight.x(Math.max(run.from, sight.from - 1)), x1 = sight.x(Math.min(run.to, end + 1));
       if (run.label !== null) bar(c, run, x0, x1, lane, sight, ink);
       // of bars of less than a pixel, on to the first that reaches the next one
       const next = sight.from + (Math.floor(x0 - sight.gutter) + 1) / sight.room * sight.across;
-      i = x1 - x0 < 1 ? Math.max(first_behind(runs, next, i + 1), i + 1) : i + 1;
+      i = x1 - x0 < 1 ? Math.max(firstBehind(runs, next, i + 1), i + 1) : i + 1;
     }
   }
 
   /* Draws a mark at its slot: a flag, or a diamond on a pole if it is bad. */
-  function mark(c, x, { top: y, height: h }, is_bad, ink) {
+  function mark(c, x, { top: y, height: h }, isBad, ink) {
     const middle = y + h / 2, half = h / 2 - 3;
-    c.fillStyle = is_bad ? ink.bad : ink.accent;
-    if (is_bad) c.fillRect(x - 1, y + 1, 2, h - 2);
+    c.fillStyle = isBad ? ink.bad : ink.accent;
+    if (isBad) c.fillRect(x - 1, y + 1, 2, h - 2);
     c.beginPath();
-    c.moveTo(x, is_bad ? middle : middle - half);
-    if (is_bad) c.lineTo(x + 5, middle - 6);
-    c.lineTo(x + (is_bad ? 10 : 7), middle);
-    if (is_bad) c.lineTo(x + 5, middle + 6);
-    c.lineTo(x, is_bad ? middle : middle + half);
+    c.moveTo(x, isBad ? middle : middle - half);
+    if (isBad) c.lineTo(x + 5, middle - 6);
+    c.lineTo(x + (isBad ? 10 : 7), middle);
+    if (isBad) c.lineTo(x + 5, middle + 6);
+    c.lineTo(x, isBad ? middle : middle + half);
     c.fill();
   }
 
@@ -242,34 +242,34 @@ const painter = (() => {
     const { marks: all } = lane, end = sight.from + sight.across, middle = lane.top + lane.height / 2 + 0.5;
     const counts = new Uint32Array(Math.ceil(sight.room) + 1), apart = [], bad = [];
     const at = (i) => i < 0 ? -Infinity : i < all.length ? sight.x(all[i].at) : Infinity;
-    for (let i = first_behind(all, sight.from - 1); i < all.length && all[i].at <= end; i++) {
-      const x = at(i), is_apart = x - at(i - 1) >= NEAR && at(i + 1) - x >= NEAR;
+    for (let i = firstBehind(all, sight.from - 1); i < all.length && all[i].at <= end; i++) {
+      const x = at(i), isApart = x - at(i - 1) >= NEAR && at(i + 1) - x >= NEAR;
       if (all[i].bad) bad.push(i);
-      else if (is_apart) apart.push(i);
+      else if (isApart) apart.push(i);
       else if (x >= sight.gutter) counts[Math.floor(x - sight.gutter)]++;
     }
     const edge = sight.gutter + sight.room;
     crowds(c, counts, lane, sight, ink);
     c.font = `11px ${FONT}`;
     for (const i of [...apart, ...bad]) {
-      const x = at(i), is_bad = all[i].bad, from = x + (is_bad ? 13 : 10);
-      mark(c, x, lane, is_bad, ink);
-      c.fillStyle = is_bad ? ink.bad : ink.text;
+      const x = at(i), isBad = all[i].bad, from = x + (isBad ? 13 : 10);
+      mark(c, x, lane, isBad, ink);
+      c.fillStyle = isBad ? ink.bad : ink.text;
       c.fillText(fitted(c, all[i].label, Math.min(at(i + 1) - 4, edge) - from), from, middle);
     }
   }
 
   const KINDS = { ticks, bars, marks };
 
-  function lane_of(c, lane, sight, ink) {
-    const { top: y, height: h } = lane, left = sight.gutter, is_chosen = lane.group !== undefined && lane.group === sight.chosen;
-    c.fillStyle = is_chosen ? ink.chosen : ink.lane;
+  function laneOf(c, lane, sight, ink) {
+    const { top: y, height: h } = lane, left = sight.gutter, isChosen = lane.group !== undefined && lane.group === sight.chosen;
+    c.fillStyle = isChosen ? ink.chosen : ink.lane;
     c.fillRect(left, y, sight.room, h);
     c.fillStyle = ink.cursor;
-    if (is_chosen) c.fillRect(left - 4, y, 3, h);
+    if (isChosen) c.fillRect(left - 4, y, 3, h);
     clipped(c, 0, y, left - 6, h, () => {
       c.font = `${lane.strong ? "600 " : ""}12px ${FONT}`;
-      c.fillStyle = is_chosen || lane.strong ? ink.text : ink.dim;
+      c.fillStyle = isChosen || lane.strong ? ink.text : ink.dim;
       c.fillText(left < 100 ? lane.short ?? lane.name : lane.name, 4, y + h / 2);
     });
     clipped(c, left, y, sight.room, h, () => KINDS[lane.kind](c, lane, sight, ink));
@@ -309,7 +309,7 @@ const painter = (() => {
   function columns(lanes, sight) {
     const width = Math.ceil(sight.room), [calm, bad, mixed] = [0, 0, 0].map(() => new Uint8Array(width));
     const column = (slot) => Math.min(width - 1, Math.floor(slot / sight.across * sight.room));
-    for (const { marks: all = [] } of lanes) for (const { at, bad: is_bad } of all) (is_bad ? bad : calm)[column(at)] = 1;
+    for (const { marks: all = [] } of lanes) for (const { at, bad: isBad } of all) (isBad ? bad : calm)[column(at)] = 1;
     for (const { runs = [], strong } of lanes) for (const { from, to, mix, label } of runs) {
       if (mix) mixed.fill(1, column(from), column(to) + 1);
       if (mix || (strong && label !== null)) (mix ? bad : calm)[column(from)] = 1;
@@ -365,7 +365,7 @@ const painter = (() => {
     const sight = { from: 0, across: 1, room: w, gutter: 0, width: w, x: (slot) => slot * w };
     const lane = { top: 0, height: TICKS, codes: [Number(shows)], losses: true };
     if (shows === "mix" || shows === "stale") ground(c, { mix: shows === "mix", old: true }, 0, w, lane, sight, ink);
-    else wide_ticks(c, lane, sight, ink);
+    else wideTicks(c, lane, sight, ink);
   }
 
   /* All of it, in the colours `ink`. `sight` says what is in sight: from, across, room, gutter, width, cursor, chosen, x; and
@@ -373,7 +373,7 @@ const painter = (() => {
   function paint(c, lanes, sight, ink, height) {
     c.textBaseline = "middle";
     axis(c, sight, ink, height);
-    for (const lane of lanes) lane_of(c, lane, sight, ink);
+    for (const lane of lanes) laneOf(c, lane, sight, ink);
     cursor(c, sight, ink, height);
     if (sight.span) selection(c, sight, ink, height);
   }

@@ -21,9 +21,9 @@ const parts = (() => {
   };
 
   /* Why the program gets none of the form's numbers: the first that is no whole number within its bounds. Empty if all are. */
-  function problem_of(form) {
-    const is_bad = ({ value, min, max }) => !/^\d+$/.test(value) || Number(value) < Number(min) || Number(value) > Number(max);
-    const bad = [...form.querySelectorAll("[type=number]")].find(is_bad), number = (n) => Number(n).toLocaleString("en");
+  function problemOf(form) {
+    const isBad = ({ value, min, max }) => !/^\d+$/.test(value) || Number(value) < Number(min) || Number(value) > Number(max);
+    const bad = [...form.querySelectorAll("[type=number]")].find(isBad), number = (n) => Number(n).toLocaleString("en");
     if (!bad) return "";
     return `${bad.dataset.name ?? bad.labels[0].textContent.trim()} must be a whole number from ${number(bad.min)} to ${number(bad.max)}.`;
   }
@@ -51,42 +51,42 @@ const parts = (() => {
   }
 
   /* Shows beside the field of a tab which file the tab holds, and whether it was edited; nothing if it holds none. */
-  function name_file(tab, name, is_edited = false) {
-    $(`${tab}-file-name`).replaceChildren(...(name ? [isolated(name), is_edited ? ", edited" : ""] : []));
+  function nameFile(tab, name, isEdited = false) {
+    $(`${tab}-file-name`).replaceChildren(...(name ? [isolated(name), isEdited ? ", edited" : ""] : []));
     entitle();
   }
 
   /* A class of RadioText Plus in small letters, as ITEM.ARTIST. */
-  const kind_of = (tag) => tag.kind.replace(/^ITEM\./, "").toLowerCase();
-  const said_of = (tag) => `${kind_of(tag)}: ${tag.text}`;
-  const label_of = (value) => value === null ? null : typeof value === "string" ? value || "(empty)" : said_of(value);
-  const key_of = (part, value) => typeof value === "string" ? `${part} ${value}` : `tag ${value.kind} ${value.text}`;
+  const kindOf = (tag) => tag.kind.replace(/^ITEM\./, "").toLowerCase();
+  const saidOf = (tag) => `${kindOf(tag)}: ${tag.text}`;
+  const labelOf = (value) => value === null ? null : typeof value === "string" ? value || "(empty)" : saidOf(value);
+  const keyOf = (part, value) => typeof value === "string" ? `${part} ${value}` : `tag ${value.kind} ${value.text}`;
 
   /* The names of the parts of a display that nobody sent. */
   const NAMES = { text: "text", name: "name", tag1: "tag", tag2: "tag" };
-  function mixes_at(view, slot, mixed) {
-    const is_mix = (part) => {
+  function mixesAt(view, slot, mixed) {
+    const isMix = (part) => {
       const value = view?.at(part, slot)?.value ?? null;
       return value !== null && mixed(part, value);
     };
-    return [...new Set(Object.keys(NAMES).filter(is_mix).map((part) => NAMES[part]))];
+    return [...new Set(Object.keys(NAMES).filter(isMix).map((part) => NAMES[part]))];
   }
 
   /* A display as a car has it: the name, the text and its tags at a slot. Parts that nobody sent make it red. */
   function radio(root, caption, view, slot, { led: calm = "", mixed = () => false, none = "no text" } = {}) {
-    const mixes = mixes_at(view, slot, mixed), bad = mixes.length > 0;
+    const mixes = mixesAt(view, slot, mixed), bad = mixes.length > 0;
     const which = mixes.includes("text") ? "" : ` ${mixes.join(" and ")}`, led = bad ? `nobody sent this${which}` : calm;
     const at = (part) => view?.at(part, slot)?.value ?? null, text = at("text");
     const tags = [at("tag1"), at("tag2")].filter((tag) => tag !== null);
     const said = (className, textContent) => make("div", { className, textContent });
-    const pieces = tags.map((tag) => make("span", {}, make("b", { textContent: kind_of(tag) }), tag.text));
+    const pieces = tags.map((tag) => make("span", {}, make("b", { textContent: kindOf(tag) }), tag.text));
     root.replaceChildren(
       make("figcaption", {}, make("span", { textContent: caption }), make("span", { className: bad ? "led bad" : "led", textContent: led })),
       make("div", { className: "lcd" }, said("name", at("name") ?? " "), said(text === null ? "text none" : "text", text ?? `— ${none} —`),
         make("div", { className: "tags" }, ...pieces)));
     root.classList.toggle("mixed", bad);
-    const values = { name: at("name") ?? "", text: text ?? `— ${none} —`, tags: tags.map(said_of) };
-    displayed.set(root.id, { root, caption, led, ...values, mixed: bad, is_none: text === null });
+    const values = { name: at("name") ?? "", text: text ?? `— ${none} —`, tags: tags.map(saidOf) };
+    displayed.set(root.id, { root, caption, led, ...values, mixed: bad, isNone: text === null });
   }
 
   /* Returns the displays of these elements, for a picture. */
@@ -94,8 +94,8 @@ const parts = (() => {
   const displays = (...ids) => ids.map((id) => displayed.get(id)).filter((it) => it);
 
   /* What a display shows, in words. Each part that nobody sent has words of its own. */
-  const WORDS = { text: (text) => `“${text}”`, name: (name) => `name ${name.trim()}`, tag1: said_of, tag2: said_of };
-  function in_words(view, slot, { mixed = () => false, none = "no text" } = {}) {
+  const WORDS = { text: (text) => `“${text}”`, name: (name) => `name ${name.trim()}`, tag1: saidOf, tag2: saidOf };
+  function inWords(view, slot, { mixed = () => false, none = "no text" } = {}) {
     const all = [];
     for (const [part, words] of Object.entries(WORDS)) {
       const value = view?.at(part, slot)?.value ?? null;
@@ -116,52 +116,52 @@ const parts = (() => {
 
   /* The bars of a part of a view; `mixed` says which values nobody sent. */
   const bars = (view, part, tint, mixed = () => false) => (view?.parts[part] ?? []).map(({ from, to, value }) => ({
-    from, to, value, label: label_of(value), tint: value === null ? 0 : tint(value.text ?? value), mix: value !== null && mixed(part, value),
+    from, to, value, label: labelOf(value), tint: value === null ? 0 : tint(value.text ?? value), mix: value !== null && mixed(part, value),
   }));
 
   /* The bars of both tags as one lane. */
-  function tag_bars(view, tint, mixed = () => false) {
+  function tagBars(view, tint, mixed = () => false) {
     if (!view) return [];
     const from = [...new Set([...view.parts.tag1, ...view.parts.tag2].map((run) => run.from))].sort((a, b) => a - b);
     const ends = Math.max(0, ...["tag1", "tag2"].map((part) => view.parts[part].at(-1)?.to ?? 0));
     return from.map((slot, i) => {
       const tags = ["tag1", "tag2"].map((part) => view.at(part, slot)?.value ?? null).filter((tag) => tag !== null);
       return {
-        from: slot, to: from[i + 1] ?? ends, value: tags, label: tags.length ? tags.map(said_of).join(" · ") : null,
+        from: slot, to: from[i + 1] ?? ends, value: tags, label: tags.length ? tags.map(saidOf).join(" · ") : null,
         tint: tags.length ? tint(tags[0].text) : 0, mix: tags.some((tag) => mixed("tag", tag)),
       };
     });
   }
 
   const shows = (view, part) => (view?.parts[part] ?? []).some((run) => run.value !== null);
-  const shows_tags = (view) => shows(view, "tag1") || shows(view, "tag2");
+  const showsTags = (view) => shows(view, "tag1") || shows(view, "tag2");
   const mark = (at, label, bad = false) => ({ at, to: at + 1, label, bad });
 
   /* All that a view ever shows, each as a key. */
-  function all_shown(...views) {
+  function allShown(...views) {
     const runs = (part) => views.flatMap((view) => view?.parts[part] ?? []).filter((run) => run.value !== null);
-    return new Set(["text", "name", "tag1", "tag2"].flatMap((part) => runs(part).map((run) => key_of(part, run.value))));
+    return new Set(["text", "name", "tag1", "tag2"].flatMap((part) => runs(part).map((run) => keyOf(part, run.value))));
   }
 
   /* Why a text or a name is shown no longer: the next has begun, or nothing of it came for the dwell. */
   const OF = { text: lines.TEXT, name: lines.NAME };
   const NEXT = "the next begins";
-  const why_gone = (part, group, pi) => lines.code_of(group, pi) === OF[part] ? NEXT : "forgotten";
+  const whyGone = (part, group, pi) => lines.codeOf(group, pi) === OF[part] ? NEXT : "forgotten";
 
   /* Why a text or a name is shown no longer in this slot, if it was shown up to the slot `from`. `heard` has the group of each
      slot. The next begins if its segments came within the dwell: before that slot those of the last one, and then its own. */
-  function why_none(part, heard, { from, slot, pi, m }) {
-    const is_part = (at) => lines.code_of(heard[at], pi) === OF[part];
-    const last_before = (at) => {
-      do at--; while (at >= 0 && !is_part(at));
+  function whyNone(part, heard, { from, slot, pi, m }) {
+    const isPart = (at) => lines.codeOf(heard[at], pi) === OF[part];
+    const lastBefore = (at) => {
+      do at--; while (at >= 0 && !isPart(at));
       return at;
     };
-    const begins = is_part(from) && from - last_before(from) < m && slot - last_before(slot + 1) < m;
+    const begins = isPart(from) && from - lastBefore(from) < m && slot - lastBefore(slot + 1) < m;
     return begins ? NEXT : "forgotten";
   }
 
   /* Beside a mix of the receiver with the flag bit alone: why the one with the dwell shows no text. Empty in other slots. */
-  function why_no_mix(view, alone, slot, mixed) {
+  function whyNoMix(view, alone, slot, mixed) {
     const value = (it) => it?.at("text", slot)?.value ?? null;
     if (value(alone) === null || !mixed("text", value(alone)) || value(view) !== null) return "";
     const next = view?.parts.text.find((run) => run.from > slot && run.value !== null);
@@ -174,33 +174,33 @@ const parts = (() => {
     if (element.tagName !== "TEXTAREA") element.textContent = text.length > MOST ? `${text.slice(0, MOST)}…` : text;
     else if (element.value !== text) element.value = text;
   }
-  function lay_out(details) {
+  function layOut(details) {
     if (!details.open) return;
     for (const [element, text] of later) if (details.contains(element)) { put(element, text); later.delete(element); }
   }
   function fill(id, text) {
     const element = $(id), details = element.closest("details");
     if (text.length > MOST) details.open = false;
-    details.ontoggle = () => lay_out(details);
+    details.ontoggle = () => layOut(details);
     later.set(element, text);
-    if (text.length < SHORT) { put(element, text); later.delete(element); } else lay_out(details);
+    if (text.length < SHORT) { put(element, text); later.delete(element); } else layOut(details);
   }
 
   /* Opens a text and chooses a line of it, counted from 1. */
-  function go_to_line(id, number) {
+  function goToLine(id, number) {
     const area = $(id), details = area.closest("details");
     details.open = true;
-    lay_out(details);
+    layOut(details);
     const all = area.value.split("\n"), from = all.slice(0, number - 1).reduce((sum, line) => sum + line.length + 1, 0);
     area.focus();
     area.setSelectionRange(from, from + (all[number - 1]?.length ?? 0));
     area.scrollTop = Math.max(0, (number - 4) * parseFloat(getComputedStyle(area).lineHeight));
   }
 
-  const lanes = { all_shown, bars, mark, shows, shows_tags, tag_bars, tinter };
-  const texts = { counted, hex, in_words, isolated, key_of, label_of, told };
-  const why = { NEXT, why_gone, why_no_mix, why_none };
+  const lanes = { allShown, bars, mark, shows, showsTags, tagBars, tinter };
+  const texts = { counted, hex, inWords, isolated, keyOf, labelOf, told };
+  const why = { NEXT, whyGone, whyNoMix, whyNone };
   return {
-    $, ...lanes, ...texts, ...why, displays, entitle, fill, go_to_line, make, name_file, problem_of, radio, soon,
+    $, ...lanes, ...texts, ...why, displays, entitle, fill, goToLine, make, nameFile, problemOf, radio, soon,
   };
 })();

@@ -1,11 +1,11 @@
 "use strict";
 /* A timeline as a picture with its displays and its legend, and files to save. `timeline.displays` gives the displays of the
-   chosen slot: { root, caption, led, name, text, tags, mixed, is_none }. */
+   chosen slot: { root, caption, led, name, text, tags, mixed, isNone }. */
 const picture = (() => {
   const SCALE = 2, WIDTH = 1200, EDGE = 16, TITLE = 34, GAP = 14, DISPLAY = 156, LEGEND = 30;
   const MONO = "ui-monospace, 'DejaVu Sans Mono', monospace";
 
-  function save_as(name, blob) {
+  function saveAs(name, blob) {
     const link = document.createElement("a"), url = URL.createObjectURL(blob);
     link.href = url;
     link.download = name;
@@ -35,7 +35,7 @@ const picture = (() => {
   }
 
   /* A display at x, in the colours that the page gives it now. */
-  function display(c, { root, caption, led, name, text, tags, mixed, is_none }, x, width) {
+  function display(c, { root, caption, led, name, text, tags, mixed, isNone }, x, width) {
     const colour = (query, what) => getComputedStyle(query ? root.querySelector(query) : root)[what];
     const inner = x + 22, room = width - 44;
     const write = (words, font, ink, at, y, align = "left") => {
@@ -48,7 +48,7 @@ const picture = (() => {
     write(mixed ? `⚠ ${led}` : led, `12px ${painter.FONT}`, colour(".led", "color"), x + width - 14, 20, "right");
     write(name, `14px ${MONO}`, colour(".lcd", "color"), inner, 52);
     c.font = `18px ${MONO}`;
-    const ink = colour(is_none ? ".none" : ".lcd", "color"), all = wrapped(c, text, room);
+    const ink = colour(isNone ? ".none" : ".lcd", "color"), all = wrapped(c, text, room);
     all.slice(0, 3).forEach((line, i) => write(line, `18px ${MONO}`, ink, inner, 76 + 22 * i));
     write(tags.join("   "), `12px ${MONO}`, colour(".lcd", "color"), inner, DISPLAY - 18);
     c.textAlign = "left";
@@ -100,8 +100,8 @@ const picture = (() => {
 
   async function save(timeline) {
     const blob = await new Promise((done) => drawn(timeline).toBlob(done, "image/png"));
-    save_as("timeline.png", blob);
+    saveAs("timeline.png", blob);
   }
 
-  return { drawn, save, save_as };
+  return { drawn, save, saveAs };
 })();

@@ -51,10 +51,10 @@ const rdsrt = (() => {
     };
   }
 
-  const text_at = (at, length) => decoder.decode(new Uint8Array(module.memory.buffer, at, length));
+  const textAt = (at, length) => decoder.decode(new Uint8Array(module.memory.buffer, at, length));
 
   /* The notes of a call, as far as they have room: its lines without the name of the program. */
-  const notes_of = (got) => lines.notes(text_at(got.at.notes, Math.min(got.noted, NOTES)));
+  const notesOf = (got) => lines.notes(textAt(got.at.notes, Math.min(got.noted, NOTES)));
 
   /* Runs the program. Where there was no memory, or no room for the output, it runs again with more. */
   function run(words, input) {
@@ -63,14 +63,14 @@ const rdsrt = (() => {
     let room = ROOM + 4 * bytes.length, heap = HEAP + 2 * room;
     for (;;) {
       const got = call(given, bytes, room, heap), fits = got.length <= room;
-      const output = fits ? text_at(got.at.output, got.length) : "";
+      const output = fits ? textAt(got.at.output, got.length) : "";
       if (got.failures > 0 || output.endsWith("fault memory\n")) {
         heap *= 4;
         if (heap > MOST) throw new Error("no memory for this input");
       } else if (!fits) {
         room = got.length;
         heap = Math.max(heap, HEAP + 2 * room);
-      } else return { status: got.status, output, notes: notes_of(got), heap: got.heap, ms: performance.now() - from };
+      } else return { status: got.status, output, notes: notesOf(got), heap: got.heap, ms: performance.now() - from };
     }
   }
 

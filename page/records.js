@@ -11,45 +11,45 @@ const records = (() => {
   function split(text) {
     const all = [], starts = text.charCodeAt(0) === 0xFEFF ? 1 : 0;
     let state = RECORD, field = "", row = [], line = 1, began = 1, from = 0;
-    const end_row = (to) => {
+    const endRow = (to) => {
       all.push({ fields: [...row, field], line: began, written: text.slice(from, to) });
       [state, field, row, from] = [RECORD, "", [], to];
     };
     for (let i = starts; i < text.length; i++) {
-      const c = text[i], is_crlf = c === "\r" && text[i + 1] === "\n", ends = c === "\n" || c === "\r";
-      if (is_crlf && state !== QUOTED) i++;
+      const c = text[i], isCrlf = c === "\r" && text[i + 1] === "\n", ends = c === "\n" || c === "\r";
+      if (isCrlf && state !== QUOTED) i++;
       if (state === RECORD && !ends) { state = FIELD; began = line; }
-      if (ends && !(is_crlf && state === QUOTED)) line++;
+      if (ends && !(isCrlf && state === QUOTED)) line++;
       if (state === QUOTED) {
         if (c === '"') state = AFTER_QUOTE; else field += c;
       } else if (c === '"' && state === FIELD) state = QUOTED;
       else if (c === '"' && state === AFTER_QUOTE) { state = QUOTED; field += c; }
       else if (c === ",") { row.push(field); state = FIELD; field = ""; }
       else if (!ends) { state = PLAIN; field += c; }
-      else if (state !== RECORD) end_row(i + 1);
+      else if (state !== RECORD) endRow(i + 1);
     }
-    const is_open = state === QUOTED;
-    if (state !== RECORD) end_row(text.length);
+    const isOpen = state === QUOTED;
+    if (state !== RECORD) endRow(text.length);
     const last = all.at(-1);
-    if (last) last.written = is_open ? undefined : last.written + text.slice(from);
+    if (last) last.written = isOpen ? undefined : last.written + text.slice(from);
     return all;
   }
 
   const letters = (receptions) => receptions.match(/G\d*|L|R/g) ?? [];
-  function row_of({ fields, line, written }) {
+  function rowOf({ fields, line, written }) {
     const [command = "", argument = "", free = "", receptions = ""] = fields;
     return { command, argument, free, receptions: letters(receptions), line, written };
   }
-  const read = (text) => split(text).map(row_of);
+  const read = (text) => split(text).map(rowOf);
   const empty = (receivers) => ({ command: "-", argument: "", free: "1", receptions: Array(receivers).fill("G") });
 
   const field = (s) => /[",\n\r]/.test(s) ? `"${s.replaceAll('"', '""')}"` : s;
-  const write_row = (r) => `${field(r.command)},${field(r.argument)},${r.free},${r.receptions.join("")}\n`;
+  const writeRow = (r) => `${field(r.command)},${field(r.argument)},${r.free},${r.receptions.join("")}\n`;
 
   /* A row as it was read, if it was not edited since: a malformed row stays as it is until somebody edits it. */
-  const as_read = ({ written }, is_last) => is_last || /[\n\r]$/.test(written) ? written : `${written}\n`;
-  const write_one = (row, i, rows) => row.written === undefined ? write_row(row) : as_read(row, i === rows.length - 1);
-  const write = (rows) => rows.map(write_one).join("");
+  const asRead = ({ written }, isLast) => isLast || /[\n\r]$/.test(written) ? written : `${written}\n`;
+  const writeOne = (row, i, rows) => row.written === undefined ? writeRow(row) : asRead(row, i === rows.length - 1);
+  const write = (rows) => rows.map(writeOne).join("");
 
   /* Changes parts of a row, if they differ. */
   function edit(row, parts) {
@@ -57,19 +57,19 @@ const records = (() => {
   }
 
   /* Changes what a receiver does in a row. */
-  function edit_reception(row, receiver, letter) {
+  function editReception(row, receiver, letter) {
     if (!row.receptions[receiver] || row.receptions[receiver] === letter) return;
     row.receptions[receiver] = letter;
     row.written = undefined;
   }
 
   /* Gives a row so many receivers. */
-  function edit_receivers(row, count) {
+  function editReceivers(row, count) {
     if (row.receptions.length === count) return;
     while (row.receptions.length < count) row.receptions.push("G");
     row.receptions.length = count;
     row.written = undefined;
   }
 
-  return { edit, edit_receivers, edit_reception, empty, read, write };
+  return { edit, editReceivers, editReception, empty, read, write };
 })();

@@ -1,6 +1,6 @@
 "use strict";
 /* The tab of a script: a station and up to eight receivers, each beside one with the flag bit alone. */
-const script_tab = (() => {
+const scriptTab = (() => {
   const { $ } = parts;
   const COMMANDS = ["-", "text", "name", "tags", "restart"], PI = "C201";
   const HINTS = { text: "the text", name: "the name", tags: "1 1 4 0 3 1 7 7" };
@@ -13,10 +13,10 @@ const script_tab = (() => {
   };
   const timeline = new Timeline($("script-time"), {
     label: "Slot of the script",
-    on_move: show_slot,
-    on_lane: (group) => { state.chosen = group; show_slot(timeline.cursor); },
-    on_paint: brush,
-    on_key: key,
+    onMove: showSlot,
+    onLane: (group) => { state.chosen = group; showSlot(timeline.cursor); },
+    onPaint: brush,
+    onKey: key,
   });
   timeline.displays = () => parts.displays("script-air", "script-radio", "script-alone");
   const undo = new Undo((it) => {
@@ -28,22 +28,22 @@ const script_tab = (() => {
   // ---- edits
 
   const LOOK = "look";
-  const letter_of_brush = () => document.querySelector("[name=brush]:checked").value;
+  const letterOfBrush = () => document.querySelector("[name=brush]:checked").value;
 
   function brush(lane, from, to) {
-    const letter = letter_of_brush();
+    const letter = letterOfBrush();
     if (lane === null) { edited(); return true; }
     if (letter === LOOK || lane?.group === undefined) return false;
-    for (let s = from; s <= to; s++) set_reception(s, lane.group, letter);
-    show_stroke(lane.group, from, to);
+    for (let s = from; s <= to; s++) setReception(s, lane.group, letter);
+    showStroke(lane.group, from, to);
     return true;
   }
 
   /* Shows a stroke of the brush on a receiver before the script is played. */
-  function show_stroke(receiver, from, to) {
+  function showStroke(receiver, from, to) {
     const ticks = timeline.lanes.find((lane) => lane.kind === "ticks" && lane.group === receiver);
     const ends = Math.min(to + 1, ticks?.codes.length ?? 0);
-    for (let s = from; s < ends; s++) ticks.codes[s] = code_heard(state.rows[s].receptions[receiver], s);
+    for (let s = from; s < ends; s++) ticks.codes[s] = codeHeard(state.rows[s].receptions[receiver], s);
     if (ticks) ticks.sums = lines.sums(ticks.codes);
     timeline.draw();
   }
@@ -51,23 +51,23 @@ const script_tab = (() => {
   const BRUSHES = { L: "lose", G: "get", R: "restart in" };
 
   /* Says how the brush works while it is on. */
-  function show_brush() {
-    const does = BRUSHES[letter_of_brush()];
+  function showBrush() {
+    const does = BRUSHES[letterOfBrush()];
     $("brush-on").textContent = does ? `A click or a drag on a receiver makes it ${does} the slots. Escape returns to “look”.` : "";
     timeline.canvas.classList.remove("brushes");
   }
 
   /* Escape puts the brush away. */
-  function put_brush_away(e) {
-    if (e.key !== "Escape" || letter_of_brush() === LOOK) return;
+  function putBrushAway(e) {
+    if (e.key !== "Escape" || letterOfBrush() === LOOK) return;
     document.querySelector(`[name=brush][value=${LOOK}]`).checked = true;
-    show_brush();
+    showBrush();
   }
 
   /* The pointer over a receiver has the form of a brush while the brush is on. */
   function point(e) {
-    const lane = timeline.lane_at(e.clientY - timeline.canvas.getBoundingClientRect().top);
-    timeline.canvas.classList.toggle("brushes", lane?.group !== undefined && letter_of_brush() !== LOOK);
+    const lane = timeline.laneAt(e.clientY - timeline.canvas.getBoundingClientRect().top);
+    timeline.canvas.classList.toggle("brushes", lane?.group !== undefined && letterOfBrush() !== LOOK);
   }
 
   function key(name, e) {
@@ -85,14 +85,14 @@ const script_tab = (() => {
       return true;
     }
     if (!["l", "g", "r"].includes(name)) return false;
-    set_reception(timeline.cursor, state.chosen, name.toUpperCase());
+    setReception(timeline.cursor, state.chosen, name.toUpperCase());
     edited();
     return true;
   }
 
-  function set_reception(slot, receiver, letter) {
+  function setReception(slot, receiver, letter) {
     const row = state.rows[slot];
-    if (row) records.edit_reception(row, receiver, letter);
+    if (row) records.editReception(row, receiver, letter);
   }
 
   /* The rows were edited: plays them, and notes the script for the undo. */
@@ -103,7 +103,7 @@ const script_tab = (() => {
   }
 
   function back(by) {
-    played_soon.now();
+    playedSoon.now();
     const text = undo.go(by);
     if (text === undefined) return;
     take(text);
@@ -111,7 +111,7 @@ const script_tab = (() => {
   }
 
   /* Writes the form's command into the row of the chosen slot; answers whether there is one. */
-  function write_command() {
+  function writeCommand() {
     const row = state.rows[timeline.cursor], takes = ["text", "name", "tags"].includes($("command").value);
     $("argument").hidden = !takes;
     if (!row) return false;
@@ -120,26 +120,26 @@ const script_tab = (() => {
     return true;
   }
 
-  const command_changed = () => { if (write_command()) edited(); };
+  const commandChanged = () => { if (writeCommand()) edited(); };
 
   /* A letter was typed: the row of its slot gets it at once, for another slot may be chosen before the rows are played. */
-  const played_soon = parts.soon(() => edited());
-  const argument_typed = () => { if (write_command()) played_soon(); };
+  const playedSoon = parts.soon(() => edited());
+  const argumentTyped = () => { if (writeCommand()) playedSoon(); };
 
   /* A number of the form was changed: a script of another size is edited, and one of the same is played again. */
-  function form_changed() {
+  function formChanged() {
     const n = state.rows[0]?.receptions.length ?? 0, count = Math.max(1, state.rows.length);
-    const problem = parts.problem_of($("script-form"));
-    if (problem) show_problem(problem);
+    const problem = parts.problemOf($("script-form"));
+    if (problem) showProblem(problem);
     else if (receivers() === n && Number($("script-slots").value) === count) play();
     else resize();
   }
 
   function resize() {
-    const n = receivers(), count = Number($("script-slots").value), is_other = n !== (state.rows[0]?.receptions.length ?? n);
+    const n = receivers(), count = Number($("script-slots").value), isOther = n !== (state.rows[0]?.receptions.length ?? n);
     while (state.rows.length < count) state.rows.push(records.empty(n));
     state.rows.length = count;
-    if (is_other) for (const row of state.rows) records.edit_receivers(row, n);
+    if (isOther) for (const row of state.rows) records.editReceivers(row, n);
     state.chosen = Math.max(0, Math.min(state.chosen, n - 1));
     edited({ fit: true });
   }
@@ -155,44 +155,44 @@ const script_tab = (() => {
   }
 
   /* Opens a script: its text, and the program's input for this text, which for a file is the file's bytes. */
-  function open(text, { m, k, pty = "10", is_edit = false, example = "", file = "", input = text } = {}) {
+  function open(text, { m, k, pty = "10", isEdit = false, example = "", file = "", input = text } = {}) {
     state.pty = pty;
-    if (!is_edit) Object.assign(state, { opened: { text, input, file, example }, saved: text });
+    if (!isEdit) Object.assign(state, { opened: { text, input, file, example }, saved: text });
     if (m) $("script-m").value = m;
     if (k !== undefined) $("script-k").value = k;
     take(text);
-    if (is_edit) undo.note(text); else undo.begin(text);
+    if (isEdit) undo.note(text); else undo.begin(text);
     play({ fit: true, text });
-    if (is_edit) return;
-    const { first_mix } = state, [first] = state.air.parts.text;
-    if (first_mix) state.chosen = timeline.chosen = first_mix.receiver;
-    if (first_mix) timeline.move(first_mix.slot, { keep: true });
+    if (isEdit) return;
+    const { firstMix } = state, [first] = state.air.parts.text;
+    if (firstMix) state.chosen = timeline.chosen = firstMix.receiver;
+    if (firstMix) timeline.move(firstMix.slot, { keep: true });
     else if (first) timeline.move(Math.min(state.rows.length - 1, first.from + Number($("script-m").value)), { keep: true });
   }
 
   /* Names the example or the file of the text, and drops the link of another text. Gives the program's input for the text. */
-  function name_input() {
-    const { opened, text } = state, is_opened = text === opened.text;
-    $("script-example").value = is_opened ? opened.example : "";
-    parts.name_file("script", opened.file, !is_opened);
+  function nameInput() {
+    const { opened, text } = state, isOpened = text === opened.text;
+    $("script-example").value = isOpened ? opened.example : "";
+    parts.nameFile("script", opened.file, !isOpened);
     links.keep("script", { text, options: options() });
-    return is_opened ? opened.input : text;
+    return isOpened ? opened.input : text;
   }
 
   function play({ fit = false, text = state.text } = {}) {
     state.text = text;
-    const input = name_input();
+    const input = nameInput();
     parts.fill("script-text", text);
-    const problem = too_much() || parts.problem_of($("script-form"));
-    if (problem) { show_problem(problem); return; }
+    const problem = tooMuch() || parts.problemOf($("script-form"));
+    if (problem) { showProblem(problem); return; }
     const m = $("script-m").value, k = $("script-k").value, count = state.rows.length;
     const words = ["sim", "--pi", PI, "--pty", state.pty, "--m", m, "--k", k], got = rdsrt.run(words, input);
-    const played = played_of(got.output, count), said = lines.read(got.output, played), tint = parts.tinter();
-    const broadcast = on_air(said.replies, played, tint);
+    const played = playedOf(got.output, count), said = lines.read(got.output, played), tint = parts.tinter();
+    const broadcast = onAir(said.replies, played, tint);
     const replies = new Map(said.replies.map((it) => [it.slot, it]));
     Object.assign(state, { said, replies, played, air: broadcast.air, result: got, m: Number(m), spaced: Number(m) + Number(k) });
-    const sent = parts.all_shown(state.air);
-    state.mixed = (part, value) => !sent.has(parts.key_of(part, value));
+    const sent = parts.allShown(state.air);
+    state.mixed = (part, value) => !sent.has(parts.keyOf(part, value));
     state.spans = spans(state.air.parts.text);
     hear();
     timeline.chosen = receivers() ? state.chosen : null;
@@ -200,13 +200,13 @@ const script_tab = (() => {
     timeline.show(lanes(broadcast.marks, played, tint), count, { fit });
     parts.fill("script-lines", got.output);
     $("script-command").textContent = `rdsrt ${words.join(" ")}`;
-    tell_mixes();
-    tell_wait();
-    tell_fault(text);
+    tellMixes();
+    tellWait();
+    tellFault(text);
   }
 
   /* Why the page does not play these rows; empty if it does. */
-  function too_much() {
+  function tooMuch() {
     const n = state.rows[0]?.receptions.length ?? 0, count = state.rows.length;
     const most = (id) => Number($(id).max);
     if (n > most("script-n")) return `The script has ${n.toLocaleString("en")} receivers. The page plays at most ${most("script-n")}.`;
@@ -215,8 +215,8 @@ const script_tab = (() => {
   }
 
   /* Shows why nothing is played, and no result of what was there before. */
-  function show_problem(problem) {
-    const none = { played: 0, replies: new Map(), spans: new Map(), alone: [], heard: [], result: null, first_mix: null };
+  function showProblem(problem) {
+    const none = { played: 0, replies: new Map(), spans: new Map(), alone: [], heard: [], result: null, firstMix: null };
     Object.assign(state, none, { said: { views: [], sent: [], logged: [] }, air: new lines.View(), mixed: () => false });
     timeline.title = "";
     timeline.show([], state.rows.length);
@@ -228,36 +228,36 @@ const script_tab = (() => {
   }
 
   /* How many rows the program played: those before a bad one. */
-  function played_of(output, count) {
+  function playedOf(output, count) {
     const row = /^fault row (\d+)/m.exec(output);
     return row ? Math.min(count, Number(row[1]) - 1) : count;
   }
 
   /* The characters of a printed text: an escape is one. */
   const characters = (text) => [...text.matchAll(/\\x[0-9A-Fa-f]{2}|./gsu)].map(([c]) => c);
-  const as_name = (text) => text + " ".repeat(Math.max(0, 8 - characters(text).length));
+  const asName = (text) => text + " ".repeat(Math.max(0, 8 - characters(text).length));
 
   /* The tags of a row as they cut the text: class and piece, or nothing. */
-  function pieces_of(argument, text) {
+  function piecesOf(argument, text) {
     const numbers = argument.split(" ").map(Number), chars = characters(text);
     return [numbers.slice(2, 5), numbers.slice(5, 8)].map(([kind, start, extra]) => {
       const text = chars.slice(start, start + extra + 1).join("");
-      return kind > 0 && start + extra < chars.length ? { kind: lines.class_of(kind), text } : null;
+      return kind > 0 && start + extra < chars.length ? { kind: lines.classOf(kind), text } : null;
     });
   }
 
   /* What is on air, by the replies and the rows: the program doesn't print it. And the marks of what was commanded. */
-  function on_air(replies, count, tint) {
+  function onAir(replies, count, tint) {
     const air = new lines.View(), marks = [];
-    const set_tags = (slot, tags) => tags.forEach((tag, i) => air.change(`tag${i + 1}`, slot, tag));
+    const setTags = (slot, tags) => tags.forEach((tag, i) => air.change(`tag${i + 1}`, slot, tag));
     for (const { slot, what, reply } of replies) {
-      const { argument = "" } = state.rows[slot] ?? {}, is_done = what === "restart" || reply === "ok";
-      if (!is_done) { marks.push(parts.mark(slot, `${what} ${reply}`, true)); continue; }
+      const { argument = "" } = state.rows[slot] ?? {}, isDone = what === "restart" || reply === "ok";
+      if (!isDone) { marks.push(parts.mark(slot, `${what} ${reply}`, true)); continue; }
       if (what === "restart" || what === "tags") marks.push(parts.mark(slot, what));
       if (what === "restart") air.clear(slot);
-      else if (what === "tags") set_tags(slot, pieces_of(argument, air.at("text", slot)?.value ?? ""));
+      else if (what === "tags") setTags(slot, piecesOf(argument, air.at("text", slot)?.value ?? ""));
       else {
-        const value = printed_form(what === "name" ? as_name(argument) : argument);
+        const value = printedForm(what === "name" ? asName(argument) : argument);
         if (what === "text") { air.clear(slot, "tag1", "tag2"); tint(value); }
         air.change(what, slot, value);
       }
@@ -266,8 +266,8 @@ const script_tab = (() => {
   }
 
   /* A row's argument as the program prints it: escapes in capitals, and the quotation mark as one. */
-  const in_capitals = (all, digits) => `\\x${digits.toUpperCase()}`;
-  const printed_form = (text) => text.replace(/\\x([0-9A-Fa-f]{2})/g, in_capitals).replaceAll('"', "\\x22");
+  const inCapitals = (all, digits) => `\\x${digits.toUpperCase()}`;
+  const printedForm = (text) => text.replace(/\\x([0-9A-Fa-f]{2})/g, inCapitals).replaceAll('"', "\\x22");
 
   /* For each text the spans in which it was on air. */
   function spans(runs) {
@@ -277,33 +277,33 @@ const script_tab = (() => {
   }
 
   /* The slot whose group a receiver gets in this slot, late or not; -1 if it gets none. */
-  function source_of(letter, slot) {
+  function sourceOf(letter, slot) {
     if (letter?.[0] !== "G") return -1;
     return letter.length > 1 ? slot - Number(letter.slice(1)) : slot;
   }
 
   /* The slots in which a receiver restarts. */
-  const restarts_of = (i) => [...state.rows.keys()].filter((slot) => state.rows[slot].receptions[i] === "R");
+  const restartsOf = (i) => [...state.rows.keys()].filter((slot) => state.rows[slot].receptions[i] === "R");
 
   /* What each receiver got, and what one with the flag bit alone shows of it. */
   function hear() {
     const { said } = state, rows = state.rows.slice(0, state.played);
-    const sources_of = (i) => rows.map((row, slot) => source_of(row.receptions[i], slot));
-    const all = Array.from({ length: receivers() }, (_, i) => sources_of(i));
+    const sourcesOf = (i) => rows.map((row, slot) => sourceOf(row.receptions[i], slot));
+    const all = Array.from({ length: receivers() }, (_, i) => sourcesOf(i));
     state.heard = all.map((sources) => sources.map((slot) => said.sent[slot] ?? null));
     const got = all.map((sources) => sources.map((slot) => said.logged[slot] ?? lines.LOST));
-    state.alone = got.map((each, i) => flag_alone.receive(PI, each, restarts_of(i)));
+    state.alone = got.map((each, i) => flagAlone.receive(PI, each, restartsOf(i)));
   }
 
   /* The colour of a slot in which a receiver does this. A group that has nothing to do with texts isn't printed. */
-  function code_heard(letter, slot) {
-    const source = source_of(letter, slot);
-    return source < 0 ? lines.NOTHING : lines.code_of(state.said.sent[source], null) || lines.OTHER;
+  function codeHeard(letter, slot) {
+    const source = sourceOf(letter, slot);
+    return source < 0 ? lines.NOTHING : lines.codeOf(state.said.sent[source], null) || lines.OTHER;
   }
 
-  function codes_heard(i, count) {
+  function codesHeard(i, count) {
     const codes = new Uint8Array(count);
-    for (let s = 0; s < count; s++) codes[s] = code_heard(state.rows[s].receptions[i], s);
+    for (let s = 0; s < count; s++) codes[s] = codeHeard(state.rows[s].receptions[i], s);
     return codes;
   }
 
@@ -322,77 +322,77 @@ const script_tab = (() => {
 
   function lanes(marks, count, tint) {
     const { air, said } = state, all = [
-      { name: "sent", kind: "ticks", codes: lines.codes_of(said.sent, count, null) },
+      { name: "sent", kind: "ticks", codes: lines.codesOf(said.sent, count, null) },
       { name: "station", kind: "marks", marks },
       lane("on air", "on air", parts.bars(air, "text", tint), { strong: true, gap: 8 }),
     ];
     if (parts.shows(air, "name")) all.push(lane("  its name", " name", parts.bars(air, "name", tint)));
-    if (parts.shows_tags(air)) all.push(lane("  its tags", " tags", parts.tag_bars(air, tint)));
-    for (let i = 0; i < receivers(); i++) all.push(...receiver_lanes(i, count, tint));
+    if (parts.showsTags(air)) all.push(lane("  its tags", " tags", parts.tagBars(air, tint)));
+    for (let i = 0; i < receivers(); i++) all.push(...receiverLanes(i, count, tint));
     return all;
   }
 
-  function receiver_lanes(i, count, tint) {
-    const all = [{ name: `receiver ${i}`, kind: "ticks", codes: codes_heard(i, count), losses: true, group: i, gap: 14 }];
+  function receiverLanes(i, count, tint) {
+    const all = [{ name: `receiver ${i}`, kind: "ticks", codes: codesHeard(i, count), losses: true, group: i, gap: 14 }];
     const add = (name, short, runs) => all.push(lane(`  ${name}`, ` ${short}`, runs, { group: i }));
-    const add_view = (name, short, view, old) => {
+    const addView = (name, short, view, old) => {
       add(name, short, old(parts.bars(view, "text", tint, state.mixed)));
       if (parts.shows(view, "name")) add("  its name", "  name", parts.bars(view, "name", tint, state.mixed));
-      if (parts.shows_tags(view)) add("  its tags", "  tags", parts.tag_bars(view, tint, state.mixed));
+      if (parts.showsTags(view)) add("  its tags", "  tags", parts.tagBars(view, tint, state.mixed));
     };
-    add_view("with the dwell", "dwell", state.said.views[i], (runs) => runs);
-    add_view("flag bit alone", "flag bit", state.alone[i], aged);
+    addView("with the dwell", "dwell", state.said.views[i], (runs) => runs);
+    addView("flag bit alone", "flag bit", state.alone[i], aged);
     return all;
   }
 
   // ---- what it comes to
 
-  function mixes_of(view) {
+  function mixesOf(view) {
     const mixes = (part) => (view?.parts[part] ?? []).filter((run) => run.value !== null && state.mixed(part, run.value));
     return ["text", "name", "tag1", "tag2"].flatMap((part) => mixes(part).map((run) => ({ ...run, part: part.replace(/[12]$/, "") })));
   }
 
   /* How many texts, names and tags these are. */
-  function in_kinds(all) {
+  function inKinds(all) {
     const number = (part) => all.filter((run) => run.part === part).length;
     const each = ["text", "name", "tag"].filter((part) => number(part) > 0);
     return each.map((part) => number(part) === 1 ? `a ${part}` : parts.counted(number(part), part)).join(" and ");
   }
 
-  function tell_mixes() {
-    const n = receivers(), wrong = state.alone.map(mixes_of), ours = state.said.views.slice(0, n).flatMap(mixes_of).length;
+  function tellMixes() {
+    const n = receivers(), wrong = state.alone.map(mixesOf), ours = state.said.views.slice(0, n).flatMap(mixesOf).length;
     const all = wrong.flat().length, at = wrong.findIndex((it) => it.length);
-    state.first_mix = at < 0 ? null : { receiver: at, slot: Math.min(...wrong[at].map((run) => run.from)) };
-    const mixed = `With the flag bit alone, receivers show ${in_kinds(wrong.flat())} that nobody sent. `
+    state.firstMix = at < 0 ? null : { receiver: at, slot: Math.min(...wrong[at].map((run) => run.from)) };
+    const mixed = `With the flag bit alone, receivers show ${inKinds(wrong.flat())} that nobody sent. `
       + `With the dwell ${ours === 0 ? "none does" : `${ours} do`}.`;
     const told = all ? mixed : "No receiver shows a mix here. Lose more slots: a whole text and the next flip of the flag.";
-    $("script-count").textContent = n === 0 || state.said.fault ? "" : `${told} ${flag_alone.limit(state.rows.length)}`.trim();
+    $("script-count").textContent = n === 0 || state.said.fault ? "" : `${told} ${flagAlone.limit(state.rows.length)}`.trim();
   }
 
   /* Shows the program's note on the first set that came too early. */
-  function tell_wait() {
-    const note = lines.note_of(state.result.notes, "slot ");
+  function tellWait() {
+    const note = lines.noteOf(state.result.notes, "slot ");
     $("script-note").textContent = note && `${note}.`;
     $("script-note").hidden = !note;
   }
 
   /* A fault of the script, by the program's note; and a button to the line of a bad row in the text that was played. */
-  function tell_fault(text) {
+  function tellFault(text) {
     const { fault } = state.said, root = $("script-fault"), row = /^fault row (\d+)/.exec(fault ?? "");
     root.hidden = !fault;
     root.replaceChildren();
     if (!fault) return;
-    root.replaceChildren(...parts.told(`${lines.note_of(state.result.notes, fault) || fault}.`));
+    root.replaceChildren(...parts.told(`${lines.noteOf(state.result.notes, fault) || fault}.`));
     const bad = row && records.read(text)[Number(row[1]) - 1];
     if (!bad) return;
     const go = parts.make("button", { type: "button", textContent: "Show the line" });
-    go.onclick = () => parts.go_to_line("script-text", bad.line);
+    go.onclick = () => parts.goToLine("script-text", bad.line);
     root.append(" The rows after it are not played. ", go);
   }
 
   // ---- a slot
 
-  function is_old(value, slot) {
+  function isOld(value, slot) {
     const spans = state.spans.get(value);
     return spans !== undefined && !spans.some((span) => span.from <= slot && span.to > slot - state.spaced);
   }
@@ -404,46 +404,46 @@ const script_tab = (() => {
   }
 
   /* Why receiver i shows no text in this slot, if it showed one up to the slot `from`. */
-  function why_gone(from, slot, i) {
+  function whyGone(from, slot, i) {
     if (state.rows.slice(from, slot + 1).some((row) => row.receptions[i] === "R")) return "restarted";
-    const why = (at) => parts.why_none("text", state.heard[i], { from, slot: at, pi: parseInt(PI, 16), m: state.m });
-    const is_silent = (at) => (state.air.at("text", at)?.value ?? null) === null;
-    return is_silent(slot) && (is_silent(from) || why(from) === parts.NEXT) ? "the encoder is silent" : why(slot);
+    const why = (at) => parts.whyNone("text", state.heard[i], { from, slot: at, pi: parseInt(PI, 16), m: state.m });
+    const isSilent = (at) => (state.air.at("text", at)?.value ?? null) === null;
+    return isSilent(slot) && (isSilent(from) || why(from) === parts.NEXT) ? "the encoder is silent" : why(slot);
   }
 
-  function show_slot(slot) {
+  function showSlot(slot) {
     const i = state.chosen, row = state.rows[slot], n = receivers(), reply = state.replies.get(slot);
-    const is_played = slot < state.played, or_unplayed = (word) => is_played ? word : UNPLAYED;
-    const got = or_unplayed(does(row?.receptions[i] ?? "", slot)), sent = or_unplayed(state.said.sent[slot] ? "sends" : "");
+    const isPlayed = slot < state.played, orUnplayed = (word) => isPlayed ? word : UNPLAYED;
+    const got = orUnplayed(does(row?.receptions[i] ?? "", slot)), sent = orUnplayed(state.said.sent[slot] ? "sends" : "");
     const view = state.said.views[i], run = view?.at("text", slot), simple = state.alone[i], other = simple?.at("text", slot);
-    const none = or_unplayed(run?.value === null ? why_gone(run.from, slot, i) : "no text");
-    const stale = other && is_old(other.value, slot) ? "long over" : "";
+    const none = orUnplayed(run?.value === null ? whyGone(run.from, slot, i) : "no text");
+    const stale = other && isOld(other.value, slot) ? "long over" : "";
     const named = (what) => n ? `Receiver ${i}, ${what}` : "No receiver";
-    const air_led = reply ? `${reply.what} ${reply.reply}` : sent, { mixed } = state;
-    const ours = { led: got, mixed, none }, its = { led: or_unplayed(stale), mixed, none: or_unplayed(flag_alone.none_at(slot)) };
-    parts.radio($("script-air"), "On air", state.air, slot, { led: air_led, none: or_unplayed("silence") });
+    const airLed = reply ? `${reply.what} ${reply.reply}` : sent, { mixed } = state;
+    const ours = { led: got, mixed, none }, its = { led: orUnplayed(stale), mixed, none: orUnplayed(flagAlone.noneAt(slot)) };
+    parts.radio($("script-air"), "On air", state.air, slot, { led: airLed, none: orUnplayed("silence") });
     parts.radio($("script-radio"), named("with the dwell"), view, slot, ours);
     parts.radio($("script-alone"), named("flag bit alone"), simple, slot, its);
-    $("script-why").textContent = parts.why_no_mix(view, simple, slot, mixed);
-    show_command(slot, row);
-    if (!is_played) return `${UNPLAYED}.`;
-    const air = `On air ${parts.in_words(state.air, slot)}.`;
-    const shown = parts.in_words(view, slot, { mixed }), other_shown = parts.in_words(simple, slot, its);
-    return n ? `${air} Receiver ${i} ${got}: ${shown}. With the flag bit alone: ${other_shown}.` : air;
+    $("script-why").textContent = parts.whyNoMix(view, simple, slot, mixed);
+    showCommand(slot, row);
+    if (!isPlayed) return `${UNPLAYED}.`;
+    const air = `On air ${parts.inWords(state.air, slot)}.`;
+    const shown = parts.inWords(view, slot, { mixed }), otherShown = parts.inWords(simple, slot, its);
+    return n ? `${air} Receiver ${i} ${got}: ${shown}. With the flag bit alone: ${otherShown}.` : air;
   }
 
   /* The field shows the begin of an argument that is far too long, and takes no letters then. */
-  function show_argument(argument) {
-    const is_long = argument.length > LONG_ARGUMENT;
-    $("argument").value = is_long ? `${argument.slice(0, LONG_ARGUMENT)}…` : argument;
-    $("argument").readOnly = is_long;
+  function showArgument(argument) {
+    const isLong = argument.length > LONG_ARGUMENT;
+    $("argument").value = isLong ? `${argument.slice(0, LONG_ARGUMENT)}…` : argument;
+    $("argument").readOnly = isLong;
   }
 
-  function show_command(slot, row) {
+  function showCommand(slot, row) {
     $("at-slot").textContent = `Slot ${slot.toLocaleString("en")}`;
     if (document.activeElement !== $("argument") || $("argument").readOnly) {
       $("command").value = COMMANDS.includes(row?.command) ? row.command : "-";
-      show_argument(row?.argument ?? "");
+      showArgument(row?.argument ?? "");
     }
     $("argument").hidden = !($("command").value in HINTS);
     $("argument").placeholder = HINTS[$("command").value] ?? "";
@@ -453,27 +453,27 @@ const script_tab = (() => {
   // ---- saving, and a link
 
   /* Whether there are edits that nobody saved. */
-  function is_unsaved() {
-    played_soon.now();
+  function isUnsaved() {
+    playedSoon.now();
     return state.text !== state.saved && state.text !== state.opened.text;
   }
 
   function save() {
-    played_soon.now();
+    playedSoon.now();
     state.saved = state.text;
-    picture.save_as("script.csv", new Blob([state.text], { type: "text/csv" }));
+    picture.saveAs("script.csv", new Blob([state.text], { type: "text/csv" }));
   }
 
   const options = () => `m=${$("script-m").value}&k=${$("script-k").value}&pty=${state.pty}`;
 
   async function link() {
-    played_soon.now();
-    const { text, chosen } = state, sight = `${links.sight_of(timeline)}&receiver=${chosen}`;
+    playedSoon.now();
+    const { text, chosen } = state, sight = `${links.sightOf(timeline)}&receiver=${chosen}`;
     if (await links.give("script", { text, options: options(), sight }, save)) state.saved = text;
   }
 
   /* Opens the script of a link. */
-  async function open_link(hash) {
+  async function openLink(hash) {
     const it = await links.read("script", hash), { text, within } = it;
     open(text, { m: within("m", 1, 65535), k: within("k", 0, 1024), pty: within("pty", 0, 31) });
     state.chosen = within("receiver", 0, receivers() - 1) ?? state.chosen;
@@ -483,20 +483,20 @@ const script_tab = (() => {
   }
 
   function begin() {
-    for (const id of ["script-m", "script-k", "script-n", "script-slots"]) $(id).oninput = parts.soon(form_changed);
+    for (const id of ["script-m", "script-k", "script-n", "script-slots"]) $(id).oninput = parts.soon(formChanged);
     $("script-text").oninput = parts.soon(() => {
       const area = $("script-text"), at = area.selectionStart;
-      open(area.value, { pty: state.pty, is_edit: true });
+      open(area.value, { pty: state.pty, isEdit: true });
       area.selectionStart = area.selectionEnd = at;
     });
-    for (const id of ["command", "free"]) $(id).onchange = command_changed;
-    for (const it of document.querySelectorAll("[name=brush]")) it.onchange = show_brush;
-    $("script").addEventListener("keydown", put_brush_away);
+    for (const id of ["command", "free"]) $(id).onchange = commandChanged;
+    for (const it of document.querySelectorAll("[name=brush]")) it.onchange = showBrush;
+    $("script").addEventListener("keydown", putBrushAway);
     timeline.canvas.addEventListener("pointermove", point);
-    $("argument").oninput = argument_typed;
+    $("argument").oninput = argumentTyped;
     const buttons = { "script-undo": () => back(-1), "script-redo": () => back(1), "script-save": save, "script-share": link };
     for (const [id, what] of Object.entries(buttons)) $(id).onclick = what;
   }
 
-  return { begin, command_changed, edited, is_unsaved, open, open_link, play, state, timeline, undo };
+  return { begin, commandChanged, edited, isUnsaved, open, openLink, play, state, timeline, undo };
 })();

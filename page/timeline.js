@@ -6,8 +6,8 @@ class Timeline {
   /* The modes of a page that change its colours. */
   static MODES = ["(prefers-color-scheme: dark)", "(forced-colors: active)"];
 
-  constructor(root, { label, on_move, on_paint = () => false, on_key = () => false, on_lane = () => {}, clock = () => "" }) {
-    Object.assign(this, { root, on_move, on_paint, on_key, on_lane, clock });
+  constructor(root, { label, onMove, onPaint = () => false, onKey = () => false, onLane = () => {}, clock = () => "" }) {
+    Object.assign(this, { root, onMove, onPaint, onKey, onLane, clock });
     Object.assign(this, { lanes: [], count: 1, from: 0, across: 1, cursor: 0, chosen: null, span: null, changes: [], texts: [] });
     root.innerHTML = `<div class="time-bar"><output></output><span class="space"></span>
       <button type="button" data-do="out" title="Show more slots (− or S)" aria-label="Zoom out">−</button>
@@ -26,10 +26,10 @@ class Timeline {
     this.scroll.oninput = () => { this.from = Number(this.scroll.value); this.draw(); };
     for (const button of root.querySelectorAll("button")) button.onclick = () => this.act(button.dataset.do);
     this.canvas.addEventListener("pointerdown", (e) => this.down(e));
-    this.canvas.addEventListener("dblclick", (e) => { if (this.is_axis(e)) this.act("fit"); });
-    this.canvas.addEventListener("pointermove", (e) => { this.canvas.style.cursor = this.is_axis(e) ? "col-resize" : ""; });
+    this.canvas.addEventListener("dblclick", (e) => { if (this.isAxis(e)) this.act("fit"); });
+    this.canvas.addEventListener("pointermove", (e) => { this.canvas.style.cursor = this.isAxis(e) ? "col-resize" : ""; });
     this.canvas.addEventListener("keydown", (e) => this.key(e));
-    this.overview.addEventListener("pointerdown", (e) => this.overview_down(e));
+    this.overview.addEventListener("pointerdown", (e) => this.overviewDown(e));
     this.canvas.addEventListener("wheel", (e) => this.wheel(e), { passive: false });
     this.measure();
     this.recolour();
@@ -50,21 +50,21 @@ class Timeline {
     this.lanes = lanes;
     this.count = Math.max(1, count);
     if (fit || was !== this.count) this.fit();
-    for (const lane of lanes) if (lane.kind === "ticks") lane.sums = Timeline.sums_of(lane.codes);
-    this.changes = this.all_changes();
+    for (const lane of lanes) if (lane.kind === "ticks") lane.sums = Timeline.sumsOf(lane.codes);
+    this.changes = this.allChanges();
     this.texts = lanes.filter((lane) => lane.strong).flatMap((lane) => lane.runs.filter((run) => run.label !== null).map((run) => run.from));
     this.strip = null;
     this.move(Math.min(this.cursor, this.count - 1), { keep: true });
   }
 
   /* Returns the sums of these codes, counted once. A worker may have counted them. */
-  static sums_of(codes) {
+  static sumsOf(codes) {
     if (!Timeline.sums.has(codes)) Timeline.sums.set(codes, lines.sums(codes));
     return Timeline.sums.get(codes);
   }
   static sums = new WeakMap();
 
-  all_changes() {
+  allChanges() {
     const at = new Set();
     for (const lane of this.lanes) {
       if (lane.kind === "bars") for (const run of lane.runs) at.add(run.from);
@@ -87,7 +87,7 @@ class Timeline {
 
   /* Shows more or fewer slots by this factor, at least LEAST. The slot `at` keeps its place if it is in sight; if not, the middle does. */
   zoom(by, at = this.cursor + 0.5) {
-    const is_seen = at >= this.from && at <= this.from + this.across, to = is_seen ? at : this.from + this.across / 2;
+    const isSeen = at >= this.from && at <= this.from + this.across, to = isSeen ? at : this.from + this.across / 2;
     const across = Math.min(this.count, Math.max(Timeline.LEAST, this.across * by)), share = (to - this.from) / this.across;
     this.across = across;
     this.from = this.within(to - share * across);
@@ -95,7 +95,7 @@ class Timeline {
   }
 
   /* Shows these slots as large as possible. */
-  zoom_to(from, to) {
+  zoomTo(from, to) {
     this.across = Math.min(this.count, Math.max(Timeline.LEAST, to - from));
     this.from = this.within((from + to - this.across) / 2);
     this.draw();
@@ -133,7 +133,7 @@ class Timeline {
       if (this.cursor >= this.from + this.across) this.from = this.cursor - this.across * 7 / 8;
       this.from = this.within(this.from);
     }
-    const shown = this.on_move(this.cursor), said = this.place();
+    const shown = this.onMove(this.cursor), said = this.place();
     this.said.textContent = said;
     this.canvas.setAttribute("aria-valuemax", this.count - 1);
     this.canvas.setAttribute("aria-valuenow", this.cursor);
@@ -148,23 +148,23 @@ class Timeline {
   }
 
   /* Returns whether a pointer is on the axis, the row of slot numbers. */
-  is_axis(e) {
+  isAxis(e) {
     const box = this.canvas.getBoundingClientRect();
     return e.clientY - box.top < painter.AXIS && e.clientX - box.left >= this.gutter;
   }
 
-  lane_at(y) { return this.lanes.find((l) => y >= l.top && y < l.top + l.height); }
+  laneAt(y) { return this.lanes.find((l) => y >= l.top && y < l.top + l.height); }
 
   down(e) {
     if (e.button) return;
     this.canvas.focus();
-    const box = this.canvas.getBoundingClientRect(), lane = this.lane_at(e.clientY - box.top);
+    const box = this.canvas.getBoundingClientRect(), lane = this.laneAt(e.clientY - box.top);
     const slot = (ev) => Math.min(this.count - 1, Math.max(0, this.slot(ev.clientX - box.left)));
-    if (this.is_axis(e)) { this.select(e, slot); return; }
-    if (lane?.group !== undefined) { this.chosen = lane.group; this.on_lane(lane.group); }
+    if (this.isAxis(e)) { this.select(e, slot); return; }
+    if (lane?.group !== undefined) { this.chosen = lane.group; this.onLane(lane.group); }
     if (e.clientX - box.left < this.gutter) { this.draw(); return; }
-    const brush = this.on_paint(lane, slot(e), slot(e), e);
-    this.drag(e, slot, brush, (from, to) => this.on_paint(lane, from, to, e));
+    const brush = this.onPaint(lane, slot(e), slot(e), e);
+    this.drag(e, slot, brush, (from, to) => this.onPaint(lane, from, to, e));
   }
 
   /* Follows a pointer on an element from its press to its end. */
@@ -196,7 +196,7 @@ class Timeline {
     };
     Timeline.follow(this.canvas, e, go, (ev) => {
       if (!moved || brush) this.move(slot(ev), { keep: true });
-      if (brush) this.on_paint(null);
+      if (brush) this.onPaint(null);
     });
   }
 
@@ -215,19 +215,19 @@ class Timeline {
       const { span } = this;
       this.span = null;
       this.said.textContent = this.place();
-      if (span && ev.type === "pointerup") this.zoom_to(...span);
+      if (span && ev.type === "pointerup") this.zoomTo(...span);
       else if (!span) this.move(first, { keep: true });
       this.draw();
     });
   }
 
   /* Drags the frame of the overview. A press beside the frame brings the slots there into sight first. */
-  overview_down(e) {
+  overviewDown(e) {
     if (e.button) return;
     const left = this.overview.getBoundingClientRect().left + this.gutter;
     const at = (ev) => (ev.clientX - left) / this.room * this.count, slack = 4 / this.room * this.count, first = at(e);
-    const is_frame = first >= this.from - slack && first <= this.from + this.across + slack;
-    const offset = is_frame ? first - this.from : this.across / 2;
+    const isFrame = first >= this.from - slack && first <= this.from + this.across + slack;
+    const offset = isFrame ? first - this.from : this.across / 2;
     const go = (ev) => {
       this.from = this.within(at(ev) - offset);
       this.draw();
@@ -253,12 +253,12 @@ class Timeline {
   /* Asks the tab for a key first, then the timeline. */
   key(e) {
     if (e.altKey) return;
-    const key = e.key.length === 1 ? e.key.toLowerCase() : e.key, is_plain = !e.ctrlKey && !e.metaKey;
-    if (this.on_key(key, e) || (is_plain && this.own_key(e.shiftKey && "np".includes(key) ? key.toUpperCase() : key))) e.preventDefault();
+    const key = e.key.length === 1 ? e.key.toLowerCase() : e.key, isPlain = !e.ctrlKey && !e.metaKey;
+    if (this.onKey(key, e) || (isPlain && this.ownKey(e.shiftKey && "np".includes(key) ? key.toUpperCase() : key))) e.preventDefault();
   }
 
   /* Acts on a key that each timeline has. Returns whether it is one. */
-  own_key(key) {
+  ownKey(key) {
     const steps = { ArrowRight: 1, ArrowLeft: -1, PageDown: 16, PageUp: -16, Home: -Infinity, End: Infinity };
     const acts = {
       "+": "in", "=": "in", w: "in", "-": "out", s: "out", a: "back", d: "on", 0: "fit", n: "next", p: "prev", N: "next-any",
@@ -290,7 +290,7 @@ class Timeline {
     const width = this.measure(), height = painter.place(this.lanes);
     if (!width) return;
     painter.paint(Timeline.sized(this.canvas, width, height), this.lanes, this, this.ink, height);
-    this.paint_overview(width);
+    this.paintOverview(width);
     const to = Math.ceil(this.from + this.across) - 1, told = [Math.floor(this.from), to].map((slot) => slot.toLocaleString("en"));
     this.scroll.max = Math.max(0, this.count - this.across);
     this.scroll.value = this.from;
@@ -298,7 +298,7 @@ class Timeline {
   }
 
   /* Draws the overview: a strip of all slots, kept for the next frame, and the frame of those in sight. */
-  paint_overview(width) {
+  paintOverview(width) {
     const { gutter, room, count, ink } = this, height = painter.OVERVIEW, shown = `${width} ${devicePixelRatio}`;
     if (!this.strip || this.strip.shown !== shown) {
       const canvas = document.createElement("canvas"), sight = { from: 0, across: count, gutter, room, width };

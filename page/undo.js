@@ -14,8 +14,8 @@ class Undo {
   note(text) {
     if (this.all[this.now] === text) return;
     this.all.splice(this.now + 1, Infinity, text);
-    const is_full = () => this.all.length > Undo.MOST || this.all.reduce((sum, it) => sum + it.length, 0) > Undo.ROOM;
-    while (this.all.length > 2 && is_full()) this.all.shift();
+    const isFull = () => this.all.length > Undo.MOST || this.all.reduce((sum, it) => sum + it.length, 0) > Undo.ROOM;
+    while (this.all.length > 2 && isFull()) this.all.shift();
     this.now = this.all.length - 1;
     this.changed(this);
   }

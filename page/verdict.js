@@ -23,7 +23,7 @@ const verdict = (() => {
   const number = (n) => n.toLocaleString("en");
 
   /* The dwell of a verdict, for its heading. */
-  const with_dwell = (m) => `with M = ${number(m)} (${lines.time(m)})`;
+  const withDwell = (m) => `with M = ${number(m)} (${lines.time(m)})`;
 
   /* A yes over a log without a group. The programmes to choose are those of its groups. */
   function empty({ log }) {
@@ -41,7 +41,7 @@ const verdict = (() => {
       : log.count === 1 ? "The one slot keeps" : `All ${parts.counted(log.count, "slot")} keep`;
     const of = missing ? "the recorded texts" : "two texts";
     const all = [
-      make("h2", { textContent: `✓ Passes ${with_dwell(m)}` }),
+      make("h2", { textContent: `✓ Passes ${withDwell(m)}` }),
       make("p", { textContent: `${kept} the rules. No receiver with this M shows a mix of ${of}, whichever groups it loses.` }),
     ];
     return missing ? [...all, says(few, "(no whole group). The yes covers only the others.")] : all;
@@ -49,17 +49,17 @@ const verdict = (() => {
 
   /* What the encoder should do after a fault in this slot. */
   function cure({ log, pi }, fault, slot) {
-    const is_name = lines.code_of(logfile.groupAt(log, slot), pi) === lines.NAME;
-    if (fault === "NotOneText" && is_name) return WHOLE_NAME;
+    const isName = lines.codeOf(logfile.groupAt(log, slot), pi) === lines.NAME;
+    if (fault === "NotOneText" && isName) return WHOLE_NAME;
     return fault === "EarlyTag" ? `${CURES[fault]} ${OTHER_TAGS}` : CURES[fault] ?? "";
   }
 
   function refused({ audit, m, ...given }, no, does) {
-    const { slot, fault } = no, note = lines.note_of(audit.notes, "slot "), rule = note.slice(`slot ${slot}`.length);
+    const { slot, fault } = no, note = lines.noteOf(audit.notes, "slot "), rule = note.slice(`slot ${slot}`.length);
     const about = make("p", { className: "witness", id: "witness", textContent: "Looking for lost slots that make a mix …" });
     return [
-      make("h2", {}, "✗ ", make("code", { textContent: fault }), ` ${with_dwell(m)}`),
-      make("p", {}, "First in ", button(`slot ${number(slot)}`, () => does.go_to(slot)), `${rule}. `
+      make("h2", {}, "✗ ", make("code", { textContent: fault }), ` ${withDwell(m)}`),
+      make("p", {}, "First in ", button(`slot ${number(slot)}`, () => does.goTo(slot)), `${rule}. `
         + `This slot is ${lines.time(slot)} after the first.`),
       says("What the encoder should do:", cure(given, fault, slot)),
       about,
@@ -67,12 +67,12 @@ const verdict = (() => {
   }
 
   function faulty({ audit }, does) {
-    const line = /^fault line (\d+)/.exec(audit.output), note = lines.note_of(audit.notes, "fault ") || audit.output.trim();
+    const line = /^fault line (\d+)/.exec(audit.output), note = lines.noteOf(audit.notes, "fault ") || audit.output.trim();
     if (!line) return [make("h2", { textContent: "No verdict" }), make("p", {}, ...parts.told(`${note}.`))];
     return [
       make("h2", { textContent: `Line ${number(Number(line[1]))} is malformed` }),
       make("p", {}, ...parts.told(`${note}.`), " The page does not show the lines after it."),
-      make("p", {}, button("Show the line", () => does.show_line(Number(line[1])))),
+      make("p", {}, button("Show the line", () => does.showLine(Number(line[1])))),
     ];
   }
 
@@ -81,41 +81,41 @@ const verdict = (() => {
     if (!(times.absent + times.breaks) || 2 * times.timed < log.count) return [];
     const slots = times.absent ? `${parts.counted(times.absent, "slot")} ${times.absent === 1 ? "is" : "are"} not in this log` : "";
     const breaks = times.breaks ? `${parts.counted(times.breaks, "break")} of unknown length` : "";
-    const without = log.count - times.timed, left_out = without ? ` It leaves out ${parts.counted(without, "line")} without a time.` : "";
+    const without = log.count - times.timed, leftOut = without ? ` It leaves out ${parts.counted(without, "line")} without a time.` : "";
     const told = `By the times of the lines, ${[slots, breaks].filter(Boolean).join(", and it has ")}.`;
-    const says_of = "The audit takes the lines as slots without a gap, so this answer may be wrong.";
-    return [says("Lost slots:", `${told} ${says_of}${left_out} `, button("Add the lost slots", does.fill))];
+    const saysOf = "The audit takes the lines as slots without a gap, so this answer may be wrong.";
+    return [says("Lost slots:", `${told} ${saysOf}${leftOut} `, button("Add the lost slots", does.fill))];
   }
 
   /* The kind of an answer: yes, no, a yes that means nothing, or a fault. */
-  function kind_of(no, is_yes, is_empty, gaps) {
+  function kindOf(no, isYes, isEmpty, gaps) {
     if (no) return " no";
-    if (!is_yes) return " fault";
-    return is_empty || gaps ? " empty" : "";
+    if (!isYes) return " fault";
+    return isEmpty || gaps ? " empty" : "";
   }
 
   /* What the audit answered no to; nothing if it did not. */
-  function no_of(audit) {
+  function noOf(audit) {
     const no = /^no (\d+) (\w+)/.exec(audit.output);
     return no && { slot: Number(no[1]), fault: no[2] };
   }
 
   /* Shows the answer over a log, which has so many whole groups. `does` is what its buttons do. */
   function show({ audit, log, groups, pi, m, k, times }, does) {
-    const given = { audit, log, groups, pi, m, times }, no = no_of(audit), is_yes = audit.output.startsWith("yes "), is_empty = is_yes && !groups;
-    const gaps = no || is_yes ? absent(given, does) : [];
-    const told = no ? refused(given, no, does) : is_empty ? empty(given) : is_yes ? passed(given) : faulty(given, does);
+    const given = { audit, log, groups, pi, m, times }, no = noOf(audit), isYes = audit.output.startsWith("yes "), isEmpty = isYes && !groups;
+    const gaps = no || isYes ? absent(given, does) : [];
+    const told = no ? refused(given, no, does) : isEmpty ? empty(given) : isYes ? passed(given) : faulty(given, does);
     const about = `The audit reads the log as sent, with M + K = ${m + k} slots (${lines.time(m + k)}).`;
-    $("verdict").className = `verdict${kind_of(no, is_yes, is_empty, gaps.length)}`;
+    $("verdict").className = `verdict${kindOf(no, isYes, isEmpty, gaps.length)}`;
     $("verdict").replaceChildren(...told, ...gaps, make("p", { className: "dwells", id: "dwells", hidden: true }),
       make("p", { className: "small", textContent: about }));
     return no;
   }
 
   /* Offers the other dwells as buttons. */
-  function offer_dwells(chosen, does) {
+  function offerDwells(chosen, does) {
     const buttons = DWELLS.map((m) => {
-      const it = button(`${number(m)} …`, () => does.choose_dwell(m));
+      const it = button(`${number(m)} …`, () => does.chooseDwell(m));
       it.dataset.m = m;
       it.setAttribute("aria-pressed", m === chosen);
       return it;
@@ -125,7 +125,7 @@ const verdict = (() => {
   }
 
   /* Shows the answer with one of them. */
-  function show_dwell(m, no) {
+  function showDwell(m, no) {
     const it = $("dwells").querySelector(`[data-m="${m}"]`);
     it.className = no ? "no" : "yes";
     it.textContent = `${number(m)} ${no ? "✗" : "✓"}`;
@@ -133,21 +133,21 @@ const verdict = (() => {
   }
 
   /* Shows a heading and a sentence in place of an answer. */
-  function show_none(heading, sentence) {
+  function showNone(heading, sentence) {
     $("verdict").className = "verdict fault";
     $("verdict").replaceChildren(make("h2", { textContent: heading }), make("p", { textContent: sentence }));
   }
 
   /* Shows the lost slots that make a mix, or that there are none. */
-  function show_witness({ slot, lost, shown, upto }, does) {
-    const is_done = upto === null || upto === undefined;
-    const none = is_done ? NO_WITNESS : ` up to slot ${number(upto)}${STOPPED}`;
+  function showWitness({ slot, lost, shown, upto }, does) {
+    const isDone = upto === null || upto === undefined;
+    const none = isDone ? NO_WITNESS : ` up to slot ${number(upto)}${STOPPED}`;
     if (!lost || !shown.length) { $("witness")?.replaceChildren(make("b", { textContent: "No witness" }), none); return; }
     const [first, last] = lost, slots = first === last ? `slot ${first}` : `slots ${first} to ${last}`;
-    const what = make("code", { textContent: shown.join("; ") }), do_so = button(`Lose ${slots}`, () => does.lose(slot, first, last));
+    const what = make("code", { textContent: shown.join("; ") }), doSo = button(`Lose ${slots}`, () => does.lose(slot, first, last));
     $("witness")?.replaceChildren(make("b", { textContent: "A witness:" }),
-      ` a receiver that loses ${slots} shows a text that nobody sent: `, what, ". ", do_so);
+      ` a receiver that loses ${slots} shows a text that nobody sent: `, what, ". ", doSo);
   }
 
-  return { DWELLS, no_of, offer_dwells, show, show_dwell, show_none, show_witness };
+  return { DWELLS, noOf, offerDwells, show, showDwell, showNone, showWitness };
 })();

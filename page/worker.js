@@ -23,10 +23,10 @@
   }
 
   /* What does not depend on M: what the flag bit alone shows, and the codes of the slots with their sums. Nothing if the page has it already. */
-  function without_dwell({ pi, lost }, bytes) {
+  function withoutDwell({ pi, lost }, bytes) {
     const key = `${pi} ${lost.join(" ")}`, { log } = state;
     if (state.known.key === key) return {};
-    const alone = flag_alone.of_log(pi, bytes, log).parts, codes = logfile.codes(log, parseInt(pi, 16), lost);
+    const alone = flagAlone.ofLog(pi, bytes, log).parts, codes = logfile.codes(log, parseInt(pi, 16), lost);
     state.known = { key };
     return { alone, codes, sums: lines.sums(codes) };
   }
@@ -35,7 +35,7 @@
   function decode({ pi, m, lost }) {
     const { log } = state, bytes = logfile.received(state.bytes, log, lost);
     const got = run(["decode", "--pi", pi, "--m", m], bytes), view = lines.read(got.output, log.count).views[0] ?? new lines.View();
-    return { ...got, view: view.parts, ...without_dwell({ pi, lost }, bytes) };
+    return { ...got, view: view.parts, ...withoutDwell({ pi, lost }, bytes) };
   }
 
   const audit = ({ pi, m, k }) => run(["audit", "--pi", pi, "--m", m, "--k", k], state.bytes);
@@ -47,7 +47,7 @@
   const CALLS = { open, keep, decode, audit, witness: find, fill };
 
   /* Answers one message. */
-  async function answer_to({ id, call, given }) {
+  async function answerTo({ id, call, given }) {
     try {
       if (call === "begin") await rdsrt.begin(given);
       const answer = call === "begin" ? null : await CALLS[call](given, teller(id)), { codes, sums, log } = answer ?? {};
@@ -58,5 +58,5 @@
 
   // one message after the other: a call over a log waits until the log is there
   let before = Promise.resolve();
-  onmessage = ({ data }) => { before = before.then(() => answer_to(data)); };
+  onmessage = ({ data }) => { before = before.then(() => answerTo(data)); };
 })();

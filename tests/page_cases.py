@@ -126,13 +126,13 @@ def reload(b):
 
 def open_script(b, text, **options):
     call(b, "page.tab", "script")
-    call(b, "script_tab.open", text, options)
+    call(b, "scriptTab.open", text, options)
 
 
 def verdict_of(b, log, m):
     """Opens the log, and gives the verdict once it says something of receivers."""
     call(b, "page.tab", "log")
-    call(b, "log_tab.open", log, {"pi": "C201", "m": m, "k": 0})
+    call(b, "logTab.open", log, {"pi": "C201", "m": m, "k": 0})
     return settled_verdict(b)
 
 
@@ -212,7 +212,7 @@ def same_lines_by_chance(b):
 
 
 def lost(b):
-    return b.run("[...log_tab.state.lost]")
+    return b.run("[...logTab.state.lost]")
 
 
 def the_first_log(b):
@@ -222,9 +222,9 @@ def the_first_log(b):
     check("its verdict", text_of(b, "#verdict h2 code"), "EarlyFlag")
     check("it shows the mix", (shown(b, "log-radio"), of(b, "#log-radio", "className")), ("JAZZMIX", "radio mixed"))
     check("its lines", text_of(b, "#log-lines"), '1 text "JAZZ FM"\n5 text "JAZZMIX"\n')
-    b.run("log_tab.timeline.canvas.focus()")
+    b.run("logTab.timeline.canvas.focus()")
     b.key("ArrowLeft", number=37)
-    check("a key moves a slot back", (b.run("log_tab.timeline.cursor"), shown(b, "log-radio")), (4, "JAZZ FM"))
+    check("a key moves a slot back", (b.run("logTab.timeline.cursor"), shown(b, "log-radio")), (4, "JAZZ FM"))
     b.key("l", "KeyL", 76)
     check("a key gives a lost slot back", lost(b), [2, 3])
     told = of(b, "#log-time canvas", "ariaValueText").split(". ")
@@ -235,7 +235,7 @@ def the_first_log(b):
     click(b, "#verdict .witness button")
     check("the button loses the slots of the witness", (lost(b), shown(b, "log-radio")), ([2, 3], "POP  FM"))
     click(b, "#log-click")
-    at = b.run("probe.place(log_tab.timeline, 0, lane => lane.lost)")
+    at = b.run("probe.place(logTab.timeline, 0, lane => lane.lost)")
     b.drag(at, at)
     check("a click loses a slot", lost(b), [2, 3, 0])
     click(b, "#log-click")
@@ -253,12 +253,12 @@ def the_first_script(b):
           "With the flag bit alone, receivers show a text that nobody sent. With the dwell none does.")
     check("it is the example", of(b, "#script-text", "value"), example("mix.csv").decode())
     before = printed(b)
-    b.run("script_tab.timeline.move(30)")
+    b.run("scriptTab.timeline.move(30)")
     call(b, "probe.choose", "command", "restart")
     check("a command is edited", "30 restart\n" in printed(b), True)
     click(b, "#script-undo")
     check("undone", (printed(b), of(b, "#script-redo", "disabled")), (before, False))
-    b.run("script_tab.timeline.canvas.focus()")
+    b.run("scriptTab.timeline.canvas.focus()")
     b.key("y", "KeyY", 89, modifiers=2)
     check("and done again by key", "30 restart\n" in printed(b), True)
     b.key("z", "KeyZ", 90, modifiers=2)
@@ -266,14 +266,14 @@ def the_first_script(b):
     brush(b)
     call(b, "probe.choose", "script-n", 8)
     settle(b)
-    check("eight receivers", b.run("script_tab.state.rows[0].receptions.length"), 8)
+    check("eight receivers", b.run("scriptTab.state.rows[0].receptions.length"), 8)
 
 
 def brush(b):
     """A stroke of the brush over a receiver's lane."""
-    got = "script_tab.state.rows.slice(8, 17).map(row => row.receptions[0]).join('')"
+    got = "scriptTab.state.rows.slice(8, 17).map(row => row.receptions[0]).join('')"
     click(b, "[name=brush][value=L]")
-    b.drag(*(b.run(f"probe.place(script_tab.timeline, {slot}, lane => lane.group === 0)") for slot in (10, 14)))
+    b.drag(*(b.run(f"probe.place(scriptTab.timeline, {slot}, lane => lane.group === 0)") for slot in (10, 14)))
     check("the brush loses slots", b.run(got), "GGLLLLLGG")
     click(b, "[name=brush][value=look]")
     click(b, "#script-undo")
@@ -287,10 +287,10 @@ def mouse(b, kind, at, buttons=1):
 def brush_at_once(b):
     """The lane shows a stroke while the pointer is down, before the script is played. The brush is seen, and Escape ends it."""
     open_script(b, "-,,1,GG\n" * 40, m=8, k=0)
-    lane = "script_tab.timeline.lanes.find(lane => lane.kind === 'ticks' && lane.group === 1)"
-    codes, drawn = f"[...{lane}.codes.slice(8, 17)]", "script_tab.timeline.canvas.toDataURL()"
-    pointer = "script_tab.timeline.canvas.classList.contains('brushes')"
-    places = [b.run(f"probe.place(script_tab.timeline, {slot}, lane => lane.group === 1)") for slot in (10, 14)]
+    lane = "scriptTab.timeline.lanes.find(lane => lane.kind === 'ticks' && lane.group === 1)"
+    codes, drawn = f"[...{lane}.codes.slice(8, 17)]", "scriptTab.timeline.canvas.toDataURL()"
+    pointer = "scriptTab.timeline.canvas.classList.contains('brushes')"
+    places = [b.run(f"probe.place(scriptTab.timeline, {slot}, lane => lane.group === 1)") for slot in (10, 14)]
     mouse(b, "mouseMoved", places[0], 0)
     check("no brush", (text_of(b, "#brush-on"), b.run(pointer)), ("", False))
     click(b, "[name=brush][value=L]")
@@ -319,18 +319,18 @@ def brush_at_once(b):
 def typed_in_time(b):
     """A text belongs to the slot that it was typed for, even if another slot is chosen before the page plays it."""
     open_script(b, "-,,1,G\n" * 12, m=1, k=0)
-    b.run("script_tab.timeline.move(3)")
+    b.run("scriptTab.timeline.move(3)")
     call(b, "probe.choose", "command", "text")
     settle(b)
-    call(b, "probe.type_and_leave", "HELLO", 6)
+    call(b, "probe.typeAndLeave", "HELLO", 6)
     settle(b)
     rows = ["-,,1,G"] * 12
     rows[3] = "text,HELLO,1,G"
     script = "".join(f"{row}\n" for row in rows)
     check("a typed text stays in its slot", of(b, "#script-text", "value"), script)
     check("and is played there", printed(b), program(["sim", "--pi", "C201", "--m", "1", "--pty", "10"], script.encode())[1])
-    b.run("script_tab.timeline.move(3)")
-    call(b, "probe.type_and_leave", "HELLO YOU", 6)
+    b.run("scriptTab.timeline.move(3)")
+    call(b, "probe.typeAndLeave", "HELLO YOU", 6)
     click(b, "#script-undo")
     settle(b)
     check("an undo at once takes back what was typed last", of(b, "#script-text", "value"), script)
@@ -343,30 +343,30 @@ def edits_of_one_row(b):
     wanted = '-,,1,GG\r\n\n-,,1,GXG\n"-",,"1",GG\n\n-,"",1,GX'
     open_script(b, f"{wanted}\n\n", m=8, k=0)
     fault = text_of(b, "#script-fault")
-    b.run("script_tab.timeline.move(0)")
+    b.run("scriptTab.timeline.move(0)")
     call(b, "probe.choose", "command", "restart")
     text = wanted.replace("-,,1,GG\r\n", "restart,,1,GG\n", 1)
     check("an edit changes its row alone", of(b, "#script-text", "value"), f"{text}\n\n")
     check("and the fault stays", (text_of(b, "#script-fault"), "row 2 (line 3)" in fault), (fault, True))
     click(b, "#script-undo")
-    check("undone", b.run("script_tab.state.text"), f"{wanted}\n\n")
-    call(b, "script_tab.open", wanted.replace("\r", ""), {"m": 8, "k": 0})
+    check("undone", b.run("scriptTab.state.text"), f"{wanted}\n\n")
+    call(b, "scriptTab.open", wanted.replace("\r", ""), {"m": 8, "k": 0})
     call(b, "probe.choose", "script-slots", 5)
     settle(b)
     check("another slot changes no row", of(b, "#script-text", "value"), wanted.replace("\r", "") + "\n-,,1,GG\n")
-    b.run("script_tab.timeline.move(1)")
+    b.run("scriptTab.timeline.move(1)")
     call(b, "probe.choose", "command", "restart")
     check("an edited row is written anew", of(b, "#script-text", "value").splitlines()[1], "restart,,1,GG")
 
 
 def names_and_tags(b):
     open_script(b, "".join(f"{line}GG\n" for line in example("chanson.csv").decode().splitlines()), m=8, k=0)
-    names = b.run("script_tab.timeline.lanes.map(lane => lane.name.trim())")
+    names = b.run("scriptTab.timeline.lanes.map(lane => lane.name.trim())")
     check("names and tags have lanes", (names.count("its name"), names.count("its tags")), (5, 5))
-    last = b.run("[...script_tab.state.alone, ...script_tab.state.said.views].map(view => view.parts.tag1.at(-1).value.text)")
+    last = b.run("[...scriptTab.state.alone, ...scriptTab.state.said.views].map(view => view.parts.tag1.at(-1).value.text)")
     check("tags of both kinds of receivers", last, ["Édith Piaf"] * 4)
     check("nothing is taken for a mix", "No receiver shows a mix" in text_of(b, "#script-count"), True)
-    sent = "[...script_tab.timeline.lanes[0].codes]"
+    sent = "[...scriptTab.timeline.lanes[0].codes]"
     check("tags have their colour", b.run(f"{sent}.includes(lines.TAGS)"), True)
     open_script(b, example("mix.csv").decode(), m=8, k=0)
     wanted = ["text" if "sent C201 2" in line else "other" for line in printed(b).splitlines() if " sent " in line]
@@ -378,8 +378,8 @@ def kinds_of_groups(b):
     """Kinds of groups differ in shape, and so do texts by their A/B flag. The legend shows the shapes of the lanes."""
     log = "".join(f"{line}\n" for line in (HI, YO, GROUPS[4], GROUPS[7], GROUPS[6], NOTHING))
     verdict_of(b, log, 8)
-    check("the codes of slots", b.run("[...log_tab.timeline.lanes[0].codes]"), [1, 9, 2, 3, 4, 0])
-    kinds = b.run("Array.from({ length: log_tab.state.log.count }, (_, slot) => lines.code_of(logfile.groupAt(log_tab.state.log, slot), 0xC201))")
+    check("the codes of slots", b.run("[...logTab.timeline.lanes[0].codes]"), [1, 9, 2, 3, 4, 0])
+    kinds = b.run("Array.from({ length: logTab.state.log.count }, (_, slot) => lines.codeOf(logfile.groupAt(logTab.state.log, slot), 0xC201))")
     check("and the kinds of their groups", kinds, [1, 1, 2, 3, 4, 0])
     for scheme in SCHEMES:
         b.scheme(scheme)
@@ -388,16 +388,16 @@ def kinds_of_groups(b):
         check(f"the legend, {scheme}", list(legend), ["text, flag A", "text, flag B", "name", "tags", "other", "lost", "never sent", "stale"])
         shapes = list(legend.values())[:6]
         check(f"shapes differ, {scheme}", (len(set(shapes)), [it for it in shapes if "#" not in it]), (6, []))
-        check(f"the lane has the shapes of the legend, {scheme}", b.run("probe.ticks(log_tab.timeline, 6)"), shapes)
+        check(f"the lane has the shapes of the legend, {scheme}", b.run("probe.ticks(logTab.timeline, 6)"), shapes)
         check(f"ticks, bars and marks stand out, {scheme}", call(b, "probe.faint", GRAPHIC_CONTRAST), [])
     b.scheme("light")
     other = f"{GROUPS[6]}\n"
     verdict_of(b, f"{HI}\n{other}" * 1000 + f"{YO}\n{other}" * 1000 + other * 2000 + f"{HI}\n{YO}\n" * 1000, 8)
-    b.run("log_tab.timeline.fit()")
-    four = b.run("[1000, 3000, 5000, 7000].map(slot => probe.ticks(log_tab.timeline, slot + 1, slot)[0])")
+    b.run("logTab.timeline.fit()")
+    four = b.run("[1000, 3000, 5000, 7000].map(slot => probe.ticks(logTab.timeline, slot + 1, slot)[0])")
     alike = [shapes[0], shapes[1], shapes[0], shapes[0]]
     check("columns of many slots have the shape of their flag", four, alike)
-    inks = b.run("[1000, 3000, 5000, 7000].map(slot => probe.shares_of(log_tab.timeline, slot))")
+    inks = b.run("[1000, 3000, 5000, 7000].map(slot => probe.sharesOf(logTab.timeline, slot))")
     check("and its shade, or none", inks, [1, 9, 4, 4])
 
 
@@ -405,14 +405,14 @@ def marks(b):
     """A label of a mark ends before the next mark. Marks without room are strokes in a calm colour, beside which a bad one is seen."""
     log = "".join(f"{line}\n" for line in (GROUPS[2], GROUPS[3], "C201 2150 4E45 5753", "C201 2151 2031 320D")) * 2500
     verdict_of(b, log, 8)
-    b.run("log_tab.timeline.fit()")
-    seen = b.run("probe.columns_of(log_tab.timeline, 'events', 'accent', 'dim', 'bad')")
+    b.run("logTab.timeline.fit()")
+    seen = b.run("probe.columnsOf(logTab.timeline, 'events', 'accent', 'dim', 'bad')")
     check("many marks are no bar", (seen["accent"], seen["dim"] > seen["width"] / 2, seen["bad"] > 1), (0, True, True))
-    check("and have no labels", b.run("probe.labels(log_tab.timeline, 'events')"), [])
+    check("and have no labels", b.run("probe.labels(logTab.timeline, 'events')"), [])
     for across, is_cut in ((26, True), (8, False)):
-        b.run(f"Object.assign(log_tab.timeline, {{ from: 100, across: {across} }})")
-        told = b.run("probe.labels(log_tab.timeline, 'events')")
-        places = b.run("log_tab.timeline.lanes[1].marks.map(mark => log_tab.timeline.x(mark.at))")
+        b.run(f"Object.assign(logTab.timeline, {{ from: 100, across: {across} }})")
+        told = b.run("probe.labels(logTab.timeline, 'events')")
+        places = b.run("logTab.timeline.lanes[1].marks.map(mark => logTab.timeline.x(mark.at))")
         over = [text for text, left, right in told if any(left < x <= right for x in places)]
         check(f"no mark is on a label in {across} slots", (over, len(told) >= across / 2 - 1), ([], True))
         check(f"labels of {across} slots", {text.endswith("…") for text, *_ in told}, {is_cut})
@@ -423,14 +423,14 @@ def zooming(b):
     """A drag over the axis and keys zoom and move the part in sight. The keys of the tabs stay as they were."""
     first_examples(b)
     call(b, "page.tab", "script")
-    sight, said = "(t => [t.from, t.across])(script_tab.timeline)", lambda: text_of(b, "#script-time output")
-    axis = lambda slot: call(b, "((slot) => probe.axis(script_tab.timeline, slot))", slot)
+    sight, said = "(t => [t.from, t.across])(scriptTab.timeline)", lambda: text_of(b, "#script-time output")
+    axis = lambda slot: call(b, "((slot) => probe.axis(scriptTab.timeline, slot))", slot)
     press = lambda key: b.key(key, f"Key{key.upper()}" if key.isalpha() else "", ord(key.upper()))
-    count, held = b.run("script_tab.timeline.count"), []
-    call(b, "script_tab.timeline.move", 10)
-    b.drag(axis(20), axis(39), lambda: held.extend([b.run("script_tab.timeline.span"), said()]))
+    count, held = b.run("scriptTab.timeline.count"), []
+    call(b, "scriptTab.timeline.move", 10)
+    b.drag(axis(20), axis(39), lambda: held.extend([b.run("scriptTab.timeline.span"), said()]))
     check("the selected slots are shown while the pointer is held", held, [[20, 40], "slots 20 to 39 · 1.75 s"])
-    got = b.run(sight), b.run("script_tab.timeline.span"), said()
+    got = b.run(sight), b.run("scriptTab.timeline.span"), said()
     check("and all in sight once it is not", got, ([20, 20], None, f"slot 10 of {count} · 0.88 s"))
     for key, wanted in (("d", [25, 20]), ("a", [20, 20]), ("w", [25, 10]), ("s", [20, 20]), ("0", [0, count])):
         press(key)
@@ -439,22 +439,22 @@ def zooming(b):
     check("a short selection shows eight slots", b.run(sight), [26.5, 8])
     for clicks in (1, 2):
         b.drag(axis(29), axis(29), clicks=clicks)
-    check("a double click on the axis shows all slots", (b.run(sight), b.run("script_tab.timeline.cursor")), ([0, count], 29))
-    texts = b.run("script_tab.state.air.parts.text.filter(run => run.value !== null).map(run => run.from)")
-    call(b, "script_tab.timeline.move", texts[0])
+    check("a double click on the axis shows all slots", (b.run(sight), b.run("scriptTab.timeline.cursor")), ([0, count], 29))
+    texts = b.run("scriptTab.state.air.parts.text.filter(run => run.value !== null).map(run => run.from)")
+    call(b, "scriptTab.timeline.move", texts[0])
     press("n")
-    check("N goes to the next text", b.run("script_tab.timeline.cursor"), texts[1])
+    check("N goes to the next text", b.run("scriptTab.timeline.cursor"), texts[1])
     press("p")
-    at = b.run("script_tab.timeline.cursor")
+    at = b.run("scriptTab.timeline.cursor")
     check("P goes to the one before", at, texts[0])
-    changes = b.run("[...script_tab.timeline.changes]")
+    changes = b.run("[...scriptTab.timeline.changes]")
     b.key("N", "KeyN", 78, modifiers=8)
-    check("Shift and N go to the next change of any part", b.run("script_tab.timeline.cursor"), min(it for it in changes if it > at))
+    check("Shift and N go to the next change of any part", b.run("scriptTab.timeline.cursor"), min(it for it in changes if it > at))
     b.key("P", "KeyP", 80, modifiers=8)
-    check("Shift and P go back", b.run("script_tab.timeline.cursor"), at)
+    check("Shift and P go back", b.run("scriptTab.timeline.cursor"), at)
     for key in "lgr":
         press(key)
-        check(f"{key} edits a reception", b.run(f"script_tab.state.rows[{at}].receptions[script_tab.state.chosen]"), key.upper())
+        check(f"{key} edits a reception", b.run(f"scriptTab.state.rows[{at}].receptions[scriptTab.state.chosen]"), key.upper())
     first_examples(b)
 
 
@@ -463,14 +463,14 @@ def the_overview(b):
     log = f"{HI}\n" * 400 + f"{NOTHING}\n" * 400 + f"{HI}\n" * 150 + f"{GROUPS[2]}\n" + f"{HI}\n" * 49
     verdict_of(b, log, 8)
     canvas = "document.querySelector('#log-time .overview canvas')"
-    box = "log_tab.timeline"
-    place = lambda slot: b.run(f"probe.on_overview({box}, {slot})")
+    box = "logTab.timeline"
+    place = lambda slot: b.run(f"probe.onOverview({box}, {slot})")
     check("no other height than its own", of(b, "#log-time .overview", "offsetHeight"), 30)
     column = lambda slot: b.run(f"probe.column({canvas}, {box}.gutter + ({slot} + 0.5) / 1000 * {box}.room, 3, 24)")
     check("it shows groups, and slots without one", ["#" in column(slot) for slot in (200, 600)], [True, False])
-    call(b, "log_tab.timeline.move", 0)
-    check("a bad mark is red", [b.run(f"probe.is_red({box}, {slot})") for slot in (200, 600, 950)], [False, False, True])
-    b.run(f"{box}.zoom_to(100, 200)")
+    call(b, "logTab.timeline.move", 0)
+    check("a bad mark is red", [b.run(f"probe.isRed({box}, {slot})") for slot in (200, 600, 950)], [False, False, True])
+    b.run(f"{box}.zoomTo(100, 200)")
     b.run(f"{box}.paint()")
     b.drag(place(900), place(900))
     check("a click brings slots into sight", abs(b.run(f"{box}.from") - 850) < 3, True)
@@ -496,7 +496,7 @@ def forced_colours(b):
         first_examples(b)
         b.scheme(scheme, **{"forced-colors": "active"})
         settle(b)
-        check("the canvas has the system's text colour", b.run("log_tab.timeline.ink.text"), b.run("getComputedStyle(document.body).color"))
+        check("the canvas has the system's text colour", b.run("logTab.timeline.ink.text"), b.run("getComputedStyle(document.body).color"))
         call(b, "page.tab", "log")
         first, *others = b.run(grounds.format("nav button"))
         check("the chosen tab", (first not in others, len(set(others))), (True, 1))
@@ -540,16 +540,16 @@ def a_mix_of_tags(b):
     lost = [slot for slot in range(24, 48) if sent.get(str(slot), "").startswith("C201 2")]
     open_script(b, "".join(f"{row}{'L' if slot in lost else 'G'}\n" for slot, row in enumerate(rows)), m=8, k=0)
     log = "".join(f"{sent.get(str(slot), NOTHING)}\n" for slot in range(48))
-    call(b, "log_tab.open", log, {"pi": "C201", "m": 8, "k": 0, "lost": lost})
+    call(b, "logTab.open", log, {"pi": "C201", "m": 8, "k": 0, "lost": lost})
     told = "With the flag bit alone: “Édith Piaf, Milord”, artist: Édith Pia, which nobody sent, title:  Milo, which nobody sent."
     for tab in ("script", "log"):
         call(b, "page.tab", tab)
-        b.run(f"{tab}_tab.timeline.move(47)")
+        b.run(f"{tab}Tab.timeline.move(47)")
         check(f"{tab}: a mix of tags is red", (of(b, f"#{tab}-alone", "className"), text_of(b, f"#{tab}-alone .led")),
               ("radio alone mixed", "nobody sent this tag"))
         check(f"{tab}: and is in the words", told in of(b, f"#{tab}-time canvas", "ariaValueText") or told, True)
         check(f"{tab}: with the dwell there is none", of(b, f"#{tab}-radio", "className"), "radio")
-        b.run(f"{tab}_tab.timeline.move(22)")
+        b.run(f"{tab}Tab.timeline.move(22)")
         check(f"{tab}: tags that were sent are not red", of(b, f"#{tab}-alone", "className"), "radio alone")
 
 
@@ -566,20 +566,20 @@ def flag_bit_alone(b):
         words = ["decode", "--pi", of(b, "#log-pi", "value"), "--m", "65535"]
         told = re.findall(r'^(\d+) text (?:"(.*)"|none)$', program(words, example(name))[1], re.M)
         wanted = [[int(slot), text or None] for slot, text in told]
-        check(f"the flag bit alone over {name}", (runs_of(b, "log_tab.state.alone"), len(wanted) > 0), (wanted, True))
+        check(f"the flag bit alone over {name}", (runs_of(b, "logTab.state.alone"), len(wanted) > 0), (wanted, True))
     open_script(b, "".join(f"text,HI,1,{letter}\n" for letter in "GGRGLR"), m=1, k=0)
-    check("it restarts with its receiver", runs_of(b, "script_tab.state.alone[0]"), [[1, "HI"], [2, None], [3, "HI"], [5, None]])
+    check("it restarts with its receiver", runs_of(b, "scriptTab.state.alone[0]"), [[1, "HI"], [2, None], [3, "HI"], [5, None]])
     for slot, word in ((2, "restarted"), (5, "restarted")):
-        b.run(f"script_tab.timeline.move({slot})")
+        b.run(f"scriptTab.timeline.move({slot})")
         check(f"why no text is shown in slot {slot}", shown(b, "script-radio"), f"— {word} —")
     call(b, "page.tab", "log")
     many = f"{HI}\n" + f"{NOTHING}\n" * 65_535
     for text, ends, told in ((many[:-20], 65_535, ""),
                              (many, 65_535, "The flag bit alone is shown for the first 65,535 slots only.")):
-        call(b, "log_tab.open", text, {"pi": "C201", "m": 8})
-        got = b.run("log_tab.state.alone.parts.text.map(run => [run.from, run.to])"), text_of(b, "#log-limit")
+        call(b, "logTab.open", text, {"pi": "C201", "m": 8})
+        got = b.run("logTab.state.alone.parts.text.map(run => [run.from, run.to])"), text_of(b, "#log-limit")
         check(f"its end over {text.count(chr(10))} slots", got, ([[0, ends]], told))
-    b.run("log_tab.timeline.move(65535)")
+    b.run("logTab.timeline.move(65535)")
     check("it is not shown behind that", shown(b, "log-alone"), "— not shown here —")
     check("nor told", "With the flag bit alone: not shown here" in of(b, "#log-time canvas", "ariaValueText"), True)
 
@@ -591,7 +591,7 @@ def restarts(b):
     for name, script, mixes in (("without the empty text", without, ["Road B7: closed", "Road B7: opesed"]),
                                 ("with the empty text", with_it, [])):
         open_script(b, "".join(f"{row}\n" for row in script), m=8, k=0)
-        all_shown = [text for _, text in runs_of(b, "script_tab.state.alone[0]") if text is not None]
+        all_shown = [text for _, text in runs_of(b, "scriptTab.state.alone[0]") if text is not None]
         told = ("With the flag bit alone, receivers show 2 texts that nobody sent. With the dwell none does." if mixes
                 else "No receiver shows a mix here. Lose more slots: a whole text and the next flip of the flag.")
         check(f"restart {name}: mixes", [it for it in all_shown if f"text,{it}" not in "\n".join(script)], mixes)
@@ -679,7 +679,7 @@ def why_no_text(b):
         call(b, "page.tab", tab)
         kinds = [of(b, f"#{tab}-{it}", "classList.contains('mixed')") for it in ("radio", "alone")]
         check(f"the first of {tab}", (kinds, text_of(b, f"#{tab}-why")), ([False, True], told))
-        b.run(f"{tab}_tab.timeline.move({slot})")
+        b.run(f"{tab}Tab.timeline.move({slot})")
         check(f"and where {tab} shows it", (shown(b, f"{tab}-radio"), text_of(b, f"#{tab}-why")), ("B7: closed today", ""))
 
 
@@ -696,7 +696,7 @@ def causes(b):
     for script, wanted in ((silent, {24: begins, 27: begins, 28: silence, 46: silence}), (lost, {28: "forgotten"})):
         open_script(b, script, m=8, k=0)
         for slot, word in wanted.items():
-            b.run(f"script_tab.timeline.move({slot})")
+            b.run(f"scriptTab.timeline.move({slot})")
             check(f"why no text is shown in slot {slot}", shown(b, "script-radio"), f"— {word} —")
 
 
@@ -726,7 +726,7 @@ def several_files(b):
     script, told = example("tunnel.csv").decode(), "The page shows one file at a time. It opened {} and left out {}."
     for names, left, tab in ((["a.csv", "b.log"], "1 other file", "script"), (["<b>.log", "b.csv", "c"], "2 other files", "log"),
                              (["a.csv"], "", "script")):
-        call(b, "probe.drop_all", [[name, script if name.endswith(".csv") else HI] for name in names])
+        call(b, "probe.dropAll", [[name, script if name.endswith(".csv") else HI] for name in names])
         settle(b)
         got = text_of(b, "#left-out"), hidden(b), text_of(b, f"#{tab}-file-name")
         check(f"dropped: {names}", got, (told.format(names[0], left) if left else "", [it for it in TABS if it != tab], names[0]))
@@ -743,13 +743,13 @@ def long_fields(b):
         got = text_of(b, "#script-fault").partition(". The rows after")[0], sizes, of(b, "#argument", "value.length")
         check(f"a field of 3 MB in {script[:8]}", got, (note, [False, False], left))
     open_script(b, f"text,{long},1,G\n-,,1,G\n", m=8, k=0)
-    b.run("script_tab.timeline.move(0)")
+    b.run("scriptTab.timeline.move(0)")
     b.run("document.getElementById('free').click()")
-    row = b.run("(row => [row.argument.length, row.free])(script_tab.state.rows[0])")
+    row = b.run("(row => [row.argument.length, row.free])(scriptTab.state.rows[0])")
     check("an edit keeps it", [*row, of(b, "#argument", "readOnly")], [len(long), "0", True])
-    b.run("script_tab.timeline.move(1)")
+    b.run("scriptTab.timeline.move(1)")
     check("and a short one can be typed", (of(b, "#argument", "readOnly"), of(b, "#argument", "value")), (False, ""))
-    call(b, "log_tab.open", f"{long}\n", {"m": 8})
+    call(b, "logTab.open", f"{long}\n", {"m": 8})
     settle(b)
     check("nor is a line of 3 MB", b.run("document.body.textContent.includes('A'.repeat(100))"), False)
 
@@ -770,7 +770,7 @@ def directions(b):
     quoted = text_of(b, "#verdict bdi")
     check("a quoted line is isolated", (quoted[:6], set(quoted) & set(TURNS)), ('"C201 ', set()))
     for name, wanted in (("a\u202egol.csv", "a\\u202Egol.csv"), ("\u0639.csv", "\u0639.csv")):
-        call(b, "probe.drop_all", [[name, "-,,1,G\n"], ["b", ""]])
+        call(b, "probe.dropAll", [[name, "-,,1,G\n"], ["b", ""]])
         settle(b)
         got = [text_of(b, "#script-file-name bdi"), text_of(b, "#left-out bdi")]
         isolated = wanted if wanted.isascii() else f"\u2068{wanted}\u2069"
@@ -790,13 +790,13 @@ def pictures(b):
             shows = f"document.querySelectorAll('#{tab} .radio figcaption span, #{tab} .radio .text')"
             displays = b.run(f"[...{shows}].map(it => it.textContent).filter(text => text)")
             legend = b.run(f"[...document.querySelectorAll('#{tab} .legend > span')].map(it => it.textContent)")
-            all_texts = b.run(f"probe.pictured({tab}_tab.timeline)")
+            all_texts = b.run(f"probe.pictured({tab}Tab.timeline)")
             texts = [text for _, text, _ in all_texts]
             drawn = " ".join(texts)
             missing = [it for it in displays if it not in drawn and it not in drawn.replace("  ", " ")]
             check(f"{scheme} {tab}: the displays are drawn", (len(displays) > 4, missing), (True, []))
             check(f"{scheme} {tab}: the title is first, the legend last", (texts[0], texts[-len(legend):]),
-                  (b.run(f"{tab}_tab.timeline.title"), legend))
+                  (b.run(f"{tab}Tab.timeline.title"), legend))
             colours = {ink for _, _, ink in all_texts[-len(legend):]}
             dim = b.run("getComputedStyle(document.documentElement).getPropertyValue('--dim').trim()")
             check(f"{scheme} {tab}: its colour", colours, {dim})
@@ -844,7 +844,7 @@ def files_of_bytes(b):
         settle(b)
         for name, words in (("log", ["decode", "--pi", "C201"]), ("audit", ["audit", "--pi", "C201"])):
             check(f"{words[0]} over a file that begins with {data[:12]}", text_of(b, f"#{name}-lines"), program(words, data)[1])
-        b.run("log_tab.lose([0])")
+        b.run("logTab.lose([0])")
         check("and once a slot is lost", text_of(b, "#audit-lines"), program(["audit", "--pi", "C201"], data)[1])
     check("the last one passes, the first does not", (text_of(b, "#verdict")[:8], program(["audit", "--pi", "C201"], logs[0])),
           ("✓ Passes", [1, "fault line 1\n"]))
@@ -872,7 +872,7 @@ def names_of_files(b):
             check(f"{tab}: an example after it", shows(), ("", title, 0))
     call(b, "probe.drop", "own.csv", example("tunnel.csv").decode())
     settle(b)
-    b.run("script_tab.timeline.move(30)")
+    b.run("scriptTab.timeline.move(30)")
     call(b, "probe.choose", "command", "restart")
     check("an edited file", text_of(b, "#script-file-name"), "own.csv, edited")
     click(b, "#script-undo")
@@ -885,7 +885,7 @@ def names_of_files(b):
 def results(b, tab):
     """What a tab shows of a result: texts, marks of a mix, lanes and lines."""
     texts = b.run(f"[...document.querySelectorAll('#{tab} .lcd .text:not(.none)')].map(it => it.textContent)")
-    lanes = b.run(f"{tab}_tab.timeline.lanes.length")
+    lanes = b.run(f"{tab}Tab.timeline.lanes.length")
     return texts, b.run(f"document.querySelectorAll('#{tab} .mixed').length"), lanes, text_of(b, f"#{tab}-lines")
 
 
@@ -909,12 +909,12 @@ def no_old_results(b):
         settle(b)
         check(f"{tab}-{field} {was!r} again", results(b, tab), before)
     call(b, "probe.choose", "log-m", "")
-    call(b, "log_tab.open", EVERY_100)
+    call(b, "logTab.open", EVERY_100)
     check("a log beside an empty M", (results(b, "log"), text_of(b, "#verdict h2")), (nothing, "No verdict"))
     for text, told in (("-,,1,GGGGGGGGG\n", "The script has 9 receivers. The page plays at most 8."),
                        ("-,,1,\n" * 200_001, "The script has 200,001 rows. The page plays at most 200,000.")):
         call(b, "probe.choose", "script-example", 0)
-        call(b, "script_tab.open", text)
+        call(b, "scriptTab.open", text)
         check(told, (text_of(b, "#script-fault"), results(b, "script"), text_of(b, "#script-count")), (told, nothing, ""))
     first_examples(b)
 
@@ -976,7 +976,7 @@ def served(folder):
         server.server_close()
 
 
-SIGHT = "[script_tab.timeline.cursor, script_tab.state.chosen, script_tab.timeline.from, script_tab.timeline.across]"
+SIGHT = "[scriptTab.timeline.cursor, scriptTab.state.chosen, scriptTab.timeline.from, scriptTab.timeline.across]"
 
 
 def script_link(b):
@@ -991,7 +991,7 @@ def links_of_a_server(b, folder):
         visit(b, url)
         click(b, "#tab-script")
         call(b, "probe.choose", "script-example", 1)
-        b.run("script_tab.state.chosen = 1; script_tab.timeline.zoom(0.3, 20); script_tab.timeline.move(23, { keep: true })")
+        b.run("scriptTab.state.chosen = 1; scriptTab.timeline.zoom(0.3, 20); scriptTab.timeline.move(23, { keep: true })")
         click(b, "#script-share")
         b.until("document.querySelector('#script-saved').textContent !== ''")
         check("a link is copied", script_link(b)[0] in ("The link was copied.", "This is the link: copy it."), True)
@@ -1016,7 +1016,7 @@ def links_of_a_server(b, folder):
 
 LOG_STATE = ("(({ timeline: { cursor, from, across }, state: { lost } }) => [document.getElementById('log-lines').textContent, "
              "[...lost].sort((a, b) => a - b), cursor, from, across, "
-             "...['pi', 'm', 'k'].map(it => document.getElementById(`log-${it}`).value)])(log_tab)")
+             "...['pi', 'm', 'k'].map(it => document.getElementById(`log-${it}`).value)])(logTab)")
 
 
 def log_links(b, folder):
@@ -1025,19 +1025,19 @@ def log_links(b, folder):
     with served(folder) as url:
         visit(b, url)
         call(b, "page.tab", "log")
-        call(b, "log_tab.open", EVERY_100, {"pi": "C201", "m": 100, "k": 3, "lost": [2, 3, 4, 9, 100]})
+        call(b, "logTab.open", EVERY_100, {"pi": "C201", "m": 100, "k": 3, "lost": [2, 3, 4, 9, 100]})
         settle(b)
-        b.run("log_tab.timeline.zoom(0.1, 90); log_tab.timeline.move(103, { keep: true })")
-        b.run("(it => { it.from = Math.round(it.from); it.across = Math.round(it.across); })(log_tab.timeline)")
+        b.run("logTab.timeline.zoom(0.1, 90); logTab.timeline.move(103, { keep: true })")
+        b.run("(it => { it.from = Math.round(it.from); it.across = Math.round(it.across); })(logTab.timeline)")
         before = b.run(LOG_STATE)
         click(b, "#log-share")
         b.until("document.getElementById('log-saved').textContent !== ''")
         link = of(b, "#log-link", "value")
         check("the address is the link", (b.run("location.href"), len(link) < 1000, "lost=2-4.9.100" in link), (link, True, True))
-        b.run("log_tab.lose([7])")
+        b.run("logTab.lose([7])")
         settle(b)
         check("a lost slot drops the link", (told(), b.run(address), of(b, "#log-link", "hidden")), ("", False, True))
-        b.run("log_tab.lose([7])")
+        b.run("logTab.lose([7])")
         settle(b)
         check("and without it the address has it again", (told(), b.run(address)), ("", True))
         visit(b, link)
@@ -1049,7 +1049,7 @@ def log_links(b, folder):
         visit(b, f"{url}#log=nonsense")
         check("a link that holds none", told(), "The link has no log.")
         dice = random.Random(SEED)
-        call(b, "log_tab.open", "".join(f"# {dice.random()}\n" for _ in range(20_000)))
+        call(b, "logTab.open", "".join(f"# {dice.random()}\n" for _ in range(20_000)))
         click(b, "#log-share")
         b.until("document.getElementById('log-saved').textContent !== ''")
         check("a log that is too long for one", told(), "This log is too long for a link: save it as a file.")
@@ -1101,7 +1101,7 @@ def unsaved_edits(b, url):
                 ("a link", lambda: b.run(f"location.hash = 'script={packed(other.encode())}&m=4&k=2'")))
         for what, does in ways:
             open_script(b, script, m=8, k=0)
-            b.run("script_tab.timeline.move(3)")
+            b.run("scriptTab.timeline.move(3)")
             check(f"{what}: nothing is unsaved before", b.run(leaves), True)
             call(b, "probe.choose", "command", "restart")
             check(f"{what}: an edit is unsaved", b.run(leaves), False)
@@ -1130,7 +1130,7 @@ def faults(b):
           f"{HI}. The page does not show the lines after it.")
     check("and its text is no HTML", b.run("document.querySelectorAll('#verdict b').length"), 0)
     b.run("[...document.querySelectorAll('#verdict button')].at(-1).click()")
-    check("and shown", call(b, "probe.chosen_line", "log-text"), "C201 <b>40 4849")
+    check("and shown", call(b, "probe.chosenLine", "log-text"), "C201 <b>40 4849")
     rows = [
         ("-,,1,G\n\n-,,1\n", "row 2 (line 3): expected 4 fields (COMMAND,ARGUMENT,FREE,RECEPTIONS), found 3"),
         ("-,,1,G\n-,,1,GG\n", "row 2 (line 2): RECEPTIONS: the number of receivers is 2, but the first row has 1"),
@@ -1141,14 +1141,14 @@ def faults(b):
         check(f"a bad row is named: {why}", text_of(b, "#script-fault"),
               f"fault {why}. The rows after it are not played. Show the line")
     click(b, "#script-fault button")
-    check("and shown", call(b, "probe.chosen_line", "script-text"), "text,\u2603,1,G")
+    check("and shown", call(b, "probe.chosenLine", "script-text"), "text,\u2603,1,G")
     open_script(b, "text,HI,1,G\n" * 5 + "text,\u2603,1,G\n" + "-,,1,G\n" * 6, m=1, k=0)
-    b.run("script_tab.timeline.move(3)")
+    b.run("scriptTab.timeline.move(3)")
     check("a text is shown before a bad row", (shown(b, "script-radio"), shown(b, "script-alone")), ("HI", "HI"))
-    ends = b.run("script_tab.timeline.lanes.map(lane => (lane.codes?.length ?? lane.runs?.at(-1)?.to ?? 0))")
+    ends = b.run("scriptTab.timeline.lanes.map(lane => (lane.codes?.length ?? lane.runs?.at(-1)?.to ?? 0))")
     check("no lane goes on behind it", [it for it in ends if it > 5], [])
     for slot in (5, 11):
-        b.run(f"script_tab.timeline.move({slot})")
+        b.run(f"scriptTab.timeline.move({slot})")
         all_shown = [shown(b, f"script-{it}") for it in ("air", "radio", "alone")]
         check(f"slot {slot} behind it is not played", all_shown, ["— not played —"] * 3)
 
@@ -1174,7 +1174,7 @@ def rows_of_faults(b):
         if not told or not got:
             continue
         click(b, "#script-fault button")
-        check(f"the line of {script!r}", call(b, "probe.chosen_line", "script-text"), plain.split("\n")[int(told[2]) - 1])
+        check(f"the line of {script!r}", call(b, "probe.chosenLine", "script-text"), plain.split("\n")[int(told[2]) - 1])
         seen.add(plain.split("\n")[int(told[2]) - 1])
     check("several kinds of bad rows", len(seen) > 4 or seen, True)
 
@@ -1218,14 +1218,14 @@ def other_dwells(b):
     logs = [EVERY_100, example("flags.log").decode(), *("".join(f"{dice.choice(GROUPS[:8])}\n" for _ in range(20)) for _ in range(5))]
     for number, log in enumerate(logs):
         for k in (0, 3):
-            call(b, "log_tab.open", log, {"pi": "C201", "m": 128, "k": k})
+            call(b, "logTab.open", log, {"pi": "C201", "m": 128, "k": k})
             got = b.run("[...document.querySelectorAll('#dwells button')].map(it => it.textContent)")
             answers = [program(["audit", "--pi", "C201", "--m", str(m), "--k", str(k)], log.encode())[0] for m in DWELLS]
             check(f"answers for log {number}, K {k}", got, [f"{m:,} {'✗' if no else '✓'}" for m, no in zip(DWELLS, answers)])
-    call(b, "log_tab.open", EVERY_100, {"pi": "C201", "m": 128, "k": 0})
+    call(b, "logTab.open", EVERY_100, {"pi": "C201", "m": 128, "k": 0})
     click(b, "#dwells [data-m='64']")
     check("a button chooses its dwell", (of(b, "#log-m", "value"), text_of(b, "#verdict h2")), ("64", "✓ Passes with M = 64 (5.61 s)"))
-    call(b, "log_tab.open", f"{NOTHING}\n", {"pi": "C201", "m": 8, "k": 0})
+    call(b, "logTab.open", f"{NOTHING}\n", {"pi": "C201", "m": 8, "k": 0})
     check("no answers without a group", of(b, "#dwells", "hidden"), True)
 
 
@@ -1248,9 +1248,9 @@ def lost_by_time(b):
     dice, offered = random.Random(SEED), 0
     for number in range(60):
         log, m = with_times(dice), dice.choice([8, 128])
-        call(b, "log_tab.open", log, {"pi": "C201", "m": m, "k": 0})
+        call(b, "logTab.open", log, {"pi": "C201", "m": m, "k": 0})
         done = subprocess.run([os.path.join(EXAMPLES, "slots"), "--m", str(m)], input=log.encode(), capture_output=True, timeout=SECONDS)
-        has_more = len(done.stdout.splitlines()) > b.run("log_tab.state.times.timed")
+        has_more = len(done.stdout.splitlines()) > b.run("logTab.state.times.timed")
         is_offered = "Add the lost slots" in text_of(b, "#verdict")
         check(f"times {number}: offered", is_offered, has_more)
         if not is_offered:
@@ -1262,11 +1262,11 @@ def lost_by_time(b):
         check(f"times {number}: added as by examples/slots", of(b, "#log-text", "value"), done.stdout.decode())
     check("lost slots were offered", offered > 20, True)
     hour = f"{HI} @2026/11/26 10:00:00.00\nC201 2150 4A4F 0D20 @2026/11/26 11:00:00.00\n"
-    call(b, "log_tab.open", hour, {"pi": "C201", "m": 128, "k": 0})
+    call(b, "logTab.open", hour, {"pi": "C201", "m": 128, "k": 0})
     said = ("Lost slots: By the times of the lines, 41,105 slots are not in this log. "
             "The audit takes the lines as slots without a gap, so this answer may be wrong. Add the lost slots")
     check("an hour without a group", said in text_of(b, "#verdict") or text_of(b, "#verdict"), True)
-    b.run("log_tab.timeline.move(1)")
+    b.run("logTab.timeline.move(1)")
     check("the clock of a slot", "11:00:00" in text_of(b, "#log-time output") + text_of(b, "#log-changes"), True)
 
 
@@ -1278,13 +1278,13 @@ def lines_of_a_log(b):
     for number in range(150):
         some = [dice.choice(odd) if dice.random() < 0.12 else dice.choice(GROUPS) for _ in range(dice.randrange(30))]
         log = "\n".join(some) + dice.choice(["", "\n"])
-        call(b, "log_tab.open", log, {"pi": "C201", "m": 8, "k": 0})
+        call(b, "logTab.open", log, {"pi": "C201", "m": 8, "k": 0})
         good = log.split("\n")
         bad = re.search(r"^fault line (\d+)", program(["decode", "--pi", "C201", "--m", "1"], log.encode())[1], re.M)
         before = "\n".join(good[:int(bad[1]) - 1]) + "\n" if bad else log
         slots = program(["decode", "--pi", "C201", "--m", "1"], before.encode())[0]
         count = sum(1 for line in before.split("\n") if line.strip("\r") and line[0] not in "<#%")
-        check(f"slots of odd log {number}", (b.run("log_tab.state.log.count"), slots), (count, 0))
+        check(f"slots of odd log {number}", (b.run("logTab.state.log.count"), slots), (count, 0))
 
 
 def listed(b):
@@ -1308,14 +1308,14 @@ def list_of_changes(b):
     check("the field filters", ({"beyonc" in said.lower() for *_, said in listed(b)}, text_of(b, "#log-found")),
           ({True}, f"{len(listed(b))} of {len(wanted)} changes"))
     click(b, "#log-changes li:last-child button")
-    check("a row goes to its slot", b.run("log_tab.timeline.cursor"), int(listed(b)[-1][0]))
+    check("a row goes to its slot", b.run("logTab.timeline.cursor"), int(listed(b)[-1][0]))
     check("and is marked", b.run("document.querySelector('#log-changes [aria-current] .slot').textContent"), listed(b)[-1][0])
     call(b, "probe.choose", "log-find", "")
     settle(b)
-    call(b, "log_tab.open", "".join(f"C201 21{4 + s % 2}0 {0x4130 + s // 100:04X} {0x2000 + 0x30 + s // 10 % 10:04X}\nC201 21{4 + s % 2}1 {0x3000 + s % 10 * 256 + 13:04X} 2020\n"
+    call(b, "logTab.open", "".join(f"C201 21{4 + s % 2}0 {0x4130 + s // 100:04X} {0x2000 + 0x30 + s // 10 % 10:04X}\nC201 21{4 + s % 2}1 {0x3000 + s % 10 * 256 + 13:04X} 2020\n"
                                     for s in range(1000)), {"pi": "C201", "m": 8, "k": 0})
     rows = len(listed(b))
-    b.run("log_tab.timeline.move(900)")
+    b.run("logTab.timeline.move(900)")
     slot = b.run("document.querySelector('#log-changes [aria-current] .slot').textContent")
     check("a long list is laid out in part, around the slot", (rows <= 100, len(listed(b)) <= 100, abs(int(slot.replace(",", "")) - 900) < 4), (True,) * 3)
     first_examples(b)
@@ -1336,9 +1336,9 @@ GROUP_WORDS = [
 
 def words_of_groups(b):
     """The group of the chosen slot in words: type, flag, segment, characters and blocks."""
-    call(b, "log_tab.open", "".join(f"{line}\n" for line, _ in GROUP_WORDS), {"pi": "C201", "m": 8, "k": 0})
+    call(b, "logTab.open", "".join(f"{line}\n" for line, _ in GROUP_WORDS), {"pi": "C201", "m": 8, "k": 0})
     for slot, (line, words) in enumerate(GROUP_WORDS):
-        b.run(f"log_tab.timeline.move({slot})")
+        b.run(f"logTab.timeline.move({slot})")
         check(f"the group {line}", text_of(b, "#log-group"), words)
     first_examples(b)
 
@@ -1365,20 +1365,20 @@ def a_day(b):
         b.run(f"pieces.push({json.dumps(log[at:at + 4_000_000])})")
     b.run("window.day = new File([pieces.join('')], 'day.log'); window.pieces = null; undefined")
     b.run("document.querySelector('#log-text').closest('details').open = true")
-    steps = {"opened": "page.open_file(day)", "loses a slot": "log_tab.lose([500])", "another M": "probe.choose('log-m', 100)",
-             "at the end": "log_tab.timeline.move(981999)", "its list": "probe.choose('log-find', '28')"}
+    steps = {"opened": "page.openFile(day)", "loses a slot": "logTab.lose([500])", "another M": "probe.choose('log-m', 100)",
+             "at the end": "logTab.timeline.move(981999)", "its list": "probe.choose('log-find', '28')"}
     for name, step in steps.items():
-        longest = b.run(f"probe.longest_task(async () => {{ await ({step}); await new Promise(done => setTimeout(done, 300)); await probe.idle(); }})")
+        longest = b.run(f"probe.longestTask(async () => {{ await ({step}); await new Promise(done => setTimeout(done, 300)); await probe.idle(); }})")
         print(f"a day {name}: longest task {longest:.0f} ms", flush=True)
         check(f"a day {name}: no task of more than 100 ms", longest <= 100 or longest, True)
     check("its verdict", text_of(b, "#verdict h2"), "✓ Passes with M = 100 (8.76 s)")
     text = of(b, "#log-text", "value")
     check("its text is a window around the slot", (len(text) <= 100_000, text.endswith(log[-20:]), of(b, "#log-text", "readOnly")), (True,) * 3)
     b.run(f"window.day = new File([{json.dumps(log[:10_000_000])}, 'bad\\n', {json.dumps(log[:100_000])}], 'bad.log'); undefined")
-    b.run("page.open_file(day)")
+    b.run("page.openFile(day)")
     idle(b)
     b.run("[...document.querySelectorAll('#verdict button')].at(-1).click()")
-    check("the line of a fault is shown", (text_of(b, "#verdict h2"), call(b, "probe.chosen_line", "log-text")),
+    check("the line of a fault is shown", (text_of(b, "#verdict h2"), call(b, "probe.chosenLine", "log-text")),
           ("Line 500,001 is malformed", "bad"))
     b.run("window.day = null; document.querySelector('#log-text').closest('details').open = false")
     call(b, "probe.choose", "log-find", "")
@@ -1430,7 +1430,7 @@ def witnesses(b):
             check(f"log {number} passes", "✓ Passes with M = " in said, True)
             continue
         told = program(["witness", *options], log.encode())[1].splitlines()
-        its = b.run("log_tab.state.witness")
+        its = b.run("logTab.state.witness")
         slots = its["lost"] and "-".join(map(str, sorted(set(its["lost"]))))
         check(f"witness of log {number}, M {m}", [f"lose {slots}: {line}" for line in its["shown"]] or ["no witness found with one burst lost"], told)
         found += bool(its["shown"])
@@ -1472,7 +1472,7 @@ def keyboard(b):
     call(b, "page.tab", "log", True)
     b.key("ArrowRight", number=39)
     check("arrows choose the tab", (b.run("document.activeElement.id"), hidden(b)), ("tab-script", ["log", "dwell"]))
-    b.run("script_tab.timeline.canvas.focus()")
+    b.run("scriptTab.timeline.canvas.focus()")
     b.key("Enter", number=13, text="\r")
     check("Enter goes to the command", b.run("document.activeElement.id"), "command")
 
@@ -1569,7 +1569,7 @@ def large(b):
     verdict = told.pop("verdict")
     print(f"{SLOTS} slots, ms:", ", ".join(f"{key} {value:.0f}" for key, value in told.items()), flush=True)
     check("many slots pass", verdict, f"yes {SLOTS}\n")
-    for name, most in (("open_log", OPENING), ("open_script", OPENING), ("log_frame", FRAME), ("script_frame", FRAME)):
+    for name, most in (("openLog", OPENING), ("openScript", OPENING), ("logFrame", FRAME), ("scriptFrame", FRAME)):
         check(f"{name} of many slots within {most} ms", (told[name] <= most) or told[name], True)
     for words, what in ((["decode", "--pi", "C201"], "log"), (["sim", "--pi", "C201"], "script")):
         data, got = b.run(f"probe.many.{what}").encode(), b.run(f"rdsrt.run({json.dumps(words)}, probe.many.{what}).output")

@@ -16,20 +16,20 @@ const probe = (() => {
   }
 
   /* Types an argument, and chooses another slot before the page can play it. */
-  function type_and_leave(text, slot) {
+  function typeAndLeave(text, slot) {
     at("argument").focus();
     at("argument").value = text;
     at("argument").dispatchEvent(new Event("input"));
-    script_tab.timeline.canvas.focus();
-    script_tab.timeline.move(slot);
+    scriptTab.timeline.canvas.focus();
+    scriptTab.timeline.move(slot);
   }
 
   /* A file of this text, or of these bytes. */
   const file = (name, content) => new File([typeof content === "string" ? content : Uint8Array.from(content)], name);
 
   /* Drops such files on the page, each a name and a content. */
-  const drop = (name, content) => drop_all([[name, content]]);
-  function drop_all(all) {
+  const drop = (name, content) => dropAll([[name, content]]);
+  function dropAll(all) {
     const data = new DataTransfer();
     for (const [name, content] of all) data.items.add(file(name, content));
     document.querySelector("h1").dispatchEvent(new DragEvent("drop", { dataTransfer: data, bubbles: true, cancelable: true }));
@@ -43,7 +43,7 @@ const probe = (() => {
     at(id).dispatchEvent(new Event("change"));
   }
 
-  const chosen_line = (id) => at(id).value.slice(at(id).selectionStart, at(id).selectionEnd);
+  const chosenLine = (id) => at(id).value.slice(at(id).selectionStart, at(id).selectionEnd);
 
   /* A place of the canvas in the window: the middle of a slot, and of the first lane that fits. */
   function place(timeline, slot, fits) {
@@ -60,7 +60,7 @@ const probe = (() => {
   }
 
   /* The place of a slot on the overview. */
-  function on_overview(timeline, slot) {
+  function onOverview(timeline, slot) {
     timeline.root.scrollIntoView();
     const { left, top, height } = timeline.overview.getBoundingClientRect();
     return [left + timeline.gutter + (slot + 0.5) / timeline.count * timeline.room, top + height / 2];
@@ -79,7 +79,7 @@ const probe = (() => {
   }
 
   /* Whether the overview has the colour of what is bad where a slot begins. */
-  function is_red({ overview, ink, gutter, count, room }, slot) {
+  function isRed({ overview, ink, gutter, count, room }, slot) {
     Object.assign(reader.canvas, { width: overview.width, height: overview.height });
     reader.drawImage(overview, 0, 0);
     const { data } = reader.getImageData(Math.floor(gutter + slot / count * room), 6, 2, 1), [r, g, b] = rgba(ink.bad);
@@ -100,7 +100,7 @@ const probe = (() => {
   }
 
   /* The code whose colour a slot's column of the first lane has. */
-  function shares_of(timeline, slot) {
+  function sharesOf(timeline, slot) {
     timeline.paint();
     const { canvas, ink, lanes: [lane] } = timeline;
     Object.assign(reader.canvas, { width: canvas.width, height: canvas.height });
@@ -109,11 +109,11 @@ const probe = (() => {
     return ink.codes.findIndex((color) => color && String(rgba(color)) === got);
   }
 
-  const lane_of = (timeline, name) => timeline.lanes.find((lane) => lane.name === name);
+  const laneOf = (timeline, name) => timeline.lanes.find((lane) => lane.name === name);
 
   /* The labels that a timeline draws into a lane, each with its left and its right end. */
   function labels(timeline, name) {
-    const { prototype } = CanvasRenderingContext2D, { fillText } = prototype, { top, height } = lane_of(timeline, name), all = [];
+    const { prototype } = CanvasRenderingContext2D, { fillText } = prototype, { top, height } = laneOf(timeline, name), all = [];
     prototype.fillText = function (text, x, y) {
       if (text && x >= timeline.gutter && y > top && y < top + height) all.push([text, x, x + this.measureText(text).width]);
       fillText.call(this, text, x, y);
@@ -124,9 +124,9 @@ const probe = (() => {
   }
 
   /* In how many columns of a lane, of which number, each of these colours is to be seen. */
-  function columns_of(timeline, name, ...inks) {
+  function columnsOf(timeline, name, ...inks) {
     timeline.paint();
-    const { canvas, room, gutter, ink } = timeline, { top, height } = lane_of(timeline, name), width = Math.floor(room);
+    const { canvas, room, gutter, ink } = timeline, { top, height } = laneOf(timeline, name), width = Math.floor(room);
     Object.assign(reader.canvas, { width: canvas.width, height: canvas.height });
     reader.drawImage(canvas, 0, 0);
     const { data } = reader.getImageData(gutter, top, width, height), told = { width };
@@ -140,12 +140,12 @@ const probe = (() => {
 
   // ---- contrast, by the formula of WCAG 2
 
-  const painter_of_one = document.createElement("canvas").getContext("2d", { willReadFrequently: true });
+  const painterOfOne = document.createElement("canvas").getContext("2d", { willReadFrequently: true });
   function rgba(color) {
-    painter_of_one.clearRect(0, 0, 1, 1);
-    painter_of_one.fillStyle = color;
-    painter_of_one.fillRect(0, 0, 1, 1);
-    return [...painter_of_one.getImageData(0, 0, 1, 1).data];
+    painterOfOne.clearRect(0, 0, 1, 1);
+    painterOfOne.fillStyle = color;
+    painterOfOne.fillRect(0, 0, 1, 1);
+    return [...painterOfOne.getImageData(0, 0, 1, 1).data];
   }
   /* A colour of the style by its name. */
   function colour(name) {
@@ -171,7 +171,7 @@ const probe = (() => {
     return "#fff";
   }
 
-  function has_text(e) {
+  function hasText(e) {
     if (["radio", "checkbox", "range"].includes(e.type) || e.tagName === "OPTION" || e instanceof SVGElement) return false;
     const own = [...e.childNodes].some((node) => node.nodeType === Node.TEXT_NODE && node.data.trim());
     return (own || ["INPUT", "SELECT", "TEXTAREA"].includes(e.tagName)) && e.checkVisibility();
@@ -189,7 +189,7 @@ const probe = (() => {
   function contrasts(least) {
     const root = getComputedStyle(document.documentElement), ink = (name) => root.getPropertyValue(`--${name}`).trim() || name;
     const told = (e) => [e.textContent.slice(0, 40) || e.id, getComputedStyle(e).color, ground(e)];
-    const all = [...document.querySelectorAll("body *")].filter(has_text).map(told);
+    const all = [...document.querySelectorAll("body *")].filter(hasText).map(told);
     const drawn = PAIRS.map(([a, b]) => [`${a} on ${b}`, ink(a), ink(b)]);
     const low = [...all, ...drawn].filter(([, a, b]) => ratio(a, b) < least).map(([what, a, b]) => `${what} ${ratio(a, b).toFixed(2)}`);
     return [all.length, low];
@@ -235,7 +235,7 @@ const probe = (() => {
   }
 
   /* The longest task of the page, in milliseconds, while this goes on; tasks of less than 50 ms count as 0. */
-  async function longest_task(what) {
+  async function longestTask(what) {
     let longest = 0;
     const watcher = new PerformanceObserver((list) => { for (const { duration } of list.getEntries()) longest = Math.max(longest, duration); });
     watcher.observe({ type: "longtask" });
@@ -248,7 +248,7 @@ const probe = (() => {
   /* Waits until the log tab has all its answers, and is drawn. */
   async function idle() {
     let work;
-    do { work = log_tab.state.work; await work; } while (work !== log_tab.state.work);
+    do { work = logTab.state.work; await work; } while (work !== logTab.state.work);
     await new Promise((done) => { requestAnimationFrame(() => setTimeout(done)); });
   }
 
@@ -265,24 +265,24 @@ const probe = (() => {
     return best(longest);
   }
 
-  function script_of(count) {
+  function scriptOf(count) {
     const row = (s) => s % 600 === 300 ? `text,Song number ${s}` : "-,";
     return Array.from({ length: count }, (_, s) => `${row(s)},${s % 3 ? 1 : 0},GLGGGGGG\n`).join("");
   }
 
   /* Milliseconds of the commands, of opening and of frames, over so many slots; `many` keeps the script and its log. */
   async function large(count) {
-    many.script = script_of(count);
+    many.script = scriptOf(count);
     const encoded = rdsrt.run(["encode", "--pi", "C201"], many.script.replaceAll("GLGGGGGG", ""));
     many.log = encoded.output;
     const audit = rdsrt.run(["audit", "--pi", "C201"], many.log), decode = rdsrt.run(["decode", "--pi", "C201"], many.log);
     const told = { encode: encoded.ms, audit: audit.ms, decode: decode.ms, heap: decode.heap, verdict: audit.output };
     page.tab("log");
-    told.open_log = await opening(log_tab, many.log);
-    told.log_frame = frame(log_tab.timeline);
+    told.openLog = await opening(logTab, many.log);
+    told.logFrame = frame(logTab.timeline);
     page.tab("script");
-    told.open_script = await opening(script_tab, many.script);
-    told.script_frame = frame(script_tab.timeline);
+    told.openScript = await opening(scriptTab, many.script);
+    told.scriptFrame = frame(scriptTab.timeline);
     return told;
   }
 
@@ -305,7 +305,7 @@ const probe = (() => {
   }
 
   return {
-    axis, choose, chosen_line, colour, column, columns_of, contrasts, drop, drop_all, faint, idle, is_red, labels, large, longest_task,
-    many, on_overview, pick, pictured, place, run, shares_of, swatches, tempt, ticks, type_and_leave,
+    axis, choose, chosenLine, colour, column, columnsOf, contrasts, drop, dropAll, faint, idle, isRed, labels, large, longestTask,
+    many, onOverview, pick, pictured, place, run, sharesOf, swatches, tempt, ticks, typeAndLeave,
   };
 })();

@@ -1,7 +1,7 @@
 "use strict";
 /* A receiver with the flag bit alone, as radios of today are. The page calls `decode` with the longest dwell: over at most
    LONGEST slots it shows what such a receiver shows (the_flag_alone_is_a_long_dwell of rds_safety). */
-const flag_alone = (() => {
+const flagAlone = (() => {
   const LONGEST = 65535;
   const LIMIT = `The flag bit alone is shown for the first ${LONGEST.toLocaleString("en")} slots only.`;
 
@@ -12,7 +12,7 @@ const flag_alone = (() => {
   }
 
   /* What it shows of the first LONGEST slots of a log. */
-  function of_log(pi, bytes, { count, starts }) {
+  function ofLog(pi, bytes, { count, starts }) {
     return count > LONGEST ? decoded(pi, bytes.subarray(0, starts[LONGEST]), LONGEST) : decoded(pi, bytes, count);
   }
 
@@ -30,6 +30,6 @@ const flag_alone = (() => {
   }
 
   const limit = (count) => count > LONGEST ? LIMIT : "";
-  const none_at = (slot) => slot < LONGEST ? "no text" : "not shown here";
-  return { limit, none_at, of_log, receive };
+  const noneAt = (slot) => slot < LONGEST ? "no text" : "not shown here";
+  return { limit, noneAt, ofLog, receive };
 })();

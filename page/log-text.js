@@ -1,6 +1,6 @@
 "use strict";
 /* The log itself: all of a short log, to be edited, and the lines around the chosen slot of a long one. */
-const log_text = (() => {
+const logText = (() => {
   const { $ } = parts;
   /* A log of up to MOST bytes is shown whole. Of a longer one the page shows AROUND lines before and after, and BYTES at most. */
   const MOST = 400_000, AROUND = 100, BYTES = 50_000, NEWLINE = 10;
@@ -14,11 +14,11 @@ const log_text = (() => {
     $("log-text").readOnly = isLong;
     $("log-text-part").hidden = !isLong;
     parts.fill("log-text", isLong ? "" : decoder.decode(bytes));
-    lay_out();
+    layOut();
   }
 
   /* Returns where the window begins, and the number of its first line. */
-  function begin_of({ bytes, at, number }) {
+  function beginOf({ bytes, at, number }) {
     let from = at, first = number;
     while (first > Math.max(1, number - AROUND) && at - from < BYTES) {
       from = from < 2 ? 0 : bytes.lastIndexOf(NEWLINE, from - 2) + 1;
@@ -28,7 +28,7 @@ const log_text = (() => {
   }
 
   /* Returns where the window ends, and the number of its last line. */
-  function end_of({ bytes, at, number }) {
+  function endOf({ bytes, at, number }) {
     let to = at, last = number - 1;
     while (last < number + AROUND && to < bytes.length && to - at < BYTES) {
       const newline = bytes.indexOf(NEWLINE, to);
@@ -39,10 +39,10 @@ const log_text = (() => {
   }
 
   /* Lays out the window, if it can be seen; chooses its line, if it was asked for. */
-  function lay_out({ choose = false } = {}) {
+  function layOut({ choose = false } = {}) {
     const area = $("log-text");
     if (!state.isLong || !area.closest("details").open) return;
-    const { from, first } = begin_of(state), { to, last } = end_of(state), { bytes, at } = state;
+    const { from, first } = beginOf(state), { to, last } = endOf(state), { bytes, at } = state;
     const before = decoder.decode(bytes.subarray(from, at)), text = before + decoder.decode(bytes.subarray(at, to));
     area.value = text;
     $("log-text-part").textContent = `Lines ${first.toLocaleString("en")} to ${last.toLocaleString("en")}. The log is too long to be shown `
@@ -53,21 +53,21 @@ const log_text = (() => {
   }
 
   /* Moves the window of a long log to this line. */
-  const move_soon = parts.soon(lay_out);
+  const moveSoon = parts.soon(layOut);
   function move(at, number) {
     if (!state.isLong || number === state.number) return;
     Object.assign(state, { at, number });
-    move_soon();
+    moveSoon();
   }
 
   /* Opens the log itself, and chooses the line with this number that begins at this byte. */
-  function go_to(at, number) {
-    if (!state.isLong) { parts.go_to_line("log-text", number); return; }
+  function goTo(at, number) {
+    if (!state.isLong) { parts.goToLine("log-text", number); return; }
     Object.assign(state, { at, number });
     $("log-text").closest("details").open = true;
-    lay_out({ choose: true });
+    layOut({ choose: true });
   }
 
-  const begin = () => { $("log-text").closest("details").addEventListener("toggle", () => lay_out()); };
-  return { begin, go_to, move, open };
+  const begin = () => { $("log-text").closest("details").addEventListener("toggle", () => layOut()); };
+  return { begin, goTo, move, open };
 })();
