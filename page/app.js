@@ -38,7 +38,7 @@ const page = (() => {
   const isScript = (name, text) => /\.csv$/i.test(name) || /^\uFEFF?(?:\r?\n)*(?:-|text|name|tags|restart|"[a-z-]+"),/.test(text);
 
   const WITH_INPUT = { log: logTab, script: scriptTab };
-  const isUnsaved = (name) => WITH_INPUT[name].isUnsaved?.() ?? false;
+  const isUnsaved = (name) => WITH_INPUT[name].isUnsaved();
 
   /* Asks whether edits that nobody saved may go. Until it is answered, another question gets a no. */
   function asks() {

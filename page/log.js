@@ -17,7 +17,7 @@ const logTab = (() => {
     log: NO_LOG, times: NO_TIMES, programmes: [], groups: 0, codes: new Uint8Array(0), view: new lines.View(), alone: new lines.View(),
     mixed: () => false, whole: null, witness: null, result: null, audits: new Map(),
   });
-  const state = { text: "", bytes: new Uint8Array(0), lost: new Set(), number: 0, opening: 0, turn: 0, judged: 0, drawn: 0, work: Promise.resolve(), ...empty() };
+  const state = { text: "", bytes: new Uint8Array(0), lost: new Set(), number: 0, m: 1, opening: 0, turn: 0, judged: 0, drawn: 0, work: Promise.resolve(), ...empty() };
   const workers = {};
   const timeline = new Timeline($("log-time"), {
     label: "Slot of the log",
@@ -48,11 +48,11 @@ const logTab = (() => {
   }
 
   /* Opens a log: its text, or the bytes of its file, which is `blob`. Returns when its display and its verdict are shown. */
-  function open(content, { pi, m, k, lost = [], example = "", file = "", blob } = {}) {
+  function open(content, { pi, m, k, lost = [], example = "", file = "", blob, isEdited = false } = {}) {
     const bytes = typeof content === "string" ? encoder.encode(content) : content;
     state.blob = blob ?? new Blob([bytes]);
     for (const worker of Object.values(workers)) worker.drop();
-    Object.assign(state, empty(), { bytes, lost: new Set(lost) });
+    Object.assign(state, empty(), { bytes, isEdited, lost: new Set(lost) });
     parts.nameFile("log", file);
     $("log-example").value = example;
     if (m) $("log-m").value = m;
@@ -149,7 +149,7 @@ const logTab = (() => {
     if (state.turn !== turn || !whole) return;
     const { view, alone, codes, output, notes } = shown, { log } = state;
     const number = parseInt(asked.pi, 16), result = { ...state.result, decode: { output, notes } };
-    Object.assign(state, { view, alone, codes, number, result, drawn: turn });
+    Object.assign(state, { view, alone, codes, number, m: Number(asked.m), result, drawn: turn });
     // nobody sent what neither receiver shows that loses nothing
     const sent = asked.lost.length ? parts.allShown(whole.view, whole.alone) : null;
     state.mixed = sent ? (part, value) => !sent.has(parts.keyOf(part, value)) : () => false;
@@ -226,7 +226,7 @@ const logTab = (() => {
     const name = $("log-file-name").textContent, m = $("log-m").value, pi = $("log-pi").value;
     const { bytes } = await workers.display.ask("fill", { m: Number(m) });
     if (!bytes) { showProblem("The times are so far apart that the page does not add the lost slots. Use examples/slots."); return; }
-    await open(bytes, { pi, m, k: $("log-k").value, file: `${name || "log"}, with its lost slots` });
+    await open(bytes, { pi, m, k: $("log-k").value, isEdited: true, file: `${name || "log"}, with its lost slots` });
   }
 
   /* Shows why nothing is decoded, and no result of what was there before. */
@@ -248,11 +248,12 @@ const logTab = (() => {
 
   // ---- the lanes
 
-  /* The group that the receiver got in a slot; null if it got none. */
-  const heard = (slot) => state.lost.has(slot) ? null : logfile.groupAt(state.log, slot);
-
   /* Why the text or the name that was shown before this slot is shown no longer. */
-  const whyGone = (part, slot) => parts.whyGone(part, heard(slot), state.number);
+  const KIND_OF = { text: lines.TEXT, name: lines.NAME };
+  function whyGone(part, from, slot = from) {
+    const isPart = (at) => (state.codes[at] & lines.KIND) === KIND_OF[part];
+    return parts.whyNone(isPart, { from, slot, m: state.m });
+  }
 
   function events() {
     const marks = [], { no } = state;
@@ -305,7 +306,7 @@ const logTab = (() => {
   function showSlot(slot) {
     const group = logfile.groupAt(state.log, slot), sent = group ? `${KINDS[lines.codeOf(group, state.number)]} group` : "nothing received";
     const what = !state.result ? "" : state.lost.has(slot) ? "lost" : sent, run = state.view.at("text", slot);
-    const none = run && run.value === null && run.from > 0 ? whyGone("text", run.from) : "no text";
+    const none = run && run.value === null && run.from > 0 ? whyGone("text", run.from, slot) : "no text";
     const { mixed } = state, ours = { led: what, mixed, none }, simple = { mixed, none: flagAlone.noneAt(slot) };
     parts.radio($("log-radio"), "The receiver, with the dwell", state.view, slot, ours);
     parts.radio($("log-alone"), "Flag bit alone: decode --m 65535", state.alone, slot, simple);
@@ -322,7 +323,12 @@ const logTab = (() => {
 
   const lostOptions = () => state.lost.size ? `&lost=${links.inLetters(state.lost)}` : "";
   const options = () => `pi=${$("log-pi").value}&m=${$("log-m").value}&k=${$("log-k").value}${lostOptions()}`;
-  const save = () => picture.saveAs("log.log", new Blob([state.bytes], { type: "text/plain" }));
+  const isUnsaved = () => state.isEdited;
+
+  function save() {
+    state.isEdited = false;
+    picture.saveAs("log.log", new Blob([state.bytes], { type: "text/plain" }));
+  }
   const link = () => links.give("log", { text: state.text, options: options(), sight: links.sightOf(timeline) }, save);
 
   /* Opens the log of a link. */
@@ -338,11 +344,12 @@ const logTab = (() => {
     $("log-share").onclick = link;
     for (const name of ["display", "audit", "search"]) workers[name] = new LogWorker(compiled);
     for (const id of ["log-pi", "log-m", "log-k"]) $(id).oninput = parts.soon(() => look());
-    $("log-text").oninput = parts.soon(() => open($("log-text").value, { pi: $("log-pi").value }));
+    $("log-save").onclick = save;
+    $("log-text").oninput = parts.soon(() => open($("log-text").value, { pi: $("log-pi").value, isEdited: true }));
     $("log-unlose").onclick = () => { state.lost.clear(); look(); };
     logText.begin();
     changes.begin();
   }
 
-  return { begin, look, lose, open, openLink, state, timeline };
+  return { begin, isUnsaved, look, lose, open, openLink, state, timeline };
 })();

@@ -143,17 +143,15 @@ const parts = (() => {
     return new Set(["text", "name", "tag1", "tag2"].flatMap((part) => runs(part).map((run) => keyOf(part, run.value))));
   }
 
-  /* Why a text or a name is shown no longer: the next has begun, or nothing of it came for the dwell. */
-  const OF = { text: lines.TEXT, name: lines.NAME };
   const NEXT = "the next begins";
-  const whyGone = (part, group, pi) => lines.codeOf(group, pi) === OF[part] ? NEXT : "forgotten";
 
-  /* Why a text or a name is shown no longer in this slot, if it was shown up to the slot `from`. `heard` has the group of each
-     slot. The next begins if its segments came within the dwell: before that slot those of the last one, and then its own. */
-  function whyNone(part, heard, { from, slot, pi, m }) {
-    const isPart = (at) => lines.codeOf(heard[at], pi) === OF[part];
-    const lastBefore = (at) => {
-      do at--; while (at >= 0 && !isPart(at));
+  /* Why a text or a name is shown no longer in this slot, if it was shown up to the slot `from`. `isPart` says which slots brought
+     a segment of it. The next begins if its segments came within the dwell: before that slot those of the last one, and then
+     its own. */
+  function whyNone(isPart, { from, slot, m }) {
+    const lastBefore = (end) => {
+      let at = end - 1;
+      while (at >= 0 && at > end - 1 - m && !isPart(at)) at--;
       return at;
     };
     const begins = isPart(from) && from - lastBefore(from) < m && slot - lastBefore(slot + 1) < m;
@@ -199,7 +197,7 @@ const parts = (() => {
 
   const lanes = { allShown, bars, mark, shows, showsTags, tagBars, tinter };
   const texts = { counted, hex, inWords, isolated, keyOf, labelOf, told };
-  const why = { NEXT, whyGone, whyNoMix, whyNone };
+  const why = { NEXT, whyNoMix, whyNone };
   return {
     $, ...lanes, ...texts, ...why, displays, entitle, fill, goToLine, make, nameFile, problemOf, radio, soon,
   };

@@ -74,5 +74,5 @@ const rdsrt = (() => {
     }
   }
 
-  return { begin, load, run };
+  return { begin, layout, load, run };
 })();

@@ -406,7 +406,8 @@ const scriptTab = (() => {
   /* Why receiver i shows no text in this slot, if it showed one up to the slot `from`. */
   function whyGone(from, slot, i) {
     if (state.rows.slice(from, slot + 1).some((row) => row.receptions[i] === "R")) return "restarted";
-    const why = (at) => parts.whyNone("text", state.heard[i], { from, slot: at, pi: parseInt(PI, 16), m: state.m });
+    const isText = (at) => lines.codeOf(state.heard[i]?.[at], parseInt(PI, 16)) === lines.TEXT;
+    const why = (at) => parts.whyNone(isText, { from, slot: at, m: state.m });
     const isSilent = (at) => (state.air.at("text", at)?.value ?? null) === null;
     return isSilent(slot) && (isSilent(from) || why(from) === parts.NEXT) ? "the encoder is silent" : why(slot);
   }

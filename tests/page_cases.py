@@ -195,6 +195,13 @@ def same_help_and_refusals(b):
     same(b, "a long line", ["decode", "--pi", "C201"], b"#" + b"x" * 300_000 + b"\nC201 2140 4849 0D20\n")
 
 
+def large_addresses(b):
+    """The memory of a run has room for inputs beyond 32 bits."""
+    at = call(b, "rdsrt.layout", 100, 3_000_000_000, 5_000_000_000, 1000)
+    check("addresses of a large input", [at[name] > at[before] for before, name in zip(list(at), list(at)[1:])], [True] * (len(at) - 1))
+    check("each in its place", (at["output"] - at["input"] >= 3_000_000_000, at["notes"] - at["output"] >= 5_000_000_000), (True, True))
+
+
 def same_lines_by_chance(b):
     dice = random.Random(SEED)
     for number in range(120):
@@ -945,7 +952,8 @@ def links(b, url):
     check("a link opens its script", (printed(b), hidden(b), len(link) < 2000), (before, ["log", "dwell"], True))
     visit(b, f"{url}#script=nonsense")
     check("a link that holds none", text_of(b, "#script-saved"), "The link has no script.")
-    for size, told in ((4_000_000, ""), (4_000_001, "The link holds a script of more than 4 MB. The page does not open it.")):
+    too_large = "The link holds a script of more than 4 MB. The page does not open it."
+    for size, told in ((4_000_000, ""), (4_000_001, too_large), (100_000_000, too_large)):
         visit(b, f"{url}#script={packed(b'-,,1,' + bytes(size - 5))}")
         check(f"a link that holds {size} bytes", text_of(b, "#script-saved"), told)
     visit(b, f"{url}#script")
@@ -1321,6 +1329,47 @@ def list_of_changes(b):
     first_examples(b)
 
 
+def unsaved_log(b):
+    """An edited log is asked about before another one is opened, and not once it was saved."""
+    first_examples(b)
+    b.run("document.querySelector('#log-text').closest('details').open = true")
+    call(b, "probe.choose", "log-text", f"{HI}\n")
+    settle(b)
+    check("an edited log is unsaved", b.run("logTab.isUnsaved()"), True)
+    call(b, "probe.drop", "own.log", EVERY_100)
+    settle(b)
+    check("the page asks", (of(b, "#ask", "open"), of(b, "#log-text", "value")), (True, f"{HI}\n"))
+    click(b, "#ask-no")
+    b.run("picture.saveAs = () => {}")
+    click(b, "#log-save")
+    call(b, "probe.drop", "own.log", EVERY_100)
+    settle(b)
+    check("a saved one is not asked about", (of(b, "#ask", "open"), of(b, "#log-text", "value")), (False, EVERY_100))
+    b.run("document.querySelector('#log-text').closest('details').open = false")
+    first_examples(b)
+
+
+def three_tasks(b):
+    """What a station's engineer comes for takes at most four clicks: is my encoder safe, what M for 15 s, when did the text change."""
+    def clicks(*steps):
+        for step in steps:
+            step()
+            settle(b)
+        return len(steps)
+
+    file = lambda: call(b, "probe.pick", "log-file", "own.log", EVERY_100)
+    used = clicks(file)
+    told = text_of(b, "#verdict")
+    wanted = ["✗ EarlyFlag with M = 128 (11.2 s)", "Keep each text on air for at least M + K slots", "64 ✓", "128 ✗"]
+    check("is my encoder safe, and what to change", (used <= 4, [it for it in wanted if it not in told]), (True, []))
+    used = clicks(lambda: click(b, "#tab-dwell"), lambda: call(b, "probe.choose", "dwell-s", 15), lambda: click(b, "#dwell button"))
+    check("what M for texts of 15 s", (used <= 4, of(b, "#dwell-m", "value")), (True, "171"))
+    used = clicks(lambda: click(b, "#tab-log"), file, lambda: call(b, "probe.choose", "log-find", "news"), lambda: click(b, "#log-changes button"))
+    check("when did the text change", (used <= 4, text_of(b, "#log-time output")), (True, "slot 101 of 300 · 8.85 s"))
+    call(b, "probe.choose", "log-find", "")
+    first_examples(b)
+
+
 GROUP_WORDS = [
     ("C201 2140 4849 0D20", "2A RadioText · flag A · segment 0 · “HI” · C201 2140 4849 0D20"),
     ("C201 2153 6E63 8220", "2A RadioText · flag B · segment 3 · “ncé ” · C201 2153 6E63 8220"),
@@ -1644,7 +1693,7 @@ PARTS = (the_first_log, the_first_script, typed_in_time, edits_of_one_row, names
          files_at_the_default, files_of_bytes, names_of_files, no_old_results, faults, rows_of_faults, warnings, other_dwells, lost_by_time,
          lines_of_a_log, list_of_changes, words_of_groups, explained, witnesses, marks, zooming,
          the_overview, keyboard, same_lines_of_examples, same_help_and_refusals,
-         same_lines_by_chance)
+         same_lines_by_chance, large_addresses, unsaved_log, three_tasks)
 # these ask what only Chromium's protocol has, or measure
 CHROMIUM_PARTS = (brush_at_once, kinds_of_groups, pictures, files, forced_colours, reduced_motion, whole_width, on_a_phone, screen_reader, contrast_and_width, large, a_day)
 

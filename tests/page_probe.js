@@ -298,6 +298,7 @@ const probe = (() => {
     add({ textContent: "tempted.push('inline')" });
     for (const src of ["data:text/javascript,tempted.push('data')", `${address}script.js`]) add({ src });
     at("tempting").click();
+    await new FontFace("tempting", `url(${address}font)`).load().then(() => ran.push("font"), () => {});
     await new Promise((done) => setTimeout(done, 1000));
     if (getComputedStyle(root.querySelector("i")).display === "none") ran.push("style");
     root.remove();
