@@ -15,7 +15,7 @@ const logTab = (() => {
   const NO_TIMES = { timed: 0, absent: 0, breaks: 0 };
   const empty = () => ({
     log: NO_LOG, times: NO_TIMES, programmes: [], groups: 0, codes: new Uint8Array(0), view: new lines.View(), alone: new lines.View(),
-    mixed: () => false, whole: null, witness: null, result: null, audits: new Map(),
+    mixed: () => false, whole: null, known: {}, witness: null, result: null, audits: new Map(),
   });
   const state = { text: "", bytes: new Uint8Array(0), lost: new Set(), number: 0, m: 1, opening: 0, turn: 0, judged: 0, drawn: 0, work: Promise.resolve(), ...empty() };
   const workers = {};
@@ -67,7 +67,8 @@ const logTab = (() => {
     const opening = ++state.opening, { blob } = state, done = wait("Reading the log");
     state.turn++;
     for (const name of ["audit", "search"]) workers[name].ask("keep", { blob });
-    const opened = await workers.display.ask("open", { blob }, (share) => { $("log-progress").value = share; });
+    workers.lossy.ask("read", { blob });
+    const opened = await workers.whole.ask("open", { blob }, (share) => { $("log-progress").value = share; });
     done();
     if (state.opening !== opening || !opened) return;
     const { count, missing } = opened.log;
@@ -132,21 +133,21 @@ const logTab = (() => {
   /* What is shown of these slots; what a receiver shows that loses none is kept. */
   async function decode(asked) {
     if (!asked.lost.length && state.whole?.pi === asked.pi && state.whole.m === asked.m) return state.whole;
-    const got = await workers.display.askNewest("decode", asked);
+    const name = asked.lost.length ? "lossy" : "whole", got = await workers[name].askNewest("decode", asked);
     if (!got) return undefined;
     // what does not depend on M comes once
     if (got.codes) {
-      state.known = { alone: new lines.View(got.alone), codes: got.codes };
+      state.known[name] = { alone: new lines.View(got.alone), codes: got.codes };
       Timeline.sums.set(got.codes, got.sums);
     }
-    const shown = { ...got, ...state.known, pi: asked.pi, m: asked.m, view: new lines.View(got.view) };
+    const shown = { ...got, ...state.known[name], pi: asked.pi, m: asked.m, view: new lines.View(got.view) };
     if (!asked.lost.length) state.whole = shown;
     return shown;
   }
 
   async function display(asked, turn, fit) {
-    const shown = await decode(asked), whole = shown && asked.lost.length ? await decode({ ...asked, lost: [] }) : shown;
-    if (state.turn !== turn || !whole) return;
+    const ofAll = decode({ ...asked, lost: [] }), [whole, shown] = await Promise.all([ofAll, asked.lost.length ? decode(asked) : ofAll]);
+    if (state.turn !== turn || !whole || !shown) return;
     const { view, alone, codes, output, notes } = shown, { log } = state;
     const number = parseInt(asked.pi, 16), result = { ...state.result, decode: { output, notes } };
     Object.assign(state, { view, alone, codes, number, m: Number(asked.m), result, drawn: turn });
@@ -224,7 +225,7 @@ const logTab = (() => {
   /* Opens the log with a line for each slot that its times say it lacks. */
   async function fill() {
     const name = $("log-file-name").textContent, m = $("log-m").value, pi = $("log-pi").value;
-    const { bytes } = await workers.display.ask("fill", { m: Number(m) });
+    const { bytes } = await workers.whole.ask("fill", { m: Number(m) });
     if (!bytes) { showProblem("The times are so far apart that the page does not add the lost slots. Use examples/slots."); return; }
     await open(bytes, { pi, m, k: $("log-k").value, isEdited: true, file: `${name || "log"}, with its lost slots` });
   }
@@ -342,7 +343,7 @@ const logTab = (() => {
   /* Begins with the compiled program. */
   function begin(compiled) {
     $("log-share").onclick = link;
-    for (const name of ["display", "audit", "search"]) workers[name] = new LogWorker(compiled);
+    for (const name of ["whole", "lossy", "audit", "search"]) workers[name] = new LogWorker(compiled);
     for (const id of ["log-pi", "log-m", "log-k"]) $(id).oninput = parts.soon(() => look());
     $("log-save").onclick = save;
     $("log-text").oninput = parts.soon(() => open($("log-text").value, { pi: $("log-pi").value, isEdited: true }));

@@ -14,10 +14,16 @@
   /* Reads the bytes of a log: enough to audit it. A blob is handed over without a copy. */
   async function keep({ blob }) { Object.assign(state, { bytes: new Uint8Array(await blob.arrayBuffer()), known: {} }); }
 
+  /* Reads a log. */
+  async function read({ blob }, tell) {
+    await keep({ blob });
+    state.log = logfile.parse(state.bytes, tell);
+  }
+
   /* Reads a log, and returns copies of its slots, and its programmes. */
   async function open({ blob }, tell) {
-    await keep({ blob });
-    const log = state.log = logfile.parse(state.bytes, tell), copy = { ...log };
+    await read({ blob }, tell);
+    const { log } = state, copy = { ...log };
     for (const name of ["words", "missing", "starts", "numbers"]) copy[name] = log[name].slice();
     return { log: copy, programmes: logfile.programmes(log), times: arrivals.count(state.bytes, log) };
   }
@@ -44,7 +50,7 @@
   /* The log with a line for each slot that its times say it lacks. */
   const fill = ({ m }) => ({ bytes: arrivals.filled(state.bytes, state.log, m) });
 
-  const CALLS = { open, keep, decode, audit, witness: find, fill };
+  const CALLS = { open, read, keep, decode, audit, witness: find, fill };
 
   /* Answers one message. */
   async function answerTo({ id, call, given }) {
