@@ -7,6 +7,8 @@ const logTab = (() => {
   const PATIENCE = 150;
   /* How many dwells after a no are searched first for a witness: most are there, and a log may be a day. */
   const NEAR = 4;
+  /* How many slots after that are searched too: each takes some 1.3 KB of memory. */
+  const FAR = 200_000;
   const PARTS = [["name", "name (PTYN)"], ["tag1", "first tag"], ["tag2", "second tag"]];
   const KINDS = ["nothing", "text", "name", "tags", "other"];
   const CLOCK = /\d\d:\d\d:\d\d/, LONGEST_TIME = 80;
@@ -190,8 +192,9 @@ const logTab = (() => {
   async function search(asked, turn) {
     const { no, log, bytes } = state, m = Number(asked.m);
     if (!no) return;
-    const slots = no.slot + NEAR * m, near = { slots, bytes: slots < log.count ? log.starts[slots] : bytes.length };
-    const found = await workers.search.askNewest("witness", { pi: asked.pi, m, near });
+    const end = (slots) => ({ slots, bytes: slots < log.count ? log.starts[slots] : bytes.length });
+    const near = end(Math.min(log.count, no.slot + NEAR * m)), far = end(Math.min(log.count, near.slots + FAR));
+    const found = await workers.search.askNewest("witness", { pi: asked.pi, m, near, far });
     if (state.turn !== turn || !found) return;
     state.witness = found;
     verdict.showWitness(found, does);

@@ -11,14 +11,14 @@ const witness = (() => {
     return { slot: Number(slot), lost: [Number(first), Number(last ?? first)], shown: found.map((it) => it[3]), upto: null };
   }
 
-  /* Returns the slots to lose, the slot of the mix and the lines of `decode`; or the slot at which the search stopped. `near` is
-     the first part of the log: its end in bytes and in slots. A witness of this part is one of the whole log if the part has a
-     dwell after the mix. The heap of the page may be too small for the whole log. */
-  function find(bytes, { pi, m, near }) {
-    const words = ["--pi", pi, "--m", String(m)], isWhole = near.bytes >= bytes.length;
-    const first = look(bytes.subarray(0, near.bytes), words);
-    if (isWhole || (first.lost && first.slot + m <= near.slots)) return first;
-    try { return look(bytes, words); } catch { return { lost: null, shown: [], upto: near.slots }; }
+  /* Returns the slots to lose, the slot of the mix and the lines of `decode`; or the slot at which the search stopped. The search
+     takes the log up to `near`, and then up to `far` if that is more: each is an end in bytes and in slots. A witness of the
+     first part is one of the second if the part has a dwell after the mix. */
+  function find(bytes, { pi, m, near, far }) {
+    const words = ["--pi", pi, "--m", String(m)], first = look(bytes.subarray(0, near.bytes), words);
+    if (near.slots >= far.slots || (first.lost && first.slot + m <= near.slots)) return first;
+    const found = look(bytes.subarray(0, far.bytes), words);
+    return found.lost || found.upto !== null || far.bytes === bytes.length ? found : { ...found, upto: far.slots };
   }
 
   return { find };
