@@ -12,6 +12,7 @@ import socket
 import struct
 import subprocess
 import tempfile
+import threading
 import time
 
 NAMES = ("firefox-esr", "firefox")
@@ -107,6 +108,8 @@ class Browser:
         self.process = subprocess.Popen([program(), "--headless", "--remote-debugging-port", "0", "--profile", self.folder],
                                         stdout=subprocess.DEVNULL, stderr=subprocess.PIPE)
         self.socket = Socket(*self.address(), "/session")
+        # a full pipe would stop the browser
+        threading.Thread(target=self.process.stderr.read, daemon=True).start()
         self.ask("session.new", capabilities={})
         self.context = self.ask("browsingContext.getTree")["contexts"][0]["context"]
         self.ask("session.subscribe", events=["log.entryAdded", "network.beforeRequestSent"])
