@@ -5,18 +5,18 @@ const flagAlone = (() => {
   const LONGEST = 65535;
   const LIMIT = `The flag bit alone is shown for the first ${LONGEST.toLocaleString("en")} slots only.`;
 
-  /* What a receiver shows that gets this log of so many slots. */
+  /* Returns the view of a receiver that gets this log of so many slots. */
   function decoded(pi, input, count) {
     const { output } = rdsrt.run(["decode", "--pi", pi, "--m", String(LONGEST)], input);
     return lines.read(output, count).views[0] ?? new lines.View();
   }
 
-  /* What it shows of the first LONGEST slots of a log. */
+  /* Returns its view of the first LONGEST slots of a log. */
   function ofLog(pi, bytes, { count, starts }) {
     return count > LONGEST ? decoded(pi, bytes.subarray(0, starts[LONGEST]), LONGEST) : decoded(pi, bytes, count);
   }
 
-  /* What it shows of the first LONGEST slots, if it gets these lines and restarts in these slots. */
+  /* Returns its view of the first LONGEST slots, if it gets these lines and restarts in these slots. */
   function receive(pi, got, restarts = []) {
     const view = new lines.View(), ends = Math.min(got.length, LONGEST);
     const starts = [0, ...restarts.filter((slot) => slot > 0 && slot < ends)];

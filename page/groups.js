@@ -19,7 +19,7 @@ const groups = (() => {
     return [`flag ${flag}`, `segment ${words[1] & segment}`, ...said ? [`“${said}”`] : []];
   }
 
-  /* What the group announces: a data service by its number (AID), and the group type that carries it. */
+  /* Names the data service that the group announces, by its number (AID), and the group type that carries it. */
   function ofAnnouncement(words) {
     const service = words[1] & SERVICE, type = `${service >> 1}${service & 1 ? "B" : "A"}`;
     return [`AID ${parts.hex(words[3])}${words[3] === RADIOTEXT_PLUS ? " (RadioText Plus)" : ""} in group ${type}`];

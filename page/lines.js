@@ -1,5 +1,5 @@
 "use strict";
-/* What logs, scripts, the program's lines and its notes say: docs/FORMATS.md has the forms of all but the notes. */
+/* Reads the lines and the notes of the program, and groups. docs/FORMATS.md has the forms of the lines. */
 const lines = (() => {
   const LOST = "---- ---- ---- ----";
   const SLOT = 104 / 1187.5;
@@ -14,7 +14,7 @@ const lines = (() => {
     return minutes < 60 ? short : `${Math.floor(minutes / 60)} h ${short}`;
   }
 
-  /* What each part showed, as runs [from, to) with a value; null where nothing was shown. */
+  /* The display over time: for each part the runs [from, to) with a value, or null if the part was not shown. */
   class View {
     constructor(parts = { text: [], name: [], item: [], tag1: [], tag2: [] }) { this.parts = parts; }
 
@@ -41,7 +41,7 @@ const lines = (() => {
       for (const part of all) if ((this.at(part, slot)?.value ?? null) !== null) this.change(part, slot, null);
     }
 
-    /* Shows from the slot on what the other view shows from its start on. */
+    /* Continues from the slot on as the other view does from its start on. */
     take(view, slot) {
       for (const [part, runs] of Object.entries(view.parts)) for (const run of runs) this.change(part, slot + run.from, run.value);
     }
@@ -60,7 +60,7 @@ const lines = (() => {
     return { kind: rest.slice(0, cut), text: rest.slice(cut + 2, -1) };
   }
 
-  /* What the lines of `decode` and of `sim` say: views, groups as words and as lines, replies, and a last line that is a
+  /* Reads the lines of `decode` and of `sim`: views, groups as words and as lines, replies, and a last line that is a
      fault. */
   function read(output, count) {
     const said = { views: [], sent: [], logged: [], replies: [], fault: null };
@@ -90,7 +90,7 @@ const lines = (() => {
   const KIND_SHIFT = 11, FLAG_BIT = 0x10, TEXT_SEGMENT = 0x0F, NAME_SEGMENT = 0x01;
   const typeOf = (group) => `${group[1] >> 12}${group[1] >> KIND_SHIFT & 1 ? "B" : "A"}`;
 
-  /* What a group is to the text services. In a list of codes, KIND masks the kind, and FLAG marks a text whose A/B flag is 1. */
+  /* The kinds of groups. In a list of codes, KIND masks the kind, and FLAG marks a text whose A/B flag is 1. */
   const NOTHING = 0, TEXT = 1, NAME = 2, TAGS = 3, OTHER = 4, KIND = 7, FLAG = 8;
   /* The group types of the services, with their versions: 2A, 10A and 11A. */
   const SERVICES = { [2 << 1]: TEXT, [10 << 1]: NAME, [11 << 1]: TAGS };

@@ -40,7 +40,7 @@ const logTab = (() => {
 
   const pause = () => new Promise((done) => { setTimeout(done); });
 
-  /* Keeps what is under way, so that a test can wait for it. */
+  /* Keeps the work in progress, so that a test can wait for it. */
   const working = (promise) => { state.work = promise; return promise; };
 
   /* Loses these slots, or gives back those that are lost. */
@@ -132,7 +132,7 @@ const logTab = (() => {
     if (state.turn === turn) working(Promise.all([search(asked, turn), judgeOthers(asked, turn)]));
   }
 
-  /* What is shown of these slots; what a receiver shows that loses none is kept. */
+  /* Returns the display over these slots. The display without lost slots is kept. */
   async function decode(asked) {
     if (!asked.lost.length && state.whole?.pi === asked.pi && state.whole.m === asked.m) return state.whole;
     const name = asked.lost.length ? "lossy" : "whole", got = await workers[name].askNewest("decode", asked);
@@ -211,7 +211,7 @@ const logTab = (() => {
     }
   }
 
-  /* What the buttons of the verdict do. */
+  /* The actions of the verdict's buttons. */
   const does = {
     goTo: (slot) => { timeline.move(slot); timeline.canvas.focus(); },
     showLine: (number) => logText.goTo(state.log.end, number),

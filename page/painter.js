@@ -31,7 +31,7 @@ const painter = (() => {
     return all;
   }
 
-  /* Where the lanes stand; the height of all. */
+  /* Places the lanes one under the other. Returns the height of all. */
   function place(lanes) {
     let top = AXIS;
     for (const lane of lanes) {
@@ -368,7 +368,7 @@ const painter = (() => {
     else wideTicks(c, lane, sight, ink);
   }
 
-  /* All of it, in the colours `ink`. `sight` says what is in sight: from, across, room, gutter, width, cursor, chosen, x; and
+  /* Draws all of it, in the colours `ink`. `sight` says what is in sight: from, across, room, gutter, width, cursor, chosen, x; and
      the slots that are being selected, if any: span. */
   function paint(c, lanes, sight, ink, height) {
     c.textBaseline = "middle";

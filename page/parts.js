@@ -11,7 +11,7 @@ const parts = (() => {
   };
   const hex = (n) => n.toString(16).toUpperCase().padStart(4, "0");
   const counted = (n, one, more = `${one}s`) => `${n.toLocaleString("en")} ${n === 1 ? one : more}`;
-  /* Puts off what is to be done until nothing more comes; its `now` does at once what is still put off. */
+  /* Delays a call until no further one comes. Its `now` makes a delayed call at once. */
   const soon = (what) => {
     let timer = 0;
     const run = () => { timer = 0; what(); };
@@ -93,7 +93,7 @@ const parts = (() => {
   const displayed = new Map();
   const displays = (...ids) => ids.map((id) => displayed.get(id)).filter((it) => it);
 
-  /* What a display shows, in words. Each part that nobody sent has words of its own. */
+  /* Puts a display into words. Each part that nobody sent has words of its own. */
   const WORDS = { text: (text) => `“${text}”`, name: (name) => `name ${name.trim()}`, tag1: saidOf, tag2: saidOf };
   function inWords(view, slot, { mixed = () => false, none = "no text" } = {}) {
     const all = [];

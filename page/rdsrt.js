@@ -17,7 +17,7 @@ const rdsrt = (() => {
   /* Begins with a module that is compiled already. */
   async function begin(compiled) { module = (await WebAssembly.instantiate(compiled, {})).exports; }
 
-  /* Where words, input, output, notes and heap of one run lie, behind what is the module's own. */
+  /* Places words, input, output, notes and heap of one run in memory, after the module's own. */
   function layout(words, input, room, heap) {
     const up = (n) => 16 * Math.ceil(n / 16), ended = up(Number(module.__heap_base.value));
     const at = { ended, words: ended + 64 };

@@ -146,7 +146,7 @@ const scriptTab = (() => {
 
   // ---- a script
 
-  /* The rows of a script, and what the form says of them. */
+  /* Takes the rows of a script, and fills the form by them. */
   function take(text) {
     state.rows = records.read(text);
     $("script-n").value = state.rows[0]?.receptions.length ?? 0;
@@ -246,7 +246,7 @@ const scriptTab = (() => {
     });
   }
 
-  /* What is on air, by the replies and the rows: the program doesn't print it. And the marks of what was commanded. */
+  /* Finds the broadcasts by the replies and the rows, since the program does not print them. Marks the commands. */
   function onAir(replies, count, tint) {
     const air = new lines.View(), marks = [];
     const setTags = (slot, tags) => tags.forEach((tag, i) => air.change(`tag${i + 1}`, slot, tag));
@@ -285,7 +285,7 @@ const scriptTab = (() => {
   /* The slots in which a receiver restarts. */
   const restartsOf = (i) => [...state.rows.keys()].filter((slot) => state.rows[slot].receptions[i] === "R");
 
-  /* What each receiver got, and what one with the flag bit alone shows of it. */
+  /* Finds the groups of each receiver, and the view of one with the flag bit alone that gets them. */
   function hear() {
     const { said } = state, rows = state.rows.slice(0, state.played);
     const sourcesOf = (i) => rows.map((row, slot) => sourceOf(row.receptions[i], slot));
@@ -345,7 +345,7 @@ const scriptTab = (() => {
     return all;
   }
 
-  // ---- what it comes to
+  // ---- mixes and faults
 
   function mixesOf(view) {
     const mixes = (part) => (view?.parts[part] ?? []).filter((run) => run.value !== null && state.mixed(part, run.value));
@@ -397,7 +397,7 @@ const scriptTab = (() => {
     return spans !== undefined && !spans.some((span) => span.from <= slot && span.to > slot - state.spaced);
   }
 
-  /* What the receiver does in the slot. */
+  /* Names what the receiver does in the slot. */
   function does(letter, slot) {
     if (letter[0] !== "G") return { L: "loses", R: "restarts" }[letter[0]] ?? "";
     return letter.length > 1 ? `gets slot ${slot - Number(letter.slice(1))}` : "gets";
@@ -453,7 +453,7 @@ const scriptTab = (() => {
 
   // ---- saving, and a link
 
-  /* Whether there are edits that nobody saved. */
+  /* Returns whether there are unsaved edits. */
   function isUnsaved() {
     playedSoon.now();
     return state.text !== state.saved && state.text !== state.opened.text;

@@ -178,7 +178,7 @@ class Timeline {
     for (const [kind, what] of hears) element.addEventListener(kind, what);
   }
 
-  /* From the press of a pointer to its end: a brush over slots, a move of what is in sight, or a choice. */
+  /* Follows a pointer from its press to its end: a brush over slots, a move of the view, or a choice. */
   drag(e, slot, brush, paint) {
     const start = e.clientX, from = this.from;
     let moved = false, last = slot(e);

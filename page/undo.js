@@ -1,5 +1,5 @@
 "use strict";
-/* What was, and what was undone: a list of states, of which one is now. It keeps as many as there is room for. */
+/* Keeps the states before and after the present one, up to a bound. */
 class Undo {
   constructor(changed) { Object.assign(this, { changed, all: [], now: -1 }); }
 
@@ -10,7 +10,7 @@ class Undo {
     this.changed(this);
   }
 
-  /* Notes a state, and forgets what was undone. */
+  /* Adds a state, and drops the undone ones. */
   note(text) {
     if (this.all[this.now] === text) return;
     this.all.splice(this.now + 1, Infinity, text);

@@ -47,7 +47,7 @@ const verdict = (() => {
     return missing ? [...all, says(few, "(no whole group). The yes covers only the others.")] : all;
   }
 
-  /* What the encoder should do after a fault in this slot. */
+  /* Returns the cure of a fault in this slot. */
   function cure({ log, pi }, fault, slot) {
     const isName = lines.codeOf(logfile.groupAt(log, slot), pi) === lines.NAME;
     if (fault === "NotOneText" && isName) return WHOLE_NAME;
@@ -94,7 +94,7 @@ const verdict = (() => {
     return isEmpty || gaps ? " empty" : "";
   }
 
-  /* What the audit answered no to; nothing if it did not. */
+  /* Returns slot and fault of a no; nothing after another answer. */
   function noOf(audit) {
     const no = /^no (\d+) (\w+)/.exec(audit.output);
     return no && { slot: Number(no[1]), fault: no[2] };

@@ -28,7 +28,8 @@
     return { log: copy, programmes: logfile.programmes(log), times: arrivals.count(state.bytes, log) };
   }
 
-  /* What does not depend on M: what the flag bit alone shows, and the codes of the slots with their sums. Nothing if the page has it already. */
+  /* Returns the parts that do not depend on M: the view of the flag bit alone, and the codes of the slots with their sums.
+     Returns nothing if the page has them already. */
   function withoutDwell({ pi, lost }, bytes) {
     const key = `${pi} ${lost.join(" ")}`, { log } = state;
     if (state.known.key === key) return {};
@@ -37,7 +38,7 @@
     return { alone, codes, sums: lines.sums(codes) };
   }
 
-  /* What a receiver shows that loses these slots, with the dwell and with the flag bit alone. */
+  /* Returns the views of a receiver that loses these slots, with the dwell and with the flag bit alone. */
   function decode({ pi, m, lost }) {
     const { log } = state, bytes = logfile.received(state.bytes, log, lost);
     const got = run(["decode", "--pi", pi, "--m", m], bytes), view = lines.read(got.output, log.count).views[0] ?? new lines.View();
