@@ -42,6 +42,8 @@ EXCEPTIONS = {
     "TYPE", "WHAT", "r7",
     # a program that a reader of a guide has
     "capture",
+    # settings of Telegraf and Home Assistant
+    ".. | mosquitto_pub -l -t rds", 'data_format = "json"', 'json_string_fields = ["radiotext"]', 'value_template: "{{ value_json.radiotext }}"',
     # a class of Python's own library
     "queue.Queue",
     # functions of std
