@@ -117,7 +117,7 @@ def as_json(check, text):
 
 def helps(check, text):
     """Each program says with --help what it takes; those of GNU Radio are asked in radio.py."""
-    for name in ("json", "many-logs", "slots", "station"):
+    for name in ("json", "many-logs", "monitor", "slots", "station"):
         done = subprocess.run([os.path.join(ROOT, "examples", name), "--help"], capture_output=True, timeout=SECONDS)
         check(f"guide: {name} --help", (done.returncode, name.encode() in done.stdout, done.stderr), (0, True, b""))
 

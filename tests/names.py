@@ -43,7 +43,10 @@ EXCEPTIONS = {
     # a program that a reader of a guide has
     "capture",
     # settings of Telegraf and Home Assistant
-    ".. | mosquitto_pub -l -t rds", 'data_format = "json"', 'json_string_fields = ["radiotext"]', 'value_template: "{{ value_json.radiotext }}"',
+    ".. | mosquitto_pub -l -t rds", 'data_format = "json"', 'json_string_fields = ["radiotext"]',
+    'value_template: "{{ value_json.radiotext }}"',
+    # a program that feeds a monitor
+    "feed",
     # a class of Python's own library
     "queue.Queue",
     # functions of std
