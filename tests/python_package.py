@@ -17,7 +17,7 @@ PROGRAM = os.path.join(ROOT, "crates/rdsrt/out/rdsrt")
 ARCHIVE = os.path.join(ROOT, "crates/rds_ffi/out/librds_ffi.a")
 SOURCES = os.path.join(ROOT, "python/src")
 SECONDS = 300
-# which has setuptools and wheel, where the first does not
+# the system's often has setuptools and wheel if the first does not
 PYTHONS = (sys.executable, "/usr/bin/python3")
 
 
@@ -33,7 +33,8 @@ def shared_library(folder):
     if not shutil.which("cc"):
         print("skipped: the Python package, since there is no cc here")
         return None
-    if output([os.path.join(ROOT, "tests/archive")])[0]:
+    # it may have to prove the library, which takes minutes
+    if subprocess.run([os.path.join(ROOT, "tests/archive")], stdout=subprocess.DEVNULL).returncode:
         raise RuntimeError("the archive is not built")
     library = os.path.join(folder, "librdsrt.so")
     link = ["cc", "-shared", "-Wl,--whole-archive", ARCHIVE, "-Wl,--no-whole-archive", "-o", library]
@@ -48,7 +49,7 @@ def environment(library):
 
 
 def own_tests(check, names):
-    """Runs the package's tests, each of which is a case."""
+    """Runs the package's tests. Each of them is a case."""
     tests = os.path.join(ROOT, "python/tests")
     words = [sys.executable, "-m", "unittest", "discover", "-v", "-s", tests]
     _, said = output(words, env=names)
@@ -71,7 +72,7 @@ def types(check):
 
 
 def missing_library(check, names):
-    """Without a library the package is imported, and the first call says what is missing."""
+    """Without a library the package is imported, and the first call raises NoLibrary."""
     code = ("import rdsrt\ntry:\n    rdsrt.Receiver(1)\nexcept rdsrt.NoLibrary as fault:\n"
             "    print(isinstance(fault, ImportError), 'RDSRT_LIBRARY' in str(fault))")
     for library in ("/nowhere.so", "libc.so.6"):
@@ -107,7 +108,7 @@ def with_wheel():
 
 
 def wheel(check, names):
-    """The wheel is the same when it is made twice, and shows a text where nothing else names the library."""
+    """The wheel has the same bytes when it is made twice, and works without RDSRT_LIBRARY."""
     python = with_wheel()
     if not python or not shutil.which("x86_64-linux-gnu-gcc"):
         print("skipped: the wheel, since no Python here has setuptools and wheel (apt-get install python3-pip)")
