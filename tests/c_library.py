@@ -235,10 +235,11 @@ def readme(check, folder, prefix):
 
 
 def python(check, library):
-    """The example in Python shows the text of the log."""
-    example = os.path.join(ROOT, "examples/python/rdsrt_text.py")
-    hi = text_of(os.path.join(ROOT, "examples/hi.log")).encode() + b"---- ---- ---- ----\n" * 128
-    check("example in Python", output([sys.executable, example, library, "C201"], hi), (0, b'0 text "HI"\n128 text none\n'))
+    """The Python package takes the library that is installed."""
+    code = "import rdsrt; print(rdsrt.library_version())"
+    version = output([os.path.join(ROOT, "crates/rdsrt/out/rdsrt"), "--version"])[1].split()[1]
+    names = dict(os.environ, PYTHONPATH=os.path.join(ROOT, "python/src"), RDSRT_LIBRARY=library, PYTHONDONTWRITEBYTECODE="1")
+    check("installed library in Python", output([sys.executable, "-c", code], env=names), (0, version + b"\n"))
 
 
 def cases(check, ran):

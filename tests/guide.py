@@ -1,6 +1,7 @@
 """docs/GUIDE.md beside the program: its tables are those that the scripts print, and its advice works."""
 import os
 import re
+import shutil
 import subprocess
 
 ROOT = os.path.dirname(os.path.dirname(os.path.abspath(__file__)))
@@ -104,14 +105,24 @@ def live(check, text):
     check("guide: its first group", [at for at, line in enumerate(slots) if line[0] != "-"][0], 128)
 
 
+def as_json(check, text):
+    """The line of jq, over a log."""
+    call = re.search(r"^- \*\*jq\*\*: `(.*)`$", text, re.M)[1]
+    if not shutil.which("jq"):
+        print("skipped: the guide's line of jq, since there is no jq here (apt-get install jq)")
+        return
+    log = f"{HI}\n" + f"{LOST}\n" * 128
+    check("guide: jq", ran(call.replace("< station.log ", ""), log.encode()), "HI\nnull\n")
+
+
 def helps(check, text):
     """Each program says with --help what it takes; those of GNU Radio are asked in radio.py."""
-    for name in ("many-logs", "slots", "station"):
+    for name in ("json", "many-logs", "monitor", "slots", "station"):
         done = subprocess.run([os.path.join(ROOT, "examples", name), "--help"], capture_output=True, timeout=SECONDS)
         check(f"guide: {name} --help", (done.returncode, name.encode() in done.stdout, done.stderr), (0, True, b""))
 
 
 def run(check):
     text = page()
-    for part in (tables, recording, spacing, no_group, other_application, faults, live, helps):
+    for part in (tables, recording, spacing, no_group, other_application, faults, live, as_json, helps):
         part(check, text)

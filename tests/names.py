@@ -35,13 +35,20 @@ COMMENTS = {".rt": "//[^\n]*", ".antt": "--[^\n]*", ".py": r'""".*?"""|#[^\n]*',
 OTHER_PROGRAMS = {"rt", "rattle", "apt-get", "taskset", "cc"}
 EXCEPTIONS = {
     # files that a command makes
-    "BUILD.bazel", "page/out", "page/out/index.html",
+    "BUILD.bazel", "page/out", "page/out/index.html", "PREFIX/lib/librdsrt.so",
     # an example of an edit's name, and of receptions
     "crates/NAME/must-fail/what_is_wrong.edit", "G0", "G2L", "G007",
     # placeholders for a word or a number of the output
     "TYPE", "WHAT", "r7",
     # a program that a reader of a guide has
     "capture",
+    # settings of Telegraf and Home Assistant
+    ".. | mosquitto_pub -l -t rds", 'data_format = "json"', 'json_string_fields = ["radiotext"]',
+    'value_template: "{{ value_json.radiotext }}"',
+    # a program that feeds a monitor
+    "feed",
+    # a class of Python's own library
+    "queue.Queue",
     # functions of std
     "array::from_fn", "str::from_utf8", "Option::insert",
 }

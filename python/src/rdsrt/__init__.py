@@ -1,0 +1,30 @@
+"""RDS texts that are never a mix of two: receivers, encoders and audits, by the C library librdsrt.
+
+    from rdsrt import Receiver, read_log
+
+    with open("received.log", "rb") as log:
+        for slot, view in Receiver(0xC201).watch(read_log(log)):
+            print(slot, view.text)
+
+A slot is the time of one RDS group, about 88 ms. Each slot is one call, a lost slot too: its group is None. `slots`
+makes such a row of groups with times of arrival.
+
+`name` is the programme type name (PTYN, group 10A) everywhere. The station name (PS) is not handled.
+
+The C library is proved. The character table and the names of RT+ content types from 12 on are this package's own: see
+`rdsrt.characters` and `ContentType`.
+
+An object holds no file, no thread and no memory of the library, so nothing has to be closed. Objects can be copied,
+pickled and compared. Two threads may use two objects at the same time, and one object in turns.
+"""
+from ._library import NoLibrary
+from .characters import InvalidText
+from .logs import SLOT, Group, MalformedLine, format_group, read_log, slots
+from .objects import (Audit, Encoder, Fault, Held, NoText, OutOfText, Receiver, Refused, Silent, Wait,
+                      library_version)
+from .views import ContentType, Item, Tag, View, type_name
+
+__all__ = ["Audit", "ContentType", "Encoder", "Fault", "Group", "Held", "InvalidText", "Item", "MalformedLine",
+           "NoLibrary", "NoText", "OutOfText", "Receiver", "Refused", "SLOT", "Silent", "Tag", "View", "Wait",
+           "format_group", "library_version", "read_log", "slots", "type_name"]
+__version__ = "0.1.0"

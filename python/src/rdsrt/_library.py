@@ -1,0 +1,124 @@
+"""Declares the C library for ctypes, and loads it at the first call."""
+import ctypes
+import ctypes.util
+import functools
+import os
+from typing import Any, Dict, Iterator, List, Tuple
+
+ABI = 2
+OK, DONE, BAD_ARGUMENT, SILENT, HELD, NO_TEXT, OUT_OF_TEXT_1, OUT_OF_TEXT_2 = 0, 1, 2, 3, 4, 5, 6, 7
+TOO_LONG, BAD_BYTE, BAD_TAGS = 8, 9, 10
+
+u8, u16, u32, size_t = ctypes.c_uint8, ctypes.c_uint16, ctypes.c_uint32, ctypes.c_size_t
+Blocks = u16 * 4
+
+
+class NoLibrary(ImportError):
+    """The C library is missing, or has another interface."""
+
+
+class Text(ctypes.Structure):
+    _fields_ = [("bytes", u8 * 64), ("length", u8), ("is_shown", u8)]
+
+
+class Name(ctypes.Structure):
+    _fields_ = [("bytes", u8 * 8), ("is_shown", u8)]
+
+
+class Item(ctypes.Structure):
+    _fields_ = [("is_shown", u8), ("toggle", u8), ("running", u8)]
+
+
+class Tag(ctypes.Structure):
+    _fields_ = [("content_type", u8), ("start", u8), ("length", u8)]
+
+
+class View(ctypes.Structure):
+    _fields_ = [("text", Text), ("name", Name), ("item", Item), ("tag1", Tag), ("tag2", Tag)]
+
+
+class OnAir(ctypes.Structure):
+    _fields_ = [("text", Text), ("name", Name)]
+
+
+class Tags(ctypes.Structure):
+    _fields_ = [("tag1", Tag), ("tag2", Tag), ("toggle", u8), ("running", u8)]
+
+
+class Reply(ctypes.Structure):
+    _fields_ = [("code", u32), ("number", u32)]
+
+
+class Wait(ctypes.Structure):
+    _fields_ = [("silent", u32), ("text", u32), ("name", u32)]
+
+
+class Version(ctypes.Structure):
+    _fields_ = [("abi", u32), ("major", u32), ("minor", u32), ("patch", u32)]
+
+
+Receiver, Encoder, Audit = u16 * 77, u32 * 29, u32 * 52
+SIZES: Dict[Any, int] = {Receiver: 154, Encoder: 116, Audit: 208, View: 84, OnAir: 75, Tags: 8, Reply: 8, Wait: 12}
+ANY = ctypes.c_void_p
+CALLS: Dict[str, Tuple[Any, List[Any]]] = {
+    "version": (Version, []),
+    "receiver_init": (u32, [ANY, u16, u16]),
+    "receiver_slot": (u32, [ANY, ANY, size_t]),
+    "receiver_view": (None, [ANY, ANY]),
+    "encoder_init": (u32, [ANY, u16, u8, u8, u16, u16]),
+    "encoder_set_text": (Reply, [ANY, ANY, size_t]),
+    "encoder_set_name": (Reply, [ANY, ANY, size_t]),
+    "encoder_set_tags": (Reply, [ANY, ANY]),
+    "encoder_tick": (u32, [ANY, u8, ANY]),
+    "encoder_on_air": (None, [ANY, ANY]),
+    "encoder_wait": (None, [ANY, ANY]),
+    "audit_init": (u32, [ANY, u16, u16, u16]),
+    "audit_slot": (u32, [ANY, ANY, size_t]),
+    "audit_passed": (u32, [ANY]),
+    "audit_texts_turn_the_flag": (u32, [ANY]),
+    "audit_names_turn_the_flag": (u32, [ANY]),
+}
+
+
+def places() -> Iterator[str]:
+    """Yields the files to try: the one that RDSRT_LIBRARY names, or else the wheel's own and the system's."""
+    named = os.environ.get("RDSRT_LIBRARY")
+    if named:
+        yield named
+        return
+    own = os.path.join(os.path.dirname(__file__), f"librdsrt.so.{ABI}")
+    if os.path.exists(own):
+        yield own
+    yield f"librdsrt.so.{ABI}"
+    found = ctypes.util.find_library("rdsrt")
+    if found:
+        yield found
+
+
+def loaded(place: str) -> Any:
+    """Returns the library in this file with its calls declared. Raises NoLibrary if the file is not this library."""
+    try:
+        it: Any = ctypes.CDLL(place)
+        for name, (result, arguments) in CALLS.items():
+            call = getattr(it, f"rdsrt_{name}")
+            call.restype, call.argtypes = result, arguments
+    except (OSError, AttributeError) as fault:
+        raise NoLibrary(str(fault)) from None
+    if it.rdsrt_version().abi != ABI:
+        raise NoLibrary(f"{place} has interface {it.rdsrt_version().abi}, and not {ABI}")
+    return it
+
+
+@functools.lru_cache(maxsize=None)
+def library() -> Any:
+    """Returns the library. Raises NoLibrary if no file has it."""
+    for layout, size in SIZES.items():
+        if ctypes.sizeof(layout) != size:
+            raise NoLibrary("this Python has another layout of structs than the library")
+    faults: List[str] = []
+    for place in places():
+        try:
+            return loaded(place)
+        except NoLibrary as fault:
+            faults.append(str(fault))
+    raise NoLibrary(f"no librdsrt.so.{ABI}: {'; '.join(faults)}. Name its file in RDSRT_LIBRARY.")

@@ -1,0 +1,335 @@
+"""Receivers, encoders and audits: the structs of the C library as Python objects."""
+import ctypes
+import enum
+import operator
+from typing import Any, Dict, Iterable, Iterator, List, NamedTuple, Optional, Sequence, SupportsIndex, Tuple, TypeVar
+
+from . import _library as c
+from .characters import InvalidText, coded, shown, symbols
+from .logs import Group
+from .views import ContentType, Item, Tag, View, content_type_of
+
+_Any = TypeVar("_Any", bound="_Plain")
+
+
+class Fault(enum.IntEnum):
+    """The rule that a log breaks first. docs/FORMATS.md, "Faults of the audit", has the cause and the cure of each."""
+    CHANGED, NOT_ONE_TEXT, EARLY_FLAG, EARLY_TAG, TAG_OUTSIDE = 17, 18, 19, 20, 21
+
+    def __str__(self) -> str:
+        """Returns the name that `rdsrt audit` prints."""
+        return "".join(word.capitalize() for word in self.name.split("_"))
+
+
+class Refused(Exception):
+    """A refused set. Nothing has changed."""
+
+
+class Silent(Refused):
+    """The encoder is silent after its start, for `slots` more slots."""
+
+    def __init__(self, slots: int):
+        super().__init__(slots)
+        self.slots = slots
+
+    def __str__(self) -> str:
+        return f"silent for {self.slots} more slots"
+
+
+class Held(Refused):
+    """The text or PTYN before holds this one back, for `slots` more slots."""
+
+    def __init__(self, slots: int):
+        super().__init__(slots)
+        self.slots = slots
+
+    def __str__(self) -> str:
+        return f"held back for {self.slots} more slots"
+
+
+class NoText(Refused):
+    """No text is on air, so there is nothing to tag."""
+
+    def __str__(self) -> str:
+        return "no text is on air"
+
+
+class OutOfText(Refused):
+    """The text on air does not have the piece of tag 1 or 2."""
+
+    def __init__(self, tag: int):
+        super().__init__(tag)
+        self.tag = tag
+
+    def __str__(self) -> str:
+        return f"the text on air does not have the piece of tag {self.tag}"
+
+
+class Wait(NamedTuple):
+    """For how many more slots an encoder refuses every set (silent), a text, a name (PTYN); 0 if it does not."""
+    silent: int
+    text: int
+    name: int
+
+
+def library_version() -> str:
+    """Returns the version of the C library."""
+    it = c.library().rdsrt_version()
+    return f"{it.major}.{it.minor}.{it.patch}"
+
+
+def _in_range(what: str, number: SupportsIndex, least: int, most: int) -> int:
+    """Returns the number as an int. ctypes would cut a larger one silently."""
+    if not least <= (it := operator.index(number)) <= most:
+        raise ValueError(f"{what} is {it} and not from {least} to {most}")
+    return it
+
+
+def _blocks(group: Optional[Sequence[SupportsIndex]]) -> Tuple[Any, int]:
+    """Returns a group as the library takes it: blocks and their count."""
+    if group is None:
+        return None, 0
+    if len(group) != 4:
+        raise ValueError(f"a group has 4 blocks and not {len(group)}")
+    words = [operator.index(it) for it in group]
+    if min(words) < 0 or max(words) > 0xFFFF:
+        raise ValueError(f"a block is from 0 to 0xFFFF: {words}")
+    return c.Blocks(*words), 4
+
+
+def _text_of(it: c.Text) -> Optional[str]:
+    return shown(bytes(it.bytes[:it.length])) if it.is_shown else None
+
+
+def _name_of(it: c.Name) -> Optional[str]:
+    return shown(bytes(it.bytes)) if it.is_shown else None
+
+
+class _Plain:
+    """A struct of the library. It can be copied, pickled and compared. Two objects are equal if their structs have the
+    same bytes."""
+    _type: Any
+    _its: Any
+
+    def __getstate__(self) -> Dict[str, Any]:
+        return {**self.__dict__, "_its": bytes(self._its), "_abi": c.ABI}
+
+    def __setstate__(self, state: Dict[str, Any]) -> None:
+        its = state["_its"]
+        if state["_abi"] != c.ABI or len(its) != ctypes.sizeof(self._type):
+            raise ValueError("this state is of another version of the library")
+        self.__dict__.update({name: it for name, it in state.items() if name != "_abi"})
+        self._its = self._type.from_buffer_copy(its)
+
+    def __copy__(self: _Any) -> _Any:
+        other = type(self).__new__(type(self))
+        other.__setstate__(self.__getstate__())
+        return other
+
+    def __deepcopy__(self: _Any, memo: Dict[int, Any]) -> _Any:
+        return self.__copy__()
+
+    def __eq__(self, other: object) -> bool:
+        return isinstance(other, _Plain) and type(other) is type(self) and self.__getstate__() == other.__getstate__()
+
+    __hash__ = None  # type: ignore[assignment]
+
+
+class Receiver(_Plain):
+    """A receiver of the programme `pi` that has heard nothing yet. It drops a text if no part of it arrived for `dwell`
+    slots."""
+    _type = c.Receiver
+
+    def __init__(self, pi: SupportsIndex, dwell: SupportsIndex = 128):
+        self.pi, self.dwell = _in_range("pi", pi, 0, 0xFFFF), _in_range("dwell", dwell, 1, 0xFFFF)
+        self._its = c.Receiver()
+        c.library().rdsrt_receiver_init(self._its, self.pi, self.dwell)
+
+    def __repr__(self) -> str:
+        return f"<Receiver of {self.pi:04X}, dwell {self.dwell}: {self.view}>"
+
+    def slot(self, group: Optional[Sequence[SupportsIndex]]) -> bool:
+        """Ends a slot with this group, or with None if no whole group arrived. Returns whether the view may have
+        changed."""
+        blocks, count = _blocks(group)
+        return bool(c.library().rdsrt_receiver_slot(self._its, blocks, count) == c.DONE)
+
+    @property
+    def view(self) -> View:
+        """Everything that the receiver shows at the end of its last slot."""
+        it = c.View()
+        c.library().rdsrt_receiver_view(self._its, ctypes.byref(it))
+        text = bytes(it.text.bytes)
+        tags = tuple(Tag(content_type_of(tag.content_type), shown(text[tag.start:tag.start + tag.length]), tag.start,
+                         tag.length) for tag in (it.tag1, it.tag2) if tag.length)
+        item = Item(bool(it.item.toggle), bool(it.item.running)) if it.item.is_shown else None
+        return View(_text_of(it.text), _name_of(it.name), item, tags)
+
+    def watch(self, groups: Iterable[Optional[Sequence[SupportsIndex]]]) -> Iterator[Tuple[int, View]]:
+        """Takes these slots. Yields the number of each slot that changed the view, from 0, and the view."""
+        last = self.view
+        for number, group in enumerate(groups):
+            if self.slot(group) and (view := self.view) != last:
+                last = view
+                yield number, view
+
+
+class Encoder(_Plain):
+    """A station that (re)starts now. It sends nothing and refuses every set for `dwell` + `late` slots.
+
+    `pty` is the programme type, 0 to 31; `tp` the flag of traffic announcements; `late` how many slots late a group may
+    reach a receiver, 0 to 1024. `name` below is the programme type name (PTYN, group 10A). The encoder sends no station
+    name (PS)."""
+    _type = c.Encoder
+
+    def __init__(self, pi: SupportsIndex, *, pty: SupportsIndex = 0, tp: bool = False, dwell: SupportsIndex = 128,
+                 late: SupportsIndex = 0):
+        self.pi, self.pty, self.tp = _in_range("pi", pi, 0, 0xFFFF), _in_range("pty", pty, 0, 31), bool(tp)
+        self.dwell, self.late = _in_range("dwell", dwell, 1, 0xFFFF), _in_range("late", late, 0, 1024)
+        self._its = c.Encoder()
+        c.library().rdsrt_encoder_init(self._its, self.pi, int(self.tp), self.pty, self.dwell, self.late)
+
+    def __repr__(self) -> str:
+        return f"<Encoder of {self.pi:04X}, dwell {self.dwell}, late {self.late}: {self.text!r}>"
+
+    def set_text(self, text: str) -> None:
+        """Puts a text of up to 64 characters on air from this slot on, and removes the tags. Raises Silent, Held or
+        InvalidText."""
+        its = coded(text)
+        self._raise(c.library().rdsrt_encoder_set_text(self._its, its, len(its)), text, 64)
+
+    def set_name(self, name: str) -> None:
+        """Puts a programme type name (PTYN, group 10A) of up to 8 characters on air. It is not the station name (PS).
+        Raises Silent, Held or InvalidText."""
+        its = coded(name)
+        self._raise(c.library().rdsrt_encoder_set_name(self._its, its, len(its)), name, 8)
+
+    def set_tags(self, *tags: Tuple[SupportsIndex, SupportsIndex, SupportsIndex], toggle: bool = False,
+                 running: bool = True) -> None:
+        """Gives the text on air up to two tags, in place of those before. A tag is its content type, the place of its
+        first character from 0 and its number of characters (an escape is one), up to 64, of the second tag 32. Raises
+        Silent, NoText or OutOfText."""
+        if len(tags) > 2:
+            raise ValueError(f"a text has up to 2 tags and not {len(tags)}")
+        its = c.Tags(toggle=int(bool(toggle)), running=int(bool(running)))
+        for tag, most, (kind, start, length) in zip((its.tag1, its.tag2), (64, 32), tags):
+            tag.content_type = _in_range("content type", kind, 1, 63)
+            tag.start, tag.length = _in_range("start", start, 0, 63), _in_range("length", length, 1, most)
+        self._raise(c.library().rdsrt_encoder_set_tags(self._its, ctypes.byref(its)), "", 0)
+
+    def tag(self, *, toggle: bool = False, running: bool = True, **pieces: str) -> None:
+        """Tags up to two pieces of the text on air, for example `tag(artist="ABBA", title="Waterloo")`. A keyword is
+        the name of a ContentType in lower case; `item_` may be left out. Raises the exceptions of set_tags."""
+        air = self._on_air().text
+        text = bytes(air.bytes[:air.length])
+        tags: List[Tuple[int, int, int]] = []
+        for name, piece in pieces.items():
+            kind = name.upper()
+            if f"ITEM_{kind}" in ContentType.__members__:
+                kind = f"ITEM_{kind}"
+            if kind not in ContentType.__members__:
+                raise ValueError(f"no content type has the name {name}")
+            its = coded(piece)
+            if air.is_shown and its not in text:
+                raise OutOfText(len(tags) + 1)
+            tags.append((ContentType[kind], max(0, text.find(its)), len(its)))
+        # the second tag is the one with the shorter limit
+        self.set_tags(*sorted(tags, key=lambda it: -it[2]), toggle=toggle, running=running)
+
+    @staticmethod
+    def _raise(reply: Any, text: str, most: int) -> None:
+        """Raises the exception of this reply to a set, if the set was refused."""
+        if reply.code == c.OK:
+            return
+        if reply.code == c.TOO_LONG:
+            raise InvalidText(f"more than {most} characters")
+        if reply.code == c.BAD_BYTE:
+            place = [place for place, _ in symbols(text)][reply.number]
+            raise InvalidText("a character that may not be sent", place)
+        refusals: Dict[int, Exception] = {
+            c.SILENT: Silent(reply.number), c.HELD: Held(reply.number), c.NO_TEXT: NoText(),
+            c.OUT_OF_TEXT_1: OutOfText(1), c.OUT_OF_TEXT_2: OutOfText(2), c.BAD_TAGS: ValueError("invalid tags"),
+        }
+        raise refusals[reply.code]
+
+    def tick(self, free: bool = True) -> Optional[Group]:
+        """Ends the slot. Returns the group to send in it, or None. If the slot is not free for text services, returns
+        None."""
+        blocks = c.Blocks()
+        if c.library().rdsrt_encoder_tick(self._its, int(bool(free)), blocks) != c.DONE:
+            return None
+        one, two, three, four = blocks
+        return one, two, three, four
+
+    def _on_air(self) -> c.OnAir:
+        it = c.OnAir()
+        c.library().rdsrt_encoder_on_air(self._its, ctypes.byref(it))
+        return it
+
+    @property
+    def text(self) -> Optional[str]:
+        """The text on air, or None."""
+        return _text_of(self._on_air().text)
+
+    @property
+    def name(self) -> Optional[str]:
+        """The programme type name (PTYN) on air with its spaces, or None. It is not the station name (PS)."""
+        return _name_of(self._on_air().name)
+
+    @property
+    def wait(self) -> Wait:
+        """For how many more slots the encoder refuses sets, this slot included."""
+        it = c.Wait()
+        c.library().rdsrt_encoder_wait(self._its, ctypes.byref(it))
+        return Wait(it.silent, it.text, it.name)
+
+
+class Audit(_Plain):
+    """Judges, slot by slot, whether an encoder keeps the rules that prevent mixes. Give it each group that was sent.
+    The verdict means nothing for groups that a receiver got.
+
+    A station that sends segments less often than every `dwell` + `late` slots can get a fault although it keeps the
+    spacing."""
+    _type = c.Audit
+
+    def __init__(self, pi: SupportsIndex, dwell: SupportsIndex = 128, late: SupportsIndex = 0):
+        self.pi, self.slots = _in_range("pi", pi, 0, 0xFFFF), 0
+        self.dwell, self.late = _in_range("dwell", dwell, 1, 0xFFFF), _in_range("late", late, 0, 1024)
+        self._its = c.Audit()
+        c.library().rdsrt_audit_init(self._its, self.pi, self.dwell, self.late)
+
+    def __repr__(self) -> str:
+        verdict = "passed" if self.passed else "not passed"
+        return f"<Audit of {self.pi:04X}, dwell {self.dwell}, late {self.late}: {self.slots} slots, {verdict}>"
+
+    def slot(self, group: Optional[Sequence[SupportsIndex]]) -> Optional[Fault]:
+        """Ends a slot in which this group was sent, or None. Returns the fault from the slot that breaks a rule on, and
+        before it None."""
+        blocks, count = _blocks(group)
+        code = c.library().rdsrt_audit_slot(self._its, blocks, count)
+        self.slots += 1
+        return Fault(code) if code else None
+
+    def take(self, groups: Iterable[Optional[Sequence[SupportsIndex]]]) -> Optional[Tuple[int, Fault]]:
+        """Takes these slots up to the first fault. Returns the number of its slot, from 0 at the start of the audit,
+        and the fault; or None if no rule is broken."""
+        for group in groups:
+            fault = self.slot(group)
+            if fault:
+                return self.slots - 1, fault
+        return None
+
+    @property
+    def passed(self) -> bool:
+        """Whether no rule is broken so far."""
+        return bool(c.library().rdsrt_audit_passed(self._its) == 1)
+
+    @property
+    def texts_turn_the_flag(self) -> bool:
+        """Whether no rule is broken so far, and the A/B flag turned with each new text."""
+        return bool(c.library().rdsrt_audit_texts_turn_the_flag(self._its) == 1)
+
+    @property
+    def names_turn_the_flag(self) -> bool:
+        """Whether no rule is broken so far, and the A/B flag turned with each new name (PTYN)."""
+        return bool(c.library().rdsrt_audit_names_turn_the_flag(self._its) == 1)

@@ -1,0 +1,58 @@
+"""Tests of the character table and of the names of content types."""
+import unittest
+
+from rdsrt import ContentType, InvalidText, type_name
+from rdsrt.characters import ADDED, BYTES, CHARACTERS, PROVED, coded, shown
+
+# bytes of the basic table that stay escapes, with the backslash, and the bytes that it leaves empty
+ESCAPES = {0x5C, 0x5E, 0x60, 0x7E, 0x9D, 0xA4, 0xCE, 0xEE, 0xFE} | set(range(0x20)) | {0x7F, 0xFF}
+
+
+class Characters(unittest.TestCase):
+    def test_each_byte(self):
+        self.assertEqual(set(range(256)) - set(CHARACTERS), ESCAPES)
+        self.assertEqual(len(BYTES), len(CHARACTERS))
+        self.assertEqual(sum(map(len, PROVED.values())) + sum(map(len, ADDED.values())), len(CHARACTERS))
+        self.assertTrue(all(len(it) == 1 and it.isprintable() for it in BYTES))
+
+    def test_there_and_back(self):
+        for byte in range(256):
+            self.assertEqual(coded(shown(bytes([byte]))), bytes([byte]))
+            self.assertEqual(coded(f"\\x{byte:02x}\\x{byte:02X}"), bytes([byte, byte]))
+        self.assertEqual(shown(b"\\x41"), "\\x5Cx41")
+        self.assertEqual(coded(shown(b"\\x41")), b"\\x41")
+
+    def test_words_of_several_languages(self):
+        for text, its in (("Straße", b"Stra\x8De"), ("på", b"p\xF1"), ("Rødgrød", b"R\xF7dgr\xF7d"),
+                          ("Ærø", b"\xE2r\xF7"),
+                          ("čeština", b"\xDBe\xDCtina"), ("São", b"S\xF0o"), ("¿Qué?", b"\xB9Qu\x82?"),
+                          ("œuvre", b"\xF3uvre"),
+                          ("Þórður", b"\xE8\x86r\xEFur"), ("ŵy", b"\xF4y"), ("garçon", b"gar\x9Bon"),
+                          ("20 °C", b"20 \xBBC"),
+                          ("đak", b"\xDEak"), ("\"HI\"", b'"HI"')):
+            self.assertEqual((coded(text), shown(its)), (its, text))
+
+    def test_invalid_texts(self):
+        for text, place in (("a\\", 1), ("\\x4", 0), ("\\xG0", 0), ("ab語", 2), ("\\x41^", 4), ("e\u0301", 1)):
+            with self.assertRaises(InvalidText) as invalid:
+                coded(text)
+            self.assertEqual(invalid.exception.place, place)
+
+    def test_pairs_of_letters(self):
+        # the columns of the standard's table have the small letter 16 places after the large one
+        for byte in [*range(0xCA, 0xCE), 0xCF, *range(0xE0, 0xE4), *range(0xE5, 0xEE)]:
+            self.assertEqual(CHARACTERS[byte].lower(), CHARACTERS[byte + 16])
+
+
+class Names(unittest.TestCase):
+    def test_content_types(self):
+        self.assertEqual({int(it) for it in ContentType}, set(range(64)) - set(range(54, 59)))
+        for number, name in ((1, "ITEM.TITLE"), (4, "ITEM.ARTIST"), (11, "ITEM.GENRE"), (12, "INFO.NEWS"),
+                             (13, "INFO.NEWS.LOCAL"), (18, "INFO.DAILY_DIVERSION"), (32, "STATIONNAME.LONG"),
+                             (33, "PROGRAMME.NOW"), (36, "PROGRAMME.HOST"), (50, "CHAT"), (51, "CHAT.CENTRE"),
+                             (54, "54"), (59, "PLACE"), (63, "GET_DATA"), (0, "DUMMY_CLASS")):
+            self.assertEqual(type_name(number), name)
+
+
+if __name__ == "__main__":
+    unittest.main()

@@ -1,0 +1,79 @@
+"""Tests of logs and of groups with times."""
+import io
+import math
+import random
+import unittest
+
+from rdsrt import SLOT, MalformedLine, format_group, read_log, slots
+
+HI = (0xC201, 0x2140, 0x4849, 0x0D20)
+DAY = 86_400
+
+
+class Logs(unittest.TestCase):
+    def test_lines(self):
+        log = b"# note\n\n%x\n<y\nC201 2140 4849 0d20\r\nC201 2140 4849 0D20 @12:00 \xff\rx\nC201 ---- 4849 0D20\n\r\n"
+        self.assertEqual(list(read_log(io.BytesIO(log))), [HI, HI, None])
+        self.assertEqual(list(read_log(log.decode("latin-1").split("\n"))), [HI, HI, None])
+        self.assertEqual((format_group(HI), format_group(None)), ("C201 2140 4849 0D20", "---- ---- ---- ----"))
+        self.assertEqual(list(read_log([format_group((1, 2, 3, 0xFFFF))])), [(1, 2, 3, 0xFFFF)])
+
+    def test_malformed_lines(self):
+        for bad in ("C201", "C201 2140 4849 0D2", "C201 2140 4849 0D20x", " C201 2140 4849 0D20", "C20١ 2140 4849 0D20",
+                    "C201 2140 4849 0D20\r\r\n", "C201  2140 4849 0D20", "---- ---- ---- ---", "C201 -140 4849 0D20"):
+            for line in (bad, bad.encode()):
+                with self.assertRaises(MalformedLine) as fault:
+                    list(read_log(["# note", line]))
+                self.assertEqual(fault.exception.line, 2)
+
+
+class Times(unittest.TestCase):
+    def test_worked_times(self):
+        self.assertEqual(list(slots([(0.0, HI), (0.0876, HI), (0.0876 * 4, HI)])), [HI, HI, None, None, HI])
+        self.assertEqual(list(slots([(0.0, HI), (0.1075, HI)])), [HI, HI])
+        self.assertEqual(list(slots([(0.0, HI), (0.1076, HI)])), [HI, None, HI])
+        self.assertEqual(list(slots([(0.0, HI), (0.08, HI), (0.1, HI)], grain=0)), [HI] * 3)
+        self.assertEqual(list(slots([(5.0, HI), (1.0, HI)], dwell=3)), [HI, None, None, None, HI])
+        self.assertEqual(list(slots([(0.0, HI), (DAY + 1, HI)], dwell=3)), [HI, None, None, None, HI])
+        self.assertEqual(list(slots([(9.0, None), (9.5, HI)])), [None] * 5 + [HI])
+        for grain in (-0.1, SLOT):
+            with self.assertRaises(ValueError):
+                list(slots([(0.0, HI)], grain=grain))
+
+    def test_times_without_a_group(self):
+        # slots 1 to 11 are over after 1 s, less the grain
+        self.assertEqual(list(slots([(0.0, HI), (1.0, None)])), [HI] + [None] * 11)
+        self.assertEqual(list(slots([(0.0, HI), (1.0, None), (0.5, None), (0.6, HI)], dwell=3)),
+                         [HI] + [None] * 11 + [None] * 3 + [HI])
+        # a group that came just before the time that was given first
+        self.assertEqual(list(slots([(0.0, HI), (0.2, None), (0.19, HI), (0.28, HI)])), [HI, None, None, HI, HI])
+        self.assertEqual(list(slots([(0.0, HI), (0.2, None), (0.17, HI)], dwell=3)), [HI] + [None] * 5 + [HI])
+        # more than a day without a group
+        count = sum(1 for _ in slots((n * DAY / 2, None) for n in range(4)))
+        self.assertEqual(count, math.ceil((DAY * 1.5 - 0.02) / SLOT) - 1)
+
+    def test_times_without_a_group_change_no_slot(self):
+        rng = random.Random(3)
+        for _ in range(30):
+            time, timed = 0.0, [(0.0, HI)]
+            for _ in range(300):
+                time += rng.choice([SLOT, 0.01, rng.random()])
+                timed.append((time, HI if rng.random() < 0.5 else None))
+            row = list(slots(timed))
+            # lost slots behind the last group are those of the timers alone
+            self.assertEqual(row[:len(row) - row[::-1].index(HI)], list(slots(it for it in timed if it[1])))
+
+    def test_each_group_is_given_before_the_next_time_is_taken(self):
+        taken = []
+
+        def timed():
+            for n in range(3):
+                taken.append(n)
+                yield n * SLOT, HI
+        row = slots(timed())
+        for n in range(3):
+            self.assertEqual((next(row), taken[-1]), (HI, n))
+
+
+if __name__ == "__main__":
+    unittest.main()

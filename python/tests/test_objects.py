@@ -1,0 +1,288 @@
+"""Tests of receivers, encoders, audits, their exceptions, copies and threads."""
+import copy
+import inspect
+import os
+import pickle
+import re
+import threading
+import unittest
+
+import rdsrt
+from rdsrt import (Audit, ContentType, Encoder, Fault, Held, InvalidText, Item, MalformedLine, NoText, OutOfText,
+                   Receiver, Refused, Silent, Tag, View, Wait)
+
+HI = (0xC201, 0x2140, 0x4849, 0x0D20)
+
+
+class Word:
+    """A number of another library, such as numpy's."""
+
+    def __init__(self, number):
+        self.number = number
+
+    def __index__(self):
+        return self.number
+
+
+def sent(encoder, count):
+    return [encoder.tick() for _ in range(count)]
+
+
+def on_air(text, dwell=1):
+    encoder = Encoder(0xC201, dwell=dwell)
+    sent(encoder, dwell)
+    encoder.set_text(text)
+    return encoder
+
+
+class Receivers(unittest.TestCase):
+    def test_shows_and_forgets(self):
+        receiver = Receiver(0xC201, dwell=2)
+        self.assertEqual(receiver.view, View())
+        self.assertEqual(list(receiver.watch([None, HI, None, None, None])), [(1, View("HI")), (3, View())])
+        self.assertEqual((receiver.pi, receiver.dwell), (0xC201, 2))
+        self.assertIn("C201", repr(receiver))
+
+    def test_slot_says_whether_the_view_may_have_changed(self):
+        receiver = Receiver(0xC201)
+        self.assertEqual([receiver.slot(it) for it in (None, HI, HI)], [False, True, False])
+
+    def test_other_programmes_are_lost_slots(self):
+        receiver = Receiver(0xF201, dwell=1)
+        self.assertFalse(receiver.slot(HI))
+        receiver.slot((0xF201, *HI[1:]))
+        self.assertTrue(receiver.slot(HI))
+        self.assertEqual(receiver.view, View())
+
+    def test_numbers(self):
+        for pi, dwell in ((-1, 128), (0x10000, 128), (0xC201, 0), (0xC201, 65536), (2 ** 64 + 1, 128)):
+            with self.assertRaises(ValueError):
+                Receiver(pi, dwell)
+        for group in ((), (1, 2, 3), (1, 2, 3, 4, 5), (0x10000, 0, 0, 0), (-1, 0, 0, 0), (0, 0, 0, 2 ** 16)):
+            with self.assertRaises(ValueError):
+                Receiver(0xC201).slot(group)
+        with self.assertRaises(TypeError):
+            Receiver(0xC201, 1.5)
+        with self.assertRaises(TypeError):
+            Receiver(0xC201).slot((0xC201, 1.0, 2, 3))
+        receiver = Receiver(Word(0xC201), Word(1))
+        self.assertTrue(receiver.slot([Word(it) for it in HI]))
+        self.assertTrue(Receiver(0, 1) == Receiver(0, 1) and Receiver(0xFFFF, 65535) == Receiver(0xFFFF, 65535))
+
+
+class Encoders(unittest.TestCase):
+    def test_a_song(self):
+        encoder = Encoder(0xC201, pty=10, tp=True, dwell=16)
+        with self.assertRaises(Silent) as silent:
+            encoder.set_text("ABBA - WATERLOO")
+        self.assertEqual((silent.exception.slots, str(silent.exception)), (16, "silent for 16 more slots"))
+        self.assertEqual(encoder.wait, Wait(16, 0, 0))
+        self.assertEqual(sent(encoder, 16), [None] * 16)
+        with self.assertRaises(NoText):
+            encoder.tag(artist="ABBA")
+        encoder.set_text("ABBA - WATERLOO")
+        encoder.tag(artist="ABBA", title="WATERLOO")
+        encoder.set_name("POP")
+        self.assertEqual((encoder.text, encoder.name), ("ABBA - WATERLOO", "POP     "))
+        with self.assertRaises(Held) as held:
+            encoder.set_text("NEWS")
+        self.assertEqual((held.exception.slots, encoder.wait.text), (32, 32))
+        groups = sent(encoder, 60)
+        self.assertEqual({it[1] & 0x7E0 for it in groups if it}, {0x400 | 10 << 5})
+        *_, (_, view) = Receiver(0xC201, dwell=16).watch(groups)
+        self.assertEqual((view.text, view.name, view.item), ("ABBA - WATERLOO", "POP     ", Item(False, True)))
+        title, artist = Tag(ContentType.ITEM_TITLE, "WATERLOO", 7, 8), Tag(ContentType.ITEM_ARTIST, "ABBA", 0, 4)
+        self.assertEqual(view.tags, (title, artist))
+        self.assertEqual((view.tag(ContentType.ITEM_ARTIST), view.tag(2)), ("ABBA", None))
+
+    def test_invalid_texts(self):
+        encoder = on_air("")
+        for text, place in (("x" * 65, None), ("a語", 1), ("ab\\x", 2), ("é\\x01", 1), ("é\\x41\\x01", 5),
+                            ("é\ud800", 1), ("a\n", 1), ("^", 0)):
+            with self.assertRaises(InvalidText) as invalid:
+                encoder.set_text(text)
+            self.assertEqual(invalid.exception.place, place, text)
+        for name, place in (("NINECHARS", None), ("A\\x0A", 1)):
+            with self.assertRaises(InvalidText) as invalid:
+                encoder.set_name(name)
+            self.assertEqual(invalid.exception.place, place, name)
+        self.assertEqual((encoder.text, encoder.name), ("", None))
+
+    def test_tags(self):
+        encoder = on_air("short")
+        for tags, number in ((((1, 0, 6),), 1), (((1, 5, 1),), 1), (((1, 0, 5), (2, 4, 2)), 2)):
+            with self.assertRaises(OutOfText) as out:
+                encoder.set_tags(*tags)
+            self.assertEqual(out.exception.tag, number)
+        for tags in (((0, 0, 1),), ((64, 0, 1),), ((1, 0, 0),), ((1, 64, 1),), ((1, 0, 65),), ((1, 0, 1),) * 3,
+                     ((1, 0, 1), (2, 0, 33)), ((257, 0, 1),), ((1, 256, 1),)):
+            with self.assertRaises(ValueError):
+                encoder.set_tags(*tags)
+        self.assertTrue(issubclass(Held, Refused) and issubclass(OutOfText, Refused))
+
+    def test_tags_by_name(self):
+        encoder = on_air("A\\x0AB: Ærø, INFO", dwell=4)
+        for pieces, number in (({"artist": "B: x"}, 1), ({"artist": "B", "title": "X"}, 2)):
+            with self.assertRaises(OutOfText) as out:
+                encoder.tag(**pieces)
+            self.assertEqual(out.exception.tag, number)
+        for pieces in ({"nothing": "A"}, {"dummy_class": "A"}, {"artist": ""},
+                       {"artist": "A", "title": "B", "album": "A"}):
+            with self.assertRaises(ValueError):
+                encoder.tag(**pieces)
+        encoder.tag(artist="Ærø", info_news="INFO", toggle=True, running=False)
+        *_, (_, view) = Receiver(0xC201, dwell=4).watch(sent(encoder, 40))
+        news, artist = Tag(ContentType.INFO_NEWS, "INFO", 10, 4), Tag(ContentType.ITEM_ARTIST, "Ærø", 5, 3)
+        self.assertEqual(view.tags, (news, artist))
+        self.assertEqual(view.item, Item(True, False))
+
+    def test_slots_that_are_not_free(self):
+        encoder = on_air("HI")
+        self.assertIsNone(encoder.tick(free=False))
+        self.assertIn(HI[2:], [it[2:] for it in sent(encoder, 8) if it])
+
+    def test_numbers(self):
+        for more in ({"pty": 32}, {"pty": -1}, {"dwell": 0}, {"dwell": 65536}, {"late": 1025}, {"late": -1},
+                     {"pi": 65536}):
+            with self.assertRaises(ValueError):
+                Encoder(**{"pi": 0xC201, **more})
+        self.assertEqual(Encoder(1, dwell=65535, late=1024).wait.silent, 65535 + 1024)
+
+
+class Audits(unittest.TestCase):
+    def test_an_encoder_passes(self):
+        encoder, audit = Encoder(0xC201, dwell=4), Audit(0xC201, dwell=4)
+        groups = sent(encoder, 4)
+        encoder.set_text("HI")
+        self.assertIsNone(audit.take(groups + sent(encoder, 20)))
+        self.assertEqual((audit.passed, audit.slots), (True, 24))
+        self.assertTrue(audit.texts_turn_the_flag and audit.names_turn_the_flag)
+
+    def test_a_change_fails(self):
+        audit = Audit(0xC201)
+        changed = (0xC201, 0x2140, 0x4850, 0x0D20)
+        self.assertEqual(audit.take([HI, changed, HI]), (1, Fault.CHANGED))
+        self.assertEqual((audit.passed, audit.slots), (False, 2))
+        self.assertEqual(audit.slot(HI), Fault.CHANGED)
+        self.assertFalse(audit.texts_turn_the_flag or audit.names_turn_the_flag)
+        self.assertEqual([str(it) for it in Fault], ["Changed", "NotOneText", "EarlyFlag", "EarlyTag", "TagOutside"])
+
+    def test_flags(self):
+        audit = Audit(0xC201, dwell=1)
+        lost, name = [None] * 4, (0xC201, 0xA140, 0x4849, 0x2020)
+        audit.take([HI, *lost, (0xC201, 0x2140, 0x594F, 0x0D20), name, (0xC201, 0xA150, 0x4849, 0x2020)])
+        self.assertEqual((audit.passed, audit.texts_turn_the_flag, audit.names_turn_the_flag), (True, False, True))
+
+    def test_lateness(self):
+        other = (0xC201, 0x2150, 0x594F, 0x0D20)
+        groups = [HI, other, None, None, (0xC201, 0x2140, 0x4841, 0x0D20)]
+        self.assertIsNone(Audit(0xC201, dwell=4).take(groups))
+        self.assertEqual(Audit(0xC201, dwell=4, late=1).take(groups), (4, Fault.EARLY_FLAG))
+
+    def test_numbers(self):
+        for pi, dwell, late in ((-1, 1, 0), (1, 0, 0), (1, 65536, 0), (1, 1, 1025)):
+            with self.assertRaises(ValueError):
+                Audit(pi, dwell, late)
+        with self.assertRaises(ValueError):
+            Audit(1).slot((1, 2, 3))
+
+
+class Copies(unittest.TestCase):
+    def objects(self):
+        receiver, audit = Receiver(0xC201, 4), Audit(0xC201, 4)
+        receiver.slot(HI)
+        audit.slot(HI)
+        return receiver, on_air("HI", 4), audit
+
+    def test_copies_go_their_own_way(self):
+        ends = (lambda it: it.slot(None), lambda it: it.tick(), lambda it: it.slot(None))
+        for one, slot in zip(self.objects(), ends):
+            others = [copy.copy(one), copy.deepcopy(one), pickle.loads(pickle.dumps(one))]
+            self.assertTrue(all(it == one for it in others))
+            before = repr(others[0])
+            for _ in range(9):
+                slot(one)
+            self.assertTrue(all(it != one and repr(it) == before for it in others))
+
+    def test_comparison(self):
+        receiver, encoder, audit = self.objects()
+        self.assertNotEqual(receiver, audit)
+        self.assertNotEqual(Receiver(1), Receiver(2))
+        self.assertNotEqual(receiver, None)
+        for it in (receiver, encoder, audit):
+            with self.assertRaises(TypeError):
+                hash(it)
+
+    def test_other_states_are_refused(self):
+        state = Receiver(1).__getstate__()
+        for change in ({"_its": b""}, {"_abi": 1}):
+            with self.assertRaises(ValueError):
+                Receiver(1).__setstate__({**state, **change})
+
+    def test_exceptions_are_pickled(self):
+        for one in (Silent(5), Held(6), NoText(), OutOfText(2), InvalidText("no RDS character", 3), MalformedLine(4)):
+            other = pickle.loads(pickle.dumps(one))
+            self.assertEqual((type(other), vars(other), str(other)), (type(one), vars(one), str(one)))
+
+
+class Threads(unittest.TestCase):
+    def test_each_its_own(self):
+        shown = []
+
+        def listen(pi):
+            receiver = Receiver(pi)
+            for _ in range(2000):
+                receiver.slot((pi, *HI[1:]))
+            shown.append((pi, receiver.view.text))
+        threads = [threading.Thread(target=listen, args=(pi,)) for pi in range(8)]
+        for it in threads:
+            it.start()
+        for it in threads:
+            it.join()
+        self.assertEqual(sorted(shown), [(pi, "HI") for pi in range(8)])
+
+
+class Json(unittest.TestCase):
+    def test_views(self):
+        self.assertEqual(View().as_json(), {"radiotext": None, "radiotext_plus": None, "ptyn": None})
+        tags = (Tag(ContentType.ITEM_ARTIST, "Ærø", 0, 3), Tag(54, "X", 5, 1), Tag(ContentType.INFO_NEWS_LOCAL, "", 0, 0))
+        plus = {"item_running": False, "item_toggle": 1,
+                "tags": [{"content-type": "item.artist", "data": "Ærø"}, {"content-type": "54", "data": "X"},
+                         {"content-type": "info.news.local", "data": ""}]}
+        self.assertEqual(View("", "POP MIX ", Item(True, False), tags).as_json(),
+                         {"radiotext": "", "radiotext_plus": plus, "ptyn": "POP MIX"})
+        self.assertEqual(View(name="        ").as_json()["ptyn"], "")
+
+
+class Names(unittest.TestCase):
+    def test_each_public_name_has_a_test(self):
+        folder, texts = os.path.dirname(os.path.abspath(__file__)), ""
+        for name in os.listdir(folder):
+            if name.endswith(".py"):
+                with open(os.path.join(folder, name), encoding="utf-8") as file:
+                    texts += file.read()
+        used = set(re.findall(r"\w+", texts))
+        members = {it for name in ("Receiver", "Encoder", "Audit", "View") for it in vars(getattr(rdsrt, name))
+                   if not it.startswith("_")}
+        # NoLibrary needs a process of its own, and Group is a type
+        self.assertEqual(({*rdsrt.__all__} | members) - used - {"NoLibrary", "Group"}, set())
+
+    def test_each_public_name_has_a_docstring(self):
+        for name in rdsrt.__all__:
+            it = getattr(rdsrt, name)
+            if inspect.isclass(it) or inspect.isfunction(it):
+                self.assertTrue(it.__doc__, name)
+                members = vars(it).items() if inspect.isclass(it) and it.__module__.startswith("rdsrt") else ()
+                for member, value in members:
+                    if not member.startswith("_") and (callable(value) or isinstance(value, property)):
+                        self.assertTrue(value.__doc__, f"{name}.{member}")
+
+    def test_name_is_ptyn_wherever_it_stands(self):
+        for it in (View, Encoder, Encoder.set_name, Encoder.name, Wait, Audit.names_turn_the_flag, View.as_json, rdsrt):
+            self.assertIn("PTYN", it.__doc__)
+        for it in (View, Encoder, Encoder.set_name, Encoder.name, rdsrt):
+            self.assertIn("(PS)", it.__doc__)
+
+
+if __name__ == "__main__":
+    unittest.main()

@@ -1,0 +1,84 @@
+"""Runs the lines of README.md as they stand, with a queue, a studio and a modulator in place of the user's."""
+import os
+import re
+import subprocess
+import sys
+import tempfile
+import unittest
+
+PYTHON = os.path.dirname(os.path.dirname(os.path.abspath(__file__)))
+SECONDS = 60
+# a queue that gives a text, then for 20 s nothing; its clock is its own
+FLOWGRAPH = """
+import queue, time
+now = [100.0]
+time.monotonic = lambda: now[0]
+class Groups:
+    def get(self, timeout):
+        if now[0] == 100.0:
+            now[0] += 0.01
+            return now[0], (0xC201, 0x2140, 0x4849, 0x0D20)
+        if now[0] > 120:
+            raise SystemExit
+        now[0] += timeout
+        raise queue.Empty
+groups = Groups()
+"""
+STUDIO = """
+import modulator
+def playing():
+    return ("ABBA", "Waterloo") if len(modulator.sent) < 300 else ("Björk", "Jóga")
+"""
+# after some slots it shows the display of a receiver
+MODULATOR = """
+from rdsrt import ContentType, Receiver
+sent = []
+def send(group):
+    sent.append(group)
+    if len(sent) == 1000:
+        for slot, view in Receiver(0xC201).watch(sent):
+            print(slot, view.text, view.tag(ContentType.ITEM_ARTIST), view.tag(ContentType.ITEM_TITLE))
+        raise SystemExit
+"""
+LOG = "F201 2140 4849 0D20\n" + "---- ---- ---- ----\n" * 128
+
+
+def blocks():
+    """Returns the Python lines of README.md: of a log, of GNU Radio and of a station."""
+    with open(os.path.join(PYTHON, "README.md"), encoding="utf-8") as file:
+        return re.findall(r"```python\n(.*?)```", file.read(), re.S)
+
+
+def ran(lines, given=""):
+    """Returns the status, the output and the errors of a script of these lines."""
+    with tempfile.TemporaryDirectory() as folder:
+        for name, text in (("flowgraph", FLOWGRAPH), ("studio", STUDIO), ("modulator", MODULATOR), ("lines", lines)):
+            with open(os.path.join(folder, f"{name}.py"), "w", encoding="utf-8") as file:
+                file.write(text)
+        paths = os.pathsep.join(it for it in (folder, os.environ.get("PYTHONPATH")) if it)
+        done = subprocess.run([sys.executable, "-B", os.path.join(folder, "lines.py")], input=given, text=True,
+                              capture_output=True, timeout=SECONDS, env={**os.environ, "PYTHONPATH": paths})
+        return done.returncode, done.stdout.splitlines(), done.stderr
+
+
+class Readme(unittest.TestCase):
+    def test_blocks(self):
+        self.assertEqual(len(blocks()), 3)
+
+    def test_a_log(self):
+        self.assertEqual(ran(blocks()[0], LOG), (0, ["0 HI None None", "128 None None None"], ""))
+
+    def test_gnu_radio(self):
+        self.assertEqual(ran(blocks()[1]), (0, ["0 HI", "128 "], ""))
+
+    def test_a_station(self):
+        status, lines, errors = ran(blocks()[2])
+        self.assertEqual((status, errors), (0, ""))
+        shown = [it.partition(" ")[2] for it in lines]
+        wanted = ["ABBA - Waterloo None None", "ABBA - Waterloo ABBA Waterloo", "Björk - Jóga None None",
+                  "Björk - Jóga Björk Jóga"]
+        self.assertEqual([it for it in dict.fromkeys(shown) if it != "None None None"], wanted)
+
+
+if __name__ == "__main__":
+    unittest.main()
