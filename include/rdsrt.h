@@ -1,4 +1,4 @@
-/* rdsrt.h: receivers, encoders and audits of RDS texts (IEC 62106), for C11 and C++17 on 64-bit Linux (x86-64).
+/* rdsrt.h: receivers, encoders and audits of RDS texts (IEC 62106), for C11 and C++17 on Linux (x86-64, 64-bit Arm).
  *
  * FM stations send RadioText (up to 64 characters), a programme type name (PTYN, 8 characters; "name" below) and the
  * tags of RadioText Plus (RT+) in groups of four blocks of 16 bits. A SLOT is the time of one group: 104 bits at 1187.5

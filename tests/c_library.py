@@ -1,6 +1,7 @@
 """The C library as C programs use it: the archive, the examples of users as each compiler builds them, and an install.
+`cases` tests the library for this machine, `arm_cases` the one for 64-bit Arm under an emulator.
 
-The archive is built first, by tests/archive. What is not installed here is told, and its cases are left out.
+tests/archive builds the archive first. Cases that need a missing program are skipped with a message.
 """
 import os
 import random
@@ -10,12 +11,15 @@ import subprocess
 import sys
 import tempfile
 
+import emulated
+
 ROOT = os.path.dirname(os.path.dirname(os.path.abspath(__file__)))
 ARCHIVE = os.path.join(ROOT, "crates/rds_ffi/out/librds_ffi.a")
 HEADER = os.path.join(ROOT, "include/rdsrt.h")
 CODES = os.path.join(ROOT, "crates/rds_ffi/specs/Codes.antt")
 WARNINGS = ["-O1", "-Wall", "-Wextra", "-pedantic", "-Werror", "-pthread"]
 SANITIZED = ["-g", "-fsanitize=address,undefined", "-fno-sanitize-recover=all"]
+ARM_WAYS = [("gcc", ["-std=c11"]), ("g++", ["-std=c++17", "-x", "c++"])]
 WAYS = [("cc", ["-std=c11"]), ("c++", ["-std=c++17", "-x", "c++"]), ("clang", ["-std=c11"]), ("cc", ["-std=c11", *SANITIZED])]
 PROGRAMS = ["examples/c/decode.c", "examples/c/encode.c", "examples/c/audit.c", "examples/c/receive.c",
             "tests/c/calls.c", "tests/c/any_bytes.c", "tests/c/threads.c"]
@@ -57,17 +61,19 @@ def names(check):
     check("codes of the header", declared, defined)
 
 
-def archive(check):
+def archive(check, at=ARCHIVE, prefix=""):
     """What the archive exports, needs and holds."""
-    if not is_there("nm", "readelf"):
+    if not is_there(f"{prefix}nm", f"{prefix}readelf"):
         return
-    exported = set(re.findall(rb" T (\w+)$", output(["nm", ARCHIVE])[1], re.M))
-    declared = set(re.findall(rb"\b(rdsrt_\w+)\(", re.sub(rb"/\*.*?\*/", b"", text_of(HEADER).encode(), flags=re.S)))
+    symbols = output([f"{prefix}nm", at])[1].decode()
+    exported = set(re.findall(r" T (\w+)$", symbols, re.M))
+    declared = set(re.findall(r"\b(rdsrt_\w+)\(", re.sub(r"/\*.*?\*/", "", text_of(HEADER), flags=re.S)))
     check("calls of the header", declared, exported)
-    needed = set(re.findall(r" U (\w+)$", output(["nm", ARCHIVE])[1].decode(), re.M))
+    needed = set(re.findall(r" U (\w+)$", symbols, re.M))
     check("what the archive needs", needed - LIBC, set())
     # name, flags and the rest; tables of pointers are read-only once they are loaded
-    sections = re.findall(r"\] (\S+) +\w+ +\w+ \w+ (\w+) \w+ +(\w*W\w*) ", output(["readelf", "-SW", ARCHIVE])[1].decode())
+    found = output([f"{prefix}readelf", "-SW", at])[1].decode()
+    sections = re.findall(r"\] (\S+) +\w+ +\w+ \w+ (\w+) \w+ +(\w*W\w*) ", found)
     writable = [name for name, size, _ in sections if int(size, 16) and not name.startswith(".data.rel.ro")]
     check("writable data of the archive", writable, [])
 
@@ -159,23 +165,24 @@ def inputs(ran):
 
 # ---- programs
 
-def built(check, how, compiler, language, folder):
+def built(check, how, compiler, language, folder, library=ARCHIVE):
     """The programs as this compiler builds them."""
     for source in PROGRAMS:
         program = os.path.join(folder, os.path.basename(source)[:-2])
         words = [compiler, *language, *WARNINGS, "-I", os.path.dirname(HEADER), os.path.join(ROOT, source), "-x", "none",
-                 ARCHIVE, "-o", program]
+                 library, "-o", program]
         check(f"{how}: {source} is built", output(words), (0, b""))
 
 
-def run_all(check, how, folder, given):
+def run_all(check, how, folder, given, runner=()):
     """The programs do what rdsrt does, each call answers what it should, and any bytes and eight threads do no harm."""
+    def run(name, *words, text=b""):
+        return output([*runner, os.path.join(folder, name), *words], text)
     for number, (name, words, text, wanted) in enumerate(given):
-        got = output([os.path.join(folder, name), *words], text)
-        check(f"{how}: {name}, input {number}", got == wanted, True)
-    check(f"{how}: each call", output([os.path.join(folder, "calls")]), (0, b"ok\n"))
-    check(f"{how}: any bytes", output([os.path.join(folder, "any_bytes"), str(ROUNDS)]), (0, b"ok\n"))
-    check(f"{how}: eight threads", output([os.path.join(folder, "threads"), "50000"]), (0, b"ok\n"))
+        check(f"{how}: {name}, input {number}", run(name, *words, text=text) == wanted, True)
+    check(f"{how}: each call", run("calls"), (0, b"ok\n"))
+    check(f"{how}: any bytes", run("any_bytes", str(ROUNDS)), (0, b"ok\n"))
+    check(f"{how}: eight threads", run("threads", "50000"), (0, b"ok\n"))
 
 
 def compilers(check, ran):
@@ -251,3 +258,23 @@ def cases(check, ran):
     archive(check)
     compilers(check, ran)
     install(check)
+
+
+def arm_cases(check, ran):
+    """Notes each case of the library for 64-bit Arm, beside the program of this machine."""
+    if not emulated.is_there():
+        return
+    target, library = emulated.ARM, emulated.ARM.built("rds_ffi", "librds_ffi.a")
+    built_it = subprocess.run([os.path.join(ROOT, "tests/archive"), target.name], stdout=subprocess.DEVNULL).returncode
+    check("the archive for 64-bit Arm is built", built_it, 0)
+    if built_it:
+        return
+    archive(check, library, target.prefix)
+    given = inputs(ran)
+    for compiler, language in ARM_WAYS:
+        compiler = target.prefix + compiler
+        if is_there(compiler):
+            how = " ".join([compiler, *language])
+            with tempfile.TemporaryDirectory() as folder:
+                built(check, how, compiler, language, folder, library)
+                run_all(check, how, folder, given, emulated.runner())
