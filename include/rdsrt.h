@@ -37,6 +37,19 @@
  * prints, keeps a pointer or has a state of its own. Threads may call at the same time on different structs. Link with
  * -lrdsrt; it needs memcpy, memset, memmove and memcmp at most.
  *
+ * STACK. A call takes at most this many bytes of stack, the first number on x86-64, the second on 64-bit Arm. The numbers
+ * come from the machine code of the library (tools/stack). The stack of memcpy and memset comes on top.
+ *
+ *     rdsrt_version                      8    0    rdsrt_encoder_on_air             600  672
+ *     rdsrt_receiver_init                8    0    rdsrt_encoder_wait               424  480
+ *     rdsrt_receiver_slot              655  576    rdsrt_audit_init                   8    0
+ *     rdsrt_receiver_view              695  640    rdsrt_audit_slot                 852  720
+ *     rdsrt_encoder_init                16    0    rdsrt_audit_passed               644  656
+ *     rdsrt_encoder_set_text           696  720    rdsrt_audit_texts_turn_the_flag  644  656
+ *     rdsrt_encoder_set_name           632  656    rdsrt_audit_names_turn_the_flag  644  656
+ *     rdsrt_encoder_set_tags           664  704    rdsrt_text_to_utf8               360  368
+ *     rdsrt_encoder_tick               872  928    rdsrt_text_from_utf8             128  128
+ *
  * YOU PROMISE for every call:
  *  - a pointer to a struct, to a count or to blocks[4] is not NULL, is aligned, and points to all of it;
  *  - a pointer with a number beside it points to as many elements; if that number is 0, the pointer may be NULL;
@@ -60,6 +73,11 @@ extern "C" {
 
 /* The number of this interface. It changes with every size, offset, code or call below. */
 #define RDSRT_ABI 2
+
+/* The version of this header. rdsrt_version() returns the version of the linked library. */
+#define RDSRT_VERSION_MAJOR 0
+#define RDSRT_VERSION_MINOR 1
+#define RDSRT_VERSION_PATCH 0
 
 struct rdsrt_version { uint32_t abi, major, minor, patch; };
 

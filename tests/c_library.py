@@ -25,7 +25,19 @@ PROGRAMS = ["examples/c/decode.c", "examples/c/encode.c", "examples/c/audit.c", 
             "tests/c/calls.c", "tests/c/any_bytes.c", "tests/c/threads.c"]
 LIBC = {"memcpy", "memset", "memmove", "memcmp"}
 INSTALLED = {"bin/rdsrt", "include/rdsrt.h", "lib/librdsrt.a", "lib/librdsrt.so", "lib/librdsrt.so.2",
-             "lib/pkgconfig/rdsrt.pc", "share/man/man1/rdsrt.1"}
+             "lib/pkgconfig/rdsrt.pc", "lib/cmake/rdsrt/rdsrt-config.cmake",
+             "lib/cmake/rdsrt/rdsrt-config-version.cmake", "share/man/man1/rdsrt.1",
+             "share/bash-completion/completions/rdsrt", "share/zsh/site-functions/_rdsrt",
+             "share/fish/vendor_completions.d/rdsrt.fish"}
+# a project that finds the library by CMake
+PROJECT = """cmake_minimum_required(VERSION 3.13)
+project(trial C)
+find_package(rdsrt ${ASKED} REQUIRED)
+add_executable(shared hi.c)
+target_link_libraries(shared PRIVATE rdsrt::rdsrt)
+add_executable(static hi.c)
+target_link_libraries(static PRIVATE rdsrt::static)
+"""
 ROWS, PIECES, ROUNDS = 100_000, 60, 3000
 DWELL, LATE = "16", "3"
 SECONDS = 300
@@ -59,6 +71,27 @@ def names(check):
     declared = {name: int(number) for name, number in re.findall(r"\b(RDSRT_[A-Z0-9_]+) = (\d+)", text_of(HEADER))}
     declared["RDSRT_ABI"] = int(re.search(r"#define RDSRT_ABI (\d+)", text_of(HEADER)).group(1))
     check("codes of the header", declared, defined)
+
+
+def header_version():
+    """Returns the version in the header."""
+    macros = dict(re.findall(r"^#define RDSRT_VERSION_(\w+) (\d+)$", text_of(HEADER), re.M))
+    return ".".join(macros[it] for it in ("MAJOR", "MINOR", "PATCH"))
+
+
+def versions(check, ran):
+    """The header has the version of the program."""
+    check("version of the header", f"rdsrt {header_version()}\n".encode(), ran(["--version"])[1])
+
+
+def stack(check, at, prefix, column):
+    """The header has the bytes of stack that each call takes: in column 1 on x86-64, in column 2 on 64-bit Arm."""
+    if not is_there(f"{prefix}objdump"):
+        return
+    rows = re.findall(r"(rdsrt_\w+) +(\d+) +(\d+)", text_of(HEADER))
+    written = "".join(f"{it[0]} {it[column]}\n" for it in sorted(rows))
+    check(f"stack of each call, column {column}", output([os.path.join(ROOT, "tools/stack"), at, f"{prefix}objdump"]),
+          (0, written.encode()))
 
 
 def archive(check, at=ARCHIVE, prefix=""):
@@ -219,14 +252,19 @@ def install(check):
         check("what is installed", files, INSTALLED)
         check("what lies beside the prefix", os.listdir(folder), ["prefix"])
         hi = text_of(os.path.join(ROOT, "examples/hi.log")).encode()
-        check("installed program", output([os.path.join(prefix, "bin/rdsrt"), "decode", "--pi", "C201"], hi),
+        # the files for pkg-config and CMake find the prefix where it is now
+        moved = os.path.join(folder, "moved")
+        os.rename(prefix, moved)
+        check("installed program", output([os.path.join(moved, "bin/rdsrt"), "decode", "--pi", "C201"], hi),
               (0, b'0 text "HI"\n'))
-        readme(check, folder, prefix)
-        python(check, os.path.join(prefix, "lib/librdsrt.so"))
+        readme(check, folder, moved)
+        if is_there("cmake"):
+            cmake(check, folder, moved)
+        python(check, os.path.join(moved, "lib/librdsrt.so"))
 
 
-def readme(check, folder, prefix):
-    """README's lines of C, built by pkg-config, show HI."""
+def readme(check, folder, prefix, compiler="cc", runner=()):
+    """README's lines of C, built by pkg-config, show HI. Leaves them in the folder."""
     found = re.search(r"```c\n(.*?)```", text_of(os.path.join(ROOT, "README.md")), re.S)
     check("README has lines of C", bool(found), True)
     if not found:
@@ -235,10 +273,28 @@ def readme(check, folder, prefix):
     with open(source, "w", encoding="utf-8") as file:
         file.write(found.group(1))
     paths = dict(os.environ, PKG_CONFIG_PATH=os.path.join(prefix, "lib/pkgconfig"))
-    call = f"cc -std=c11 -Wall -Wextra -pedantic -Werror {source} $(pkg-config --cflags --libs rdsrt) -o {program}"
+    call = f"{compiler} -std=c11 -Wall -Wextra -pedantic -Werror {source} $(pkg-config --cflags --libs rdsrt) -o {program}"
     check("README's lines of C are built", output(["sh", "-c", call], env=paths), (0, b""))
-    paths["LD_LIBRARY_PATH"] = os.path.join(prefix, "lib")
-    check("README's lines of C", output([program], env=paths), (0, b"HI\n"))
+    # the emulator gives the second one to the program
+    paths["QEMU_SET_ENV" if runner else "LD_LIBRARY_PATH"] = ("LD_LIBRARY_PATH=" if runner else "") + os.path.join(prefix, "lib")
+    check("README's lines of C", output([*runner, program], env=paths), (0, b"HI\n"))
+
+
+def cmake(check, folder, prefix):
+    """CMake finds the library for the versions that fit, and README's lines of C show HI by either library."""
+    with open(os.path.join(folder, "CMakeLists.txt"), "w", encoding="utf-8") as file:
+        file.write(PROJECT)
+    major, minor, patch = map(int, header_version().split("."))
+    newer = (f"{major}.{minor}.{patch + 1}", f"{major}.{minor + 1}", f"{major + 1}")
+    fitting = ("", f"{major}", f"{major}.{minor}.{patch}", f"{major}.{minor}")
+    for asked, fits in [*((it, False) for it in newer), *((it, True) for it in fitting)]:
+        build = os.path.join(folder, f"build{asked}")
+        words = ["cmake", "-S", folder, "-B", build, f"-DCMAKE_PREFIX_PATH={prefix}", f"-DASKED={asked}"]
+        check(f"CMake asks for version '{asked}'", output(words)[0] == 0, fits)
+    status, _ = output(["cmake", "--build", build])
+    check("CMake builds README's lines of C", status, 0)
+    for name in ("shared", "static") if status == 0 else ():
+        check(f"README's lines of C by CMake, {name}", output([os.path.join(build, name)]), (0, b"HI\n"))
 
 
 def python(check, library):
@@ -251,11 +307,13 @@ def python(check, library):
 def cases(check, ran):
     """Notes each case by check(name, got, wanted); ran(words, input) is the program rdsrt's status and output."""
     names(check)
+    versions(check, ran)
     built = subprocess.run([os.path.join(ROOT, "tests/archive")], stdout=subprocess.DEVNULL).returncode
     check("the archive is built", built, 0)
     if built:
         return
     archive(check)
+    stack(check, ARCHIVE, "", 1)
     compilers(check, ran)
     install(check)
 
@@ -270,6 +328,7 @@ def arm_cases(check, ran):
     if built_it:
         return
     archive(check, library, target.prefix)
+    stack(check, library, target.prefix, 2)
     given = inputs(ran)
     for compiler, language in ARM_WAYS:
         compiler = target.prefix + compiler
@@ -278,3 +337,18 @@ def arm_cases(check, ran):
             with tempfile.TemporaryDirectory() as folder:
                 built(check, how, compiler, language, folder, library)
                 run_all(check, how, folder, given, emulated.runner())
+
+
+def arm_install(check):
+    """An install for 64-bit Arm has the same files. Its program runs, and README's lines of C with its library."""
+    with tempfile.TemporaryDirectory() as folder:
+        prefix, runner = os.path.join(folder, "prefix"), emulated.runner()
+        words = [os.path.join(ROOT, "install"), prefix, "--target", emulated.ARM.name]
+        check("./install for 64-bit Arm", output(words)[0], 0)
+        files = {os.path.relpath(os.path.join(at, it), prefix) for at, _, its in os.walk(prefix) for it in its}
+        check("what is installed for 64-bit Arm", files, INSTALLED)
+        hi = text_of(os.path.join(ROOT, "examples/hi.log")).encode()
+        words = [*runner, os.path.join(prefix, "bin/rdsrt"), "decode", "--pi", "C201"]
+        check("installed program for 64-bit Arm", output(words, hi), (0, b'0 text "HI"\n'))
+        if is_there("pkg-config"):
+            readme(check, folder, prefix, emulated.COMPILER, runner)
