@@ -21,10 +21,12 @@ WARNINGS = ["-O1", "-Wall", "-Wextra", "-pedantic", "-Werror", "-pthread"]
 SANITIZED = ["-g", "-fsanitize=address,undefined", "-fno-sanitize-recover=all"]
 ARM_WAYS = [("gcc", ["-std=c11"]), ("g++", ["-std=c++17", "-x", "c++"])]
 WAYS = [("cc", ["-std=c11"]), ("c++", ["-std=c++17", "-x", "c++"]), ("clang", ["-std=c11"]), ("cc", ["-std=c11", *SANITIZED])]
+with open(HEADER, encoding="utf-8") as header:
+    ABI = int(re.search(r"#define RDSRT_ABI (\d+)", header.read()).group(1))
 PROGRAMS = ["examples/c/decode.c", "examples/c/encode.c", "examples/c/audit.c", "examples/c/receive.c",
             "tests/c/calls.c", "tests/c/any_bytes.c", "tests/c/threads.c"]
 LIBC = {"memcpy", "memset", "memmove", "memcmp"}
-INSTALLED = {"bin/rdsrt", "include/rdsrt.h", "lib/librdsrt.a", "lib/librdsrt.so", "lib/librdsrt.so.2",
+INSTALLED = {"bin/rdsrt", "include/rdsrt.h", "lib/librdsrt.a", "lib/librdsrt.so", f"lib/librdsrt.so.{ABI}",
              "lib/pkgconfig/rdsrt.pc", "lib/cmake/rdsrt/rdsrt-config.cmake",
              "lib/cmake/rdsrt/rdsrt-config-version.cmake", "share/man/man1/rdsrt.1",
              "share/bash-completion/completions/rdsrt", "share/zsh/site-functions/_rdsrt",
@@ -69,7 +71,7 @@ def names(check):
     """The header has the codes of the definitions, and declares what the archive exports."""
     defined = {name: int(number) for name, number in re.findall(r"^(RDSRT_\w+) = (\d+)$", text_of(CODES), re.M)}
     declared = {name: int(number) for name, number in re.findall(r"\b(RDSRT_[A-Z0-9_]+) = (\d+)", text_of(HEADER))}
-    declared["RDSRT_ABI"] = int(re.search(r"#define RDSRT_ABI (\d+)", text_of(HEADER)).group(1))
+    declared["RDSRT_ABI"] = ABI
     check("codes of the header", declared, defined)
 
 
