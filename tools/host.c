@@ -1,6 +1,6 @@
 /* Six functions in C that the program calls: blocks of the heap, the words of the command line, and errno.
  *
- * The kit has them compiled for x86-64 alone, without their source. This file stands in for them on 64-bit Arm. Each
+ * The kit has them compiled for x86-64 alone, without their source. This file replaces them on 64-bit Arm. Each
  * function does what the kit's contract of it promises. No proof covers this file: it is trusted, as the kit's own C
  * code is.
  */

@@ -1,7 +1,8 @@
-"""The targets: the processors, besides the one that the kit picks by itself, that the library and the program are built
-for. What is built for a target is in the folder `out/NAME` of its crate.
+"""The targets: processors that the library and the program are built for. The folder `out/NAME` of a crate gets the files
+that are built for the target NAME.
 
-Each target runs on every processor of its kind, for the library does not check the processor that it runs on.
+The code for a target runs on every processor of its kind. The kit's default for x86-64 is a later processor, and a library
+does not check where it runs.
 """
 import os
 import subprocess
