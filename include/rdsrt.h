@@ -34,8 +34,10 @@
  * BITS. The guarantee needs groups that are whole and unchanged. Pass no group in which your decoder corrected bits.
  *
  * MEMORY. You hold each struct. It has no pointers: copy it, move it, save it, drop it. No call allocates, waits,
- * prints, keeps a pointer or has a state of its own. Threads may call at the same time on different structs. Link with
- * -lrdsrt; it needs memcpy, memset, memmove and memcmp at most.
+ * prints, keeps a pointer or has a state of its own. Threads may call at the same time on different structs.
+ *
+ * LINK with -lrdsrt. pkg-config knows the library as rdsrt. CMake finds it by find_package(rdsrt), as rdsrt::rdsrt and
+ * rdsrt::static. It needs memcpy, memset, memmove and memcmp at most.
  *
  * STACK. A call takes at most this many bytes of stack, the first number on x86-64, the second on 64-bit Arm. The numbers
  * come from the machine code of the library (tools/stack). The stack of memcpy and memset comes on top.

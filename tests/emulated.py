@@ -30,9 +30,11 @@ def runner():
 
 
 def wrapped(program, folder):
-    """Writes a script rdsrt that runs the program under the emulator. Returns its path."""
-    script = os.path.join(folder, "rdsrt")
+    """Writes a script rdsrt that runs a copy of the program under the emulator. Returns its path."""
+    script, copy = os.path.join(folder, "rdsrt"), os.path.join(folder, "program")
+    # a build may replace the program while tests run
+    shutil.copy(program, copy)
     with open(script, "w", encoding="utf-8") as file:
-        file.write(f'#!/bin/sh\nexec {shlex.join(runner())} -0 rdsrt {shlex.quote(program)} "$@"\n')
+        file.write(f'#!/bin/sh\nexec {shlex.join(runner())} -0 rdsrt {shlex.quote(copy)} "$@"\n')
     os.chmod(script, 0o755)
     return script
