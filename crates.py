@@ -65,6 +65,14 @@ def last_change(name):
     return max(map(os.path.getmtime, changed))
 
 
+def is_left(name):
+    """Whether the crate has what `rt ci` or ./build left of it, which bears no stamp, and no newer source."""
+    made = rlib(name)
+    if not os.path.isdir(made) or os.path.exists(os.path.join(os.path.dirname(made), "stamp")):
+        return False
+    return last_change(name) <= os.path.getmtime(made)
+
+
 def compile_words(name, uses, jobs, *more):
     """A call of the kit's compiler, in the crate's folder, that proves and builds the crate."""
     source = next(it for it in ("src/main.rt", "src/lib.rt") if os.path.exists(os.path.join(folder(name), it)))

@@ -1,4 +1,4 @@
-/* rdsrt.h: receivers, encoders and audits of RDS texts (IEC 62106), for C11 and C++17 on 64-bit Linux (x86-64).
+/* rdsrt.h: receivers, encoders and audits of RDS texts (IEC 62106), for C11 and C++17 on Linux (x86-64, 64-bit Arm).
  *
  * FM stations send RadioText (up to 64 characters), a programme type name (PTYN, 8 characters; "name" below) and the
  * tags of RadioText Plus (RT+) in groups of four blocks of 16 bits. A SLOT is the time of one group: 104 bits at 1187.5
@@ -34,8 +34,23 @@
  * BITS. The guarantee needs groups that are whole and unchanged. Pass no group in which your decoder corrected bits.
  *
  * MEMORY. You hold each struct. It has no pointers: copy it, move it, save it, drop it. No call allocates, waits,
- * prints, keeps a pointer or has a state of its own. Threads may call at the same time on different structs. Link with
- * -lrdsrt; it needs memcpy, memset, memmove and memcmp at most.
+ * prints, keeps a pointer or has a state of its own. Threads may call at the same time on different structs.
+ *
+ * LINK with -lrdsrt. pkg-config knows the library as rdsrt. CMake finds it by find_package(rdsrt), as rdsrt::rdsrt and
+ * rdsrt::static. It needs memcpy, memset, memmove and memcmp at most.
+ *
+ * STACK. A call takes at most this many bytes of stack, the first number on x86-64, the second on 64-bit Arm. The numbers
+ * come from the machine code of the library (tools/stack). The stack of memcpy and memset comes on top.
+ *
+ *     rdsrt_version                      8    0    rdsrt_encoder_on_air             600  672
+ *     rdsrt_receiver_init                8    0    rdsrt_encoder_wait               424  480
+ *     rdsrt_receiver_slot              655  576    rdsrt_audit_init                   8    0
+ *     rdsrt_receiver_view              695  640    rdsrt_audit_slot                 852  720
+ *     rdsrt_encoder_init                16    0    rdsrt_audit_passed               644  656
+ *     rdsrt_encoder_set_text           696  720    rdsrt_audit_texts_turn_the_flag  644  656
+ *     rdsrt_encoder_set_name           632  656    rdsrt_audit_names_turn_the_flag  644  656
+ *     rdsrt_encoder_set_tags           664  704    rdsrt_text_to_utf8               360  368
+ *     rdsrt_encoder_tick               872  928    rdsrt_text_from_utf8             128  128
  *
  * YOU PROMISE for every call:
  *  - a pointer to a struct, to a count or to blocks[4] is not NULL, is aligned, and points to all of it;
@@ -60,6 +75,11 @@ extern "C" {
 
 /* The number of this interface. It changes with every size, offset, code or call below. */
 #define RDSRT_ABI 2
+
+/* The version of this header. rdsrt_version() returns the version of the linked library. */
+#define RDSRT_VERSION_MAJOR 0
+#define RDSRT_VERSION_MINOR 1
+#define RDSRT_VERSION_PATCH 0
 
 struct rdsrt_version { uint32_t abi, major, minor, patch; };
 

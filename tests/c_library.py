@@ -1,6 +1,7 @@
 """The C library as C programs use it: the archive, the examples of users as each compiler builds them, and an install.
+`cases` tests the library for this machine, `arm_cases` the one for 64-bit Arm under an emulator.
 
-The archive is built first, by tests/archive. What is not installed here is told, and its cases are left out.
+tests/archive builds the archive first. Cases that need a missing program are skipped with a message.
 """
 import os
 import random
@@ -10,18 +11,35 @@ import subprocess
 import sys
 import tempfile
 
+import emulated
+
 ROOT = os.path.dirname(os.path.dirname(os.path.abspath(__file__)))
 ARCHIVE = os.path.join(ROOT, "crates/rds_ffi/out/librds_ffi.a")
 HEADER = os.path.join(ROOT, "include/rdsrt.h")
 CODES = os.path.join(ROOT, "crates/rds_ffi/specs/Codes.antt")
 WARNINGS = ["-O1", "-Wall", "-Wextra", "-pedantic", "-Werror", "-pthread"]
 SANITIZED = ["-g", "-fsanitize=address,undefined", "-fno-sanitize-recover=all"]
+ARM_WAYS = [("gcc", ["-std=c11"]), ("g++", ["-std=c++17", "-x", "c++"])]
 WAYS = [("cc", ["-std=c11"]), ("c++", ["-std=c++17", "-x", "c++"]), ("clang", ["-std=c11"]), ("cc", ["-std=c11", *SANITIZED])]
+with open(HEADER, encoding="utf-8") as header:
+    ABI = int(re.search(r"#define RDSRT_ABI (\d+)", header.read()).group(1))
 PROGRAMS = ["examples/c/decode.c", "examples/c/encode.c", "examples/c/audit.c", "examples/c/receive.c",
             "tests/c/calls.c", "tests/c/any_bytes.c", "tests/c/threads.c"]
 LIBC = {"memcpy", "memset", "memmove", "memcmp"}
-INSTALLED = {"bin/rdsrt", "include/rdsrt.h", "lib/librdsrt.a", "lib/librdsrt.so", "lib/librdsrt.so.2",
-             "lib/pkgconfig/rdsrt.pc", "share/man/man1/rdsrt.1"}
+INSTALLED = {"bin/rdsrt", "include/rdsrt.h", "lib/librdsrt.a", "lib/librdsrt.so", f"lib/librdsrt.so.{ABI}",
+             "lib/pkgconfig/rdsrt.pc", "lib/cmake/rdsrt/rdsrt-config.cmake",
+             "lib/cmake/rdsrt/rdsrt-config-version.cmake", "share/man/man1/rdsrt.1",
+             "share/bash-completion/completions/rdsrt", "share/zsh/site-functions/_rdsrt",
+             "share/fish/vendor_completions.d/rdsrt.fish"}
+# a project that finds the library by CMake
+PROJECT = """cmake_minimum_required(VERSION 3.13)
+project(trial C)
+find_package(rdsrt ${ASKED} REQUIRED)
+add_executable(shared hi.c)
+target_link_libraries(shared PRIVATE rdsrt::rdsrt)
+add_executable(static hi.c)
+target_link_libraries(static PRIVATE rdsrt::static)
+"""
 ROWS, PIECES, ROUNDS = 100_000, 60, 3000
 DWELL, LATE = "16", "3"
 SECONDS = 300
@@ -53,21 +71,44 @@ def names(check):
     """The header has the codes of the definitions, and declares what the archive exports."""
     defined = {name: int(number) for name, number in re.findall(r"^(RDSRT_\w+) = (\d+)$", text_of(CODES), re.M)}
     declared = {name: int(number) for name, number in re.findall(r"\b(RDSRT_[A-Z0-9_]+) = (\d+)", text_of(HEADER))}
-    declared["RDSRT_ABI"] = int(re.search(r"#define RDSRT_ABI (\d+)", text_of(HEADER)).group(1))
+    declared["RDSRT_ABI"] = ABI
     check("codes of the header", declared, defined)
 
 
-def archive(check):
-    """What the archive exports, needs and holds."""
-    if not is_there("nm", "readelf"):
+def header_version():
+    """Returns the version in the header."""
+    macros = dict(re.findall(r"^#define RDSRT_VERSION_(\w+) (\d+)$", text_of(HEADER), re.M))
+    return ".".join(macros[it] for it in ("MAJOR", "MINOR", "PATCH"))
+
+
+def versions(check, ran):
+    """The header has the version of the program."""
+    check("version of the header", f"rdsrt {header_version()}\n".encode(), ran(["--version"])[1])
+
+
+def stack(check, at, prefix, column):
+    """The header has the bytes of stack that each call takes: in column 1 on x86-64, in column 2 on 64-bit Arm."""
+    if not is_there(f"{prefix}objdump"):
         return
-    exported = set(re.findall(rb" T (\w+)$", output(["nm", ARCHIVE])[1], re.M))
-    declared = set(re.findall(rb"\b(rdsrt_\w+)\(", re.sub(rb"/\*.*?\*/", b"", text_of(HEADER).encode(), flags=re.S)))
+    rows = re.findall(r"(rdsrt_\w+) +(\d+) +(\d+)", text_of(HEADER))
+    written = "".join(f"{it[0]} {it[column]}\n" for it in sorted(rows))
+    check(f"stack of each call, column {column}", output([os.path.join(ROOT, "tools/stack"), at, f"{prefix}objdump"]),
+          (0, written.encode()))
+
+
+def archive(check, at=ARCHIVE, prefix=""):
+    """What the archive exports, needs and holds."""
+    if not is_there(f"{prefix}nm", f"{prefix}readelf"):
+        return
+    symbols = output([f"{prefix}nm", at])[1].decode()
+    exported = set(re.findall(r" T (\w+)$", symbols, re.M))
+    declared = set(re.findall(r"\b(rdsrt_\w+)\(", re.sub(r"/\*.*?\*/", "", text_of(HEADER), flags=re.S)))
     check("calls of the header", declared, exported)
-    needed = set(re.findall(r" U (\w+)$", output(["nm", ARCHIVE])[1].decode(), re.M))
+    needed = set(re.findall(r" U (\w+)$", symbols, re.M))
     check("what the archive needs", needed - LIBC, set())
     # name, flags and the rest; tables of pointers are read-only once they are loaded
-    sections = re.findall(r"\] (\S+) +\w+ +\w+ \w+ (\w+) \w+ +(\w*W\w*) ", output(["readelf", "-SW", ARCHIVE])[1].decode())
+    found = output([f"{prefix}readelf", "-SW", at])[1].decode()
+    sections = re.findall(r"\] (\S+) +\w+ +\w+ \w+ (\w+) \w+ +(\w*W\w*) ", found)
     writable = [name for name, size, _ in sections if int(size, 16) and not name.startswith(".data.rel.ro")]
     check("writable data of the archive", writable, [])
 
@@ -159,23 +200,24 @@ def inputs(ran):
 
 # ---- programs
 
-def built(check, how, compiler, language, folder):
+def built(check, how, compiler, language, folder, library=ARCHIVE):
     """The programs as this compiler builds them."""
     for source in PROGRAMS:
         program = os.path.join(folder, os.path.basename(source)[:-2])
         words = [compiler, *language, *WARNINGS, "-I", os.path.dirname(HEADER), os.path.join(ROOT, source), "-x", "none",
-                 ARCHIVE, "-o", program]
+                 library, "-o", program]
         check(f"{how}: {source} is built", output(words), (0, b""))
 
 
-def run_all(check, how, folder, given):
+def run_all(check, how, folder, given, runner=()):
     """The programs do what rdsrt does, each call answers what it should, and any bytes and eight threads do no harm."""
+    def run(name, *words, text=b""):
+        return output([*runner, os.path.join(folder, name), *words], text)
     for number, (name, words, text, wanted) in enumerate(given):
-        got = output([os.path.join(folder, name), *words], text)
-        check(f"{how}: {name}, input {number}", got == wanted, True)
-    check(f"{how}: each call", output([os.path.join(folder, "calls")]), (0, b"ok\n"))
-    check(f"{how}: any bytes", output([os.path.join(folder, "any_bytes"), str(ROUNDS)]), (0, b"ok\n"))
-    check(f"{how}: eight threads", output([os.path.join(folder, "threads"), "50000"]), (0, b"ok\n"))
+        check(f"{how}: {name}, input {number}", run(name, *words, text=text) == wanted, True)
+    check(f"{how}: each call", run("calls"), (0, b"ok\n"))
+    check(f"{how}: any bytes", run("any_bytes", str(ROUNDS)), (0, b"ok\n"))
+    check(f"{how}: eight threads", run("threads", "50000"), (0, b"ok\n"))
 
 
 def compilers(check, ran):
@@ -212,14 +254,19 @@ def install(check):
         check("what is installed", files, INSTALLED)
         check("what lies beside the prefix", os.listdir(folder), ["prefix"])
         hi = text_of(os.path.join(ROOT, "examples/hi.log")).encode()
-        check("installed program", output([os.path.join(prefix, "bin/rdsrt"), "decode", "--pi", "C201"], hi),
+        # the files for pkg-config and CMake find the prefix where it is now
+        moved = os.path.join(folder, "moved")
+        os.rename(prefix, moved)
+        check("installed program", output([os.path.join(moved, "bin/rdsrt"), "decode", "--pi", "C201"], hi),
               (0, b'0 text "HI"\n'))
-        readme(check, folder, prefix)
-        python(check, os.path.join(prefix, "lib/librdsrt.so"))
+        readme(check, folder, moved)
+        if is_there("cmake"):
+            cmake(check, folder, moved)
+        python(check, os.path.join(moved, "lib/librdsrt.so"))
 
 
-def readme(check, folder, prefix):
-    """README's lines of C, built by pkg-config, show HI."""
+def readme(check, folder, prefix, compiler="cc", runner=()):
+    """README's lines of C, built by pkg-config, show HI. Leaves them in the folder."""
     found = re.search(r"```c\n(.*?)```", text_of(os.path.join(ROOT, "README.md")), re.S)
     check("README has lines of C", bool(found), True)
     if not found:
@@ -228,10 +275,28 @@ def readme(check, folder, prefix):
     with open(source, "w", encoding="utf-8") as file:
         file.write(found.group(1))
     paths = dict(os.environ, PKG_CONFIG_PATH=os.path.join(prefix, "lib/pkgconfig"))
-    call = f"cc -std=c11 -Wall -Wextra -pedantic -Werror {source} $(pkg-config --cflags --libs rdsrt) -o {program}"
+    call = f"{compiler} -std=c11 -Wall -Wextra -pedantic -Werror {source} $(pkg-config --cflags --libs rdsrt) -o {program}"
     check("README's lines of C are built", output(["sh", "-c", call], env=paths), (0, b""))
-    paths["LD_LIBRARY_PATH"] = os.path.join(prefix, "lib")
-    check("README's lines of C", output([program], env=paths), (0, b"HI\n"))
+    # the emulator gives the second one to the program
+    paths["QEMU_SET_ENV" if runner else "LD_LIBRARY_PATH"] = ("LD_LIBRARY_PATH=" if runner else "") + os.path.join(prefix, "lib")
+    check("README's lines of C", output([*runner, program], env=paths), (0, b"HI\n"))
+
+
+def cmake(check, folder, prefix):
+    """CMake finds the library for the versions that fit, and README's lines of C show HI by either library."""
+    with open(os.path.join(folder, "CMakeLists.txt"), "w", encoding="utf-8") as file:
+        file.write(PROJECT)
+    major, minor, patch = map(int, header_version().split("."))
+    newer = (f"{major}.{minor}.{patch + 1}", f"{major}.{minor + 1}", f"{major + 1}")
+    fitting = ("", f"{major}", f"{major}.{minor}.{patch}", f"{major}.{minor}")
+    for asked, fits in [*((it, False) for it in newer), *((it, True) for it in fitting)]:
+        build = os.path.join(folder, f"build{asked}")
+        words = ["cmake", "-S", folder, "-B", build, f"-DCMAKE_PREFIX_PATH={prefix}", f"-DASKED={asked}"]
+        check(f"CMake asks for version '{asked}'", output(words)[0] == 0, fits)
+    status, _ = output(["cmake", "--build", build])
+    check("CMake builds README's lines of C", status, 0)
+    for name in ("shared", "static") if status == 0 else ():
+        check(f"README's lines of C by CMake, {name}", output([os.path.join(build, name)]), (0, b"HI\n"))
 
 
 def python(check, library):
@@ -245,10 +310,48 @@ def python(check, library):
 def cases(check, ran):
     """Notes each case by check(name, got, wanted); ran(words, input) is the program rdsrt's status and output."""
     names(check)
+    versions(check, ran)
     built = subprocess.run([os.path.join(ROOT, "tests/archive")], stdout=subprocess.DEVNULL).returncode
     check("the archive is built", built, 0)
     if built:
         return
     archive(check)
+    stack(check, ARCHIVE, "", 1)
     compilers(check, ran)
     install(check)
+
+
+def arm_cases(check, ran):
+    """Notes each case of the library for 64-bit Arm, beside the program of this machine."""
+    if not emulated.is_there():
+        return
+    target, library = emulated.ARM, emulated.ARM.built("rds_ffi", "librds_ffi.a")
+    built_it = subprocess.run([os.path.join(ROOT, "tests/archive"), target.name], stdout=subprocess.DEVNULL).returncode
+    check("the archive for 64-bit Arm is built", built_it, 0)
+    if built_it:
+        return
+    archive(check, library, target.prefix)
+    stack(check, library, target.prefix, 2)
+    given = inputs(ran)
+    for compiler, language in ARM_WAYS:
+        compiler = target.prefix + compiler
+        if is_there(compiler):
+            how = " ".join([compiler, *language])
+            with tempfile.TemporaryDirectory() as folder:
+                built(check, how, compiler, language, folder, library)
+                run_all(check, how, folder, given, emulated.runner())
+
+
+def arm_install(check):
+    """An install for 64-bit Arm has the same files. Its program runs, and README's lines of C with its library."""
+    with tempfile.TemporaryDirectory() as folder:
+        prefix, runner = os.path.join(folder, "prefix"), emulated.runner()
+        words = [os.path.join(ROOT, "install"), prefix, "--target", emulated.ARM.name]
+        check("./install for 64-bit Arm", output(words)[0], 0)
+        files = {os.path.relpath(os.path.join(at, it), prefix) for at, _, its in os.walk(prefix) for it in its}
+        check("what is installed for 64-bit Arm", files, INSTALLED)
+        hi = text_of(os.path.join(ROOT, "examples/hi.log")).encode()
+        words = [*runner, os.path.join(prefix, "bin/rdsrt"), "decode", "--pi", "C201"]
+        check("installed program for 64-bit Arm", output(words, hi), (0, b'0 text "HI"\n'))
+        if is_there("pkg-config"):
+            readme(check, folder, prefix, emulated.COMPILER, runner)

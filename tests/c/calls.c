@@ -19,7 +19,8 @@ static const uint8_t *bytes(const char *text) { return (const uint8_t *)text; }
 
 static void version(void) {
     struct rdsrt_version it = rdsrt_version();
-    CHECK(it.abi == RDSRT_ABI && it.major == 0 && it.minor == 1 && it.patch == 0);
+    CHECK(it.abi == RDSRT_ABI && it.major == RDSRT_VERSION_MAJOR);
+    CHECK(it.minor == RDSRT_VERSION_MINOR && it.patch == RDSRT_VERSION_PATCH);
 }
 
 /* One group makes a text whole, and a dwell of slots in which nothing came ends it. */

@@ -1,0 +1,86 @@
+"""The completions for bash, zsh and fish beside the help of the program: they offer the same commands and options."""
+import os
+import re
+import shutil
+import subprocess
+
+ROOT = os.path.dirname(os.path.dirname(os.path.abspath(__file__)))
+PROGRAM = os.path.join(ROOT, "crates/rdsrt/out/rdsrt")
+FOLDER = os.path.join(ROOT, "tools/completions")
+FILES = {"bash": "rdsrt.bash", "zsh": "_rdsrt", "fish": "rdsrt.fish"}
+SECONDS = 60
+# prints what bash would offer for the words
+BASH = """source "$1"; shift; COMP_WORDS=(rdsrt "$@"); COMP_CWORD=$#; _rdsrt; printf '%s\\n' "${COMPREPLY[@]}" """
+# zsh completes in a terminal alone. Here the functions that its file calls print the commands and options they get.
+ZSH = """compdef() { : }
+_describe() { local -a its; its=(${(P)2}); print -l -- ${its%%:*} }
+_arguments() {
+    local it; for it in "$@"; do [[ $it = (#b)(|\\(*\\))(-##[a-zA-Z]##)\\[* ]] && print -- $match[2]; done
+    [[ $1 = -C ]] && state=$ASKED
+    return 1
+}
+setopt extendedglob; ASKED=$2; words=($@[3,-1]); source $1; true"""
+
+
+def lines(words):
+    """Returns the lines that these words print."""
+    done = subprocess.run(words, stdout=subprocess.PIPE, text=True, check=True, timeout=SECONDS, stdin=subprocess.DEVNULL)
+    return {*done.stdout.split("\n")} - {""}
+
+
+def summaries():
+    """Returns the line of help of each command."""
+    section = help_of([]).split("Commands:\n")[1].split("\n\n")[0]
+    return dict(it.split(None, 1) for it in section.splitlines())
+
+
+def help_of(command):
+    done = subprocess.run([PROGRAM, *command, "--help"], stdout=subprocess.PIPE, text=True, check=True, timeout=SECONDS)
+    return done.stdout
+
+
+def offered(command):
+    """Returns the commands and options in the help of the program, or of a command."""
+    if command == ["help"]:
+        return {*summaries()}
+    options = re.findall(r"^ +(?:(-\w), )?(--\w+)", help_of(command).split("Options:\n")[1], re.M)
+    return {it for both in options for it in both if it} | ({*summaries()} if not command else set())
+
+
+def by_bash(command):
+    words = ["bash", "-c", BASH, "bash", os.path.join(FOLDER, FILES["bash"]), *command]
+    return lines([*words, ""]) | lines([*words, "-"])
+
+
+def by_zsh(command):
+    words = ["zsh", "-f", "-c", ZSH, "zsh", os.path.join(FOLDER, FILES["zsh"]), "option" if command else "command"]
+    return lines([*words, *command]) - (set() if not command else {"-V", "--version"})
+
+
+def by_fish(command):
+    found = set()
+    for begun in ("", "-", "--"):
+        call = f"source {os.path.join(FOLDER, FILES['fish'])}; complete -C '{' '.join(['rdsrt', *command, begun])}'"
+        found |= {it.split("\t")[0] for it in lines(["fish", "--no-config", "-c", call])}
+    return found
+
+
+def run(check):
+    """Compares what each shell offers with the help, and the descriptions too. Bash offers the long options alone."""
+    for shell, by in (("bash", by_bash), ("zsh", by_zsh), ("fish", by_fish)):
+        if not shutil.which(shell):
+            print(f"skipped: no {shell} here, so its completions are not tested")
+            continue
+        for command in [[], *([it] for it in summaries())]:
+            wanted = offered(command)
+            if shell == "bash":
+                wanted = {it for it in wanted if not re.fullmatch(r"-\w", it)}
+            got = by(command)
+            if shell == "zsh" and command == ["help"]:
+                got -= {"-h", "--help"}
+            check(f"completions of {shell} after rdsrt {' '.join(command)}", got, wanted)
+    for shell in ("zsh", "fish"):
+        with open(os.path.join(FOLDER, FILES[shell]), encoding="utf-8") as file:
+            text = file.read()
+        for command, summary in summaries().items():
+            check(f"completions of {shell}: what {command} does", summary in text, True)

@@ -1,0 +1,40 @@
+"""Programs for 64-bit Arm on this machine: Debian's cross compiler builds them, and the emulator qemu runs them."""
+import os
+import shlex
+import shutil
+import subprocess
+import sys
+
+ROOT = os.path.dirname(os.path.dirname(os.path.abspath(__file__)))
+sys.path.insert(1, os.path.join(ROOT, "tools"))
+import targets
+
+ARM = targets.ALL["aarch64"]
+COMPILER = f"{ARM.prefix}gcc"
+EMULATOR = "qemu-aarch64"
+
+
+def is_there():
+    """Tells whether this machine can build and run programs for 64-bit Arm. Prints what is missing."""
+    for tool in (COMPILER, EMULATOR):
+        if shutil.which(tool) is None:
+            print(f"skipped: no {tool} here, so nothing is tested for 64-bit Arm")
+            return False
+    return True
+
+
+def runner():
+    """Returns the words before a program for 64-bit Arm: the emulator, with the folder of that processor's libraries."""
+    loader = subprocess.run([COMPILER, "-print-file-name=ld-linux-aarch64.so.1"], capture_output=True, text=True, check=True)
+    return [EMULATOR, "-L", os.path.dirname(os.path.dirname(os.path.realpath(loader.stdout.strip())))]
+
+
+def wrapped(program, folder):
+    """Writes a script rdsrt that runs a copy of the program under the emulator. Returns its path."""
+    script, copy = os.path.join(folder, "rdsrt"), os.path.join(folder, "program")
+    # a build may replace the program while tests run
+    shutil.copy(program, copy)
+    with open(script, "w", encoding="utf-8") as file:
+        file.write(f'#!/bin/sh\nexec {shlex.join(runner())} -0 rdsrt {shlex.quote(copy)} "$@"\n')
+    os.chmod(script, 0o755)
+    return script
