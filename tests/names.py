@@ -23,7 +23,7 @@ CAMEL = r"\b[A-Z][a-z]+[A-Z]\w*"
 OPTION = r"(?<![\w-])--[a-z][a-z-]*"
 PARTS = "src|specs|proofs|must-fail"
 IN_A_CRATE = rf"(?:{PARTS})/\w"
-FOLDER = rf"(?:crates|docs|tests|tools|bench|examples|include|page|{PARTS})/[\w./-]*\w"
+FOLDER = rf"(?:crates|docs|tests|tools|bench|examples|experiments|include|page|{PARTS})/[\w./-]*\w"
 # no .log, .csv or .txt: without a folder such a file is a user's
 FILE = r"[\w/-]+(?:\.[\w-]+)*\.(?:rt|antt|py|js|c|h|md|edit|html|css|png|pc|bazel)\b"
 PATH = rf"(?<![\w/.-])(?:\.\./)*({FOLDER}|{FILE})"

@@ -26,7 +26,7 @@ def text_of(path):
 
 def all_pages():
     """The paths of all Markdown pages."""
-    found = [it for at in ("", "docs", "examples", "python") for it in glob.glob(os.path.join(ROOT, at, "*.md"))]
+    found = [it for at in ("", "docs", "examples", "python", "experiments/*") for it in glob.glob(os.path.join(ROOT, at, "*.md"))]
     return sorted(os.path.relpath(it, ROOT) for it in found)
 
 

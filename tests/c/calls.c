@@ -151,6 +151,10 @@ static void texts(void) {
     CHECK(rdsrt_text_from_utf8(utf8, 5, text, sizeof text, &count) == RDSRT_OK);
     CHECK(count == 4 && memcmp(text, "Caf\x82", 4) == 0);
     CHECK(rdsrt_text_to_utf8(bytes("\x01\x02\x03"), 3, utf8, sizeof utf8, &count) == RDSRT_NO_ROOM && count == 12);
+    /* the calls write one size_t, and leave the next */
+    size_t counts[2] = {77, 99};
+    CHECK(rdsrt_text_to_utf8(bytes("HI"), 2, utf8, sizeof utf8, counts) == RDSRT_OK && counts[0] == 2 && counts[1] == 99);
+    CHECK(rdsrt_text_from_utf8(bytes("A"), 1, text, sizeof text, counts) == RDSRT_OK && counts[0] == 1 && counts[1] == 99);
     count = 77;
     uint8_t spaces[65];
     memset(spaces, ' ', sizeof spaces);

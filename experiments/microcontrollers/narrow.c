@@ -1,0 +1,43 @@
+/* The calls of rdsrt.h that differ on 32 bits. The module's calls (wide_..) take lengths and write counts of 64 bits.
+ * If one returns a struct in registers, narrow.py adds a call .._into that writes the struct. */
+#include <rdsrt.h>
+
+#define SLOT(name, of)                                                                                              \
+    uint32_t wide_##name(struct of *, const uint16_t *, uint64_t);                                                  \
+    uint32_t name(struct of *it, const uint16_t *blocks, size_t count) { return wide_##name(it, blocks, count); }
+
+#define REPLY(name, parameters, ...)                                                                                \
+    struct rdsrt_reply name parameters {                                                                            \
+        struct rdsrt_reply reply;                                                                                   \
+        wide_##name##_into(&reply, __VA_ARGS__);                                                                    \
+        return reply;                                                                                               \
+    }
+
+#define SET(name)                                                                                                   \
+    void wide_##name##_into(struct rdsrt_reply *, struct rdsrt_encoder *, const uint8_t *, uint64_t);               \
+    REPLY(name, (struct rdsrt_encoder * it, const uint8_t *bytes, size_t length), it, bytes, length)
+
+#define TEXT(name)                                                                                                  \
+    uint32_t wide_##name(const uint8_t *, uint64_t, uint8_t *, uint64_t, uint64_t *);                               \
+    uint32_t name(const uint8_t *from, size_t length, uint8_t *into, size_t room, size_t *count) {                  \
+        uint64_t written = *count;                                                                                  \
+        uint32_t code = wide_##name(from, length, into, room, &written);                                            \
+        *count = (size_t)written;                                                                                   \
+        return code;                                                                                                \
+    }
+
+void wide_rdsrt_version_into(struct rdsrt_version *);
+struct rdsrt_version rdsrt_version(void) {
+    struct rdsrt_version it;
+    wide_rdsrt_version_into(&it);
+    return it;
+}
+
+void wide_rdsrt_encoder_set_tags_into(struct rdsrt_reply *, struct rdsrt_encoder *, const struct rdsrt_tags *);
+REPLY(rdsrt_encoder_set_tags, (struct rdsrt_encoder * it, const struct rdsrt_tags *tags), it, tags)
+SET(rdsrt_encoder_set_text)
+SET(rdsrt_encoder_set_name)
+SLOT(rdsrt_receiver_slot, rdsrt_receiver)
+SLOT(rdsrt_audit_slot, rdsrt_audit)
+TEXT(rdsrt_text_to_utf8)
+TEXT(rdsrt_text_from_utf8)
