@@ -111,10 +111,14 @@ const lines = (() => {
   /* Counts the slots before each slot: those with no group, with a text of flag A, and with a text of flag B. */
   function sums(codes) {
     const [none, low, high] = [0, 0, 0].map(() => new Int32Array(codes.length + 1));
+    let nones = 0, lows = 0, highs = 0;
     for (let i = 0; i < codes.length; i++) {
-      none[i + 1] = none[i] + (codes[i] === NOTHING ? 1 : 0);
-      low[i + 1] = low[i] + (codes[i] === TEXT ? 1 : 0);
-      high[i + 1] = high[i] + (codes[i] === (TEXT | FLAG) ? 1 : 0);
+      if (codes[i] === NOTHING) nones++;
+      else if (codes[i] === TEXT) lows++;
+      else if (codes[i] === (TEXT | FLAG)) highs++;
+      none[i + 1] = nones;
+      low[i + 1] = lows;
+      high[i + 1] = highs;
     }
     return { none, low, high };
   }

@@ -5,6 +5,8 @@ const logTab = (() => {
   const PI = "C201", MOST_PROGRAMMES = 12;
   /* Milliseconds after which the page shows that it waits for an answer. */
   const PATIENCE = 150;
+  /* A log of more slots takes the worker that decodes with lost slots a while when it does so first. */
+  const LONG = 100_000;
   /* How many dwells after a no are searched first for a witness: most are there, and a log may be a day. */
   const NEAR = 4;
   /* How many slots after that are searched too: each takes some 1.3 KB of memory. */
@@ -80,6 +82,7 @@ const logTab = (() => {
     offerProgrammes(pi);
     await look({ fit: true });
     if (state.opening !== opening) return;
+    if (state.log.count > LONG && !state.lost.size) workers.lossy.ask("warm", { pi: $("log-pi").value, m: $("log-m").value });
     const [shown, simple] = [state.view, state.alone].map((view) => view.parts.text.filter((run) => run.value !== null));
     const isMix = (run) => state.mixed("text", run.value), mix = shown.find(isMix) ?? simple.find(isMix) ?? shown.at(-1);
     timeline.move(mix ? mix.from : 0, { keep: true });

@@ -88,8 +88,8 @@ const logfile = (() => {
     return [...counts].sort((a, b) => b[1] - a[1]);
   }
 
-  /* Returns what each slot brought of a programme, if these slots are lost. */
-  function codes({ words, missing, count }, pi, lost) {
+  /* Returns the code of each slot for a programme. */
+  function codes({ words, missing, count }, pi) {
     const all = new Uint8Array(count), group = [0, 0];
     for (let slot = 0; slot < count; slot++) {
       if (missing[slot]) continue;
@@ -97,7 +97,6 @@ const logfile = (() => {
       group[1] = words[4 * slot + 1];
       all[slot] = lines.markedCodeOf(group, pi);
     }
-    for (const slot of lost) if (slot < count) all[slot] = lines.NOTHING;
     return all;
   }
 

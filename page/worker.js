@@ -12,7 +12,7 @@
   }
 
   /* Reads the bytes of a log: enough to audit it. A blob is handed over without a copy. */
-  async function keep({ blob }) { Object.assign(state, { bytes: new Uint8Array(await blob.arrayBuffer()), known: {} }); }
+  async function keep({ blob }) { Object.assign(state, { bytes: new Uint8Array(await blob.arrayBuffer()), known: {}, all: null }); }
 
   /* Reads a log. */
   async function read({ blob }, tell) {
@@ -33,7 +33,9 @@
   function withoutDwell({ pi, lost }, bytes) {
     const key = `${pi} ${lost.join(" ")}`, { log } = state;
     if (state.known.key === key) return {};
-    const alone = flagAlone.ofLog(pi, bytes, log).parts, codes = logfile.codes(log, parseInt(pi, 16), lost);
+    if (state.all?.pi !== pi) state.all = { pi, codes: logfile.codes(log, parseInt(pi, 16)) };
+    const alone = flagAlone.ofLog(pi, bytes, log).parts, codes = state.all.codes.slice();
+    for (const slot of lost) if (slot < log.count) codes[slot] = lines.NOTHING;
     state.known = { key };
     return { alone, codes, sums: lines.sums(codes) };
   }
@@ -45,13 +47,16 @@
     return { ...got, view: view.parts, ...withoutDwell({ pi, lost }, bytes) };
   }
 
+  /* Decodes once: the browser compiles the program better once it has run, and makes room for the log. */
+  const warm = ({ pi, m }) => { run(["decode", "--pi", pi, "--m", m], state.bytes); return null; };
+
   const audit = ({ pi, m, k }) => run(["audit", "--pi", pi, "--m", m, "--k", k], state.bytes);
   const find = (given) => witness.find(state.bytes, given);
 
   /* The log with a line for each slot that its times say it lacks. */
   const fill = ({ m }) => ({ bytes: arrivals.filled(state.bytes, state.log, m) });
 
-  const CALLS = { open, read, keep, decode, audit, witness: find, fill };
+  const CALLS = { open, read, keep, warm, decode, audit, witness: find, fill };
 
   /* Answers one message. */
   async function answerTo({ id, call, given }) {
