@@ -37,7 +37,7 @@ EXCEPTIONS = {
     # files that a command makes
     "BUILD.bazel", "page/out", "page/out/index.html", "PREFIX/lib/librdsrt.so",
     # an example of an edit's name, and of receptions
-    "crates/NAME/must-fail/what_is_wrong.edit", "G0", "G2L", "G007",
+    "crates/NAME/must-fail/what_is_wrong.edit", "G0", "G2L",
     # placeholders for a word or a number of the output
     "TYPE", "WHAT", "r7",
     # a program that a reader of a guide has
@@ -49,8 +49,8 @@ EXCEPTIONS = {
     "feed",
     # a class of Python's own library
     "queue.Queue",
-    # functions of std
-    "array::from_fn", "str::from_utf8", "Option::insert",
+    # a function of std
+    "array::from_fn",
 }
 # paragraphs that each cite one name that does not exist
 STALE = [
