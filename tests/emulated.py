@@ -12,6 +12,7 @@ import targets
 ARM = targets.ALL["aarch64"]
 COMPILER = f"{ARM.prefix}gcc"
 EMULATOR = "qemu-aarch64"
+LOADER = "ld-linux-aarch64.so.1"
 
 
 def is_there():
@@ -20,13 +21,20 @@ def is_there():
         if shutil.which(tool) is None:
             print(f"skipped: no {tool} here, so nothing is tested for 64-bit Arm")
             return False
+    if not all(os.path.isabs(place_of(it)) for it in (LOADER, "crti.o")):
+        print("skipped: no C library for 64-bit Arm here (apt-get install libc6-dev-arm64-cross)")
+        return False
     return True
+
+
+def place_of(file):
+    """Returns the path of a file of that processor's C library. Without the file, the compiler prints its bare name."""
+    return subprocess.run([COMPILER, f"-print-file-name={file}"], capture_output=True, text=True, check=True).stdout.strip()
 
 
 def runner():
     """Returns the words before a program for 64-bit Arm: the emulator, with the folder of that processor's libraries."""
-    loader = subprocess.run([COMPILER, "-print-file-name=ld-linux-aarch64.so.1"], capture_output=True, text=True, check=True)
-    return [EMULATOR, "-L", os.path.dirname(os.path.dirname(os.path.realpath(loader.stdout.strip())))]
+    return [EMULATOR, "-L", os.path.dirname(os.path.dirname(os.path.realpath(place_of(LOADER))))]
 
 
 def wrapped(program, folder):
