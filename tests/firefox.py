@@ -13,7 +13,8 @@ import struct
 import subprocess
 import tempfile
 import threading
-import time
+
+import browser
 
 NAMES = ("firefox-esr", "firefox")
 SECONDS = 60
@@ -27,7 +28,7 @@ WITH_CONTROL, WITH_SHIFT = 2, 8
 
 def program():
     """The browser of this machine; None where there is none."""
-    return next((shutil.which(name) for name in NAMES if shutil.which(name)), None)
+    return browser.first_of(NAMES)
 
 
 class Socket:
@@ -99,7 +100,7 @@ def value_of(remote):
     return value if kind in ("string", "number", "boolean") else None
 
 
-class Browser:
+class Browser(browser.Driven):
     def __init__(self, width=1280, height=900):
         self.folder = tempfile.mkdtemp(prefix="rdsrt-page-")
         self.number, self.events = 0, []
@@ -155,15 +156,6 @@ class Browser:
             raise RuntimeError(got["exceptionDetails"]["text"])
         return value_of(got["result"])
 
-    def until(self, text, seconds=30):
-        """Waits until the expression holds; answers whether it came to that."""
-        end = time.time() + seconds
-        while time.time() < end:
-            if self.run(text):
-                return True
-            time.sleep(0.05)
-        return False
-
     def act(self, kind, actions, **more):
         self.ask("input.performActions", context=self.context, actions=[{"type": kind, "id": kind, "actions": actions, **more}])
 
@@ -185,9 +177,6 @@ class Browser:
         shot = self.ask("browsingContext.captureScreenshot", context=self.context, origin="document")
         with open(path, "wb") as file:
             file.write(base64.b64decode(shot["data"]))
-
-    def told(self, method):
-        return [it["params"] for it in self.events if it.get("method") == method]
 
     def complaints(self):
         """What the browser's console has of errors and warnings."""
