@@ -7,13 +7,13 @@ const logText = (() => {
   const decoder = new TextDecoder("utf-8", { ignoreBOM: true });
   const state = { bytes: new Uint8Array(0), at: 0, number: 1, isLong: false };
 
-  /* Shows a log. */
-  function open(bytes) {
+  /* Shows a log of these bytes. A short one has this text. */
+  function open(bytes, text) {
     const isLong = bytes.length > MOST;
     Object.assign(state, { bytes, isLong, at: 0, number: 1 });
     $("log-text").readOnly = isLong;
     $("log-text-part").hidden = !isLong;
-    parts.fill("log-text", isLong ? "" : decoder.decode(bytes));
+    parts.fill("log-text", isLong ? "" : text);
     layOut();
   }
 

@@ -45,7 +45,7 @@ class LogWorker {
 
   /* Drops all that was asked: its callers get no answer. */
   drop() {
-    if (![...this.waiting.values()].length) return;
+    if (!this.waiting.size) return;
     const { waiting } = this;
     this.worker.terminate();
     this.start();

@@ -62,7 +62,7 @@ const logTab = (() => {
     if (m) $("log-m").value = m;
     if (k !== undefined) $("log-k").value = k;
     state.text = bytes.length > links.MOST_PLAIN ? null : decoder.decode(bytes);
-    logText.open(bytes);
+    logText.open(bytes, state.text);
     return working(read(pi));
   }
 
@@ -75,9 +75,8 @@ const logTab = (() => {
     const opened = await workers.whole.ask("open", { blob }, (share) => { $("log-progress").value = share; });
     done();
     if (state.opening !== opening || !opened) return;
-    const { count, missing } = opened.log;
-    let groups = 0;
-    for (let slot = 0; slot < count; slot++) groups += missing[slot] ? 0 : 1;
+    // each programme with the number of its whole groups
+    const groups = opened.programmes.reduce((sum, [, number]) => sum + number, 0);
     Object.assign(state, opened, { groups });
     offerProgrammes(pi);
     await look({ fit: true });
@@ -197,7 +196,8 @@ const logTab = (() => {
     if (!no) return;
     const end = (slots) => ({ slots, bytes: slots < log.count ? log.starts[slots] : bytes.length });
     const near = end(Math.min(log.count, no.slot + NEAR * m)), far = end(Math.min(log.count, near.slots + FAR));
-    const found = await workers.search.askNewest("witness", { pi: asked.pi, m, near, far });
+    const found = await workers.search.askNewest("witness", { pi: asked.pi, m, near, far })
+      .catch((error) => ({ lost: null, shown: [], failure: error.message }));
     if (state.turn !== turn || !found) return;
     state.witness = found;
     verdict.showWitness(found, does);

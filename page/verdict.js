@@ -138,10 +138,10 @@ const verdict = (() => {
     $("verdict").replaceChildren(make("h2", { textContent: heading }), make("p", { textContent: sentence }));
   }
 
-  /* Shows the lost slots that make a mix, or that there are none. */
-  function showWitness({ slot, lost, shown, upto }, does) {
-    const isDone = upto === null || upto === undefined;
-    const none = isDone ? NO_WITNESS : ` up to slot ${number(upto)}${STOPPED}`;
+  /* Shows the lost slots that make a mix, or why there are none. */
+  function showWitness({ slot, lost, shown, upto = null, failure = "" }, does) {
+    const searched = upto === null ? NO_WITNESS : ` up to slot ${number(upto)}${STOPPED}`;
+    const none = failure ? `: ${failure}. A no says that a rule was broken.` : searched;
     if (!lost || !shown.length) { $("witness")?.replaceChildren(make("b", { textContent: "No witness" }), none); return; }
     const [first, last] = lost, slots = first === last ? `slot ${first}` : `slots ${first} to ${last}`;
     const what = make("code", { textContent: shown.join("; ") }), doSo = button(`Lose ${slots}`, () => does.lose(slot, first, last));

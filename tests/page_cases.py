@@ -1492,6 +1492,9 @@ def witnesses(b):
         check(f"witness of log {number}, M {m}", [f"lose {slots}: {line}" for line in its["shown"]] or ["no witness found with one burst lost"], told)
         found += bool(its["shown"])
     check("witnesses were found", found > 5, True)
+    verdict_of(b, example("flags.log").decode(), 8)
+    b.run("verdict.showWitness({ lost: null, shown: [], failure: 'no memory for this input' }, {})")
+    check("a search that fails", text_of(b, "#witness"), "No witness: no memory for this input. A no says that a rule was broken.")
     # one text of one segment, whose flag turns each time, makes no mix
     harmless = "".join(f"C201 21{flag}0 4849 0D20\n" for flag in (4, 5, 4)) + f"{NOTHING}\n" * 60
     said = verdict_of(b, harmless + example("flags.log").decode(), 8)
