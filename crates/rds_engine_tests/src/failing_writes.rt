@@ -6,7 +6,7 @@ use crate::scripts::{ENCODED, ENCODED_LOG, SIMULATED, SIMULATED_OUTPUT, config};
 use rds_charset::Told;
 use rds_fields::{Dwell, Late};
 use rds_log::{audit, decode};
-use rds_output::LogFault;
+use rds_view_lines::LogFault;
 use rds_script::{encode, simulate};
 use std::alloc::Global;
 use std::cell::Cell;

@@ -6,7 +6,7 @@ use arrayvec::ArrayVec;
 use rds_block::Place;
 use rds_charset::Told;
 use rds_fields::{Dwell, Head, Late};
-use rds_output::LogFault;
+use rds_view_lines::LogFault;
 use rds_script::{encode, encode_within, simulate, simulate_within};
 use rds_world::Config;
 use std::alloc::{AllocError, Global};

@@ -6,7 +6,7 @@ use rds_block::Place;
 use rds_charset::{TellingRead, Told};
 use rds_fields::{Dwell, Head, Late};
 use rds_log::audit;
-use rds_output::LogFault;
+use rds_view_lines::LogFault;
 use rds_script::{encode, simulate};
 use rds_world::Config;
 use std::alloc::Global;

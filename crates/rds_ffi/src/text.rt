@@ -47,7 +47,7 @@ pub extern "C" fn rdsrt_text_to_utf8(text: &[u8], into: &mut [u8], count: &mut u
         return codes::NO_ROOM;
     }
     into[..needed].copy_from_slice(line.as_slice());
-    codes::DONE
+    codes::OK
 }
 
 /// Reads a text in its printed form into the front of the slice, and gives the number of its bytes.
@@ -75,7 +75,7 @@ pub extern "C" fn rdsrt_text_from_utf8(utf8: &[u8], into: &mut [u8], count: &mut
         return codes::NOT_UTF8;
     };
     let (code, number) = match read_text(text, into) {
-        Ok(read) => (codes::DONE, read),
+        Ok(read) => (codes::OK, read),
         Err(TextFault::BadEscape(place)) => (codes::BAD_ESCAPE, place),
         Err(TextFault::NoSuchCharacter(place)) => (codes::NO_CHARACTER, place),
         Err(TextFault::NoRoom) => return codes::NO_ROOM,

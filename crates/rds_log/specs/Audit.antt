@@ -19,8 +19,8 @@ use Rattle.rds_audit.specs.AuditState.{AuditState}
 use Rattle.rds_log.specs.LogLines.{AreLines, Line}
 use Rattle.rds_log.specs.LogWrites.{AreSlots}
 use Rattle.rds_log.specs.Reads.{BeginsWith, NextIsBad, ReadsUpTo}
-use Rattle.rds_output.specs.declared.fault.LogFault.{LogFault}
-use Rattle.rds_output.specs.declared.fault.LogFault.TheVariants.{BadLine, BadRow, Read, Write, TooLong, Memory}
+use Rattle.rds_view_lines.specs.declared.fault.LogFault.{LogFault}
+use Rattle.rds_view_lines.specs.declared.fault.LogFault.TheVariants.{BadLine, BadRow, Read, Write, TooLong, Memory}
 use Rattle.rds_log.specs.declared.verdict.Verdict.{Verdict}
 use Rattle.rds_log.specs.declared.verdict.Verdict.TheVariants.{Yes, No}
 

@@ -5,14 +5,14 @@ ghost use Rattle.rds_charset.specs.Told.{IsCalm, Traffic, traffic};
 ghost use Rattle.rds_receiver.specs.Receipts.{Tuning};
 ghost use Rattle.rds_log.specs.LogLines.{Line};
 ghost use Rattle.rds_log.specs.LineSays.{LineSays};
-ghost use Rattle.rds_output.specs.declared.change.TheConstants.{SLOT_ROOM};
+ghost use Rattle.rds_view_lines.specs.declared.change.TheConstants.{SLOT_ROOM};
 ghost use Rattle.rds_log.specs.declared.decoder.TheConstants.{OUTPUT_ROOM};
 
 use crate::log_line::LogLine;
 use crate::view_lines::ViewLines;
 use rds_charset::{Lines, TellingWrite, WriteFault, put};
 use rds_fields::Dwell;
-use rds_output::SLOT_ROOM;
+use rds_view_lines::SLOT_ROOM;
 
 /// How many bytes of output are put together before they are written.
 const OUTPUT_ROOM: usize = 8192;

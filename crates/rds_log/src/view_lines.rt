@@ -1,12 +1,12 @@
 //! The output lines for what a receiver shows.
 ghost use Rattle.std.specs.Prelude.{◌≡◌, ◌≤◌, ◌<◌, ◌+◌, ◌-◌, ◌^◌, ◌++◌, ℕ, List, [], ◌∷◌, Option, length};
 ghost use Rattle.rds_block.specs.declared.group.Group.{Group};
-ghost use Rattle.rds_output.specs.declared.change.TheConstants.{SLOT_ROOM};
+ghost use Rattle.rds_view_lines.specs.declared.change.TheConstants.{SLOT_ROOM};
 
 use rds_block::Blocks;
 use rds_charset::Lines;
 use rds_fields::Dwell;
-use rds_output::{KeptView, Stamp, show};
+use rds_view_lines::{KeptView, Stamp, show};
 use rds_receiver::Receiver;
 
 /// Feeds a receiver slot by slot, and gives a line for each part of its view that changed.

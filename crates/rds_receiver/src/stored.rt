@@ -55,7 +55,7 @@ fn is_same(segment: &[u8], bytes: &[u8; 4]) -> bool
 #[repr(C)]
 #[derive(Clone, Copy)]
 pub struct StoredReceiver {
-    pub programme: u16,
+    pub pi: u16,
     /// In slots.
     pub dwell: u16,
     pub text: StoredSegments,
@@ -80,7 +80,7 @@ impl StoredReceiver {
         let Some(group) = group else {
             return self.grow_older();
         };
-        if group.pi() != self.programme {
+        if group.pi() != self.pi {
             return self.grow_older();
         }
         self.rest_group(group)
@@ -89,7 +89,7 @@ impl StoredReceiver {
     /// [`rest`](Self::rest) in a slot in which a group of the programme came.
     #[inline(always)]
     fn rest_group(&mut self, group: Blocks) -> bool
-        ensures programme { self.new.programme ≡ self.old.programme }
+        ensures programme { self.new.pi ≡ self.old.pi }
         ensures holds { IsTrue result → (message : Message) × Spells message group
             × GoesOn (receiver_stored self.old) (receiver_stored self.new) (Some message) }
         ensures same { IsTrue result → ShowsAlike (receiver_stored self.old) (receiver_stored self.new) }
@@ -114,7 +114,7 @@ impl StoredReceiver {
     /// One slot older, in which a segment of a text came that is held; else false, and no change.
     fn rest_text(&mut self, flag: bool, address: u8, bytes: [u8; 4]) -> bool
         requires { address < 16 }
-        ensures programme { self.new.programme ≡ self.old.programme }
+        ensures programme { self.new.pi ≡ self.old.pi }
         ensures holds { IsTrue result → GoesOn (receiver_stored self.old) (receiver_stored self.new)
             (Some (Message.Text flag address bytes)) }
         ensures same { IsTrue result → ShowsAlike (receiver_stored self.old) (receiver_stored self.new) }
@@ -134,7 +134,7 @@ impl StoredReceiver {
     /// One slot older, in which a segment of a name came that is held; else false, and no change.
     fn rest_name(&mut self, flag: bool, address: u8, bytes: [u8; 4]) -> bool
         requires { address < 16 }
-        ensures programme { self.new.programme ≡ self.old.programme }
+        ensures programme { self.new.pi ≡ self.old.pi }
         ensures holds { IsTrue result → GoesOn (receiver_stored self.old) (receiver_stored self.new)
             (Some (Message.Name flag address bytes)) }
         ensures same { IsTrue result → ShowsAlike (receiver_stored self.old) (receiver_stored self.new) }
@@ -154,7 +154,7 @@ impl StoredReceiver {
     /// One slot older, in which an announcement came that says what is known of RadioText Plus, or nothing; else false,
     /// and no change.
     fn rest_announced(&mut self, code: u8, aid: u16) -> bool
-        ensures programme { self.new.programme ≡ self.old.programme }
+        ensures programme { self.new.pi ≡ self.old.pi }
         ensures holds { IsTrue result → (bits : ℕ) → GoesOn (receiver_stored self.old) (receiver_stored self.new)
             (Some (Message.Announce code bits aid)) }
         ensures same { IsTrue result → ShowsAlike (receiver_stored self.old) (receiver_stored self.new) }
@@ -181,7 +181,7 @@ impl StoredReceiver {
 
     /// One slot older, where nothing is given up by it; else false, and no change.
     fn grow_older(&mut self) -> bool
-        ensures programme { self.new.programme ≡ self.old.programme }
+        ensures programme { self.new.pi ≡ self.old.pi }
         ensures holds { IsTrue result → (m first : ℕ) (heard : List (Option Message))
             → HoldsAt m (newest_slot first heard) first (receiver_stored self.old) heard
             → HoldsAt m (first + length heard) first (receiver_stored self.new) heard }

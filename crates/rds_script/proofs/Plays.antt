@@ -15,11 +15,11 @@ use Rattle.rds_script.specs.declared.notes.BadRow.{BadRow as BadRecord}
 use Rattle.rds_script.specs.declared.notes.ScriptNotes.{ScriptNotes}
 use Rattle.rds_script.specs.declared.row_cause.RowCause.{RowCause}
 use Rattle.rds_script.specs.Play.{HasRecords, Reading, RowsWrite, WroteRows}
-use Rattle.rds_output.specs.declared.fault.LogFault.{LogFault}
-use Rattle.rds_output.specs.declared.fault.LogFault.TheVariants.{BadRow, Write}
+use Rattle.rds_view_lines.specs.declared.fault.LogFault.{LogFault}
+use Rattle.rds_view_lines.specs.declared.fault.LogFault.TheVariants.{BadRow, Write}
 use Rattle.rds_script.specs.declared.form.Form.{Form}
 use Rattle.rds_script.specs.declared.player.Player.{Player}
-use Rattle.rds_script.specs.declared.script.Script.{Script}
+use Rattle.rds_script.specs.declared.records.Script.{Script}
 
 -- a reader that gave records: the script has them
 pub has_records : {R : Type 0} {g h : _} (remaining : R → Option (List ℕ)) (known : Option (List ℕ)) (s : Script R g h) (records : List Record) → ScriptStandsAt remaining known s records → HasRecords known records

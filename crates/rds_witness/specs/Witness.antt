@@ -7,8 +7,8 @@ use Rattle.rds_charset.specs.Told.{AppendsPrefix, HasFailed, IsCalm, PutsNothing
 use Rattle.rds_charset.specs.declared.output.WriteFault.{WriteFault}
 use Rattle.rds_receiver.specs.Receipts.{Tuning}
 use Rattle.rds_log.specs.Gather.{GathersAll, GathersNone}
-use Rattle.rds_output.specs.declared.fault.LogFault.{LogFault}
-use Rattle.rds_output.specs.declared.fault.LogFault.TheVariants.{BadLine, BadRow, Read, Write, TooLong, Memory}
+use Rattle.rds_view_lines.specs.declared.fault.LogFault.{LogFault}
+use Rattle.rds_view_lines.specs.declared.fault.LogFault.TheVariants.{BadLine, BadRow, Read, Write, TooLong, Memory}
 use Rattle.rds_witness.specs.Lines.{IsAnswer}
 
 -- an answer to the log was written

@@ -20,8 +20,8 @@ mod seen;
 mod services;
 mod sweep;
 mod thing;
-mod witnessing;
+mod find_witness;
 
 pub use burst::Burst;
 pub use laws::{a_part_shows_no_more, what_a_mix_means};
-pub use witnessing::{witness, witness_with_notes};
+pub use find_witness::{witness, witness_with_notes};

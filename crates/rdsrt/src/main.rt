@@ -1,6 +1,6 @@
 //! `rdsrt`: texts of RDS, sent and received. `decode` reads what a receiver heard, and prints what it shows.
 //!
-//! The program is `rds_run`: its contract says which output each input has. `main` gives it the words of the command
+//! The program is `rds_program`: its contract says which output each input has. `main` gives it the words of the command
 //! line, standard input and standard output, whose writes are gathered: one before each read, and one at the end. Notes for
 //! a person go to standard error.
 //!
@@ -10,8 +10,8 @@
 #![tactic(auto)]
 
 use rds_charset::Told;
-use rds_host::{Prompting, Reasoned, no_words, prompt_for, texts, words_of};
-use rds_run::{Screen, run_gathered};
+use rds_io::{Prompting, Reasoned, no_words, prompt_for, texts, words_of};
+use rds_program::{Screen, run_buffered};
 use std::cell::RefCell;
 use std::io::{ErrorKind, IsTerminal};
 use std::process::ExitCode;
@@ -44,7 +44,7 @@ fn run(rt: &HostRuntime, words: &[&str]) -> u8 {
     };
     let reason = RefCell::new(None);
     let input = Prompting::new(rt.stdin(), line, Told::new(rt.stderr()));
-    run_gathered(
+    run_buffered(
         rt.alloc(),
         words,
         Reasoned::new(input, &reason),

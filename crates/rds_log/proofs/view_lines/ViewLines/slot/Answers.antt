@@ -1,5 +1,5 @@
 use Rattle.std.proofs.Common.{◌∷◌, refl}
-use Rattle.rds_output.specs.KeptView.{view_kept}
+use Rattle.rds_view_lines.specs.KeptView.{view_kept}
 use Rattle.rds_log.proofs.Views.{slot_given, slot_same}
 use Rattle.rds_log.proofs.view_lines.ViewLines.slot.Goals as goal
 

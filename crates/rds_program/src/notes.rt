@@ -1,0 +1,66 @@
+//! What a run found beside its output, for a person at a terminal.
+
+use arrayvec::ArrayVec;
+use rds_fields::Dwell;
+use rds_log::LogNotes;
+use rds_view_lines::LogFault;
+use rds_script::ScriptNotes;
+use rds_cli::Task;
+
+/// The most bytes that are kept of a refusal; more than any has whose arguments are of a usual length.
+const REFUSED_ROOM: usize = 4096;
+
+/// The most bytes that are kept of a PI code that was given.
+const PI_ROOM: usize = 60;
+
+/// How a run ended (this project's own rule).
+#[derive(Clone, Copy, Debug, PartialEq, Eq)]
+pub enum End {
+    /// No engine ran: the arguments were refused or asked for help.
+    NotRun,
+    /// The PI code is not four hexadecimal digits.
+    BadPi,
+    /// The engine ran to the end of its input.
+    Done,
+    /// The engine stopped at this fault.
+    Fault(LogFault),
+}
+
+/// What the arguments ask for beside the PI code.
+#[derive(Clone, Copy)]
+pub struct Options {
+    pub task: Task,
+    pub dwell: Dwell,
+    /// Whether warnings are left out.
+    pub quiet: bool,
+}
+
+/// What a run found beside its output (this project's own rule).
+#[derive(Drop)]
+pub struct RunNotes {
+    pub end: End,
+    /// What the arguments ask for; `None` if they were refused or ask for help.
+    pub options: Option<Options>,
+    /// The first bytes of what was given as PI code.
+    pub pi: ArrayVec<u8, PI_ROOM>,
+    /// The first bytes of the text that says why the arguments were refused.
+    pub refused: ArrayVec<u8, REFUSED_ROOM>,
+    /// Notes on the log of `decode`, `audit` and `witness`.
+    pub log: LogNotes,
+    /// Notes on the script of `encode` and `sim`.
+    pub script: ScriptNotes,
+}
+
+impl RunNotes {
+    /// Returns the notes before a run.
+    pub fn new() -> RunNotes {
+        RunNotes {
+            end: End::NotRun,
+            options: None,
+            pi: ArrayVec::new(),
+            refused: ArrayVec::new(),
+            log: LogNotes::new(0),
+            script: ScriptNotes::new(),
+        }
+    }
+}

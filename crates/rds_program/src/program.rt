@@ -1,0 +1,343 @@
+//! The whole program over its words.
+ghost use Rattle.std.specs.Prelude.{◌≡◌, ◌⊎◌, ◌≤◌, ◌+◌, ◌++◌, ℕ};
+ghost use Rattle.std.specs.Prelude.{None, codes, decimal, false, true, if◌then◌else◌, length, map};
+ghost use Rattle.rds_charset.specs.Told.{PutsNothing, Traffic, traffic};
+ghost use Rattle.rds_log.specs.LogWrites.{tuned};
+ghost use Rattle.rds_view_lines.specs.ReadFailed.{SomeReadFailed};
+ghost use Rattle.clap.specs.Words.{kind_of};
+ghost use Rattle.rds_cli.specs.CommandLine.{IsPi};
+ghost use Rattle.rds_program.specs.Run as specs;
+ghost use Rattle.rds_program.specs.Run.{EndsWith, IsUntouched, PutsAfter, PutsLine, RefusesPi, RunsFrom, RunsRead, RunsWords};
+ghost use Rattle.rds_program.specs.Run.{TaskRuns, TellsFault, done, mark_of, reader_before, status_of};
+
+use crate::notes::{End, Options, RunNotes};
+use crate::tell::tell_run;
+use clap::Error;
+use clap::error::ErrorKind;
+use rds_charset::{Lines, TellingRead, TellingWrite, put};
+use rds_fields::{Dwell, Head, Late};
+use rds_log::{audit_with_notes, decode_with_notes};
+use rds_view_lines::LogFault;
+use rds_script::{encode_with_notes, simulate_with_notes};
+use rds_witness::witness_with_notes;
+use rds_cli::{Programme, Request, Task, identification_of, read_words};
+use rds_world::Config;
+use std::alloc::Global;
+use std::cell::RefCell;
+use std::io::Write;
+
+/// The status where all was done, the audit says yes, or help was asked for.
+const DONE: u8 = 0;
+
+/// The status where the audit says no, and where a witness is found.
+const NO: u8 = 1;
+
+/// The status after a fault of the log or script, the reader or the writer, and where there is no memory.
+const FAULT: u8 = 1;
+
+/// The status where the words are refused.
+const REFUSED: u8 = 2;
+
+/// Room for the longest fault line.
+const LINE: usize = 64;
+
+/// The whole program: its words, the program's own name first, and the status that it ends with.
+///
+/// `decode` reads a log and writes what a receiver of the programme shows; `encode` and `sim` read a script
+/// and write the log of a station, or what it sends and its receivers show; `audit` reads a log and writes
+/// whether it passes, and `witness` which of its slots a receiver has to lose to show a mix. A fault is told by its
+/// line, the last that is written. Where the words are refused or ask for help, the text of `clap` is written and
+/// nothing is read: `run_with` says it of its reader. `clap`'s contract doesn't say that numbers which it took lie in
+/// their range: where one didn't, `nothing_asked` holds. Nor does it say whether `help` and a word after it give help
+/// or are refused: `not_taken` bounds the status.
+pub fn run<R: TellingRead + Drop, W: TellingWrite>(
+    alloc: Global,
+    words: &[&str],
+    mut reader: R,
+    writer: &mut W,
+) -> u8
+    ensures { RunsWords (map (λ w. w.now) words.entry.now)
+        (RunsFrom (reader_before R.remaining R.failures reader)
+        (traffic W.contents W.failures writer.old writer.new) result) (Unit {0})
+        (traffic W.contents W.failures writer.old writer.new) result }
+{
+    run_with(alloc, words, &mut reader, writer)
+}
+
+/// `run` over a reader that is lent, so that what it has left, how often it failed and how often it was asked is
+/// seen after the call too: where no engine ran, these are as they were.
+pub fn run_with<R: TellingRead, W: TellingWrite>(
+    alloc: Global,
+    words: &[&str],
+    reader: &mut R,
+    writer: &mut W,
+) -> u8
+    ensures { RunsWords (map (λ w. w.now) words.entry.now)
+        (λ task t. TaskRuns task t (traffic R.remaining R.failures reader.old reader.new)
+        (SomeReadFailed R.failures) (traffic W.contents W.failures writer.old writer.new) result)
+        (IsUntouched R.remaining R.failures R.reads reader.old reader.new)
+        (traffic W.contents W.failures writer.old writer.new) result }
+{
+    run_read(
+        alloc,
+        read_words(alloc, words),
+        reader,
+        writer,
+        &mut RunNotes::new(),
+    )
+}
+
+/// [`run_with`] with notes for a person, which go to `screen`: with them or without, it writes and returns the same.
+pub fn run_with_notes<R: TellingRead, W: TellingWrite, N: TellingWrite>(
+    alloc: Global,
+    words: &[&str],
+    reader: &mut R,
+    writer: &mut W,
+    screen: &mut N,
+) -> u8
+    ensures { RunsWords (map (λ w. w.now) words.entry.now)
+        (λ task t. TaskRuns task t (traffic R.remaining R.failures reader.old reader.new)
+        (SomeReadFailed R.failures) (traffic W.contents W.failures writer.old writer.new) result)
+        (IsUntouched R.remaining R.failures R.reads reader.old reader.new)
+        (traffic W.contents W.failures writer.old writer.new) result }
+{
+    let mut notes = RunNotes::new();
+    let status = run_read(alloc, read_words(alloc, words), reader, writer, &mut notes);
+    tell_run(&notes, &RefCell::new(None), screen);
+    status
+}
+
+/// Does what the words ask for, by what they were read as, and notes what a person may want to know.
+pub(crate) fn run_read<R: TellingRead, W: TellingWrite>(
+    alloc: Global,
+    read: Result<Option<Request<'_>>, Error>,
+    reader: &mut R,
+    writer: &mut W,
+    notes: &mut RunNotes,
+) -> u8
+    ensures { RunsRead read.entry
+        (λ task t. TaskRuns task t (traffic R.remaining R.failures reader.old reader.new)
+        (SomeReadFailed R.failures) (traffic W.contents W.failures writer.old writer.new) result)
+        (IsUntouched R.remaining R.failures R.reads reader.old reader.new)
+        (traffic W.contents W.failures writer.old writer.new) result }
+{
+    match read {
+        Ok(Some(request)) => answer(alloc, request, reader, writer, notes),
+        Ok(None) => REFUSED,
+        Err(error) => tell_error(&error, writer, notes),
+    }
+}
+
+/// Writes the text of `clap`, help or why the words are refused, as far as the writer takes it. If there was no memory,
+/// writes the fault line.
+fn tell_error<W: TellingWrite>(error: &Error, writer: &mut W, notes: &mut RunNotes) -> u8
+    ensures status { result ≡ status_of (kind_of error.now) }
+    ensures memory { kind_of error.now ≡ ErrorKind.OutOfMemory
+        → PutsLine (codes "fault memory\n") (traffic W.contents W.failures writer.old writer.new) }
+{
+    if error.kind() == ErrorKind::OutOfMemory {
+        let _ = notes.refused.write(b"rdsrt: fault memory: out of memory\n");
+        tell(b"fault memory\n", writer);
+        return FAULT;
+    }
+    let _ = write!(writer, "{error}");
+    if !error.use_stderr() {
+        return DONE;
+    }
+    let _ = write!(notes.refused, "{error}");
+    REFUSED
+}
+
+/// Does what the words ask for.
+fn answer<R: TellingRead, W: TellingWrite>(
+    alloc: Global,
+    request: Request<'_>,
+    reader: &mut R,
+    writer: &mut W,
+    notes: &mut RunNotes,
+) -> u8
+    ensures runs { (pi : ℕ) → IsPi request.entry.pi.now pi
+        → TaskRuns request.entry.task (tuned pi request.entry.dwell)
+        (traffic R.remaining R.failures reader.old reader.new) (SomeReadFailed R.failures)
+        (traffic W.contents W.failures writer.old writer.new) result }
+    ensures fault_pi { ((pi : ℕ) → IsPi request.entry.pi.now pi → ⊥)
+        → RefusesPi request.entry.task (traffic W.contents W.failures writer.old writer.new) result
+        × IsUntouched R.remaining R.failures R.reads reader.old reader.new }
+{
+    notes.options = Some(Options {
+        task: request.task,
+        dwell: request.dwell,
+        quiet: request.quiet,
+    });
+    let _ = notes.pi.write(request.pi.as_bytes());
+    let Some(pi) = identification_of(request.pi) else {
+        notes.end = End::BadPi;
+        tell_fault_text(request.task, b"fault pi", writer);
+        return REFUSED;
+    };
+    run_task(
+        alloc,
+        request.task,
+        pi,
+        request.dwell,
+        reader,
+        writer,
+        notes,
+    )
+}
+
+/// Runs the engine of the task for its programme, and tells its fault.
+fn run_task<R: TellingRead, W: TellingWrite>(
+    alloc: Global,
+    task: Task,
+    pi: u16,
+    dwell: Dwell,
+    reader: &mut R,
+    writer: &mut W,
+    notes: &mut RunNotes,
+) -> u8
+    ensures { TaskRuns task (tuned pi dwell) (traffic R.remaining R.failures reader.old reader.new)
+        (SomeReadFailed R.failures) (traffic W.contents W.failures writer.old writer.new) result }
+{
+    // a copy by a name of its own: what is matched may not be given away
+    let asked = task;
+    match task {
+        Task::Decode => {
+            let decoded = decode_with_notes(reader, writer, pi, dwell, &mut notes.log);
+            end_with(asked, decoded, writer, &mut notes.end)
+        }
+        Task::Encode(programme, late) => {
+            let station = station_of(pi, dwell, programme, late);
+            let notes_on = &mut notes.script;
+            let encoded = encode_with_notes(alloc, &mut *reader, writer, station, notes_on);
+            end_with(asked, encoded, writer, &mut notes.end)
+        }
+        Task::Simulate(programme, late) => {
+            let station = station_of(pi, dwell, programme, late);
+            let notes_on = &mut notes.script;
+            let simulated = simulate_with_notes(alloc, &mut *reader, writer, station, notes_on);
+            end_with(asked, simulated, writer, &mut notes.end)
+        }
+        Task::Audit(late) => {
+            match audit_with_notes(reader, writer, pi, dwell, late, &mut notes.log) {
+                Ok(passed) => answer_by(passed, DONE, NO, &mut notes.end),
+                Err(fault) => fail_with(asked, fault, writer, &mut notes.end),
+            }
+        }
+        Task::Witness => {
+            match witness_with_notes(alloc, reader, writer, pi, dwell, &mut notes.log) {
+                Ok(found) => answer_by(found, NO, DONE, &mut notes.end),
+                Err(fault) => fail_with(asked, fault, writer, &mut notes.end),
+            }
+        }
+    }
+}
+
+/// The station that the words ask for.
+fn station_of(pi: u16, dwell: Dwell, programme: Programme, late: Late) -> Config
+    ensures { result ≡ specs.station_of (tuned pi dwell) programme late }
+{
+    Config {
+        head: Head {
+            pi,
+            tp: programme.tp,
+            pty: programme.pty,
+        },
+        dwell,
+        late,
+    }
+}
+
+/// The status of an engine that answered yes or no.
+fn answer_by(yes: bool, if_yes: u8, if_no: u8, end: &mut End) -> u8
+    ensures { result ≡ if yes then if_yes else if_no }
+{
+    *end = End::Done;
+    if yes { if_yes } else { if_no }
+}
+
+/// The status of an engine that does all, or of its fault, which is told.
+fn end_with<W: TellingWrite>(
+    task: Task,
+    outcome: Result<(), LogFault>,
+    writer: &mut W,
+    end: &mut End,
+) -> u8
+    ensures { EndsWith done task outcome (traffic W.contents W.failures writer.old writer.new) result }
+{
+    match outcome {
+        Ok(()) => {
+            *end = End::Done;
+            DONE
+        }
+        Err(fault) => fail_with(task, fault, writer, end),
+    }
+}
+
+/// The status of a fault, which is told.
+fn fail_with<W: TellingWrite>(task: Task, fault: LogFault, writer: &mut W, end: &mut End) -> u8
+    ensures status { result ≡ 1 }
+    ensures told { PutsAfter task fault (traffic W.contents W.failures writer.old writer.new) }
+{
+    *end = End::Fault(fault);
+    tell_fault(task, fault, writer);
+    FAULT
+}
+
+/// Writes the line of the fault as far as the writer takes it; after a failed write nothing.
+fn tell_fault<W: TellingWrite>(task: Task, fault: LogFault, writer: &mut W)
+    ensures { PutsAfter task fault (traffic W.contents W.failures writer.old writer.new) }
+{
+    match fault {
+        LogFault::BadLine(number) => tell_numbered(task, b"fault line ", number, writer),
+        LogFault::BadRow(number) => tell_numbered(task, b"fault row ", number, writer),
+        LogFault::Read => tell_fault_text(task, b"fault read", writer),
+        LogFault::Write => {}
+        LogFault::TooLong => tell_fault_text(task, b"fault too long", writer),
+        LogFault::Memory => tell_fault_text(task, b"fault memory", writer),
+    }
+}
+
+/// Writes the line of a fault at a numbered line or row.
+fn tell_numbered<W: TellingWrite>(task: Task, text: &[u8], number: u64, writer: &mut W)
+    requires { length text.now ≤ 32 }
+    ensures { TellsFault task (text.now ++ decimal number)
+        (traffic W.contents W.failures writer.old writer.new) }
+{
+    let mut line = Lines::<LINE>::new();
+    line.push(mark(task));
+    line.push(text);
+    line.push_number(number);
+    line.push(b"\n");
+    tell(line.bytes(), writer);
+}
+
+/// Writes the line of a fault.
+fn tell_fault_text<W: TellingWrite>(task: Task, text: &[u8], writer: &mut W)
+    requires { length text.now ≤ 32 }
+    ensures { TellsFault task text.now (traffic W.contents W.failures writer.old writer.new) }
+{
+    let mut line = Lines::<LINE>::new();
+    line.push(mark(task));
+    line.push(text);
+    line.push(b"\n");
+    tell(line.bytes(), writer);
+}
+
+/// What stands before a fault's line: the log that `encode` writes has it as a note.
+fn mark(task: Task) -> &'static [u8]
+    ensures mark { result.now ≡ mark_of task }
+    ensures short { length result.now ≤ 2 }
+{
+    match task {
+        Task::Encode(..) => b"# ",
+        Task::Decode | Task::Simulate(..) | Task::Audit(_) | Task::Witness => b"",
+    }
+}
+
+/// Writes a line as far as the writer takes it.
+fn tell<W: TellingWrite>(line: &[u8], writer: &mut W)
+    ensures { PutsLine line.now (traffic W.contents W.failures writer.old writer.new) }
+{
+    let _ = put(line, writer);
+}

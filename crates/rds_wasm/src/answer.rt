@@ -1,0 +1,42 @@
+//! The program over words that come as one text.
+ghost use Rattle.std.specs.Str.{IsUtf8};
+ghost use Rattle.rds_charset.specs.Told.{PutsNothing, traffic};
+ghost use Rattle.rds_wasm.specs.Page.{Prints, Refuses, words_in};
+
+use crate::slice_reader::SliceReader;
+use crate::words::words_in;
+use rds_charset::{TellingWrite, put};
+use rds_program::run_with_notes;
+use std::alloc::Global;
+
+/// The status where the words are no text.
+const REFUSED: u8 = 2;
+
+/// The status where there is no memory for the words.
+const FAULT: u8 = 1;
+
+/// Runs the program over its words, one a line, and over bytes in memory. Its notes go to `screen`.
+pub fn answer<W: TellingWrite, N: TellingWrite>(
+    alloc: Global,
+    words: &[u8],
+    input: &[u8],
+    writer: &mut W,
+    screen: &mut N,
+) -> u8
+    ensures text { IsUtf8 words.now → Prints (words_in words.now) input.now
+        (traffic W.contents W.failures writer.old writer.new) result }
+    ensures no_text { (IsUtf8 words.now → ⊥)
+        → Refuses (traffic W.contents W.failures writer.old writer.new) result }
+    ensures unnoted { (IsUtf8 words.now → ⊥)
+        → PutsNothing (traffic N.contents N.failures screen.old screen.new) }
+{
+    let Ok(text) = str::from_utf8(words) else {
+        return REFUSED;
+    };
+    let Ok(words) = words_in(alloc, text) else {
+        let _ = put(b"fault memory\n", writer);
+        return FAULT;
+    };
+    let mut given = SliceReader::new(input);
+    run_with_notes(alloc, words.as_slice(), &mut given, writer, screen)
+}
