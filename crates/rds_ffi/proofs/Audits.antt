@@ -7,7 +7,7 @@ use Rattle.rds_audit.specs.AuditStandsAt.{AuditStandsAt, WhereTheAuditStands}
 use Rattle.rds_audit.specs.AuditState.{AuditState}
 use Rattle.rds_audit.specs.Rules.{IsFaultOf, LogPasses}
 use Rattle.rds_audit.specs.Stored.{IsStored, audit_stored}
-use Rattle.rds_audit.specs.declared.audit_fault.AuditFault.{AuditFault}
+use Rattle.rds_audit.specs.declared.audit.AuditFault.{AuditFault}
 use Rattle.rds_audit.specs.declared.stored.StoredAudit.{StoredAudit}
 use Rattle.rds_ffi.specs.AuditInMemory.{AuditInMemory, Tells, WhereItHeard, fault_in}
 use Rattle.rds_ffi.specs.Codes.{code_of}

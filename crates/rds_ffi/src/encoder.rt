@@ -3,7 +3,7 @@ ghost use Rattle.std.specs.Prelude.{◌≡◌, ◌≢◌, ◌+◌, ◌<◌, ◌�
 ghost use Rattle.rds_block.specs.declared.group.Group.{Group};
 ghost use Rattle.rds_fields.specs.declared.head.Head.{Head};
 ghost use Rattle.rds_fields.specs.Stored.{is_set};
-ghost use Rattle.rds_assembly.specs.declared.refused.TextRefused.{TextRefused};
+ghost use Rattle.rds_assembly.specs.declared.text.TextRefused.{TextRefused};
 ghost use Rattle.rds_assembly.specs.Body.{name_body};
 ghost use Rattle.rds_assembly.specs.Value.{IsGivenName, IsRefusedFor, IsText, is_name_byte, is_text_byte};
 ghost use Rattle.rds_encoder.specs.Entries.{Entry, Restart, SetName, SetTags, SetText, Tick, name_moves, text_moves};

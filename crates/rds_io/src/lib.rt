@@ -8,7 +8,7 @@ mod reason;
 mod status;
 mod words;
 
-pub use buffer::{FlushBeforeRead, OutputBuffer, BufferedWriter, Buffer, send};
+pub use buffer::{Buffer, BufferedWriter, FlushBeforeRead, OutputBuffer, send};
 pub use prompt::{Prompting, prompt_for};
 pub use reason::{Reason, Reasoned};
 pub use status::{no_words, status_at_end};

@@ -12,7 +12,7 @@ ghost use Rattle.rds_log.specs.LogWrites.{LogWrites};
 ghost use Rattle.rds_log.specs.Decode.{DecodesAll};
 ghost use Rattle.rds_log.specs.declared.log_line.LogLine.{LogLine};
 ghost use Rattle.rds_log.specs.declared.verdict.Verdict.{Verdict};
-ghost use Rattle.rds_audit.specs.declared.audit_fault.AuditFault.{AuditFault};
+ghost use Rattle.rds_audit.specs.declared.audit.AuditFault.{AuditFault};
 
 use rds_audit::{one_fault, passes_by_plans, what_passes_is_safe};
 

@@ -13,8 +13,8 @@
 
 mod audit_log;
 mod cutter;
-mod decoder;
 mod decode_log;
+mod decoder;
 mod gather_log;
 mod heard;
 mod laws;

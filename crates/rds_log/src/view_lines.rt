@@ -6,8 +6,8 @@ ghost use Rattle.rds_view_lines.specs.declared.change.TheConstants.{SLOT_ROOM};
 use rds_block::Blocks;
 use rds_charset::Lines;
 use rds_fields::Dwell;
-use rds_view_lines::{KeptView, Stamp, show};
 use rds_receiver::Receiver;
+use rds_view_lines::{KeptView, Stamp, show};
 
 /// Feeds a receiver slot by slot, and gives a line for each part of its view that changed.
 #[derive(Drop)]

@@ -8,7 +8,7 @@ use Rattle.clap.specs.declared.error.kind.ErrorKind.{ErrorKind}
 use Rattle.clap.specs.declared.error.kind.ErrorKind.TheVariants.{OutOfMemory}
 use Rattle.rds_charset.specs.Puts.{Puts}
 use Rattle.rds_charset.specs.Told.{HasFailed, PutsNothing, Traffic}
-use Rattle.rds_charset.specs.declared.output.WriteFault.{WriteFault}
+use Rattle.rds_charset.specs.declared.told.WriteFault.{WriteFault}
 use Rattle.rds_receiver.specs.Receipts.{Tuning}
 use Rattle.rds_world.specs.declared.world.Config.{Config}
 use Rattle.rds_log.specs.Audit.{Audits}

@@ -2,13 +2,13 @@
 //! with. The contract of `run` says which output each input has.
 #![tactic(auto)]
 
-mod terminal;
 mod notes;
 mod program;
 mod tell;
+mod terminal;
 
-pub use terminal::{Screen, run_buffered};
 pub use program::{run, run_with, run_with_notes};
+pub use terminal::{Screen, run_buffered};
 
 #[cfg(test)]
 mod tests;

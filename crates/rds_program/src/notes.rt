@@ -1,11 +1,11 @@
 //! What a run found beside its output, for a person at a terminal.
 
 use arrayvec::ArrayVec;
+use rds_cli::Task;
 use rds_fields::Dwell;
 use rds_log::LogNotes;
-use rds_view_lines::LogFault;
 use rds_script::ScriptNotes;
-use rds_cli::Task;
+use rds_view_lines::LogFault;
 
 /// The most bytes that are kept of a refusal; more than any has whose arguments are of a usual length.
 const REFUSED_ROOM: usize = 4096;

@@ -4,12 +4,12 @@ use crate::notes::{End, RunNotes};
 use arrayvec::ArrayVec;
 use rds_audit::AuditFault;
 use rds_charset::{TellingWrite, put};
+use rds_cli::Task;
 use rds_encoder::Refusal;
 use rds_io::Reason;
 use rds_log::{BadStart, NoNote};
-use rds_view_lines::LogFault;
 use rds_script::Thing;
-use rds_cli::Task;
+use rds_view_lines::LogFault;
 use std::io::{ErrorKind, Write};
 
 /// The most bytes of a note; more than any note has.

@@ -3,9 +3,9 @@
 use crate::notes::{End, Options, RunNotes};
 use crate::tell::tell_run;
 use rds_charset::Told;
+use rds_cli::Task;
 use rds_fields::Dwell;
 use rds_view_lines::LogFault;
-use rds_cli::Task;
 use std::cell::RefCell;
 use std::test::Fail;
 

@@ -8,6 +8,7 @@ ghost use Rattle.rds_fields.specs.Stored.{is_set};
 ghost use Rattle.rds_receiver.specs.Tags.{says_of_rtplus};
 ghost use Rattle.rds_receiver.specs.Stored.{IsStored, receiver_stored, segments_stored};
 
+use rds_assembly::LONGEST_TEXT;
 use rds_block::Blocks;
 use rds_fields::{Message, RTPLUS_AID, RTPLUS_CODE, StoredPair};
 
@@ -16,7 +17,7 @@ use rds_fields::{Message, RTPLUS_AID, RTPLUS_CODE, StoredPair};
 #[repr(C)]
 #[derive(Clone, Copy)]
 pub struct StoredSegments {
-    pub bytes: [u8; 64],
+    pub bytes: [u8; LONGEST_TEXT],
     pub mask: u16,
     /// The slots since the newest came; the dwell where nothing is held.
     pub age: u16,

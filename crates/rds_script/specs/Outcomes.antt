@@ -11,8 +11,8 @@ use Rattle.rds_world.specs.declared.world.Config.{Config}
 use Rattle.rds_fields.specs.declared.pair.Which.{Which}
 use Rattle.rds_fields.specs.declared.pair.Which.TheVariants.{One, Two}
 use Rattle.rds_encoder.specs.Sent.{IsSent}
-use Rattle.rds_encoder.specs.declared.refusal.Refusal.{Refusal}
-use Rattle.rds_encoder.specs.declared.refusal.Refusal.TheVariants.{Silent, Held, NoText, OutOfText}
+use Rattle.rds_encoder.specs.declared.reply.Refusal.{Refusal}
+use Rattle.rds_encoder.specs.declared.reply.Refusal.TheVariants.{Silent, Held, NoText, OutOfText}
 use Rattle.rds_receiver.specs.Shown.{ShownView}
 use Rattle.rds_world.specs.declared.event.Command.{Command}
 use Rattle.rds_world.specs.declared.event.Command.TheVariants.{Quiet, Restart, SetText, SetName, SetTags}

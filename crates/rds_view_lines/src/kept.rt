@@ -5,13 +5,11 @@ ghost use Rattle.rds_receiver.specs.Borrowed.{borrowed_tag};
 ghost use Rattle.rds_view_lines.specs.KeptView.{tag_kept, text_kept};
 
 use arrayvec::ArrayVec;
+use rds_assembly::LONGEST_TEXT;
 use rds_receiver::View;
 
-/// The most bytes that a text has.
-const LONGEST: usize = 64;
-
 /// A copy of the bytes of a text, a name or a piece.
-pub type Bytes = ArrayVec<u8, LONGEST>;
+pub type Bytes = ArrayVec<u8, LONGEST_TEXT>;
 
 /// A copy of a view.
 #[derive(Default, Drop)]

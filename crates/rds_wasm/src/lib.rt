@@ -2,8 +2,8 @@
 #![tactic(auto)]
 
 mod answer;
-mod slice_reader;
 mod sheet;
+mod slice_reader;
 mod words;
 
 ghost use Rattle.rds_wasm.specs.Page.{Begun, RunsInPage};

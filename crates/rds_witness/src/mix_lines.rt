@@ -13,8 +13,8 @@ use crate::thing::{Thing, shows};
 use rds_block::Group;
 use rds_charset::Lines;
 use rds_fields::{Dwell, Which};
-use rds_view_lines::{push_class, push_quoted};
 use rds_receiver::View;
+use rds_view_lines::{push_class, push_quoted};
 
 /// Room for the lines of the four things of a slot.
 pub(crate) const ROOM: usize = 2048;

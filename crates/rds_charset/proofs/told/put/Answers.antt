@@ -1,7 +1,7 @@
 use Rattle.std.proofs.Common.{ℕ, arith, length-drop, ◌∙◌}
 use Rattle.std.proofs.lemmas.List.{length-take}
 use Rattle.rds_charset.proofs.Appending.{Appends-take}
-use Rattle.rds_charset.proofs.output.put.Goals as goal
+use Rattle.rds_charset.proofs.told.put.Goals as goal
 
 pub loop-sent-preserved : goal.loop-sent-preserved
 loop-sent-preserved g c = record {

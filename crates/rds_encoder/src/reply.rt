@@ -1,4 +1,5 @@
-//! Why a set is refused.
+//! The reply to a set: why it is refused, and for how many slots.
+
 use rds_fields::Which;
 use thiserror::Error;
 
@@ -17,4 +18,15 @@ pub enum Refusal {
     /// This tag does not end in the text on air.
     #[error("the {0} tag does not end in the text")]
     OutOfText(Which),
+}
+
+/// For how many slots more a set would be refused; 0 where it would not.
+#[derive(Clone, Copy, Debug, PartialEq, Eq)]
+pub struct Wait {
+    /// Every set, since the encoder is silent after a restart.
+    pub silent: u32,
+    /// A text, since the one before holds it back.
+    pub text: u32,
+    /// A name, since the one before holds it back.
+    pub name: u32,
 }
