@@ -18,9 +18,7 @@ ghost use Rattle.rds_safety.specs.Marks.{marks, name_mark, text_mark};
 use crate::audited::{Names, Texts};
 use crate::reigns::Reigns;
 use crate::stored::StoredAudit;
-use crate::{
-    AuditFault, one_fault, passes_by_plans, what_passes_is_safe, what_passes_is_safe_by_the_flag,
-};
+use crate::{one_fault, passes_by_plans, what_passes_is_safe, what_passes_is_safe_by_the_flag};
 use rds_block::{Blocks, Group};
 use rds_encoder::Distance;
 use rds_fields::{Dwell, Late, Message};

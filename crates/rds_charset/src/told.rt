@@ -65,6 +65,13 @@ impl<T> Told<T> {
         }
     }
 
+    /// Returns the reader or the writer.
+    pub fn inner(&self) -> &T
+        ensures { result.now ≡ inner_of self.now }
+    {
+        &self.inner
+    }
+
     /// How many calls of `read_one` and `write_one` failed.
     pub fn failures(&self) -> u64
         ensures { result ≡ failures_of self.now }

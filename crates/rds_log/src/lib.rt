@@ -23,7 +23,6 @@ mod log_line;
 mod notes;
 mod source;
 mod verdict;
-mod view_lines;
 
 pub use audit_log::{audit, audit_with_notes, audit_within};
 pub use decode_log::{decode, decode_with_notes, decode_within};

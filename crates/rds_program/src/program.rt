@@ -11,6 +11,7 @@ ghost use Rattle.rds_program.specs.Run.{EndsWith, IsUntouched, PutsAfter, PutsLi
 ghost use Rattle.rds_program.specs.Run.{TaskRuns, TellsFault, done, mark_of, reader_before, status_of};
 
 use crate::notes::{End, Options, RunNotes};
+use crate::status::{FAULT, NO, OK, REFUSED, write_no_memory};
 use crate::tell::tell_run;
 use clap::Error;
 use clap::error::ErrorKind;
@@ -26,20 +27,8 @@ use std::alloc::Global;
 use std::cell::RefCell;
 use std::io::Write;
 
-/// The status where all was done, the audit says yes, or help was asked for.
-const DONE: u8 = 0;
-
-/// The status where the audit says no, and where a witness is found.
-const NO: u8 = 1;
-
-/// The status after a fault of the log or script, the reader or the writer, and where there is no memory.
-const FAULT: u8 = 1;
-
-/// The status where the words are refused.
-const REFUSED: u8 = 2;
-
-/// Room for the longest fault line.
-const LINE: usize = 64;
+/// The most bytes of a fault line.
+const FAULT_LINE: usize = 64;
 
 /// The whole program: its words, the program's own name first, and the status that it ends with.
 ///
@@ -137,12 +126,12 @@ fn tell_error<W: TellingWrite>(error: &Error, writer: &mut W, notes: &mut RunNot
 {
     if error.kind() == ErrorKind::OutOfMemory {
         let _ = notes.refused.write(b"rdsrt: fault memory: out of memory\n");
-        tell(b"fault memory\n", writer);
+        write_no_memory(writer);
         return FAULT;
     }
     let _ = write!(writer, "{error}");
     if !error.use_stderr() {
-        return DONE;
+        return OK;
     }
     let _ = write!(notes.refused, "{error}");
     REFUSED
@@ -220,13 +209,13 @@ fn run_task<R: TellingRead, W: TellingWrite>(
         }
         Task::Audit(late) => {
             match audit_with_notes(reader, writer, pi, dwell, late, &mut notes.log) {
-                Ok(passed) => answer_by(passed, DONE, NO, &mut notes.end),
+                Ok(passed) => answer_by(passed, OK, NO, &mut notes.end),
                 Err(fault) => fail_with(asked, fault, writer, &mut notes.end),
             }
         }
         Task::Witness => {
             match witness_with_notes(alloc, reader, writer, pi, dwell, &mut notes.log) {
-                Ok(found) => answer_by(found, NO, DONE, &mut notes.end),
+                Ok(found) => answer_by(found, NO, OK, &mut notes.end),
                 Err(fault) => fail_with(asked, fault, writer, &mut notes.end),
             }
         }
@@ -268,7 +257,7 @@ fn end_with<W: TellingWrite>(
     match outcome {
         Ok(()) => {
             *end = End::Done;
-            DONE
+            OK
         }
         Err(fault) => fail_with(task, fault, writer, end),
     }
@@ -304,7 +293,7 @@ fn tell_numbered<W: TellingWrite>(task: Task, text: &[u8], number: u64, writer: 
     ensures { TellsFault task (text.now ++ decimal number)
         (traffic W.contents W.failures writer.old writer.new) }
 {
-    let mut line = Lines::<LINE>::new();
+    let mut line = Lines::<FAULT_LINE>::new();
     line.push(mark(task));
     line.push(text);
     line.push_number(number);
@@ -317,7 +306,7 @@ fn tell_fault_text<W: TellingWrite>(task: Task, text: &[u8], writer: &mut W)
     requires { length text.now ≤ 32 }
     ensures { TellsFault task text.now (traffic W.contents W.failures writer.old writer.new) }
 {
-    let mut line = Lines::<LINE>::new();
+    let mut line = Lines::<FAULT_LINE>::new();
     line.push(mark(task));
     line.push(text);
     line.push(b"\n");

@@ -5,11 +5,12 @@ ghost use Rattle.rds_program.specs.Run.{EndsBy, EndsRead};
 
 use crate::notes::{End, RunNotes};
 use crate::program::run_read;
+use crate::status::status_at_end;
 use crate::tell::{tell_refused, tell_run};
 use clap::Error;
 use rds_charset::{TellingWrite, Told};
 use rds_cli::{Request, read_words};
-use rds_io::{BufferedWriter, FlushBeforeRead, OutputBuffer, Reason, send, status_at_end};
+use rds_io::{BufferedWriter, FlushBeforeRead, OutputBuffer, Reason, send};
 use rds_view_lines::LogFault;
 use std::alloc::Global;
 use std::cell::RefCell;

@@ -7,15 +7,14 @@ ghost use Rattle.rds_fields.specs.declared.message.Message.{Message};
 ghost use Rattle.rds_fields.specs.Spells.{Spells};
 ghost use Rattle.rds_receiver.specs.Borrowed.{borrowed_tag, view_of};
 ghost use Rattle.rds_receiver.specs.Receipts.{Hears};
-ghost use Rattle.rds_receiver.specs.Shown.{IsItemShown, IsNameShown, IsTagShown, IsTextShown, IsView, ShownView};
+ghost use Rattle.rds_receiver.specs.Shown.{IsItemShown, IsNameShown, IsShort, IsTagShown, IsTextShown};
+ghost use Rattle.rds_receiver.specs.Shown.{IsView, ShownView};
 ghost use Rattle.rds_receiver.specs.StandsAt.{HearsMore, HoldsAt, ShowsAlike, StandsAt};
 ghost use Rattle.rds_receiver.specs.StandsAt.{WhatItHeard, WhereItStands, newest_slot};
 ghost use Rattle.rds_receiver.specs.State.{ReceiverState};
 ghost use Rattle.rds_receiver.specs.Stored.{IsStored, receiver_stored};
 ghost use Rattle.rds_receiver.specs.Tags.{or_before, pair_held, says_of_rtplus, unless_contrary};
-ghost use Rattle.rds_receiver.specs.Shown.{IsShort};
 
-use crate::View;
 use crate::held::Held;
 use crate::stored::StoredReceiver;
 use rds_assembly::{RadioText, TypeName};

@@ -15,11 +15,11 @@ pub(crate) struct FailureFlag<R: TellingRead> {
 
 impl<R: TellingRead> FailureFlag<R> {
     ghost use Rattle.std.specs.Prelude.{false};
-    ghost use Rattle.rds_script.specs.Inside.FailureFlag.{has_failed, asked_reader};
+    ghost use Rattle.rds_script.specs.Inside.FailureFlag.{has_failed, flagged_reader};
 
     /// A reader of which no read failed yet.
     pub(crate) fn new(inner: R) -> FailureFlag<R>
-        ensures inner { asked_reader result ≡ inner }
+        ensures inner { flagged_reader result ≡ inner }
         ensures calm { has_failed result ≡ false }
     {
         FailureFlag {
@@ -38,9 +38,9 @@ impl<R: TellingRead> FailureFlag<R> {
 }
 
 impl<R: TellingRead> Read for FailureFlag<R> {
-    ghost use Rattle.rds_script.specs.Inside.FailureFlag.{asked_reader};
+    ghost use Rattle.rds_script.specs.Inside.FailureFlag.{flagged_reader};
 
-    ghost remaining = { λ asked. R.remaining (asked_reader asked) };
+    ghost remaining = { λ asked. R.remaining (flagged_reader asked) };
 
     fn read(&mut self, buf: &mut [u8]) -> io::Result<usize> {
         match self.inner.read_one(buf) {

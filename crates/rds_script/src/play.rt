@@ -10,7 +10,7 @@ ghost use Rattle.rds_script.specs.declared.form.Form.TheVariants as forms;
 use crate::form::Form;
 use crate::notes::{BadRow, ScriptNotes};
 use crate::player::Player;
-use crate::records::Script;
+use crate::records::Records;
 use crate::row::RowRefused;
 use crate::watched::RowLines;
 use csv::ByteRecord;
@@ -174,7 +174,7 @@ fn play_with_notes<R: TellingRead + Drop, W: TellingWrite>(
     ensures { NotesTell form config records (reading R.remaining R.failures reader)
         (traffic W.contents W.failures writer.old writer.new) result notes.new }
 {
-    let mut script = Script::new(alloc, reader);
+    let mut script = Records::new(alloc, reader);
     let mut player = Player::new(alloc, form, config);
     let mut row = ByteRecord::new(alloc);
     let mut bad = None;
@@ -195,7 +195,7 @@ fn play_with_notes<R: TellingRead + Drop, W: TellingWrite>(
 
 /// Plays row by row. What has to be dropped is the caller's, which has one end, and not dropped at each end here.
 fn play_rows<R: TellingRead, W: TellingWrite>(
-    script: &mut Script<R>,
+    script: &mut Records<R>,
     player: &mut Player,
     row: &mut ByteRecord,
     writer: &mut W,

@@ -14,16 +14,16 @@ use std::alloc::Global;
 
 /// A script, read record by record: fields between commas, in quotes or not, no header row, any number of fields.
 #[derive(Drop)]
-pub(crate) struct Script<R: TellingRead> {
+pub(crate) struct Records<R: TellingRead> {
     reader: Reader<FailureFlag<R>>,
 }
 
-impl<R: TellingRead> Script<R> {
+impl<R: TellingRead> Records<R> {
     /// Before its first record.
-    pub(crate) fn new(alloc: Global, reader: R) -> Script<R>
+    pub(crate) fn new(alloc: Global, reader: R) -> Records<R>
         ensures { ScriptStandsAt R.remaining (R.remaining reader) result [] }
     {
-        Script {
+        Records {
             reader: ReaderBuilder::new()
                 .has_headers(false)
                 .flexible(true)

@@ -1,19 +1,13 @@
 //! The program over words that come as one text.
+ghost use Rattle.std.specs.Prelude.{◌≡◌, IfOk, map};
 ghost use Rattle.std.specs.Str.{IsUtf8};
 ghost use Rattle.rds_charset.specs.Told.{PutsNothing, traffic};
 ghost use Rattle.rds_wasm.specs.Page.{Prints, Refuses, words_in};
 
 use crate::slice_reader::SliceReader;
-use crate::words::words_in;
-use rds_charset::{TellingWrite, put};
-use rds_program::run_with_notes;
-use std::alloc::Global;
-
-/// The status where the words are no text.
-const REFUSED: u8 = 2;
-
-/// The status where there is no memory for the words.
-const FAULT: u8 = 1;
+use rds_charset::TellingWrite;
+use rds_program::{FAULT, REFUSED, run_with_notes, write_no_memory};
+use std::alloc::{AllocError, Global};
 
 /// Runs the program over its words, one a line, and over bytes in memory. Its notes go to `screen`.
 pub fn answer<W: TellingWrite, N: TellingWrite>(
@@ -34,9 +28,23 @@ pub fn answer<W: TellingWrite, N: TellingWrite>(
         return REFUSED;
     };
     let Ok(words) = words_in(alloc, text) else {
-        let _ = put(b"fault memory\n", writer);
+        write_no_memory(writer);
         return FAULT;
     };
     let mut given = SliceReader::new(input);
     run_with_notes(alloc, words.as_slice(), &mut given, writer, screen)
+}
+
+/// The lines of a text.
+pub fn words_in(alloc: Global, text: &str) -> Result<Vec<&str>, AllocError>
+    ensures { IfOk result (λ words. map (λ w. w.now) words.items ≡ words_in text.now) }
+{
+    let mut words = Vec::new(alloc);
+    let mut rest = text;
+    while let Some((word, after)) = rest.split_once('\n') {
+        words.push(word)?;
+        rest = after;
+    }
+    words.push(rest)?;
+    Ok(words)
 }

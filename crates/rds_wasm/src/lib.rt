@@ -2,14 +2,12 @@
 #![tactic(auto)]
 
 mod answer;
-mod sheet;
 mod slice_reader;
-mod words;
 
 ghost use Rattle.rds_wasm.specs.Page.{Begun, RunsInPage};
 
 use answer::answer;
-use sheet::Sheet;
+use rds_charset::Told;
 use std::alloc::Global;
 
 /// How the program ended.
@@ -39,13 +37,13 @@ pub extern "C" fn rdsrt_run(
     ensures { RunsInPage words.now input.now output.new notes.new
         result.length result.failures result.noted result.status }
 {
-    let mut sheet = Sheet::new(alloc);
-    let mut screen = Sheet::new(alloc);
-    let status = answer(alloc, words, input, &mut sheet, &mut screen);
+    let mut printed = Told::new(Vec::new(alloc));
+    let mut screen = Told::new(Vec::new(alloc));
+    let status = answer(alloc, words, input, &mut printed, &mut screen);
     Ended {
-        length: copy_front(sheet.bytes.as_slice(), output),
-        failures: sheet.failures,
-        noted: copy_front(screen.bytes.as_slice(), notes),
+        length: copy_front(printed.inner().as_slice(), output),
+        failures: printed.failures(),
+        noted: copy_front(screen.inner().as_slice(), notes),
         status,
     }
 }

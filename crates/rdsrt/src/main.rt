@@ -10,8 +10,8 @@
 #![tactic(auto)]
 
 use rds_charset::Told;
-use rds_io::{Prompting, Reasoned, no_words, prompt_for, texts, words_of};
-use rds_program::{Screen, run_buffered};
+use rds_io::{Prompting, Reasoned, prompt_for};
+use rds_program::{Screen, no_words, run_buffered, texts, words_of};
 use std::cell::RefCell;
 use std::io::{ErrorKind, IsTerminal};
 use std::process::ExitCode;

@@ -7,7 +7,7 @@ use Rattle.rds_receiver.specs.StandsAt.{StandsAt}
 use Rattle.rds_view_lines.specs.Output.{changes_of, newest}
 use Rattle.rds_log.specs.LogWrites.{AreViews}
 use Rattle.rds_view_lines.specs.KeptView.{view_kept}
-use Rattle.rds_log.specs.declared.view_lines.ViewLines.{ViewLines}
+use Rattle.rds_log.specs.declared.decoder.ViewLines.{ViewLines}
 
 -- these slots were handled, and gave the changes of their views
 pub record ViewsStandAt (t : Tuning) (v : ViewLines) (slots : List (Option Group)) (written : List ℕ) : Type 0 where

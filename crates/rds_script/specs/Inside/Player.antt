@@ -21,12 +21,12 @@ use Rattle.rds_script.specs.declared.player.Player.{Player}
 use Rattle.rds_script.specs.declared.row.RowRefused.{RowRefused}
 use Rattle.rds_script.specs.declared.row.RowRefused.TheVariants.{NoRow}
 use Rattle.rds_script.specs.declared.row.RowRefused.TheVariants as refused
-use Rattle.rds_script.specs.declared.records.Script.{Script}
+use Rattle.rds_script.specs.declared.records.Records.{Records}
 use Rattle.rds_script.specs.declared.watched.Watched.{Watched}
 
 -- the reader of a script gave these records
 pub record ScriptStandsAt {R : Type 0} {g h : _} (remaining : R → Option (List ℕ)) (known : Option (List ℕ))
-    (s : Script R g h) (records : List Record) : Type 0 where
+    (s : Records R g h) (records : List Record) : Type 0 where
   pub plain : reader_trim s.reader ≡ untrimmed
   pub flexible : is_flexible s.reader ≡ true
   pub ready : Ready s.reader

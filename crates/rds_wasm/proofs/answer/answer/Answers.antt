@@ -8,12 +8,12 @@ use Rattle.rds_wasm.proofs.answer.answer.Goals as goal
 
 pub returns-in_default-words_in-clause-text : goal.returns-in_default-words_in-clause-text
 returns-in_default-words_in-clause-text g c text = record {
-  runs = λ asked pi given is. inl (record { status_is = refl; told = (c.put.result, c.put.ensures) }, tt);
-  fault_pi = λ asked given none. (inl (record { status_is = refl; told = (c.put.result, c.put.ensures) }), tt);
-  nothing_asked = λ takes none. (inl (record { status_is = refl; told = (c.put.result, c.put.ensures) }), tt);
-  help = λ asks. (inl (record { status_is = refl; told = (c.put.result, c.put.ensures) }), tt);
-  refused = λ refused. (inl (record { status_is = refl; told = (c.put.result, c.put.ensures) }), tt);
-  not_taken = λ untaken. (inl (record { status_is = refl; told = (c.put.result, c.put.ensures) }), tt);
+  runs = λ asked pi given is. inl (record { status_is = refl; told = c.write_no_memory.ensures }, tt);
+  fault_pi = λ asked given none. (inl (record { status_is = refl; told = c.write_no_memory.ensures }), tt);
+  nothing_asked = λ takes none. (inl (record { status_is = refl; told = c.write_no_memory.ensures }), tt);
+  help = λ asks. (inl (record { status_is = refl; told = c.write_no_memory.ensures }), tt);
+  refused = λ refused. (inl (record { status_is = refl; told = c.write_no_memory.ensures }), tt);
+  not_taken = λ untaken. (inl (record { status_is = refl; told = c.write_no_memory.ensures }), tt);
 }
 
 pub returns-clause-text : goal.returns-clause-text

@@ -1,6 +1,6 @@
 use Rattle.std.proofs.Common.{refl, rules, sym, inr}
 use Rattle.csv.specs.Reading.{Reached, strip_bom}
-use Rattle.rds_script.proofs.records.Script.new.Goals as goal
+use Rattle.rds_script.proofs.records.Records.new.Goals as goal
 
 pub returns : goal.returns
 unfolding Reached

@@ -1,7 +1,7 @@
 use Rattle.std.proofs.Common.{◌≡◌, ◌∷◌, arith, rules}
 use Rattle.rds_wasm.specs.Page.{words_in}
 use Rattle.rds_wasm.proofs.Cuts.{cut_at_feed, not_cut, one_more, the_last}
-use Rattle.rds_wasm.proofs.words.words_in.Goals as goal
+use Rattle.rds_wasm.proofs.answer.words_in.Goals as goal
 
 pub loop-word-preserved : goal.loop-word-preserved
 loop-word-preserved c =

@@ -1,7 +1,7 @@
 use Rattle.std.proofs.Common.{rules}
 use Rattle.csv.specs.Records.{fields_of}
 use Rattle.rds_script.proofs.Records.{next_stands}
-use Rattle.rds_script.proofs.records.Script.next.Goals as goal
+use Rattle.rds_script.proofs.records.Records.next.Goals as goal
 
 pub returns-in-Ok-clause-found : goal.returns-in-Ok-clause-found
 returns-in-Ok-clause-found g c known records s =
