@@ -1,12 +1,12 @@
-//! What the definition of the command line says of words that are written out.
+//! What the definition of the command line says of written-out arguments.
 ghost use Rattle.std.specs.Prelude.{codes, false, true};
 ghost use Rattle.rds_cli.specs.CommandLine.{AskFor, AskForHelp};
 ghost use Rattle.rds_cli.specs.Examples.{AreNotTaken, CallForHelp, auditing, decoding, encoding, quietly, simulating, typed, witnessing};
 
-/// The words of README's examples are taken and ask for what they say: the definition is no empty one. A dwell of 0
-/// slots, a programme type of 32, a subcommand with no programme and no subcommand are refused. Help and the
-/// version are answered. Where `help` stands for a command the words are not taken, and whether they give help or are
-/// refused is left open.
+/// Shows the definition at work. The arguments of README's examples are taken and ask for these tasks. A dwell of 0
+/// slots, a programme type of 32, a subcommand without a programme and a missing subcommand are refused. Help and the
+/// version are answered. `help` followed by a command is not taken, and the definition leaves open whether that gives
+/// help or is refused.
 pub fn words_of_the_examples()
     ensures decode { AskFor (typed (codes "rdsrt decode --pi C201")) (decoding (codes "C201") 128) }
     ensures decode_other { AskFor (typed (codes "rdsrt decode --pi F201")) (decoding (codes "F201") 128) }

@@ -1,7 +1,6 @@
-//! The words of the command line: which are taken, what they ask for, and which kind of answer the others get.
+//! The arguments of the command line: which are taken, what they ask for, and which kind of answer the others get.
 //!
-//! What is taken is said by a definition of the command line as a command of `clap`, in specs/CommandLine, and what is
-//! asked is read from it.
+//! specs/CommandLine defines the command line as a command of `clap`. The request is read from that definition.
 #![tactic(auto)]
 
 mod command_line;

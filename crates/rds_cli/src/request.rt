@@ -1,4 +1,4 @@
-//! What the words of the command line ask for.
+//! The request of the command line.
 ghost use Rattle.std.specs.Prelude.{◌≡◌, ◌⊎◌, ℕ, IfErr, IfNone, IfOk, IfSome, false, map, option_map, true};
 ghost use Rattle.clap.specs.Words.{FailsBy, fault_of, found_of, kind_of, rows_of};
 ghost use Rattle.rds_cli.specs.Asks.{asked_by};
@@ -13,7 +13,7 @@ use rds_charset::word_at;
 use rds_fields::{Dwell, Late};
 use std::alloc::Global;
 
-/// What each group of a station says of its programme, beside the identification.
+/// The programme type and the traffic flag, which every group of a station carries.
 #[derive(Clone, Copy)]
 pub struct Programme {
     /// The programme type.
@@ -22,7 +22,7 @@ pub struct Programme {
     pub tp: bool,
 }
 
-/// What is to be done, by a station of a programme and with groups that come no later than this.
+/// The command. `encode` and `sim` have a station; the lateness is the most slots that a group may come late.
 #[derive(Clone, Copy)]
 pub enum Task {
     /// Print what a receiver shows of a log.
@@ -37,18 +37,18 @@ pub enum Task {
     Witness,
 }
 
-/// What the words ask for.
+/// A command with its options.
 #[derive(Clone, Copy)]
 pub struct Request<'a> {
     pub task: Task,
-    /// What is given as programme identification, whatever its text.
+    /// The argument of `--pi`, unchecked.
     pub pi: &'a str,
     pub dwell: Dwell,
     /// Whether warnings are left out.
     pub quiet: bool,
 }
 
-/// The programme identification that is given; `None` where it is not four hexadecimal digits, of either case.
+/// Reads the argument of `--pi`. `None` if it is not four hexadecimal digits, of either case.
 pub fn identification_of(given: &str) -> Option<u16>
     ensures some { IfSome result (IsPi given.now) }
     ensures none { IfNone result ((pi : ℕ) → IsPi given.now pi → ⊥) }
@@ -60,12 +60,12 @@ pub fn identification_of(given: &str) -> Option<u16>
     }
 }
 
-/// Reads the words, the program's own name first; `None` where they name no task or a number is out of
-/// its range, which `clap` refuses before.
+/// Reads the arguments, the program's own name first. `None` if they name no task or a number is out of its range;
+/// `clap` refuses both before.
 ///
 /// # Errors
 ///
-/// What `clap` answers: the words are refused or ask for help, or there is no memory.
+/// The answer of `clap`: the arguments are refused, or they ask for help, or the program is out of memory.
 pub fn read_words<'a>(alloc: Global, words: &'a [&'a str]) -> Result<Option<Request<'a>>, Error>
     ensures ok { IfOk result (λ o. option_map asked_by o ≡ asked_in (map (λ w. w.now) words.entry.now)) }
     ensures err { IfErr result (λ e. TakesWords (map (λ w. w.now) words.entry.now)
@@ -87,7 +87,7 @@ pub fn read_words<'a>(alloc: Global, words: &'a [&'a str]) -> Result<Option<Requ
     Ok(request_of(name, inner))
 }
 
-/// What a subcommand and its options ask for.
+/// Reads a subcommand and its options.
 fn request_of<'a>(name: &'a str, inner: &ArgMatches<'a>) -> Option<Request<'a>>
     ensures { option_map asked_by result ≡ asked_of (name.entry.now, rows_of (found_of inner.now)) }
 {
@@ -99,7 +99,7 @@ fn request_of<'a>(name: &'a str, inner: &ArgMatches<'a>) -> Option<Request<'a>>
     })
 }
 
-/// The task that the subcommand names.
+/// Reads the task of a subcommand.
 fn task_of(name: &str, inner: &ArgMatches<'_>) -> Option<Task>
     ensures { result ≡ task_in name.now (rows_of (found_of inner.now)) }
 {
@@ -113,21 +113,21 @@ fn task_of(name: &str, inner: &ArgMatches<'_>) -> Option<Task>
     }
 }
 
-/// The dwell that is given.
+/// Reads the dwell.
 fn dwell_of(inner: &ArgMatches<'_>) -> Option<Dwell>
     ensures { result ≡ dwell_in (rows_of (found_of inner.now)) }
 {
     Dwell::new(inner.get_one::<u16>("m")?)
 }
 
-/// The lateness that is given.
+/// Reads the lateness.
 fn late_of(inner: &ArgMatches<'_>) -> Option<Late>
     ensures { result ≡ late_in (rows_of (found_of inner.now)) }
 {
     Late::new(inner.get_one::<u16>("k")?)
 }
 
-/// What is given of the programme.
+/// Reads the programme type and the traffic flag.
 fn programme_of(inner: &ArgMatches<'_>) -> Option<Programme>
     ensures { result ≡ programme_in (rows_of (found_of inner.now)) }
 {

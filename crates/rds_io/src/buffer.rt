@@ -1,5 +1,5 @@
-//! Writes that are output. What the program writes is kept until it reads again, so that one write holds the output
-//! of all that a read gave, and all of that is out before a read can wait for more.
+//! A buffered standard output. The program's output waits in memory until the next read, so that one write holds the
+//! output for all bytes of a read, and all of it is written before a read can wait for more.
 ghost use Rattle.std.specs.Prelude.{◌≡◌, ◌<◌, ◌≤◌, ◌++◌, ◌-◌, IfOk, IsErr, OnErr, OnOk, [], length, take};
 ghost use Rattle.std.specs.Io.KnownBytes.{Appends};
 ghost use Rattle.rds_charset.specs.Told.{AppendsPrefix};
@@ -10,10 +10,10 @@ use std::cell::RefCell;
 use std::io::{self, ErrorKind, Read, Write};
 use std::marker::Model;
 
-/// How many bytes are kept at most.
+/// The most bytes that wait.
 const ROOM: usize = 1 << 16;
 
-/// Bytes that aren't out yet, `ROOM` at most. Callers see the bytes.
+/// Bytes that wait to be written, at most `ROOM`. Contracts see the bytes.
 #[derive(Drop)]
 pub struct Buffer {
     bytes: [u8; ROOM],
@@ -31,7 +31,7 @@ impl Model for Buffer {
 }
 
 impl Buffer {
-    /// No byte.
+    /// Makes an empty buffer.
     fn new() -> Buffer
         ensures { result ≡ [] }
     {
@@ -41,21 +41,21 @@ impl Buffer {
         }
     }
 
-    /// The bytes.
+    /// Returns the bytes.
     fn as_slice(&self) -> &[u8]
         ensures { result.now ≡ self.now }
     {
         &self.bytes[..self.count]
     }
 
-    /// Gives up all bytes.
+    /// Drops all bytes.
     fn clear(&mut self)
         ensures { self.new ≡ [] }
     {
         self.count = 0;
     }
 
-    /// Keeps the first bytes of a buffer, as many as there is room for.
+    /// Appends the first of these bytes, as many as there is room for. Returns how many.
     fn push(&mut self, bytes: &[u8]) -> usize
         ensures kept { self.new ≡ self.old ++ take result bytes.now }
         ensures within { result ≤ length bytes.now }
@@ -68,7 +68,7 @@ impl Buffer {
     }
 }
 
-/// A writer, and the bytes for it that are not out yet. Once a write failed it takes nothing and writes nothing.
+/// A writer, and the bytes that wait to be written to it. After a failed write it takes and writes nothing.
 #[derive(Drop)]
 pub struct OutputBuffer<W> {
     writer: Told<W>,
@@ -76,7 +76,7 @@ pub struct OutputBuffer<W> {
 }
 
 impl<W: Write> OutputBuffer<W> {
-    /// Gathers for a writer; nothing is kept yet.
+    /// Wraps a writer. No byte waits.
     pub fn new(writer: W) -> OutputBuffer<W>
         ensures wraps { writer_in result ≡ writer }
         ensures empty { kept_in result ≡ [] }
@@ -88,11 +88,11 @@ impl<W: Write> OutputBuffer<W> {
         }
     }
 
-    /// Writes what is kept.
+    /// Writes the bytes that wait.
     ///
     /// # Errors
     ///
-    /// [`WriteFault`] at a write that fails, and from then on. A first part of what was kept is then out.
+    /// [`WriteFault`] if a write fails, and in each call after that. Some first part of the bytes is then written.
     pub fn send(&mut self) -> Result<(), WriteFault>
         ensures sent { OnOk result (Appends (W.contents (writer_in self.old)) (W.contents (writer_in self.new))
             (kept_in self.old)) }
@@ -111,12 +111,12 @@ impl<W: Write> OutputBuffer<W> {
         Ok(())
     }
 
-    /// Keeps the first bytes of a buffer, as many as there is room for. Where there is none, what is kept is written
+    /// Appends the first of these bytes, as many as there is room for. If there is no room, writes the waiting bytes
     /// first.
     ///
     /// # Errors
     ///
-    /// [`WriteFault`] if that write fails, and from then on. A first part of what was kept is then out.
+    /// [`WriteFault`] if that write fails, and in each call after that. Some first part of the bytes is then written.
     #[inline]
     pub fn keep(&mut self, bytes: &[u8]) -> Result<usize, WriteFault>
         ensures kept { IfOk result (λ n. Appends (given_to W.contents self.old) (given_to W.contents self.new)
@@ -139,16 +139,16 @@ impl<W: Write> OutputBuffer<W> {
     }
 }
 
-/// The error of a write that failed, here or before.
+/// Makes the error of a write that failed in this call or before.
 fn no_write() -> io::Error {
     io::Error::from(ErrorKind::Other)
 }
 
-/// Writes what is kept.
+/// Writes the bytes that wait in a shared buffer.
 ///
 /// # Errors
 ///
-/// A write that failed, now or before.
+/// An error if a write fails, or failed before.
 pub fn send<W: Write>(output: &RefCell<OutputBuffer<W>>) -> io::Result<()> {
     let Ok(mut output) = output.try_borrow_mut() else {
         return Err(no_write());
@@ -156,8 +156,7 @@ pub fn send<W: Write>(output: &RefCell<OutputBuffer<W>>) -> io::Result<()> {
     output.send().map_err(|_| no_write())
 }
 
-/// The writer that gathers, with the number of its failures so far. It shares what it keeps with the reader that sends
-/// it.
+/// A writer into a shared buffer, which counts its own failures. The reader that flushes the buffer shares it.
 #[derive(Drop)]
 pub struct BufferedWriter<'a, W> {
     output: &'a RefCell<OutputBuffer<W>>,
@@ -165,7 +164,7 @@ pub struct BufferedWriter<'a, W> {
 }
 
 impl<'a, W> BufferedWriter<'a, W> {
-    /// A writer into what is gathered there.
+    /// Makes a writer into this buffer.
     pub fn new(output: &'a RefCell<OutputBuffer<W>>) -> Self {
         BufferedWriter {
             output,
@@ -208,7 +207,7 @@ impl<W: Write> TellingWrite for BufferedWriter<'_, W> {
     }
 }
 
-/// A reader that writes what is gathered before each of its reads. Where that fails nothing is read.
+/// A reader that writes the waiting output before each of its reads. If that fails, it reads nothing.
 #[derive(Drop)]
 pub struct FlushBeforeRead<'a, R, W> {
     reader: R,
@@ -216,7 +215,7 @@ pub struct FlushBeforeRead<'a, R, W> {
 }
 
 impl<'a, R, W> FlushBeforeRead<'a, R, W> {
-    /// Makes a reader with the bytes of another one.
+    /// Wraps a reader, and shares the buffer that it flushes.
     pub fn new(reader: R, output: &'a RefCell<OutputBuffer<W>>) -> Self {
         FlushBeforeRead { reader, output }
     }

@@ -1,4 +1,4 @@
-//! A reader that tells a person at a terminal that it waits for input.
+//! A reader that prints a line for a person at a terminal before it waits for input.
 
 ghost use Rattle.std.specs.Prelude.{◌≡◌, true};
 ghost use Rattle.std.specs.Io.KnownBytes.{IsAtEnd};
@@ -6,8 +6,8 @@ ghost use Rattle.std.specs.Io.KnownBytes.{IsAtEnd};
 use rds_charset::{TellingWrite, put};
 use std::io::{self, Read};
 
-/// A reader that prints a line before its first read, if there is one to print. Once it is at its end it asks for no more,
-/// so that one Ctrl-D is enough.
+/// A reader that prints a line before its first read, if there is one. At the end of its input it stops reading, so
+/// that one Ctrl-D is enough.
 #[derive(Drop)]
 pub struct Prompting<R: Read, N> {
     reader: R,
@@ -18,7 +18,7 @@ pub struct Prompting<R: Read, N> {
 }
 
 impl<R: Read, N> Prompting<R, N> {
-    /// Wraps a reader with a line, and where to print it.
+    /// Wraps a reader, with the line and the writer for it.
     pub fn new(reader: R, line: Option<&'static [u8]>, screen: N) -> Self {
         Prompting {
             reader,
@@ -46,7 +46,7 @@ impl<R: Read, N: TellingWrite> Read for Prompting<R, N> {
     }
 }
 
-/// Returns the line for a person at a terminal who gave these arguments; `None` if they turn warnings off.
+/// Returns the line for a person at a terminal who gave these arguments. `None` if they turn warnings off.
 pub fn prompt_for(words: &[&str]) -> Option<&'static [u8]> {
     for word in words {
         if *word == "--quiet" {

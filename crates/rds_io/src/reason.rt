@@ -1,12 +1,12 @@
-//! A reader or a writer whose error can be read later.
+//! Readers and writers that keep the system's error of a failed call for a later note.
 
 use std::cell::RefCell;
 use std::io::{self, ErrorKind, Read, Write};
 
-/// The error of the last call that failed; `None` if none did.
+/// The error of the last failed call. `None` if no call failed.
 pub type Reason = RefCell<Option<io::Error>>;
 
-/// A reader or a writer that leaves the error of a failed call where a note finds it.
+/// A reader or a writer that keeps the error of a failed call where a note finds it.
 #[derive(Drop)]
 pub struct Reasoned<'a, T> {
     inner: T,

@@ -1,5 +1,5 @@
--- What the whole program does with its words. This is the project's own command line.
--- r is what a call did to the reader, w what it did to the writer.
+-- What the whole program does with its arguments. This is the project's own command line. r is the traffic of a call
+-- with the reader, w its traffic with the writer.
 use Rattle.std.specs.Prelude.{◌≡◌, ◌⊎◌, ◌+◌, ◌^◌, ◌≤◌, ◌++◌, []}
 use Rattle.std.specs.Prelude.{ℕ, Bool, List, codes, decimal, None, Some, Option, Ok, Err, Result, if◌then◌else◌}
 use Rattle.clap.specs.Words.{kind_of}
@@ -27,12 +27,12 @@ use Rattle.rds_cli.specs.declared.request.Request.{Request}
 use Rattle.rds_cli.specs.declared.request.Task.{Task}
 use Rattle.rds_cli.specs.declared.request.Task.TheVariants.{Audit, Decode, Encode, Simulate, Witness}
 
--- what a call did begins with these bytes and these failures
+-- the traffic of a call begins with these bytes and this number of failures
 pub record StartsFrom (t : Traffic) (bytes : Option (List ℕ)) (failures : ℕ) : Type 0 where
   pub bytes_are : t.before ≡ bytes
   pub failures_are : t.failures_before ≡ failures
 
--- between two states of a reader, what it has left, the number of its failures and that of its counted reads stayed
+-- between two states of a reader, its remaining bytes and its counts of failures and of reads are unchanged
 pub record IsUntouched {X : Type 0} (remaining : X → Option (List ℕ)) (failures reads : X → ℕ)
     (old new : X) : Type 0 where
   pub bytes_are : remaining new ≡ remaining old
@@ -41,11 +41,11 @@ pub record IsUntouched {X : Type 0} (remaining : X → Option (List ℕ)) (failu
 
 -- ---- faults
 
--- the line, or a first part of it where the writer failed
+-- the line was written, or some first part of it if the writer failed
 abbrev pub PutsLine : List ℕ → Traffic → Type 0
 PutsLine line w = (r : Result (Unit {0}) WriteFault) × Puts w line r
 
--- what stands before a fault: the log that `encode` writes has it as a note
+-- the mark before the line of a fault: in the log that `encode` writes, the line is a comment
 abbrev pub mark_of : Task → List ℕ
 mark_of Decode = []
 mark_of (Encode programme late) = codes "# "
@@ -56,7 +56,7 @@ mark_of Witness = []
 abbrev pub TellsFault : Task → List ℕ → Traffic → Type 0
 TellsFault task text w = PutsLine (mark_of task ++ text ++ codes "\n") w
 
--- after a fault its line, and after a failed write nothing more
+-- after a fault, its line is written; after a failed write, nothing
 abbrev pub PutsAfter : Task → LogFault → Traffic → Type 0
 PutsAfter task (BadLine n) w = TellsFault task (codes "fault line " ++ decimal n) w
 PutsAfter task (BadRow n) w = TellsFault task (codes "fault row " ++ decimal n) w
@@ -67,24 +67,24 @@ PutsAfter task Memory w = TellsFault task (codes "fault memory") w
 
 -- ---- engines
 
--- the status of what an engine answers at its end, and 1 after a fault, which is told
+-- the status of the answer of an engine; 1 after a fault, and the line of the fault is written
 abbrev pub EndsWith : {X : Type 0} → (X → ℕ) → Task → Result X LogFault → Traffic → ℕ → Type 0
 EndsWith status_of task (Ok answer) w status = (status ≡ status_of answer) × PutsNothing w
 EndsWith status_of task (Err fault) w status = (status ≡ 1) × PutsAfter task fault w
 
--- of an engine that has done all
+-- the status of an engine without an answer
 abbrev pub done : Unit {0} → ℕ
 done _ = 0
 
--- of a yes, and of a no
+-- the status of a yes and of a no
 abbrev pub verdict_status : Bool → ℕ
 verdict_status passed = if passed then 0 else 1
 
--- of a witness that is found, and of none
+-- the status if a witness was found, and if not
 abbrev pub witness_status : Bool → ℕ
 witness_status found = if found then 1 else 0
 
--- an engine ran, and then its outcome gave the status; `mid` and `failures` are the writer's in between
+-- an engine ran, and its outcome gave the status; `mid` and `failures` are the writer's between the two
 pub record Runs {X : Type 0} (Engine : Traffic → Result X LogFault → Type 0) (status_of : X → ℕ) (task : Task)
     (w : Traffic) (status : ℕ) : Type 0 where
   pub outcome : Result X LogFault
@@ -93,7 +93,7 @@ pub record Runs {X : Type 0} (Engine : Traffic → Result X LogFault → Type 0)
   pub ran : Engine (record w { after = mid; failures_after = failures }) outcome
   pub ended : EndsWith status_of task outcome (record w { before = mid; failures_before = failures }) status
 
--- the station of these receivers, for a programme and with groups no later than this
+-- the station for receivers that are tuned so, for a programme and at most this lateness
 abbrev pub station_of : Tuning → Programme → ℕ → Config
 station_of t programme late = record {
   head = record { pi = t.programme; tp = programme.tp; pty = programme.pty };
@@ -101,7 +101,7 @@ station_of t programme late = record {
   late = late;
 }
 
--- what is told of the reader of a script, by what a call did to it
+-- the traffic with the reader of a script, and the fact that one of its reads failed
 abbrev pub script_in : Traffic → Type 0 → Reading
 script_in r ReadFailed = record { known = r.before; Failed = ReadFailed }
 
@@ -125,12 +125,12 @@ pub record RefusesPi (task : Task) (w : Traffic) (status : ℕ) : Type 0 where
   pub status_is : status ≡ 2
   pub told : TellsFault task (codes "fault pi") w
 
--- there was no memory for the words
+-- the program was out of memory for its arguments
 pub record NoMemory (w : Traffic) (status : ℕ) : Type 0 where
   pub status_is : status ≡ 1
   pub told : PutsLine (codes "fault memory\n") w
 
--- a reader before a call: what it has left, how often it failed, and what says that one of its reads failed
+-- a reader before a call: its remaining bytes, its count of failures, and the fact that one of its reads failed
 pub record ReaderBefore : Type 1 where
   pub bytes : Option (List ℕ)
   pub failures : ℕ
@@ -140,19 +140,20 @@ abbrev pub reader_before : {R : Type 0} → (R → Option (List ℕ)) → (R →
 reader_before remaining failures reader =
     record { bytes = remaining reader; failures = failures reader; ReadFailed = SomeReadFailed failures }
 
--- the engine of a task ran over a reader that was so, and found a failed read only if one of its reads failed
+-- the engine of a task ran over a reader that was in this state, and it found a failed read only if one of its reads
+-- failed
 pub record RunsFrom (reader : ReaderBefore) (w : Traffic) (status : ℕ) (task : Task) (t : Tuning) : Type 0 where
   pub r : Traffic
   pub starts : StartsFrom r reader.bytes reader.failures
   pub fails : HasFailed r → reader.ReadFailed
   pub ran : TaskRuns task t r reader.ReadFailed w status
 
--- the status of an answer of `clap`: 1 if there was no memory, 0 for help and the version, and 2 for a refusal
+-- the status of an answer of `clap`: 1 if the program is out of memory, 0 for help and the version, and 2 for a refusal
 abbrev pub status_of : ErrorKind → ℕ
 status_of OutOfMemory = 1
 status_of kind = if is_shown kind then 0 else 2
 
--- an answer of `clap` was written, or that there was no memory
+-- an answer of `clap` was written, or the fault line of a program that is out of memory
 pub record TellsError (kind : ErrorKind) (w : Traffic) (status : ℕ) : Type 0 where
   pub status_is : status ≡ status_of kind
   pub no_memory : kind ≡ OutOfMemory → PutsLine (codes "fault memory\n") w
@@ -163,16 +164,16 @@ pub record AnswersRequest (asked : Requested) (Engine : Task → Tuning → Type
   pub runs : (pi : ℕ) → IsPi asked.pi pi → Engine asked.task (tuned pi asked.dwell)
   pub fault_pi : ((pi : ℕ) → IsPi asked.pi pi → ⊥) → RefusesPi asked.task w status × Rests
 
--- what the program does by what its words were read as: the answer of `clap`, nothing or a request. Rests holds
--- wherever no engine ran
+-- what the program does, given the result of reading its arguments: it writes the answer of `clap`, or it does nothing,
+-- or it runs a request. Rests holds if no engine ran
 abbrev pub RunsRead : Result (Option Request) Error → (Task → Tuning → Type 0) → Type 0 → Traffic → ℕ → Type 0
 RunsRead (Err error) Engine Rests w status = TellsError (kind_of error) w status × Rests
 RunsRead (Ok None) Engine Rests w status = (status ≡ 2) × PutsNothing w × Rests
 RunsRead (Ok (Some request)) Engine Rests w status = AnswersRequest (asked_by request) Engine Rests w status
 
--- what the program does over these words: the engine of the task that they ask for runs, or the programme's number is
--- told to be none; where they ask for nothing, ask for help, are refused or are not taken, this is its status. In each
--- case there may be no memory in place of it. Rests holds wherever no engine ran
+-- what the program does over these arguments: it runs the engine of their task, or it refuses their programme
+-- identification. The other fields give its status if the arguments name no task, ask for help, are refused or are not
+-- taken. In each case the program may be out of memory instead. Rests holds if no engine ran
 pub record RunsWords (words : List (List ℕ)) (Engine : Task → Tuning → Type 0) (Rests : Type 0) (w : Traffic)
     (status : ℕ) : Type 0 where
   pub runs : (asked : Requested) (pi : ℕ) → AskFor words asked → IsPi asked.pi pi
@@ -185,16 +186,16 @@ pub record RunsWords (words : List (List ℕ)) (Engine : Task → Tuning → Typ
   pub refused : AreRefused words → (NoMemory w status ⊎ (status ≡ 2)) × Rests
   pub not_taken : (TakesWords words → ⊥) → (NoMemory w status ⊎ ((status ≡ 0) ⊎ (status ≡ 2))) × Rests
 
--- ---- the status alone, where what is written goes through a cell that no clause sees
+-- ---- the status alone: the output goes through a cell that no clause can describe
 
--- the status of a run by what its words were read as. Rests holds wherever no engine ran
+-- the status of a run, given the result of reading its arguments. Rests holds if no engine ran
 abbrev pub EndsRead : Result (Option Request) Error → Type 0 → ℕ → Type 0
 EndsRead (Err error) Rests status = (status ≡ status_of (kind_of error)) × Rests
 EndsRead (Ok None) Rests status = (status ≡ 2) × Rests
 EndsRead (Ok (Some request)) Rests status = ((pi : ℕ) → IsPi request.pi.now pi → status ≤ 1)
     × (((pi : ℕ) → IsPi request.pi.now pi → ⊥) → (status ≡ 2) × Rests)
 
--- the status of a run over these words, which is also 1 if there is no memory
+-- the status of a run over these arguments, which is also 1 if the program is out of memory
 pub record EndsBy (words : List (List ℕ)) (status : ℕ) : Type 0 where
   pub runs : (asked : Requested) (pi : ℕ) → AskFor words asked → IsPi asked.pi pi → status ≤ 1
   pub fault_pi : (asked : Requested) → AskFor words asked → ((pi : ℕ) → IsPi asked.pi pi → ⊥)

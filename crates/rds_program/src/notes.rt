@@ -1,4 +1,4 @@
-//! What a run found beside its output, for a person at a terminal.
+//! Notes of a run for a person at a terminal.
 
 use arrayvec::ArrayVec;
 use rds_cli::Task;
@@ -7,7 +7,7 @@ use rds_log::LogNotes;
 use rds_script::ScriptNotes;
 use rds_view_lines::LogFault;
 
-/// The most bytes that are kept of a refusal; more than any has whose arguments are of a usual length.
+/// The most bytes that are kept of a refusal. Refusals of arguments of a usual length are shorter.
 const REFUSED_ROOM: usize = 4096;
 
 /// The most bytes that are kept of a PI code that was given.
@@ -26,7 +26,7 @@ pub enum End {
     Fault(LogFault),
 }
 
-/// What the arguments ask for beside the PI code.
+/// The command and the options other than the PI code.
 #[derive(Clone, Copy)]
 pub struct Options {
     pub task: Task,
@@ -35,15 +35,15 @@ pub struct Options {
     pub quiet: bool,
 }
 
-/// What a run found beside its output (this project's own rule).
+/// Notes of a run (this project's own rule).
 #[derive(Drop)]
 pub struct RunNotes {
     pub end: End,
-    /// What the arguments ask for; `None` if they were refused or ask for help.
+    /// The command and its options. `None` if the arguments were refused or ask for help.
     pub options: Option<Options>,
-    /// The first bytes of what was given as PI code.
+    /// The first bytes of the argument that was given as PI code.
     pub pi: ArrayVec<u8, PI_ROOM>,
-    /// The first bytes of the text that says why the arguments were refused.
+    /// The first bytes of the reason why the arguments were refused.
     pub refused: ArrayVec<u8, REFUSED_ROOM>,
     /// Notes on the log of `decode`, `audit` and `witness`.
     pub log: LogNotes,

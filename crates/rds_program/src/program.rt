@@ -1,4 +1,4 @@
-//! The whole program over its words.
+//! The whole program over its arguments.
 ghost use Rattle.std.specs.Prelude.{◌≡◌, ◌⊎◌, ◌≤◌, ◌+◌, ◌++◌, ℕ};
 ghost use Rattle.std.specs.Prelude.{None, codes, decimal, false, true, if◌then◌else◌, length, map};
 ghost use Rattle.rds_charset.specs.Told.{PutsNothing, Traffic, traffic};
@@ -30,15 +30,18 @@ use std::io::Write;
 /// The most bytes of a fault line.
 const FAULT_LINE: usize = 64;
 
-/// The whole program: its words, the program's own name first, and the status that it ends with.
+/// Runs the whole program over its arguments, the program's own name first. Returns its exit status (this project's own
+/// command line).
 ///
-/// `decode` reads a log and writes what a receiver of the programme shows; `encode` and `sim` read a script
-/// and write the log of a station, or what it sends and its receivers show; `audit` reads a log and writes
-/// whether it passes, and `witness` which of its slots a receiver has to lose to show a mix. A fault is told by its
-/// line, the last that is written. Where the words are refused or ask for help, the text of `clap` is written and
-/// nothing is read: `run_with` says it of its reader. `clap`'s contract doesn't say that numbers which it took lie in
-/// their range: where one didn't, `nothing_asked` holds. Nor does it say whether `help` and a word after it give help
-/// or are refused: `not_taken` bounds the status.
+/// `decode` reads a log and writes the view of a receiver. `encode` reads a script and writes the log of a station.
+/// `sim` reads a script and writes the station's groups and the views of its receivers. `audit` reads a log and writes
+/// whether it passes. `witness` reads a log and writes which slots a receiver must lose to show a mix. The line of a
+/// fault is the last line of the output.
+///
+/// If the arguments are refused or ask for help, `run` writes the text of `clap` and reads nothing: the contract of
+/// `run_with` says so of its reader. `clap`'s contract does not promise that a number is in its range: for a number
+/// outside it, `nothing_asked` holds. Nor does it say whether `help` followed by an argument gives help or is refused:
+/// `not_taken` bounds the status.
 pub fn run<R: TellingRead + Drop, W: TellingWrite>(
     alloc: Global,
     words: &[&str],
@@ -53,8 +56,8 @@ pub fn run<R: TellingRead + Drop, W: TellingWrite>(
     run_with(alloc, words, &mut reader, writer)
 }
 
-/// `run` over a reader that is lent, so that what it has left, how often it failed and how often it was asked is
-/// seen after the call too: where no engine ran, these are as they were.
+/// Does what [`run`] does over a borrowed reader. The contract then says the reader's state after the call: if no
+/// command ran, its bytes and its counts of reads and failures are unchanged.
 pub fn run_with<R: TellingRead, W: TellingWrite>(
     alloc: Global,
     words: &[&str],
@@ -76,7 +79,7 @@ pub fn run_with<R: TellingRead, W: TellingWrite>(
     )
 }
 
-/// [`run_with`] with notes for a person, which go to `screen`: with them or without, it writes and returns the same.
+/// Does what [`run_with`] does, and writes notes for a person to `screen`. The output and the status are the same.
 pub fn run_with_notes<R: TellingRead, W: TellingWrite, N: TellingWrite>(
     alloc: Global,
     words: &[&str],
@@ -96,7 +99,7 @@ pub fn run_with_notes<R: TellingRead, W: TellingWrite, N: TellingWrite>(
     status
 }
 
-/// Does what the words ask for, by what they were read as, and notes what a person may want to know.
+/// Runs the command of the arguments, given the result of reading them, and collects notes for a person.
 pub(crate) fn run_read<R: TellingRead, W: TellingWrite>(
     alloc: Global,
     read: Result<Option<Request<'_>>, Error>,
@@ -117,8 +120,8 @@ pub(crate) fn run_read<R: TellingRead, W: TellingWrite>(
     }
 }
 
-/// Writes the text of `clap`, help or why the words are refused, as far as the writer takes it. If there was no memory,
-/// writes the fault line.
+/// Writes the text of `clap`, help or the reason of a refusal, as far as the writer takes it. Writes the fault line if
+/// the program is out of memory.
 fn tell_error<W: TellingWrite>(error: &Error, writer: &mut W, notes: &mut RunNotes) -> u8
     ensures status { result ≡ status_of (kind_of error.now) }
     ensures memory { kind_of error.now ≡ ErrorKind.OutOfMemory
@@ -137,7 +140,7 @@ fn tell_error<W: TellingWrite>(error: &Error, writer: &mut W, notes: &mut RunNot
     REFUSED
 }
 
-/// Does what the words ask for.
+/// Runs the command of a request.
 fn answer<R: TellingRead, W: TellingWrite>(
     alloc: Global,
     request: Request<'_>,
@@ -175,7 +178,7 @@ fn answer<R: TellingRead, W: TellingWrite>(
     )
 }
 
-/// Runs the engine of the task for its programme, and tells its fault.
+/// Runs the engine of a command for its programme, and writes the line of its fault.
 fn run_task<R: TellingRead, W: TellingWrite>(
     alloc: Global,
     task: Task,
@@ -188,7 +191,7 @@ fn run_task<R: TellingRead, W: TellingWrite>(
     ensures { TaskRuns task (tuned pi dwell) (traffic R.remaining R.failures reader.old reader.new)
         (SomeReadFailed R.failures) (traffic W.contents W.failures writer.old writer.new) result }
 {
-    // a copy by a name of its own: what is matched may not be given away
+    // Prover: a matched value is copied by a new name before its second use (docs/PROVER.md, "Workarounds").
     let asked = task;
     match task {
         Task::Decode => {
@@ -222,7 +225,7 @@ fn run_task<R: TellingRead, W: TellingWrite>(
     }
 }
 
-/// The station that the words ask for.
+/// Returns the station of these options.
 fn station_of(pi: u16, dwell: Dwell, programme: Programme, late: Late) -> Config
     ensures { result ≡ specs.station_of (tuned pi dwell) programme late }
 {
@@ -237,7 +240,7 @@ fn station_of(pi: u16, dwell: Dwell, programme: Programme, late: Late) -> Config
     }
 }
 
-/// The status of an engine that answered yes or no.
+/// Returns the status of a command that answered yes or no.
 fn answer_by(yes: bool, if_yes: u8, if_no: u8, end: &mut End) -> u8
     ensures { result ≡ if yes then if_yes else if_no }
 {
@@ -245,7 +248,7 @@ fn answer_by(yes: bool, if_yes: u8, if_no: u8, end: &mut End) -> u8
     if yes { if_yes } else { if_no }
 }
 
-/// The status of an engine that does all, or of its fault, which is told.
+/// Returns the status of a command without an answer, or of its fault, and writes the line of the fault.
 fn end_with<W: TellingWrite>(
     task: Task,
     outcome: Result<(), LogFault>,
@@ -263,7 +266,7 @@ fn end_with<W: TellingWrite>(
     }
 }
 
-/// The status of a fault, which is told.
+/// Returns the status of a fault, and writes its line.
 fn fail_with<W: TellingWrite>(task: Task, fault: LogFault, writer: &mut W, end: &mut End) -> u8
     ensures status { result ≡ 1 }
     ensures told { PutsAfter task fault (traffic W.contents W.failures writer.old writer.new) }
@@ -273,7 +276,7 @@ fn fail_with<W: TellingWrite>(task: Task, fault: LogFault, writer: &mut W, end: 
     FAULT
 }
 
-/// Writes the line of the fault as far as the writer takes it; after a failed write nothing.
+/// Writes the line of the fault as far as the writer takes it. Writes nothing after a failed write.
 fn tell_fault<W: TellingWrite>(task: Task, fault: LogFault, writer: &mut W)
     ensures { PutsAfter task fault (traffic W.contents W.failures writer.old writer.new) }
 {
@@ -313,7 +316,7 @@ fn tell_fault_text<W: TellingWrite>(task: Task, text: &[u8], writer: &mut W)
     tell(line.bytes(), writer);
 }
 
-/// What stands before a fault's line: the log that `encode` writes has it as a note.
+/// Returns the mark before the line of a fault: in the log that `encode` writes, the line is a comment.
 fn mark(task: Task) -> &'static [u8]
     ensures mark { result.now ≡ mark_of task }
     ensures short { length result.now ≤ 2 }

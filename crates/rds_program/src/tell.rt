@@ -12,10 +12,10 @@ use rds_script::Thing;
 use rds_view_lines::LogFault;
 use std::io::{ErrorKind, Write};
 
-/// The most bytes of a note; more than any note has.
+/// The most bytes of a note. All notes are shorter.
 const ROOM: usize = 1024;
 
-/// A note that is put together.
+/// The bytes of an unfinished note.
 type Note = ArrayVec<u8, ROOM>;
 
 /// Prints why the arguments were refused, as `clap` says it.
@@ -42,14 +42,14 @@ pub(crate) fn tell_run<N: TellingWrite>(notes: &RunNotes, reason: &Reason, scree
 fn tell_warnings<N: TellingWrite>(task: Task, notes: &RunNotes, screen: &mut N) {
     tell_wait(notes, screen);
     tell_no(notes, screen);
-    // a copy by a name of its own: what is asked about may not be given away
+    // Prover: a value is copied by a new name before its second use (docs/PROVER.md, "Workarounds").
     let asked = task;
     if notes.end == End::Done && notes.log.no.is_none() && !reads_script(asked) {
         tell_no_group(task, notes, screen);
     }
 }
 
-/// Prints that something was set too early, if it was, and when it is accepted.
+/// Prints that something was set too early, and from when it is accepted.
 fn tell_wait<N: TellingWrite>(notes: &RunNotes, screen: &mut N) {
     let Some(wait) = notes.script.wait else {
         return;
@@ -75,7 +75,7 @@ fn tell_wait<N: TellingWrite>(notes: &RunNotes, screen: &mut N) {
     print(note, screen);
 }
 
-/// Prints that no group of the wanted programme was in the log, if none was, and which were.
+/// Prints that the log has no group of the wanted programme, and which programmes it has.
 fn tell_no_group<N: TellingWrite>(task: Task, notes: &RunNotes, screen: &mut N) {
     let heard = notes.log.heard;
     if heard.wanted {
@@ -101,7 +101,7 @@ fn tell_no_group<N: TellingWrite>(task: Task, notes: &RunNotes, screen: &mut N) 
     print(note, screen);
 }
 
-/// Prints which rule the log breaks first, if it breaks one, and what to try next.
+/// Prints which rule the log breaks first, and what to try next.
 fn tell_no<N: TellingWrite>(notes: &RunNotes, screen: &mut N) {
     let Some(no) = notes.log.no else {
         return;
@@ -123,7 +123,7 @@ fn tell_no<N: TellingWrite>(notes: &RunNotes, screen: &mut N) {
     print(note, screen);
 }
 
-/// Appends the rule that is broken, in a sentence.
+/// Appends the broken rule, in a sentence.
 fn push_rule(no: NoNote, note: &mut Note) {
     let thing = if no.of_name { "name (PTYN)" } else { "text" };
     let spacing = no.spacing;
@@ -162,8 +162,8 @@ fn tell_pi<N: TellingWrite>(given: &[u8], screen: &mut N) {
     print(note, screen);
 }
 
-/// Prints a fault of the log or script, the input or the output. A pipe whose reader has gone, as in `| head`, is none to
-/// a person.
+/// Prints a fault of the log or script, of the input or of the output. Prints nothing if the reader of a pipe has gone,
+/// as in `| head`.
 fn tell_fault<N: TellingWrite>(
     task: Task,
     fault: LogFault,
@@ -243,7 +243,7 @@ fn push_bad_row(number: u64, notes: &RunNotes, note: &mut Note) {
     }
 }
 
-/// Appends bytes as they are.
+/// Appends bytes unchanged.
 fn push(bytes: &[u8], note: &mut Note) {
     let _ = note.write(bytes);
 }
@@ -261,7 +261,7 @@ fn push_shown(bytes: &[u8], note: &mut Note) {
     let _ = write!(note, "\"");
 }
 
-/// Returns whether the command reads a script, and not a log.
+/// Returns whether the command reads a script instead of a log.
 fn reads_script(task: Task) -> bool {
     match task {
         Task::Encode(..) | Task::Simulate(..) => true,

@@ -1,4 +1,4 @@
-//! The program over a plain reader and writer, with notes for a person at a terminal.
+//! The program over a plain reader and writer, with buffered output and notes for a person at a terminal.
 ghost use Rattle.std.specs.Prelude.{◌≡◌, map};
 ghost use Rattle.rds_charset.specs.Told.{reads_of};
 ghost use Rattle.rds_program.specs.Run.{EndsBy, EndsRead};
@@ -16,18 +16,19 @@ use std::alloc::Global;
 use std::cell::RefCell;
 use std::io::{Read, Write};
 
-/// Where notes go.
+/// The destination of notes for a person.
 #[derive(Drop)]
 pub struct Screen<N> {
-    /// Standard error. The program pays no heed to its failures.
+    /// Standard error. The program ignores its failures.
     pub notes: N,
-    /// Whether standard output is a terminal, where a refusal of the arguments is seen as it is.
+    /// Whether standard output is a terminal. A person then sees the text of refused arguments there, and it is not
+    /// repeated.
     pub output_is_terminal: bool,
 }
 
-/// Runs the program over its words, a reader and a writer, and returns its status. What it writes is gathered until it
-/// reads again, and the rest is written at the end; then the notes are. The reader and the writer leave the system's
-/// reason for a failure in `reason`.
+/// Runs the program over its arguments, a reader and a writer, and returns its exit status. Buffers the output until
+/// the next read, writes the rest at the end, and then the notes. The reader and the writer keep the system's error of
+/// a failed call in `reason`.
 pub fn run_buffered<R: Read + Drop, W: Write + Drop, N: TellingWrite>(
     alloc: Global,
     words: &[&str],
@@ -44,8 +45,8 @@ pub fn run_buffered<R: Read + Drop, W: Write + Drop, N: TellingWrite>(
     run_read_buffered(alloc, read, &mut input, &output, reason, screen)
 }
 
-/// [`run_buffered`] by what the words were read as. That alone decides the status unless an engine runs, and then
-/// nothing is read.
+/// Does the work of [`run_buffered`], given the result of reading the arguments. Only that result decides the status
+/// unless a command runs, and then nothing is read.
 fn run_read_buffered<R: Read, W: Write, N: TellingWrite>(
     alloc: Global,
     read: Result<Option<Request<'_>>, Error>,
@@ -66,7 +67,7 @@ fn run_read_buffered<R: Read, W: Write, N: TellingWrite>(
     status
 }
 
-/// Runs what the words ask for, and writes all that is left of its output.
+/// Runs the command of the arguments, and writes the rest of its output.
 fn run_and_send<R: Read, W: Write>(
     alloc: Global,
     read: Result<Option<Request<'_>>, Error>,

@@ -3,7 +3,7 @@ use Rattle.std.specs.Prelude.{ℕ, List, Option, option_map}
 use Rattle.std.specs.Option.{option_copied}
 use Rattle.std.specs.Borrow.{Bor}
 use Rattle.rds_receiver.specs.Shown as shown
-use Rattle.rds_receiver.specs.declared.receiver.View as borrowed
+use Rattle.rds_receiver.specs.declared.view.View as borrowed
 
 -- the class and the bytes of a tag that is lent
 abbrev pub borrowed_tag : Option (ℕ × Bor (List ℕ)) → Option (ℕ × List ℕ)

@@ -15,7 +15,9 @@ mod held;
 mod laws;
 mod receiver;
 mod stored;
+mod view;
 
 pub use laws::{one_view, run_is_the_longest};
-pub use receiver::{Receiver, View, heard};
+pub use receiver::{Receiver, heard};
 pub use stored::{StoredReceiver, StoredSegments};
+pub use view::View;

@@ -7,36 +7,20 @@ ghost use Rattle.rds_fields.specs.declared.message.Message.{Message};
 ghost use Rattle.rds_fields.specs.Spells.{Spells};
 ghost use Rattle.rds_receiver.specs.Borrowed.{borrowed_tag, view_of};
 ghost use Rattle.rds_receiver.specs.Receipts.{Hears};
-ghost use Rattle.rds_receiver.specs.Shown.{IsItemShown, IsNameShown, IsShort, IsTagShown, IsTextShown};
-ghost use Rattle.rds_receiver.specs.Shown.{IsView, ShownView};
+ghost use Rattle.rds_receiver.specs.Shown.{IsItemShown, IsNameShown, IsTagShown, IsTextShown, IsView, ShownView};
 ghost use Rattle.rds_receiver.specs.StandsAt.{HearsMore, HoldsAt, ShowsAlike, StandsAt};
 ghost use Rattle.rds_receiver.specs.StandsAt.{WhatItHeard, WhereItStands, newest_slot};
 ghost use Rattle.rds_receiver.specs.State.{ReceiverState};
 ghost use Rattle.rds_receiver.specs.Stored.{IsStored, receiver_stored};
 ghost use Rattle.rds_receiver.specs.Tags.{or_before, pair_held, says_of_rtplus, unless_contrary};
 
+use crate::View;
 use crate::held::Held;
 use crate::stored::StoredReceiver;
 use rds_assembly::{RadioText, TypeName};
 use rds_block::{Blocks, Group};
 use rds_fields::{Dwell, Message, RTPLUS_AID, RTPLUS_CODE, StoredPair, TagPair, Which};
 use std::marker::Model;
-
-/// What a receiver shows at the end of a slot. `None` is a part that is not shown.
-#[derive(Clone, Copy, Debug, PartialEq)]
-pub struct View<'a> {
-    /// The text: up to 64 bytes. `Some` of no bytes is the empty text.
-    pub text: Option<&'a [u8]>,
-    /// The name of the programme type: eight bytes.
-    pub name: Option<&'a [u8]>,
-    /// The item toggle bit and the item running bit.
-    pub item: Option<(bool, bool)>,
-    /// The class of the first tag, and its piece of the text.
-    pub one: Option<(u8, &'a [u8])>,
-    /// The class of the second tag, and its piece of the text.
-    pub two: Option<(u8, &'a [u8])>,
-    pub ghost short: { IsShort text name one two },
-}
 
 /// What a receiver of this programme hears of a slot: nothing where no group came, or another programme's.
 #[inline(always)]

@@ -1,4 +1,4 @@
--- Two calls over the same bytes. w and v are what each did to its writer.
+-- Two calls over the same bytes. w and v are the traffic of each call with its writer.
 use Rattle.std.specs.Prelude.{ℕ, List}
 use Rattle.std.specs.Io.KnownBytes.{Appends}
 use Rattle.rds_charset.specs.Told.{Traffic}

@@ -1,4 +1,4 @@
--- The view that a value of the program keeps a copy of.
+-- The view of which the program keeps a copy.
 use Rattle.std.specs.Prelude.{ℕ, List, Option, option_map}
 use Rattle.arrayvec.specs.ArrayVec.{ArrayVec}
 use Rattle.rds_receiver.specs.Shown.{ShownView}

@@ -1,8 +1,8 @@
--- The lines of views, and the views and parts of them that the program holds.
+-- The lines of views, and the program's types for views and their parts.
 pub mod Output
 pub mod KeptView
 pub mod Part
--- What the promises of the commands share.
+-- Definitions that the promises of several commands share.
 pub mod ReadFailed
 pub mod Alike
 -- Lemmas that crates above use.

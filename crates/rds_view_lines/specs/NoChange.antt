@@ -1,4 +1,4 @@
--- A view that stays as it was has no line, and before the first slot nothing is shown.
+-- An unchanged view has no line, and before the first slot nothing is shown.
 use Rattle.std.proofs.Common.{◌≡◌, ℕ, Bool, true, false, List, [], Option, Some, None, refl}
 use Rattle.std.proofs.lemmas.Bool.{eq-eqb}
 use Rattle.std.proofs.lemmas.Slice.Eq.{bytes_eq-Decides}
@@ -7,7 +7,7 @@ use Rattle.rds_receiver.specs.Receipts.{Tuning}
 use Rattle.rds_receiver.specs.Shown.{IsView, ShownView}
 use Rattle.rds_view_lines.specs.Output.{change, is_same_item, is_same_tag, is_same_text, nothing_shown}
 
--- a part that stays as it was has no line
+-- an unchanged part has no line
 same_text : (o : Option (List ℕ)) → is_same_text o o ≡ true
 same_text None = refl
 same_text (Some x) = (bytes_eq-Decides x x).1 refl

@@ -1,7 +1,6 @@
--- What is written for a list of views: for each slot one line for each part of its view that differs from the
--- slot before, in the order text, name, item bits, first tag, second tag; before the first slot nothing is shown.
--- This is the project's own format. A list of views has the newest first, so the slot of a view is the number of
--- views behind it.
+-- The output for a list of views: for each slot one line for each part of its view that differs from the slot before,
+-- in the order text, name, item bits, first tag, second tag. Before the first slot nothing is shown. This is the
+-- project's own format. A list of views has the newest first, so the slot of a view is the number of views behind it.
 use Rattle.std.specs.Prelude.{◌-◌, ◌==◌, ◌&&◌, ◌++◌, [], ◌∷◌}
 use Rattle.std.specs.Prelude.{ℕ, Bool, true, false, List, Option, Some, None}
 use Rattle.std.specs.Prelude.{codes, decimal, length, slice_get, if◌then◌else◌}
@@ -11,7 +10,7 @@ use Rattle.rds_charset.specs.Printed.{printed}
 use Rattle.rds_receiver.specs.Run.{is_same}
 use Rattle.rds_receiver.specs.Shown.{ShownView}
 
--- the names of the classes from 1 on (IEC 62106-6, content types of RadioText Plus)
+-- the names of the content types from 1 on (IEC 62106-6, content types of RadioText Plus)
 abbrev pub class_names : List (List ℕ)
 class_names =
     codes "ITEM.TITLE" ∷ codes "ITEM.ALBUM" ∷ codes "ITEM.TRACKNUMBER"
@@ -22,7 +21,7 @@ class_names =
 abbrev pub class_name : ℕ → Option (List ℕ)
 class_name class = if class == 0 then None else slice_get class_names (class - 1)
 
--- a class by its name, and one that has none by its number
+-- a content type by its name, or by its number if it has no name
 abbrev pub name_or_number : Option (List ℕ) → ℕ → List ℕ
 name_or_number None class = decimal class
 name_or_number (Some name) class = name
@@ -31,7 +30,7 @@ name_or_number (Some name) class = name
 abbrev pub quoted : List ℕ → List ℕ
 quoted x = codes " \"" ++ printed x ++ codes "\""
 
--- what follows the name of a part
+-- the content of a part, which follows its name
 abbrev pub text_content : Option (List ℕ) → List ℕ
 text_content None = codes " none"
 text_content (Some x) = quoted x
@@ -48,7 +47,7 @@ abbrev pub tag_content : Option (ℕ × List ℕ) → List ℕ
 tag_content None = codes " none"
 tag_content (Some tag) = codes " " ++ name_or_number (class_name tag.0) tag.0 ++ quoted tag.1
 
--- what a line begins with: its slot, and where there are several receivers, one of them by its number from 0
+-- the beginning of a line: its slot and, if there are several receivers, the number of one of them, counted from 0
 abbrev pub slot_stamp : ℕ → List ℕ
 slot_stamp slot = decimal slot ++ codes " "
 
@@ -69,7 +68,7 @@ is_same_item before now = option_eq (λ x y. is_same x.0 y.0 && is_same x.1 y.1)
 abbrev pub is_same_tag : Option (ℕ × List ℕ) → Option (ℕ × List ℕ) → Bool
 is_same_tag before now = option_eq (λ x y. x.0 == y.0 && bytes_eq x.1 y.1) before now
 
--- the line of a part, where it differs from the slot before
+-- the line of a part, if the part differs from the slot before
 abbrev pub unless_same : Bool → List ℕ → List ℕ
 unless_same true line = []
 unless_same false line = line
@@ -93,7 +92,7 @@ change stamp before now =
 abbrev pub nothing_shown : ShownView
 nothing_shown = record { text = None; name = None; item = None; one = None; two = None }
 
--- what is shown at the end
+-- the view at the end
 abbrev pub newest : List ShownView → ShownView
 newest [] = nothing_shown
 newest (view ∷ older) = view

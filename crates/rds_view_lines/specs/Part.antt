@@ -1,5 +1,5 @@
--- What an output line begins with and a part of a view as the program holds them, what stands behind the part's
--- name, and the line.
+-- The program's types for the beginning of an output line and for a part of a view, with the content of a part and its
+-- line.
 use Rattle.std.specs.Prelude.{◌≤◌, ℕ, Bool, false, List, length}
 use Rattle.std.specs.Option.{ForSome, option_copied}
 use Rattle.rds_receiver.specs.Borrowed.{borrowed_tag}
@@ -10,7 +10,7 @@ use Rattle.rds_view_lines.specs.declared.change.Part.TheVariants.{Text, Item, Ta
 use Rattle.rds_view_lines.specs.declared.change.Stamp.{Stamp}
 use Rattle.rds_view_lines.specs.declared.change.Stamp.TheVariants.{Slot, Receiver}
 
--- whether both show the same
+-- whether both parts show the same
 abbrev pub is_same_part : Part → Part → Bool
 is_same_part (Text before) (Text now) = is_same_text (option_copied before) (option_copied now)
 is_same_part (Text before) (Item now) = false
@@ -22,23 +22,23 @@ is_same_part (Tag before) (Text now) = false
 is_same_part (Tag before) (Item now) = false
 is_same_part (Tag before) (Tag now) = is_same_tag (borrowed_tag before) (borrowed_tag now)
 
--- what stands behind the name of the part
+-- the content of the part, which follows its name
 abbrev pub part_content : Part → List ℕ
 part_content (Text text) = text_content (option_copied text)
 part_content (Item item) = item_content item
 part_content (Tag tag) = tag_content (borrowed_tag tag)
 
--- no text, name or piece has more bytes than a text has
+-- no text, name or piece has more than 64 bytes
 abbrev pub IsShortPart : Part → Type 0
 IsShortPart (Text text) = ForSome text (λ x. length x.now ≤ 64)
 IsShortPart (Item item) = Unit {0}
 IsShortPart (Tag tag) = ForSome tag (λ tag. length tag.1.now ≤ 64)
 
--- the line of a part, where it differs from the slot before
+-- the line of a part, if the part differs from the slot before
 abbrev pub part_change : List ℕ → List ℕ → Part → Part → List ℕ
 part_change stamp name before now = unless_same (is_same_part before now) (line_of stamp name (part_content now))
 
--- what a line begins with
+-- the beginning of a line
 abbrev pub stamp_of : Stamp → List ℕ
 stamp_of (Slot slot) = slot_stamp slot
 stamp_of (Receiver slot i) = receiver_stamp slot i

@@ -9,25 +9,26 @@ ghost use Rattle.rds_view_lines.specs.declared.change.TheConstants.{LINE_ROOM, S
 use rds_charset::Lines;
 use rds_receiver::View;
 
-/// Room for the line of a part: its name, the name of a class, and a text of 64 bytes, each printed as four.
+/// The most bytes of the line of a part: its name, the name of a content type, and a text of 64 bytes, each byte
+/// printed as at most four.
 pub const LINE_ROOM: usize = 344;
 
-/// Room for the lines of a slot, one for each of the five parts.
+/// The most bytes of the lines of a slot, one line for each of the five parts.
 pub const SLOT_ROOM: usize = 5 * LINE_ROOM;
 
-/// What an output line begins with.
+/// The beginning of an output line.
 #[derive(Clone, Copy)]
 pub enum Stamp {
-    /// The slot, where there is one receiver.
+    /// The slot, if there is one receiver.
     Slot(u64),
-    /// The slot, and one of several receivers by its number from 0.
+    /// The slot, and the number of one of several receivers, counted from 0.
     Receiver(u64, usize),
 }
 
 impl Stamp {
     ghost use Rattle.rds_view_lines.specs.Part.{stamp_of};
 
-    /// Appends it, and a space.
+    /// Appends the stamp and a space.
     pub fn push<const N: usize>(self, lines: &mut Lines<N>)
         requires { length lines.old + 43 ≤ N }
         ensures stamp { lines.new ≡ lines.old ++ stamp_of self }
@@ -52,7 +53,7 @@ pub(crate) enum Part<'a> {
     Text(Option<&'a [u8]>),
     /// The item bits.
     Item(Option<(bool, bool)>),
-    /// A tag: its class, and its piece of the text.
+    /// A tag: its content type, and its piece of the text.
     Tag(Option<(u8, &'a [u8])>),
 }
 
@@ -60,7 +61,7 @@ impl Part<'_> {
     ghost use Rattle.std.specs.Prelude.{ℕ, List};
     ghost use Rattle.rds_view_lines.specs.Part.{IsShortPart, is_same_part, part_content};
 
-    /// Whether both show the same.
+    /// Returns whether both parts show the same.
     fn is_same(self, other: Part<'_>) -> bool
         ensures { result ≡ is_same_part self.entry other.entry }
     {
@@ -72,7 +73,7 @@ impl Part<'_> {
         }
     }
 
-    /// Appends what stands behind the name of the part.
+    /// Appends the content of the part, which follows its name.
     fn push<const N: usize>(self, lines: &mut Lines<N>)
         requires short { IsShortPart self }
         requires room { length lines.old + 290 ≤ N }
@@ -101,7 +102,7 @@ fn bit_content(is_set: bool) -> &'static [u8]
     if is_set { b" 1" } else { b" 0" }
 }
 
-/// Appends the name of a class, or its number where it has none.
+/// Appends the name of a content type, or its number if it has no name.
 pub fn push_class<const N: usize>(class: u8, lines: &mut Lines<N>)
     requires { length lines.old + 21 ≤ N }
     ensures class { lines.new ≡ lines.old ++ codes " " ++ name_or_number (class_name class) class }
@@ -114,7 +115,7 @@ pub fn push_class<const N: usize>(class: u8, lines: &mut Lines<N>)
     }
 }
 
-/// The name of a class (IEC 62106-6, content types of RadioText Plus).
+/// Returns the name of a content type (IEC 62106-6, content types of RadioText Plus).
 fn class_name(class: u8) -> Option<&'static [u8]>
     ensures name { option_copied result ≡ class_name class }
     ensures short { IfSome result (λ name. length name.now ≤ 16) }
@@ -149,7 +150,7 @@ pub fn push_quoted<const N: usize>(text: &[u8], lines: &mut Lines<N>)
 
 ghost use Rattle.rds_view_lines.specs.Part.{IsShortPart, part_change, stamp_of};
 
-/// Appends the line of a part, where it differs from the slot before.
+/// Appends the line of a part, if the part differs from the slot before.
 fn push_change<const N: usize>(
     stamp: Stamp,
     name: &[u8],

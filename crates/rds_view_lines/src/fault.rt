@@ -1,35 +1,35 @@
-//! Why a log or a script was not taken to its end.
+//! Why a command stopped before the end of its log or script.
 ghost use Rattle.std.specs.Prelude.{◌≡◌};
 ghost use Rattle.rds_view_lines.specs.declared.fault.LogFault.TheVariants as faults;
 
 use rds_charset::WriteFault;
 use thiserror::Error;
 
-/// This line of a log, counted from 1 over all of them, is no log line.
+/// The line with this number, counted from 1 over all lines, is malformed.
 #[derive(Clone, Copy)]
 pub struct BadLine {
     pub number: u64,
 }
 
-/// Why a log or a script was not taken to its end.
+/// Why a command stopped before the end of its log or script (this project's own rule).
 #[derive(Clone, Copy, Debug, PartialEq, Eq, Error)]
 pub enum LogFault {
-    /// This line of a log, counted from 1, is no log line.
+    /// The line of the log with this number, counted from 1, is malformed.
     #[error("line {0} is no log line")]
     BadLine(u64),
-    /// This record of a script, counted from 1, is no row.
+    /// The record of the script with this number, counted from 1, is not a row.
     #[error("record {0} is no row")]
     BadRow(u64),
-    /// The reader failed.
+    /// Reading failed.
     #[error("the reader failed")]
     Read,
-    /// The writer failed.
+    /// Writing failed.
     #[error("the writer failed")]
     Write,
-    /// The reader has no end within the reads that are made, or the script has as many records as the bound.
+    /// The log did not end within the bound on reads, or the script has as many records as the bound.
     #[error("the input has no end within the bound")]
     TooLong,
-    /// There was no memory for a record of a script, or for its world.
+    /// Out of memory, for a record of a script or for its world.
     #[error("out of memory")]
     Memory,
 }

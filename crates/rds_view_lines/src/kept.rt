@@ -1,4 +1,4 @@
-//! A copy of what a receiver showed.
+//! A copy of a receiver's view.
 ghost use Rattle.std.specs.Prelude.{◌≡◌, ◌≤◌, length};
 ghost use Rattle.std.specs.Option.{ForSome, option_copied};
 ghost use Rattle.rds_receiver.specs.Borrowed.{borrowed_tag};
@@ -26,7 +26,7 @@ impl KeptView {
     ghost use Rattle.rds_view_lines.specs.Output.{nothing_shown};
     ghost use Rattle.rds_receiver.specs.Borrowed.{view_of};
 
-    /// Nothing is shown.
+    /// Returns the copy of a view that shows nothing.
     pub fn new() -> KeptView
         ensures { view_kept result ≡ nothing_shown }
     {
@@ -39,7 +39,7 @@ impl KeptView {
         }
     }
 
-    /// A copy of this view.
+    /// Copies a view.
     pub(crate) fn of(view: View<'_>) -> KeptView
         ensures { view_kept result ≡ view_of view.entry }
     {
@@ -52,7 +52,7 @@ impl KeptView {
         }
     }
 
-    /// The view that was copied.
+    /// Returns the view that was copied.
     pub(crate) fn view(&self) -> View<'_>
         ensures { view_of result ≡ view_kept self.now }
     {

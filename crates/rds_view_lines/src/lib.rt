@@ -1,5 +1,4 @@
-//! What the commands write of a receiver's view, a line for each part of it that changed, and why a log or a script is
-//! not taken to its end.
+//! The output lines of a receiver's view, one for each part that changed, and the faults at which a command stops.
 #![tactic(auto)]
 
 mod change;

@@ -1,4 +1,4 @@
-//! What changed of what is shown.
+//! The lines for a view that may have changed.
 ghost use Rattle.std.specs.Prelude.{◌≡◌, ◌≤◌, ◌+◌, ◌++◌, length};
 ghost use Rattle.rds_view_lines.specs.declared.change.TheConstants.{SLOT_ROOM};
 ghost use Rattle.rds_receiver.specs.Shown.{IsView};
@@ -12,9 +12,9 @@ use crate::kept::KeptView;
 use rds_charset::Lines;
 use rds_receiver::Receiver;
 
-/// Appends the line of each part that differs from what was shown, and keeps what the receiver shows now.
+/// Appends the line of each part that differs from the view that was shown, and keeps the receiver's view.
 ///
-/// Few slots come here. It stands apart so that the others pay nothing for its copies.
+/// Few slots change a view. The function is not inlined, so that the other slots do not clear the room for its copies.
 #[inline(never)]
 pub fn show<const N: usize>(
     stamp: Stamp,

@@ -1,4 +1,4 @@
-//! The program over words that come as one text.
+//! The program over arguments that are lines of one text.
 ghost use Rattle.std.specs.Prelude.{◌≡◌, IfOk, map};
 ghost use Rattle.std.specs.Str.{IsUtf8};
 ghost use Rattle.rds_charset.specs.Told.{PutsNothing, traffic};
@@ -9,7 +9,7 @@ use rds_charset::TellingWrite;
 use rds_program::{FAULT, REFUSED, run_with_notes, write_no_memory};
 use std::alloc::{AllocError, Global};
 
-/// Runs the program over its words, one a line, and over bytes in memory. Its notes go to `screen`.
+/// Runs the program over its arguments, one a line, and over the bytes of its input. Writes its notes to `screen`.
 pub fn answer<W: TellingWrite, N: TellingWrite>(
     alloc: Global,
     words: &[u8],
@@ -35,7 +35,7 @@ pub fn answer<W: TellingWrite, N: TellingWrite>(
     run_with_notes(alloc, words.as_slice(), &mut given, writer, screen)
 }
 
-/// The lines of a text.
+/// Returns the lines of a text.
 pub fn words_in(alloc: Global, text: &str) -> Result<Vec<&str>, AllocError>
     ensures { IfOk result (λ words. map (λ w. w.now) words.items ≡ words_in text.now) }
 {

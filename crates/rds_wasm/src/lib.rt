@@ -1,4 +1,4 @@
-//! The program `rdsrt` for a page: its words and its input are bytes of memory, and so are its output and its notes.
+//! The program `rdsrt` as a WebAssembly module: its arguments, its input, its output and its notes are bytes of memory.
 #![tactic(auto)]
 
 mod answer;
@@ -14,18 +14,18 @@ use std::alloc::Global;
 #[repr(C)]
 #[derive(Clone, Copy)]
 pub struct Ended {
-    /// How many bytes it printed. Where they are more than the output has room for, only the first of them are in it.
+    /// How many bytes it printed. If the output has less room, it holds only the first of them.
     pub length: usize,
-    /// How many writes failed, for want of memory.
+    /// How many writes failed because the program was out of memory.
     pub failures: u64,
-    /// How many bytes of notes it printed. If the buffer of the notes has less room, only the first of them are in it.
+    /// How many bytes of notes it printed. If the buffer of the notes has less room, it holds only the first of them.
     pub noted: usize,
-    /// Its status.
+    /// Its exit status.
     pub status: u8,
 }
 
-/// Runs the program over its words, one a line, the program's own name first, and the bytes of its input. Copies its
-/// standard output to `output` and its notes, which it prints on standard error, to `notes`.
+/// Runs the program over its arguments, one a line, the program's own name first, and over the bytes of its input.
+/// Copies its standard output to `output` and its notes to `notes`.
 #[unsafe(no_mangle)]
 pub extern "C" fn rdsrt_run(
     alloc: Global,
@@ -48,7 +48,7 @@ pub extern "C" fn rdsrt_run(
     }
 }
 
-/// Copies as many bytes as there is room for, and gives how many there are.
+/// Copies as many bytes as there is room for, and returns how many there are.
 fn copy_front(printed: &[u8], output: &mut [u8]) -> usize
     ensures { Begun printed.now output.new result }
 {

@@ -1,10 +1,10 @@
-//! Bytes in memory as a reader that tells, none of whose reads fails.
+//! A reader of bytes in memory, whose reads never fail.
 ghost use Rattle.std.specs.Prelude.{◌≡◌, Some};
 
 use rds_charset::TellingRead;
 use std::io::{self, Read};
 
-/// The bytes that are left, and how many counted reads there were.
+/// The remaining bytes, and the number of counted reads.
 #[derive(Drop)]
 pub struct SliceReader<'a> {
     pub rest: &'a [u8],
@@ -12,7 +12,7 @@ pub struct SliceReader<'a> {
 }
 
 impl<'a> SliceReader<'a> {
-    /// Of which nothing was read yet.
+    /// Reads from the start of `bytes`.
     pub fn new(bytes: &'a [u8]) -> SliceReader<'a>
         ensures whole { result.rest.now ≡ bytes.now }
     {

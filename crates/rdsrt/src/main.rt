@@ -1,8 +1,8 @@
-//! `rdsrt`: texts of RDS, sent and received. `decode` reads what a receiver heard, and prints what it shows.
+//! `rdsrt` encodes, decodes, simulates and audits the text services of RDS.
 //!
-//! The program is `rds_program`: its contract says which output each input has. `main` gives it the words of the command
-//! line, standard input and standard output, whose writes are gathered: one before each read, and one at the end. Notes for
-//! a person go to standard error.
+//! The program is the crate `rds_program`: its contract says which output each input has. `main` passes it the
+//! arguments of the command line, standard input and a buffered standard output: one write before each read, and one at
+//! the end. Notes for a person go to standard error.
 //!
 //! ```text
 //! rdsrt decode --pi C201
@@ -31,7 +31,7 @@ fn main(rt: HostRuntime) -> ExitCode {
     ExitCode::from(status)
 }
 
-/// Runs the program over its words and the standard streams.
+/// Runs the program over its arguments and the standard streams.
 fn run(rt: &HostRuntime, words: &[&str]) -> u8 {
     let line = if rt.stdin().is_terminal() {
         prompt_for(words)
