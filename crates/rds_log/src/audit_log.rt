@@ -1,4 +1,4 @@
-//! Whether what a station sent passes.
+//! The engine of `audit`: whether the groups of a station pass.
 ghost use Rattle.std.specs.Prelude.{◌≡◌, ◌≢◌, ◌≤◌, ◌+◌, ◌^◌, [], IfErr, Ok, false, true};
 ghost use Rattle.rds_charset.specs.Told.{traffic};
 ghost use Rattle.rds_log.specs.Audit.{Answers, Audits, Judges, Means};
@@ -18,16 +18,17 @@ use rds_charset::{Lines, TellingRead, TellingWrite, put};
 use rds_fields::{Dwell, Late};
 use rds_view_lines::LogFault;
 
-/// Audits a log of what a station sent, one slot a line, and writes the answer line: `yes` with the number of slots,
-/// or `no` with the slot that breaks a rule first and the name of the fault.
+/// Audits the log of a station, one slot a line, and writes the answer line: `yes` with the number of slots, or `no`
+/// with the first slot that breaks a rule and the name of the fault.
 ///
-/// After a yes no receiver of that dwell, whose groups come no later, ever shows a mix of the log's texts. After a no
-/// no station that keeps its texts and names apart by the dwell and the lateness, without a gap of as many slots, could
-/// have sent the log. No read is made after the one that brought the slot that does not pass, or after a fault.
+/// If the answer is yes, no receiver with this dwell ever shows a mix of the log's texts, provided that its groups come
+/// at most this late. If the answer is no, no station that keeps its texts and names apart by M + K slots, and leaves
+/// no gap of as many, could have sent the log. `audit` stops reading after the slot that does not pass, and after a
+/// fault.
 ///
 /// # Errors
 ///
-/// The first fault: a bad line, a read or a write that failed, or 2^32 reads without an end.
+/// The first fault: a malformed line, a failed read or write, or 2^32 reads without an end.
 pub fn audit<R: TellingRead, W: TellingWrite>(
     reader: &mut R,
     writer: &mut W,
@@ -44,7 +45,7 @@ pub fn audit<R: TellingRead, W: TellingWrite>(
     audit_within(reader, writer, pi, dwell, late, MOST_READS)
 }
 
-/// [`audit`] with at most so many reads: a log that is not at its end by then is too long.
+/// Does what [`audit`] does with at most `reads` reads. A log that has not ended by then is too long.
 pub fn audit_within<R: TellingRead, W: TellingWrite>(
     reader: &mut R,
     writer: &mut W,
@@ -65,7 +66,7 @@ pub fn audit_within<R: TellingRead, W: TellingWrite>(
     write_verdict(verdict, writer)
 }
 
-/// [`audit`] with notes for a person: with them or without, it writes and returns the same.
+/// Does what [`audit`] does, and takes notes for a person. The output and the answer are the same.
 pub fn audit_with_notes<R: TellingRead, W: TellingWrite>(
     reader: &mut R,
     writer: &mut W,
@@ -92,7 +93,7 @@ pub fn audit_with_notes<R: TellingRead, W: TellingWrite>(
     write_verdict(verdict, writer)
 }
 
-/// Writes the line of a verdict, and returns whether it is a yes.
+/// Writes the line of a verdict. Returns whether it is a yes.
 fn write_verdict<W: TellingWrite>(verdict: Verdict, writer: &mut W) -> Result<bool, LogFault>
     ensures answers { Answers (Ok verdict) (traffic W.contents W.failures writer.old writer.new) result }
 {
@@ -102,8 +103,8 @@ fn write_verdict<W: TellingWrite>(verdict: Verdict, writer: &mut W) -> Result<bo
     Ok(verdict.is_yes())
 }
 
-/// Audits the log up to its end, or to the first line that is bad or whose slot does not pass, with notes of which nothing
-/// is noted yet.
+/// Audits the log up to its end, or to the first line that is malformed or whose slot does not pass. The notes are
+/// empty before.
 fn judge<R: TellingRead>(
     reader: &mut R,
     pi: u16,

@@ -1,4 +1,4 @@
-//! The bytes of a log, cut into lines at each line feed.
+//! Cuts the bytes of a log into lines. Keeps the first 60 bytes of a line that spans two reads or is malformed.
 ghost use Rattle.std.specs.Prelude.{◌≡◌, ◌≤◌, ◌<◌, ◌+◌, ◌-◌, ◌^◌, ◌++◌, ◌↔◌, []};
 ghost use Rattle.std.specs.Prelude.{IfErr, IfNone, IfSome, IsTrue, MatchResult, take};
 ghost use Rattle.rds_log.specs.LineSays.{IsBad, LineSays, deciding};
@@ -13,23 +13,23 @@ use memchr::memchr;
 use rds_view_lines::BadLine;
 use std::simd::prelude::*;
 
-/// How many bytes are asked at once for a line feed.
+/// How many bytes are searched for a line feed at once.
 const LANES: usize = 64;
 
-/// Takes the bytes of a log, however they are cut, and tells what each line says that is closed.
+/// Takes the bytes of a log, whatever the reads that they come in, and returns the meaning of each complete line.
 ///
-/// Of a line that is begun it keeps the first bytes, which decide what the line says.
+/// Keeps the first bytes of an incomplete line: these decide its meaning.
 #[derive(Drop)]
 pub(crate) struct Cutter {
     kept: ArrayVec<u8, DECIDING>,
-    /// How many lines were closed.
+    /// The number of complete lines.
     pub(crate) lines: u64,
 }
 
 impl Cutter {
     ghost use Rattle.rds_log.specs.Inside.Cutter.{Closes, CutterStandsAt, IsBadLine, WhereItCuts};
 
-    /// At the start of a log.
+    /// Starts a log.
     pub(crate) fn new() -> Cutter
         ensures lines { result.lines ≡ 0 }
         ensures stands { CutterStandsAt result [] [] }
@@ -40,15 +40,14 @@ impl Cutter {
         }
     }
 
-    /// Whether no line is begun.
+    /// Returns whether no line is incomplete.
     pub(crate) fn is_between(&self) -> bool
         ensures { WhereItCuts self.now (λ _ begun. IsTrue result ↔ (begun ≡ [])) }
     {
         self.kept.is_empty()
     }
 
-    /// Takes the last bytes of the line that is begun, and its end; gives what the line says. Of a bad line the first
-    /// bytes stay.
+    /// Completes a line with its last bytes, and returns its meaning. Keeps the first bytes of a malformed line.
     #[inline(always)]
     pub(crate) fn close(&mut self, last: &[u8]) -> Result<LogLine, BadLine>
         requires lines { self.old.lines < 2 ^ 64 - 1 }
@@ -69,7 +68,7 @@ impl Cutter {
         Ok(said)
     }
 
-    /// Returns the first bytes of the line that is begun, as of a bad one, and why it is bad.
+    /// Returns the first bytes of a malformed line, and why it is malformed.
     pub(crate) fn bad_start(&self) -> BadStart
         ensures { IsNoteOn self.now.kept.items result }
     {
@@ -81,7 +80,7 @@ impl Cutter {
         }
     }
 
-    /// Takes bytes of the line that is begun, and keeps those of them that decide what it says.
+    /// Takes bytes of an incomplete line, and keeps those that decide its meaning.
     pub(crate) fn keep(&mut self, bytes: &[u8])
         ensures kept { self.new.kept.items ≡ take deciding (self.old.kept.items ++ bytes.now) }
         ensures lines { self.new.lines ≡ self.old.lines }
@@ -93,7 +92,7 @@ impl Cutter {
         self.kept.try_extend_from_slice(&bytes[..count]).unwrap();
     }
 
-    /// Keeps the first bytes of a bad line. It stands apart so that good lines pay nothing for it.
+    /// Keeps the first bytes of a malformed line. The function is not inlined, so that other lines pay nothing for it.
     #[inline(never)]
     fn keep_bad(&mut self, line: &[u8])
         requires { self.old.kept.items ≡ [] }
@@ -103,8 +102,8 @@ impl Cutter {
         self.keep(line);
     }
 
-    /// What the line that is begun says where these are its last bytes; `None` for a bad line, of which the first bytes
-    /// are then kept.
+    /// Returns the meaning of the line that ends with these bytes. `None` for a malformed line, whose first bytes are
+    /// then kept.
     #[inline(always)]
     fn said(&mut self, last: &[u8]) -> Option<LogLine>
         ensures some { (begun : Line) → self.old.kept.items ≡ take deciding begun
@@ -122,7 +121,8 @@ impl Cutter {
         said_by(self.kept.as_slice())
     }
 
-    /// What a line says of which no byte was kept; `None` for a bad line, of which the first bytes are then kept.
+    /// Returns the meaning of a line that is not split between reads. `None` for a malformed line, whose first bytes
+    /// are then kept.
     #[inline(always)]
     fn said_at_once(&mut self, line: &[u8]) -> Option<LogLine>
         requires { self.old.kept.items ≡ [] }
@@ -139,7 +139,7 @@ impl Cutter {
     }
 }
 
-/// Where the first line feed stands.
+/// Returns the place of the first line feed.
 #[inline(always)]
 pub(crate) fn line_end(bytes: &[u8]) -> Option<usize>
     ensures some { IfSome result (EndsAt bytes.now) }
@@ -151,7 +151,8 @@ pub(crate) fn line_end(bytes: &[u8]) -> Option<usize>
     memchr(b'\n', bytes)
 }
 
-/// Where the first line feed stands, where it is one of the first 64 bytes and there are as many: all are asked at once.
+/// Returns the place of the first line feed, if it is one of the first 64 bytes and there are as many. All are searched
+/// at once.
 #[inline(always)]
 fn near_end(bytes: &[u8]) -> Option<usize>
     ensures { IfSome result (EndsAt bytes.now) }

@@ -1,4 +1,4 @@
-//! What a receiver of a log shows.
+//! The engine of `decode`: the view of a receiver of a log.
 ghost use Rattle.std.specs.Prelude.{◌≡◌, ◌≤◌, ◌^◌, [], IfErr, None, OnOk};
 ghost use Rattle.rds_charset.specs.Told.{traffic};
 ghost use Rattle.rds_log.specs.Decode.{Decodes};
@@ -15,17 +15,16 @@ use rds_charset::{TellingRead, TellingWrite};
 use rds_fields::Dwell;
 use rds_view_lines::LogFault;
 
-/// How many reads are made before a log is too long.
+/// The most reads of a log. A longer log is too long.
 pub(crate) const MOST_READS: u64 = 1 << 32;
 
 /// Writes what a receiver of this programme and this dwell shows while it hears the log.
 ///
-/// The output of the lines that one read brought goes out before the next read, in one write where the
-/// writer takes it whole.
+/// The output for the lines of one read is written before the next read, in one write if the writer takes it whole.
 ///
 /// # Errors
 ///
-/// The first fault: a bad line, a read or a write that failed, or 2^32 reads without an end.
+/// The first fault: a malformed line, a failed read or write, or 2^32 reads without an end.
 pub fn decode<R: TellingRead, W: TellingWrite>(
     reader: &mut R,
     writer: &mut W,
@@ -40,7 +39,7 @@ pub fn decode<R: TellingRead, W: TellingWrite>(
     decode_within(reader, writer, pi, dwell, MOST_READS)
 }
 
-/// [`decode`] with at most so many reads: a log that is not at its end by then is too long.
+/// Does what [`decode`] does with at most `reads` reads. A log that has not ended by then is too long.
 pub fn decode_within<R: TellingRead, W: TellingWrite>(
     reader: &mut R,
     writer: &mut W,
@@ -57,7 +56,7 @@ pub fn decode_within<R: TellingRead, W: TellingWrite>(
     decode_noting(reader, writer, pi, dwell, reads, &mut LogNotes::new(pi))
 }
 
-/// [`decode`] with notes for a person: with them or without, it writes and returns the same.
+/// Does what [`decode`] does, and takes notes for a person. The output and the result are the same.
 pub fn decode_with_notes<R: TellingRead, W: TellingWrite>(
     reader: &mut R,
     writer: &mut W,
@@ -78,7 +77,7 @@ pub fn decode_with_notes<R: TellingRead, W: TellingWrite>(
     decode_noting(reader, writer, pi, dwell, MOST_READS, notes)
 }
 
-/// Decodes with at most so many reads, and with notes of which nothing is noted yet.
+/// Decodes with at most `reads` reads. The notes are empty before.
 fn decode_noting<R: TellingRead, W: TellingWrite>(
     reader: &mut R,
     writer: &mut W,

@@ -1,4 +1,4 @@
-//! What the lines of a log write.
+//! The output of the lines of a log. It waits in memory until it is written.
 ghost use Rattle.std.specs.Prelude.{◌≡◌, ◌≤◌, ◌<◌, ◌+◌, ◌-◌, ◌^◌, ◌++◌, ◌∷◌, ◌↔◌, []};
 ghost use Rattle.std.specs.Prelude.{ℕ, List, Option, IsOk, IsTrue, MatchResult, OnOk, length};
 ghost use Rattle.rds_block.specs.declared.group.Group.{Group};
@@ -16,7 +16,7 @@ use rds_fields::Dwell;
 use rds_receiver::Receiver;
 use rds_view_lines::{KeptView, SLOT_ROOM, Stamp, show};
 
-/// Feeds a receiver slot by slot, and gives a line for each part of its view that changed.
+/// Feeds a receiver slot by slot, and appends a line for each part of its view that changed.
 #[derive(Drop)]
 pub(crate) struct ViewLines {
     receiver: Receiver,
@@ -28,7 +28,7 @@ impl ViewLines {
     ghost use Rattle.rds_log.specs.LogWrites.{tuned};
     ghost use Rattle.rds_log.specs.Inside.ViewLines.{GivesChange, ViewsStandAt};
 
-    /// At the start: no slot was handled, and nothing is shown.
+    /// Starts before the first slot, with nothing shown.
     pub(crate) fn new(pi: u16, dwell: Dwell) -> ViewLines
         ensures count { result.slot ≡ 0 }
         ensures stands { ViewsStandAt (tuned pi dwell) result [] [] }
@@ -40,7 +40,7 @@ impl ViewLines {
         }
     }
 
-    /// Handles what one slot brought, and appends the line of each changed part.
+    /// Handles the group of one slot, if one came, and appends the line of each changed part.
     #[inline(always)]
     pub(crate) fn slot<const N: usize>(&mut self, group: Option<Blocks>, lines: &mut Lines<N>)
         requires slots { self.old.slot < 2 ^ 64 - 1 }
@@ -63,10 +63,10 @@ impl ViewLines {
     }
 }
 
-/// How many bytes of output are put together before they are written.
+/// The most bytes of output that wait to be written.
 const OUTPUT_ROOM: usize = 8192;
 
-/// Takes the lines of a log, and puts their output together until it is written.
+/// Takes the lines of a log, and keeps their output until it is written.
 #[derive(Drop)]
 pub(crate) struct Decoder {
     pub(crate) views: ViewLines,
@@ -78,7 +78,7 @@ impl Decoder {
     ghost use Rattle.rds_log.specs.Inside.Decoder.{HasDecoded};
     ghost use Rattle.rds_log.specs.LogWrites.{tuned};
 
-    /// At the start of a log.
+    /// Starts a log.
     pub(crate) fn new(pi: u16, dwell: Dwell) -> Decoder
         ensures slots { result.views.slot ≡ 0 }
         ensures empty { result.output ≡ [] }
@@ -90,14 +90,14 @@ impl Decoder {
         }
     }
 
-    /// Whether there is room for the output of one line more.
+    /// Returns whether there is room for the output of one more line.
     pub(crate) fn has_room(&self) -> bool
         ensures { IsTrue result ↔ (length self.now.output + SLOT_ROOM ≤ OUTPUT_ROOM) }
     {
         self.output.has_room(SLOT_ROOM)
     }
 
-    /// Takes what a line says.
+    /// Takes the meaning of a line.
     #[inline(always)]
     pub(crate) fn line(&mut self, said: LogLine)
         requires slots { self.old.views.slot < 2 ^ 64 - 1 }
@@ -112,7 +112,7 @@ impl Decoder {
         }
     }
 
-    /// Writes the output that waits.
+    /// Writes the waiting output.
     pub(crate) fn write<W: TellingWrite>(&mut self, writer: &mut W) -> Result<(), WriteFault>
         ensures empty { OnOk result (self.new.output ≡ []) }
         ensures slots { self.new.views ≡ self.old.views }

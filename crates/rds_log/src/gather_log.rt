@@ -1,4 +1,4 @@
-//! All slots of a log, kept.
+//! Keeps all slots of a log in memory.
 ghost use Rattle.std.specs.Prelude.{◌≡◌, ◌≤◌, ◌^◌, [], IfErr, IfOk, None, OnOk};
 ghost use Rattle.rds_charset.specs.Told.{traffic};
 ghost use Rattle.rds_log.specs.Gather.{GathersAll, GathersNone};
@@ -15,11 +15,11 @@ use rds_charset::TellingRead;
 use rds_view_lines::LogFault;
 use std::alloc::Global;
 
-/// Reads a log to its end, and gives what came in each of its slots, the oldest first.
+/// Reads a log to its end, and returns the group of each of its slots, the oldest first.
 ///
 /// # Errors
 ///
-/// The first fault: a bad line, a read that failed, 2^32 reads without an end, or no memory for the slots.
+/// The first fault: a malformed line, a failed read, 2^32 reads without an end, or no memory for the slots.
 pub fn gather<R: TellingRead>(alloc: Global, reader: &mut R) -> Result<Vec<Option<Group>>, LogFault>
     ensures all { IfOk result (λ log. GathersAll (traffic R.remaining R.failures reader.old reader.new) log.items) }
     ensures none { IfErr result (λ fault. GathersNone (2 ^ 32)
@@ -29,7 +29,7 @@ pub fn gather<R: TellingRead>(alloc: Global, reader: &mut R) -> Result<Vec<Optio
     gather_within(alloc, reader, MOST_READS)
 }
 
-/// [`gather`] with at most so many reads: a log that is not at its end by then is too long.
+/// Does what [`gather`] does with at most `reads` reads. A log that has not ended by then is too long.
 pub fn gather_within<R: TellingRead>(
     alloc: Global,
     reader: &mut R,
@@ -44,7 +44,7 @@ pub fn gather_within<R: TellingRead>(
     gather_noting(alloc, reader, 0, reads, &mut LogNotes::new(0))
 }
 
-/// [`gather`] with notes for a person who asks for this programme: with them or without, it returns the same.
+/// Does what [`gather`] does, and takes notes for a person who asks for this programme. The result is the same.
 pub fn gather_with_notes<R: TellingRead>(
     alloc: Global,
     reader: &mut R,
@@ -64,7 +64,7 @@ pub fn gather_with_notes<R: TellingRead>(
     gather_noting(alloc, reader, pi, MOST_READS, notes)
 }
 
-/// Gathers with at most so many reads, and with notes of which nothing is noted yet.
+/// Gathers with at most `reads` reads. The notes are empty before.
 fn gather_noting<R: TellingRead>(
     alloc: Global,
     reader: &mut R,
@@ -110,7 +110,7 @@ fn gather_noting<R: TellingRead>(
     }
 }
 
-/// What came in a slot, by its fields.
+/// Returns the group of a slot with its fields.
 fn by_fields(group: Option<Blocks>) -> Option<Group>
     ensures { result ≡ group }
 {

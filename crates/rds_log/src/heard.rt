@@ -7,17 +7,16 @@ ghost use Rattle.rds_log.specs.LogLines.{Line};
 use crate::log_line::LogLine;
 use rds_block::Blocks;
 
-/// Of which programmes the groups of a log are, as far as a person wants to know who gave the PI of another programme
-/// (this project's own rule).
+/// The programmes of a log's groups, for a person who gave the PI of another programme (this project's own rule).
 #[derive(Clone, Copy)]
 pub struct Heard {
-    /// Whether a group of the wanted programme was read. The other fields are then of no use.
+    /// Whether a group of the wanted programme was read. If so, the other fields mean nothing.
     pub wanted: bool,
-    /// The number of groups that were read, whatever their programme.
+    /// The number of groups that were read, of any programme.
     pub groups: u64,
-    /// The PI of the first of them,
+    /// The PI of the first group.
     pub first: Option<u16>,
-    /// and the number of groups with this PI.
+    /// The number of groups with this PI.
     pub of_first: u64,
     ghost few: { of_first ≤ groups },
 }
@@ -25,7 +24,7 @@ pub struct Heard {
 impl Heard {
     ghost use Rattle.rds_log.specs.Heard.{HeardLines, IsHeard};
 
-    /// Returns what is heard before the first line.
+    /// Starts before the first line.
     pub(crate) fn new(pi: u16) -> Heard
         ensures groups { result.groups ≡ 0 }
         ensures heard { HeardLines pi [] result }
@@ -38,7 +37,7 @@ impl Heard {
         }
     }
 
-    /// Takes what a line says.
+    /// Takes the meaning of a line.
     #[inline(always)]
     pub(crate) fn line(&mut self, pi: u16, said: LogLine)
         requires { self.old.groups < 2 ^ 64 - 1 }
@@ -51,7 +50,7 @@ impl Heard {
         }
     }
 
-    /// Takes what a line says while no group of the wanted programme was read.
+    /// Takes the meaning of a line while no group of the wanted programme was read.
     #[inline(always)]
     fn look(&mut self, pi: u16, said: LogLine)
         requires groups { self.old.groups < 2 ^ 64 - 1 }
@@ -80,7 +79,7 @@ impl Heard {
         }
     }
 
-    /// Counts a group of this programme. It stands apart, and takes no more than two numbers, so that the other slots pay
+    /// Counts a group of this programme. It takes only two numbers and is not inlined, so that the other slots pay
     /// nothing for it.
     #[inline(never)]
     fn count(&mut self, pi: u16, own: u16)

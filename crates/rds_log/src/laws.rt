@@ -1,4 +1,4 @@
-//! What holds of all logs.
+//! The laws of logs.
 ghost use Rattle.std.specs.Prelude.{◌≡◌, ◌+◌, ◌<◌, ℕ, Bool, List, Ok, Option, Some};
 ghost use Rattle.rds_block.specs.declared.group.Group.{Group};
 ghost use Rattle.rds_charset.specs.Told.{Traffic};
@@ -16,8 +16,8 @@ ghost use Rattle.rds_audit.specs.declared.audit.AuditFault.{AuditFault};
 
 use rds_audit::{one_fault, passes_by_plans, what_passes_is_safe};
 
-/// The output of a log is a function of its bytes: a line says one thing, the bytes write one output, and two calls of
-/// `decode` that end well wrote the same.
+/// Shows that the output of a log is a function of its bytes: a line has one meaning, the bytes write one output, and
+/// two calls of `decode` that end without a fault wrote the same.
 pub fn bytes_write_one_output()
     ensures one_said { (line : Line) (said other : LogLine) → LineSays line said
         → LineSays line other → said ≡ other }
@@ -27,8 +27,8 @@ pub fn bytes_write_one_output()
         → q.before ≡ Some text → DecodesAll t r w → DecodesAll t q v → WriteAlike w v }
 {}
 
-/// The answer to a log is a function of its bytes: they have one verdict, a call of `audit` that ends well answers it
-/// and writes its line, and two such calls answered and wrote the same.
+/// Shows that the answer to a log is a function of its bytes: they have one verdict, a call of `audit` that ends
+/// without a fault answers it and writes its line, and two such calls answered and wrote the same.
 pub fn bytes_have_one_verdict()
     ensures one_verdict { (pi d : ℕ) (bytes : List ℕ) (v u : Verdict) → 0 < d
         → IsVerdictOf pi d bytes v → IsVerdictOf pi d bytes u → v ≡ u }
@@ -43,8 +43,8 @@ pub fn bytes_have_one_verdict()
     one_fault();
 }
 
-/// What the answer to a log means: slots that pass with a dwell and a lateness are safe for every receiver of that
-/// dwell whose groups come no later, and slots that do not pass have no plans that are lawful and dense.
+/// Shows the meaning of the answer to a log: slots that pass with M and K are safe for every receiver with dwell M
+/// whose groups come at most K slots late, and slots that do not pass have no lawful and dense plans.
 pub fn what_an_answer_means()
     ensures safe { (pi m k : ℕ) (slots : List (Option Group)) → 0 < m → SlotsPass pi (m + k) slots
         → SlotsAreSafe pi m k slots }

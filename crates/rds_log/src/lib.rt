@@ -1,10 +1,10 @@
-//! Logs of sent or received groups. [`decode`] writes what a receiver of a log shows, one line for each part of the
-//! view that changed; [`audit`] answers whether the slots of a log pass.
+//! Logs of sent or received groups. [`decode`] writes the view of a receiver of a log, one line for each part that
+//! changed. [`audit`] answers whether the slots of a log pass.
 //!
-//! The model of a log is the list of its lines, whatever the reads that they come in. A line says a slot, or that it is
-//! to be skipped (`LineSays`); the slots have views, and `decode` writes the changes of these views (`LogWrites`); the
-//! bytes have one verdict (`IsVerdictOf`), and `audit` answers it. Bytes become lines, and lines become output, with no
-//! writer at hand: the two alone write. They take no memory.
+//! The model of a log is the list of its lines, whatever the reads that they come in. A line is a slot, or it is
+//! skipped (`LineSays`). The slots have views, and `decode` writes the changes of these views (`LogWrites`). The bytes
+//! have one verdict (`IsVerdictOf`), and `audit` answers it. Only `decode` and `audit` write; the other functions turn
+//! bytes into lines, and lines into output. The crate takes no memory except for `gather`.
 //!
 //! ```text
 //! decode(&mut Told::new(reader), &mut Told::new(writer), 0xC201, Dwell::new(128)?)

@@ -1,4 +1,4 @@
-//! Why a line is no log line.
+//! The reasons why a line of a log is malformed.
 ghost use Rattle.std.specs.Prelude.{◌≡◌, ◌<◌, ◌≤◌, ◌*◌, ◌+◌, ◌↔◌, ◌⊎◌, IfNone, IfSome, IsTrue, length};
 ghost use Rattle.rds_log.specs.LogLines.{content_length};
 ghost use Rattle.rds_log.specs.LineSays.{IsSkipped};
@@ -8,17 +8,16 @@ use crate::log_line::{block_at, content_length, is_skipped};
 use memchr::memchr;
 use thiserror::Error;
 
-/// How many blocks a slot line has.
+/// The number of blocks in a slot line.
 const COUNT: usize = 4;
 
-/// Why a line is no log line: the first cause from its left (this project's own rule). Blocks are counted from 1, lengths
-/// in bytes.
+/// The first mistake in a line, from its left (this project's own rule). Blocks count from 1, lengths are in bytes.
 #[derive(Clone, Copy, Debug, PartialEq, Eq, Error)]
 pub enum LineCause {
-    /// A brace begins the line, as in JSON.
+    /// The line begins with a brace, as in JSON.
     #[error("it looks like JSON")]
     Json,
-    /// A comma stands before any space, as in a row of a script.
+    /// A comma comes before any space, as in a row of a script.
     #[error("it looks like a row of a script, which encode and sim read")]
     Script,
     /// The line has no space.
@@ -27,7 +26,7 @@ pub enum LineCause {
     /// The line ends after this block.
     #[error("it ends after block {0}")]
     EndsAfter(usize),
-    /// This block has so many bytes.
+    /// This block has this many bytes.
     #[error("block {0} has {1} characters, expected 4")]
     Length(usize, usize),
     /// This block is neither four hexadecimal digits nor four dashes.
@@ -35,7 +34,7 @@ pub enum LineCause {
     Digit(usize),
 }
 
-/// Returns why a bad line is bad; `None` for a line that is skipped or whose four blocks are good.
+/// Returns why a line is malformed. `None` for a skipped line, and for one whose four blocks are good.
 #[inline(never)]
 pub(crate) fn cause_of(line: &[u8]) -> Option<LineCause>
     ensures some { IfSome result (IsLineCause line.now) }
@@ -67,7 +66,7 @@ fn form_cause(line: &[u8]) -> Option<LineCause>
     }
 }
 
-/// Returns why the first block that is not good is not; `None` if all four are good.
+/// Returns the mistake in the first malformed block. `None` if all four are good.
 fn blocks_cause(line: &[u8], length: usize) -> Option<LineCause>
     requires { length ≡ content_length line.now }
     ensures some { IfSome result (IsLineCause line.now) }
@@ -81,7 +80,7 @@ fn blocks_cause(line: &[u8], length: usize) -> Option<LineCause>
     None
 }
 
-/// Returns why this block is not good; `None` if it is. Those before it are good.
+/// Returns the mistake in this block. `None` if it is good. The blocks before it are good.
 fn block_cause(line: &[u8], length: usize, block: usize) -> Option<LineCause>
     requires length { length ≡ content_length line.now }
     requires few { block < 4 }
@@ -103,7 +102,7 @@ fn block_cause(line: &[u8], length: usize, block: usize) -> Option<LineCause>
     Some(LineCause::Length(block + 1, count))
 }
 
-/// Returns whether a good block stands from the place on: four digits or four dashes, and then a space or the end.
+/// Returns whether a good block begins at this place: four digits or four dashes, followed by a space or the end.
 fn is_good(line: &[u8], length: usize, place: usize) -> bool
     requires length { length ≡ content_length line.now }
     requires place { place ≤ 15 }
@@ -118,7 +117,7 @@ fn is_good(line: &[u8], length: usize, place: usize) -> bool
     }
 }
 
-/// Returns whether four bytes stand from the place on, and then a space or the end.
+/// Returns whether four bytes begin at this place, followed by a space or the end.
 fn ends_after_four(line: &[u8], length: usize, place: usize) -> bool
     requires length { length ≡ content_length line.now }
     requires place { place ≤ 15 }
@@ -127,7 +126,7 @@ fn ends_after_four(line: &[u8], length: usize, place: usize) -> bool
     length >= place + 4 && (length == place + 4 || line[place + 4] == b' ')
 }
 
-/// Returns how many bytes stand before the first space, or before the end.
+/// Returns how many bytes come before the first space, or before the end.
 fn bytes_before_space(bytes: &[u8]) -> usize
     ensures { StandBeforeSpace bytes.now result }
 {

@@ -1,4 +1,4 @@
-//! One line of a log, and what it says.
+//! One line of a log, and its meaning.
 ghost use Rattle.std.specs.Prelude.{◌≡◌, ◌<◌, ◌≤◌, ◌+◌, ◌↔◌, ℕ, None, Option, Some, length, slice_index, IsTrue, IfSome, IfNone};
 ghost use Rattle.rds_block.specs.declared.group.Group.{Group};
 ghost use Rattle.rds_log.specs.declared.log_line.Block.{Block};
@@ -10,19 +10,19 @@ ghost use Rattle.rds_log.specs.LineSays.{IsSkipped, LineSays, SaysSlot, block_wo
 use rds_block::Blocks;
 use rds_charset::{four_words, word_at};
 
-/// How many bytes the four blocks of a slot line and the spaces between them take.
+/// The number of bytes of the four blocks of a slot line and the spaces between them.
 const BLOCKS: usize = 19;
 
-/// How many first bytes of a line are kept, as many as a note on a bad line shows. The first 21 of them decide what the
-/// line says: the blocks, the byte after them, and one more, since a carriage return is dropped only at the end of a line.
+/// The most bytes that are kept of a line: as many as a note on a malformed line shows. The first 21 of them decide the
+/// meaning: the blocks, the byte after them, and one more, since a carriage return counts only at the end of a line.
 pub(crate) const DECIDING: usize = 60;
 
-/// What a line says.
+/// The meaning of a line.
 #[derive(Clone, Copy)]
 pub(crate) enum LogLine {
-    /// The line is no slot.
+    /// The line is skipped: it is not a slot.
     Skip,
-    /// The line is a slot with this group, or with none received.
+    /// The line is a slot with this group, or a slot without a group.
     Slot(Option<Blocks>),
 }
 
@@ -46,7 +46,7 @@ impl Block {
     }
 }
 
-/// What the line says, from its first bytes; `None` for a bad line.
+/// Returns the meaning of a line, from its first bytes. `None` for a malformed line.
 #[inline(always)]
 pub(crate) fn said_by(line: &[u8]) -> Option<LogLine>
     ensures some { IfSome result (LineSays line.now) }
@@ -59,7 +59,7 @@ pub(crate) fn said_by(line: &[u8]) -> Option<LogLine>
     Some(said)
 }
 
-/// The group of a line with four words, as most lines are.
+/// Returns the group of a line with four words, as most lines are.
 #[inline(always)]
 fn group_of(line: &[u8]) -> Option<Blocks>
     ensures { IfSome result (λ group. LineSays line.now (LogLine.Slot (Some group))) }
@@ -72,7 +72,7 @@ fn group_of(line: &[u8]) -> Option<Blocks>
     Some(Blocks::new(words))
 }
 
-/// What any line says. It stands apart so that most lines pay nothing for it.
+/// Returns the meaning of any line. The function is not inlined, so that most lines pay nothing for it.
 #[inline(never)]
 fn said_otherwise(line: &[u8]) -> Option<LogLine>
     ensures some { IfSome result (LineSays line.now) }
@@ -92,7 +92,7 @@ fn said_otherwise(line: &[u8]) -> Option<LogLine>
     Some(LogLine::Slot(slot))
 }
 
-/// Whether all four blocks of the line are missing.
+/// Returns whether all four blocks of the line are missing.
 #[inline(always)]
 fn has_no_word(line: &[u8]) -> bool
     requires { 19 ≤ length line.now }
@@ -101,7 +101,7 @@ fn has_no_word(line: &[u8]) -> bool
     is_missing(line, 0) && is_missing(line, 5) && is_missing(line, 10) && is_missing(line, 15)
 }
 
-/// How many bytes the line has without one carriage return at its end.
+/// Returns how many bytes the line has without one carriage return at its end.
 pub(crate) fn content_length(line: &[u8]) -> usize
     ensures value { result ≡ content_length line.now }
     ensures within { result ≤ length line.now }
@@ -133,8 +133,8 @@ fn is_laid_out(line: &[u8], length: usize) -> bool
         && (length == BLOCKS || line[BLOCKS] == b' ')
 }
 
-/// What the four blocks of the line carry; `None` where one of them is no block. It stands apart so that a line with no
-/// word pays nothing for it.
+/// Returns the group of a line's four blocks. `None` if a block is malformed. The function is not inlined, so that
+/// lines without such blocks pay nothing for it.
 #[inline(never)]
 fn slot_of_blocks(line: &[u8]) -> Option<Option<Blocks>>
     requires { 19 ≤ length line.now }
@@ -148,7 +148,7 @@ fn slot_of_blocks(line: &[u8]) -> Option<Option<Blocks>>
     Some(carried(first, second, third, fourth))
 }
 
-/// The group that the blocks carry; `None` where one of them is missing.
+/// Returns the group of four blocks. `None` if a block is missing.
 #[inline(always)]
 fn carried(first: Block, second: Block, third: Block, fourth: Block) -> Option<Blocks>
     ensures { Carry first second third fourth result }
@@ -157,7 +157,7 @@ fn carried(first: Block, second: Block, third: Block, fourth: Block) -> Option<B
     Some(Blocks::new(blocks))
 }
 
-/// The block from the place on; `None` where there is none.
+/// Returns the block at this place. `None` if it is malformed.
 #[inline(always)]
 pub(crate) fn block_at(line: &[u8], place: usize) -> Option<Block>
     requires { place + 4 ≤ length line.now }
@@ -173,7 +173,7 @@ pub(crate) fn block_at(line: &[u8], place: usize) -> Option<Block>
     None
 }
 
-/// Whether four dashes stand from the place on, compared as one number.
+/// Returns whether four dashes are at this place. Compares them as one number.
 #[inline(always)]
 fn is_missing(line: &[u8], place: usize) -> bool
     requires { place + 4 ≤ length line.now }

@@ -1,4 +1,4 @@
-//! What a run over a log found beside its output, for a person at a terminal.
+//! Notes on a log, for a person at a terminal.
 ghost use Rattle.std.specs.Prelude.{◌≡◌, None};
 
 use crate::heard::Heard;
@@ -8,12 +8,12 @@ use arrayvec::ArrayVec;
 use rds_audit::{Audit, AuditFault};
 use rds_fields::Message;
 
-/// A line that is no log line (this project's own rule).
+/// A malformed line (this project's own rule).
 #[derive(Drop)]
 pub struct BadStart {
     /// The first bytes of the line, at most 60.
     pub start: ArrayVec<u8, DECIDING>,
-    /// Why it is no log line.
+    /// Why it is malformed.
     pub cause: Option<LineCause>,
 }
 
@@ -26,17 +26,17 @@ pub struct NoNote {
     pub line: u64,
     /// The rule that it breaks.
     pub fault: AuditFault,
-    /// Whether a name broke it, and not a text or its tags.
+    /// Whether a name broke it. If not, a text or its tags did.
     pub of_name: bool,
-    /// The earlier slot that it comes too soon after: of `EarlyFlag` the last slot of the text or name before the previous
-    /// one, and of `EarlyTag` the first slot in which the text can have started.
+    /// The earlier slot that it comes too soon after. For `EarlyFlag`, that is the last slot of the text or name before
+    /// the previous one. For `EarlyTag`, it is the first slot in which the text can have started.
     pub earlier: Option<u64>,
     /// M + K, in slots.
     pub spacing: u32,
 }
 
 impl NoNote {
-    /// Returns the note on a slot with which an audit stopped, whose line said this. It stands apart so that slots
+    /// Returns the note on the slot of this line, at which an audit stopped. The function is not inlined, so that slots
     /// that pass pay nothing for it.
     #[inline(never)]
     pub(crate) fn of(
@@ -76,19 +76,19 @@ fn is_name(said: LogLine) -> bool {
     }
 }
 
-/// Returns the slot so many slots before this one.
+/// Returns the slot that many slots before this one.
 fn slot_before(slot: u64, age: Option<u32>) -> Option<u64> {
     slot.checked_sub(u64::from(age?))
 }
 
-/// What a run over a log found beside its output (this project's own rule).
+/// Notes on a log (this project's own rule).
 #[derive(Drop)]
 pub struct LogNotes {
     /// The number of slots, once the log was read to its end.
     pub slots: u64,
     /// The programmes of the groups.
     pub heard: Heard,
-    /// The bad line at which the run stopped.
+    /// The malformed line at which the run stopped.
     pub bad: Option<BadStart>,
     /// The slot at which the audit stopped.
     pub no: Option<NoNote>,

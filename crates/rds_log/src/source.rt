@@ -1,4 +1,4 @@
-//! The lines of a log.
+//! Reads the lines of a log.
 ghost use Rattle.std.specs.Prelude.{◌≡◌, ◌≢◌, ◌≤◌, ◌<◌, ◌+◌, ◌-◌, ◌*◌, ◌^◌, ◌↔◌, []};
 ghost use Rattle.std.specs.Prelude.{ℕ, List, None, Some, IfErr, IfOk, IsTrue, MatchResult, OnOk, false, true};
 ghost use Rattle.rds_log.specs.LogLines.{Line};
@@ -12,23 +12,23 @@ use crate::notes::BadStart;
 use rds_charset::TellingRead;
 use rds_view_lines::{BadLine, LogFault};
 
-/// How many bytes one read asks for.
+/// The number of bytes of one read.
 const CHUNK: usize = 65536;
 
-/// A log, read line by line: the twin of a script's records.
+/// A log, read line by line. rds_script has the same for the records of a script.
 #[derive(Drop)]
 pub(crate) struct Source {
     /// The bytes of the last read.
     chunk: [u8; CHUNK],
-    /// Where those of them begin that no line was closed with,
+    /// The start of the unread bytes in `chunk`.
     at: usize,
-    /// and where they end.
+    /// The end of the bytes in `chunk`.
     count: usize,
-    /// How many of these bytes end the next line; `None` where it does not end in them.
+    /// The length of the next line in these bytes. `None` if it does not end in them.
     line: Option<usize>,
-    /// The lines so far, and the bytes of a line that went on from chunk to chunk.
+    /// The number of lines so far, and the first bytes of a line that spans two reads.
     cutter: Cutter,
-    /// How many reads may be made yet.
+    /// The number of reads that are left.
     left: u64,
     /// Whether the reader is at its end.
     ended: bool,
@@ -42,7 +42,7 @@ impl Source {
     ghost use Rattle.rds_log.specs.Inside.Source.{GivesNext, HasNoNext, IsAtLast, IsBadLineFault, ReadsOn, ReaderState};
     ghost use Rattle.rds_log.specs.Inside.Source.{SourceStandsAt, WhereItReads, budget, given_if, state_of};
 
-    /// At the start of a log, of which so many reads are made at most.
+    /// Starts a log of at most this many reads.
     pub(crate) fn new(reads: u64) -> Source
         requires { reads ≤ 2 ^ 32 }
         ensures budget { budget result ≤ 2 ^ 48 + 1 }
@@ -60,18 +60,18 @@ impl Source {
         }
     }
 
-    /// Whether the next line is there without a read.
+    /// Returns whether the next line is complete without another read.
     pub(crate) fn has_line(&self) -> bool
         ensures { IsTrue result ↔ (self.now.line ≢ None) }
     {
         self.line.is_some()
     }
 
-    /// Gives what the next line says; `false` where there is none.
+    /// Reads the next line. Returns `false` at the end.
     ///
     /// # Errors
     ///
-    /// A bad line, a read that failed, or no end within the reads that may be made.
+    /// A malformed line, a failed read, or no end within the reads that are left.
     #[inline(always)]
     pub(crate) fn next<R: TellingRead>(
         &mut self,
@@ -107,13 +107,13 @@ impl Source {
         }
     }
 
-    /// Returns how many lines were read, skipped ones too.
+    /// Returns how many lines were read, including skipped ones.
     pub(crate) fn lines(&self) -> u64 {
         self.cutter.lines
     }
 
-    /// Returns the note on a fault of this source: on a bad line, its first bytes and why it is bad. It stands apart so that
-    /// good lines pay nothing for it.
+    /// Returns the note on a fault of this source: the first bytes of a malformed line, and why it is malformed. The
+    /// function is not inlined, so that good lines pay nothing for it.
     #[inline(never)]
     pub(crate) fn note(&self, fault: LogFault) -> Option<BadStart>
         ensures { HasNote self.now.cutter.kept.items fault result }
@@ -128,7 +128,7 @@ impl Source {
         }
     }
 
-    /// What the line says that ends after so many of the bytes that wait.
+    /// Returns the meaning of the line with this many of the unread bytes.
     #[inline(always)]
     fn close(&mut self, count: usize) -> Result<LogLine, BadLine>
         requires { self.old.line ≡ Some count }
@@ -145,7 +145,7 @@ impl Source {
         self.cutter.close(last)
     }
 
-    /// Reads the next chunk; `false` at the reader's end.
+    /// Reads the next chunk. Returns `false` at the reader's end.
     #[inline(never)]
     fn read<R: TellingRead>(&mut self, reader: &mut R) -> Result<bool, LogFault>
         requires line { self.old.line ≡ None }
@@ -179,7 +179,7 @@ impl Source {
         }
     }
 
-    /// What the line says that the reader's end closes; `None` where no line is begun.
+    /// Returns the meaning of a last line without a line feed. `None` if there is none.
     #[inline(never)]
     fn last(&mut self) -> Result<Option<LogLine>, BadLine>
         requires line { self.old.line ≡ None }

@@ -1,24 +1,24 @@
-//! What the audit of a log comes to, and its line.
+//! The verdict of an audit, and its line.
 ghost use Rattle.std.specs.Prelude.{◌≡◌, ◌≤◌, ◌+◌, ◌++◌, ◌↔◌, IsTrue, length};
 ghost use Rattle.rds_log.specs.Audit.{IsYes, fault_name, verdict_line};
 
 use rds_audit::AuditFault;
 use rds_charset::Lines;
 
-/// Room for the line of a verdict.
+/// The most bytes of the line of a verdict.
 pub(crate) const ANSWER_ROOM: usize = 64;
 
-/// What the audit of a log comes to.
+/// The verdict of an audit.
 #[derive(Clone, Copy)]
 pub(crate) enum Verdict {
-    /// All slots pass; this is their number.
+    /// All slots pass. The number of slots.
     Yes(u64),
-    /// The slots up to this one do not pass, and this is why.
+    /// This slot breaks a rule first, with this fault.
     No(u64, AuditFault),
 }
 
 impl Verdict {
-    /// Whether all slots pass.
+    /// Returns whether all slots pass.
     pub(crate) fn is_yes(self) -> bool
         ensures { IsTrue result ↔ IsYes self }
     {
@@ -28,7 +28,7 @@ impl Verdict {
         }
     }
 
-    /// Appends its line.
+    /// Appends the line of the verdict.
     pub(crate) fn push(self, lines: &mut Lines<ANSWER_ROOM>)
         requires { length lines.old + 36 ≤ 64 }
         ensures { lines.new ≡ lines.old ++ verdict_line self }
@@ -49,7 +49,7 @@ impl Verdict {
     }
 }
 
-/// The name of a fault.
+/// Returns the name of a fault.
 fn name_of(fault: AuditFault) -> &'static [u8]
     ensures name { result.now ≡ fault_name fault }
     ensures short { length result.now ≤ 10 }

@@ -14,16 +14,16 @@ use rds_fields::Which;
 use rds_view_lines::Stamp;
 use rds_world::{Answer, Command, Reply};
 
-/// Room for the line of a reply.
+/// The most bytes of the line of a reply.
 const REPLY_ROOM: usize = 96;
 
-/// Room for the line of the group that was sent.
+/// The most bytes of the line of a group.
 const GROUP_ROOM: usize = 96;
 
-/// Room for both lines.
+/// The most bytes of both lines.
 pub(crate) const ANSWER_ROOM: usize = REPLY_ROOM + GROUP_ROOM;
 
-/// Appends the line of the reply, where there was a command, and then that of the group.
+/// Appends the line of the reply, if there was a command, and then the line of the group.
 pub(crate) fn push_answer<const N: usize>(
     form: Form,
     slot: u64,
@@ -48,7 +48,7 @@ pub(crate) fn push_answer<const N: usize>(
     }
 }
 
-/// Appends the line of a reply behind the mark, where there was a command.
+/// Appends a mark and the line of the reply, if there was a command.
 #[inline(always)]
 fn push_reply<const N: usize>(
     mark: &[u8],
@@ -67,7 +67,7 @@ fn push_reply<const N: usize>(
     }
 }
 
-/// Appends the line of a reply that isn't quiet behind the mark.
+/// Appends a mark and the line of the reply to a command.
 fn push_reply_line<const N: usize>(
     mark: &[u8],
     slot: u64,
@@ -88,7 +88,7 @@ fn push_reply_line<const N: usize>(
     lines.push(b"\n");
 }
 
-/// What the reply is about.
+/// The thing that a reply is about.
 fn reply_thing(command: &Command, reply: Reply) -> &'static [u8]
     ensures thing { result.now ≡ reply_thing command.now reply }
     ensures short { length result.now ≤ 7 }
@@ -100,7 +100,7 @@ fn reply_thing(command: &Command, reply: Reply) -> &'static [u8]
     }
 }
 
-/// What the command sets.
+/// Returns the thing that the command sets.
 fn thing_set(command: &Command) -> &'static [u8]
     ensures thing { result.now ≡ thing_set command.now }
     ensures short { length result.now ≤ 4 }
@@ -113,7 +113,7 @@ fn thing_set(command: &Command) -> &'static [u8]
     }
 }
 
-/// Appends what the reply says.
+/// Appends the content of the reply.
 fn push_content<const N: usize>(reply: Reply, lines: &mut Lines<N>)
     requires { length lines.old + 28 ≤ N }
     ensures content { lines.new ≡ lines.old ++ reply_content reply }
@@ -140,7 +140,7 @@ fn push_refusal<const N: usize>(refusal: Refusal, lines: &mut Lines<N>)
     }
 }
 
-/// Appends how many slots a refusal lasts, behind its word.
+/// Appends a word and the number of slots of a refusal.
 fn push_slots<const N: usize>(word: &[u8], slots: u32, lines: &mut Lines<N>)
     requires word { length word.now ≤ 8 }
     requires room { length lines.old + 28 ≤ N }
@@ -151,7 +151,7 @@ fn push_slots<const N: usize>(word: &[u8], slots: u32, lines: &mut Lines<N>)
     lines.push_number(u64::from(slots));
 }
 
-/// Appends the line of the group, where one was sent.
+/// Appends the line of the group, if one was sent.
 fn push_sent<const N: usize>(slot: u64, sent: Option<Group>, lines: &mut Lines<N>)
     requires { length lines.old + GROUP_ROOM ≤ N }
     ensures line { lines.new ≡ lines.old ++ sent_line slot sent }

@@ -1,11 +1,11 @@
-//! A reader that remembers whether a read of it failed.
+//! A reader that remembers whether one of its reads failed.
 ghost use Rattle.std.specs.Prelude.{◌≡◌, true};
 ghost use Rattle.rds_view_lines.specs.ReadFailed.{SomeReadFailed};
 
 use rds_charset::TellingRead;
 use std::io::{self, ErrorKind, Read};
 
-/// Asks a reader by its counted reads, and remembers whether one of them failed.
+/// Wraps a reader, and sets a flag at the first failed read.
 #[derive(Drop)]
 pub(crate) struct FailureFlag<R: TellingRead> {
     inner: R,
@@ -17,7 +17,7 @@ impl<R: TellingRead> FailureFlag<R> {
     ghost use Rattle.std.specs.Prelude.{false};
     ghost use Rattle.rds_script.specs.Inside.FailureFlag.{has_failed, flagged_reader};
 
-    /// A reader of which no read failed yet.
+    /// Wraps a reader. No read failed yet.
     pub(crate) fn new(inner: R) -> FailureFlag<R>
         ensures inner { flagged_reader result ≡ inner }
         ensures calm { has_failed result ≡ false }
@@ -28,7 +28,7 @@ impl<R: TellingRead> FailureFlag<R> {
         }
     }
 
-    /// Whether a read failed.
+    /// Returns whether a read failed.
     pub(crate) fn failed(&self) -> bool
         ensures is { result ≡ has_failed self.now }
         ensures told { result ≡ true → SomeReadFailed R.failures }

@@ -1,20 +1,20 @@
-//! What a script is played for.
+//! The two kinds of output of a script.
 ghost use Rattle.std.specs.Prelude.{◌≤◌, ◌↔◌, IsTrue};
 ghost use Rattle.rds_world.specs.declared.event.TheConstants.{MOST_RECEIVERS};
 
-/// What is written for the slots of a script.
+/// The output for the slots of a script.
 #[derive(Clone, Copy, PartialEq, Eq)]
 pub enum Form {
-    /// The replies, the groups sent, and what changed at each receiver.
+    /// The replies, the groups, and the changes at each receiver (`sim`).
     Simulation,
-    /// A log of the groups sent, with the replies as comments; there are no receivers.
+    /// A log of the groups, with the replies as comments and without receivers (`encode`).
     Log,
 }
 
 impl Form {
     ghost use Rattle.rds_script.specs.Rows.{IsAllowed};
 
-    /// Whether a row may name so many receivers, of those that a world can have.
+    /// Returns whether a row may name this many receivers, of those that a world can have.
     pub(crate) fn allows(self, receivers: usize) -> bool
         requires { receivers ≤ MOST_RECEIVERS }
         ensures { IsTrue result ↔ IsAllowed self receivers }

@@ -1,4 +1,4 @@
-//! What holds of all scripts.
+//! The laws of scripts.
 ghost use Rattle.std.specs.Prelude.{◌≡◌, ℕ, List, Some};
 ghost use Rattle.std.specs.Io.KnownBytes.{Appends};
 ghost use Rattle.rds_charset.specs.Told.{Traffic};
@@ -12,20 +12,20 @@ ghost use Rattle.rds_world.specs.Event.{Event};
 use rds_charset::text_is_read_one_way;
 use rds_fields::one_group;
 
-/// The output of a script is a function of its records: a row says one event, and rows write one output.
+/// Shows that the output of a script is a function of its records: a row is one event, and rows write one output.
 pub fn rows_write_one_output()
     ensures one_event { (row : Record) (e f : Event) → SaysEvent row e → SaysEvent row f → e ≡ f }
     ensures one_output { (form : Form) (config : Config) (records : List Record)
         (written other : List ℕ) → RowsWrite form config records written
         → RowsWrite form config records other → written ≡ other }
 {
-    // the laws by which a text is read one way, and a message is one group
+    // A text is read in one way, and a message is one group: these laws are used below.
     text_is_read_one_way();
     one_group();
 }
 
-/// The output of a script is a function of its bytes: they write one output, a call of `simulate` or `encode` that ends
-/// well wrote it, and two such calls wrote the same.
+/// Shows that the output of a script is a function of its bytes: they write one output, a call of `simulate` or
+/// `encode` that ends without a fault wrote it, and two such calls wrote the same.
 pub fn script_writes_one_output()
     ensures one_output { (form : Form) (config : Config) (script written other : List ℕ)
         → ScriptWrites form config script written → ScriptWrites form config script other

@@ -1,8 +1,8 @@
-//! Scripts of a station. [`simulate`] and [`encode`] play a script, and write what is sent.
+//! Scripts of a station. [`simulate`] and [`encode`] play a script and write the station's groups.
 //!
-//! The model of a script is the list of its records; they are rows, and rows write one output (`ScriptWrites`). Bytes
-//! become rows, and rows become output, with no writer at hand: the two alone write. They take memory for a record and
-//! for the world.
+//! The model of a script is the list of its records. They are rows, and rows write one output (`ScriptWrites`). Only
+//! `simulate` and `encode` write; the other functions turn bytes into rows, and rows into output. Memory is taken for a
+//! record and for the world.
 #![tactic(auto)]
 
 mod answer_lines;

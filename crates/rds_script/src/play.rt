@@ -1,4 +1,5 @@
-//! Scripts that are played: each row is a slot of a station, and its output goes out before the next row is taken.
+//! The engines of `sim` and `encode`: each row is a slot of a station, and its output is written before the next row is
+//! read.
 ghost use Rattle.std.specs.Prelude.{◌≡◌, ◌≤◌, ◌^◌, [], ℕ, List, None, Option};
 ghost use Rattle.rds_charset.specs.Told.{traffic};
 ghost use Rattle.rds_view_lines.specs.ReadFailed.{SomeReadFailed};
@@ -19,18 +20,18 @@ use rds_view_lines::LogFault;
 use rds_world::Config;
 use std::alloc::Global;
 
-/// How many records are taken before a script is too long.
+/// The most records of a script. A script with as many is too long.
 const MOST_RECORDS: u64 = 1 << 32;
 
-/// Plays a script with a station and up to eight receivers, and writes for each slot the reply to its command, the
-/// group that is sent, and what changes at each receiver.
+/// Plays a script with a station and up to eight receivers. Writes for each slot the reply to its command, the group,
+/// and the changes at each receiver.
 ///
-/// The lines of a slot go out in one write where the writer takes it whole, and before the next record is taken.
+/// The lines of a slot are written before the next record is read, in one write if the writer takes them whole.
 ///
 /// # Errors
 ///
-/// The first fault: a record that is no row, a read or a write that failed, no memory for the world or for a record,
-/// or 2^32 records, whether or not the script ends there.
+/// The first fault: a record that is not a row, a failed read or write, no memory for the world or for a record, or
+/// 2^32 records, whether or not the script ends there.
 pub fn simulate<R: TellingRead + Drop, W: TellingWrite>(
     alloc: Global,
     reader: R,
@@ -43,7 +44,8 @@ pub fn simulate<R: TellingRead + Drop, W: TellingWrite>(
     simulate_within(alloc, reader, writer, config, MOST_RECORDS)
 }
 
-/// [`simulate`] of at most so many records: a script that has as many is too long, whether or not it ends there.
+/// Does what [`simulate`] does with a bound on records: a script with as many is too long, whether or not it ends
+/// there.
 pub fn simulate_within<R: TellingRead + Drop, W: TellingWrite>(
     alloc: Global,
     reader: R,
@@ -58,7 +60,7 @@ pub fn simulate_within<R: TellingRead + Drop, W: TellingWrite>(
     play(Form::Simulation, alloc, reader, writer, config, records)
 }
 
-/// [`simulate`], which also takes notes: why a record is not a row, and the first thing that was set too early.
+/// Does what [`simulate`] does, and takes notes: why a record is not a row, and the first thing that was set too early.
 ///
 /// The new notes replace the old content of `notes`.
 pub fn simulate_with_notes<R: TellingRead + Drop, W: TellingWrite>(
@@ -84,8 +86,8 @@ pub fn simulate_with_notes<R: TellingRead + Drop, W: TellingWrite>(
     )
 }
 
-/// Plays a script with a station alone, and writes the log of what it sends: for each slot the reply to its command as
-/// a comment, and the group, or four missing blocks where none is sent.
+/// Plays a script with a station alone, and writes the station's log: for each slot the reply to its command as a
+/// comment, and the group, or four missing blocks if there is no group.
 ///
 /// # Errors
 ///
@@ -102,7 +104,7 @@ pub fn encode<R: TellingRead + Drop, W: TellingWrite>(
     encode_within(alloc, reader, writer, config, MOST_RECORDS)
 }
 
-/// [`encode`] of at most so many records: a script that has as many is too long, whether or not it ends there.
+/// Does what [`encode`] does with a bound on records: a script with as many is too long, whether or not it ends there.
 pub fn encode_within<R: TellingRead + Drop, W: TellingWrite>(
     alloc: Global,
     reader: R,
@@ -117,7 +119,7 @@ pub fn encode_within<R: TellingRead + Drop, W: TellingWrite>(
     play(Form::Log, alloc, reader, writer, config, records)
 }
 
-/// [`encode`], which also takes notes: why a record is not a row, and the first thing that was set too early.
+/// Does what [`encode`] does, and takes notes: why a record is not a row, and the first thing that was set too early.
 ///
 /// The new notes replace the old content of `notes`.
 pub fn encode_with_notes<R: TellingRead + Drop, W: TellingWrite>(
@@ -193,7 +195,9 @@ fn play_with_notes<R: TellingRead + Drop, W: TellingWrite>(
     done
 }
 
-/// Plays row by row. What has to be dropped is the caller's, which has one end, and not dropped at each end here.
+/// Plays row by row.
+///
+/// Prover: the caller owns the values that must be dropped, since it has one end (docs/PROVER.md, "Workarounds").
 fn play_rows<R: TellingRead, W: TellingWrite>(
     script: &mut Records<R>,
     player: &mut Player,
@@ -236,9 +240,9 @@ fn play_rows<R: TellingRead, W: TellingWrite>(
 /// Finds the line on which a record starts, counted from 1. `number` is the number of the record, and `after` the line
 /// behind it.
 ///
-/// `csv` notes the start of a record before it skips empty lines, and before the line feed of `\r\n`. So this counts
-/// back from the end, by the line feeds inside the record and the one that ends it. Each row has a line of its own, so
-/// the line is `number` or more.
+/// `csv` notes the start of a record before it skips empty lines, and before the line feed of `\r\n`. So this function
+/// counts back from the end, by the line feeds inside the record and the one that ends it. Each row has a line of its
+/// own, so the line is `number` or more.
 fn line_of(number: u64, after: u64, row: &ByteRecord) -> u64 {
     let inside = row.as_slice().iter().filter(|byte| **byte == b'\n').count();
     after

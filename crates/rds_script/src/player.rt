@@ -17,7 +17,7 @@ use rds_charset::text_is_read_one_way;
 use rds_world::{Command, Config, SlotEvent};
 use std::alloc::Global;
 
-/// Plays the rows of a script, and gives the lines of each slot. The first row fixes the number of receivers.
+/// Plays the rows of a script, and returns the lines of each slot. The first row fixes the number of receivers.
 #[derive(Drop)]
 pub(crate) struct Player {
     alloc: Global,
@@ -25,7 +25,7 @@ pub(crate) struct Player {
     config: Config,
     watched: Option<Watched>,
     pub(crate) slot: u64,
-    /// The first thing that was set too early, if there was one.
+    /// The first thing that was set too early. `None` if nothing was.
     pub(crate) wait: Option<Wait>,
 }
 
@@ -33,7 +33,7 @@ impl Player {
     ghost use Rattle.rds_script.specs.Inside.Player.{IsBegun, IsRowRefused, PlayerStandsAt};
     ghost use Rattle.rds_script.specs.Inside.Player.{PlaysRow, WherePlayerStands, nothing_played};
 
-    /// Before the first row, with no world yet.
+    /// Starts before the first row, without a world.
     pub(crate) fn new(alloc: Global, form: Form, config: Config) -> Player
         ensures slot { result.slot ≡ 0 }
         ensures stands { PlayerStandsAt result (nothing_played form config) }
@@ -48,7 +48,7 @@ impl Player {
         }
     }
 
-    /// Plays one record more, and gives the lines of its slot.
+    /// Plays one more record, and returns the lines of its slot.
     pub(crate) fn row(&mut self, row: &ByteRecord, lines: &mut RowLines) -> Result<(), RowRefused>
         requires slots { self.old.slot < 2 ^ 64 - 1 }
         requires empty { lines.old ≡ [] }
@@ -59,7 +59,7 @@ impl Player {
             IfErr result (IsRowRefused played (fields_of row.now))) }
         ensures kept { OnErr result (self.new.wait ≡ self.old.wait) }
     {
-        // the law by which a record says one event
+        // A record is one event: this law is used below.
         text_is_read_one_way();
         let mut event = SlotEvent {
             command: Command::Quiet,
@@ -93,7 +93,7 @@ impl Player {
         }
     }
 
-    /// Makes the world, with so many receivers, where there is none yet.
+    /// Makes the world with this many receivers, if there is none yet.
     fn begin(&mut self, receivers: usize) -> Result<(), RowRefused>
         requires few { receivers ≤ MOST_RECEIVERS }
         ensures begins { OnOk result ((w : Watched) × (self.new ≡ record self.old { watched = Some w })
@@ -109,7 +109,7 @@ impl Player {
 
     /// Makes the world of the first row.
     ///
-    /// It stands apart so that the other rows pay nothing for its copies.
+    /// The function is not inlined, so that the other rows do not clear the room for its copies.
     #[inline(never)]
     fn make_world(&mut self, receivers: usize) -> Result<(), RowRefused>
         requires few { receivers ≤ MOST_RECEIVERS }

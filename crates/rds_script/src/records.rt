@@ -1,4 +1,4 @@
-//! The records of a script.
+//! Reads the records of a script.
 ghost use Rattle.std.specs.Prelude.{◌≡◌, ◌∷◌, [], ℕ, List, IfErr, IfOk, MatchBool, Option};
 ghost use Rattle.csv.specs.Records.{fields_of};
 ghost use Rattle.rds_view_lines.specs.ReadFailed.{SomeReadFailed};
@@ -12,14 +12,15 @@ use rds_charset::TellingRead;
 use rds_view_lines::LogFault;
 use std::alloc::Global;
 
-/// A script, read record by record: fields between commas, in quotes or not, no header row, any number of fields.
+/// A script, read record by record. Fields are between commas, with or without quotation marks. There is no header row,
+/// and any number of fields.
 #[derive(Drop)]
 pub(crate) struct Records<R: TellingRead> {
     reader: Reader<FailureFlag<R>>,
 }
 
 impl<R: TellingRead> Records<R> {
-    /// Before its first record.
+    /// Starts before the first record.
     pub(crate) fn new(alloc: Global, reader: R) -> Records<R>
         ensures { ScriptStandsAt R.remaining (R.remaining reader) result [] }
     {
@@ -36,11 +37,11 @@ impl<R: TellingRead> Records<R> {
         self.reader.position().line()
     }
 
-    /// Reads the next record; `false` where there is none.
+    /// Reads the next record. Returns `false` at the end.
     ///
     /// # Errors
     ///
-    /// `Read` where a read of the reader failed, else `Memory`.
+    /// `Read` if a read of the reader failed, and `Memory` if not.
     pub(crate) fn next(&mut self, row: &mut ByteRecord) -> Result<bool, LogFault>
         ensures found { (known : Option (List ℕ)) (records : List Record)
             → ScriptStandsAt R.remaining known self.old records

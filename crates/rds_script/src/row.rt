@@ -1,4 +1,4 @@
-//! The event that a row of a script says.
+//! The event of a row.
 ghost use Rattle.std.specs.Prelude.{◌≡◌, ◌≢◌, ◌<◌, ◌≤◌, [], ◌∷◌};
 ghost use Rattle.std.specs.Prelude.{ℕ, Bool, List, IfNone, IfSome, IsFalse, IsTrue, IsUtf8, length, slice_index};
 ghost use Rattle.std.specs.Char.{IsAsciiDigit, IsNotAsciiDigit};
@@ -27,7 +27,7 @@ use rds_charset::{read_text, text_is_read_one_way};
 use rds_fields::{Tag, TagPair};
 use rds_world::{Command, MOST_RECEIVERS, Reception, SlotEvent};
 
-/// What a row tells the encoder to do; its argument says with what.
+/// The command of a row, without its argument.
 #[derive(Clone, Copy)]
 pub(crate) enum Verb {
     Nothing,
@@ -40,14 +40,14 @@ pub(crate) enum Verb {
 /// Why a record is not played.
 #[derive(Clone, Copy)]
 pub(crate) enum RowRefused {
-    /// It is no row, for this cause.
+    /// It is not a row, for this cause.
     NoRow(RowCause),
-    /// There was no memory for the world.
+    /// There is no memory for the world.
     Memory,
 }
 
-/// Reads what happens in the slot of a row into an event with nothing in it, where it lies and is not copied. False for a
-/// record that is no row, of which the event may have a part.
+/// Reads a record into an empty event, without a copy. Returns `false` for a record that is not a row. The event may
+/// then hold a part of it.
 pub(crate) fn read_event(row: &ByteRecord, event: &mut SlotEvent) -> bool
     requires quiet { event.old.command ≡ commands.Quiet }
     requires empty { event.old.receptions ≡ [] }
@@ -66,7 +66,7 @@ pub(crate) fn read_event(row: &ByteRecord, event: &mut SlotEvent) -> bool
         && read_receptions(fields.receptions, &mut event.receptions)
 }
 
-/// The fields of a row.
+/// The four fields of a row.
 #[derive(Clone, Copy)]
 pub(crate) struct Fields<'a> {
     pub(crate) word: &'a [u8],
@@ -75,7 +75,7 @@ pub(crate) struct Fields<'a> {
     pub(crate) receptions: &'a [u8],
 }
 
-/// The fields of a record, where it has four.
+/// Returns the fields of a record. `None` if they are not four.
 pub(crate) fn four_fields(row: &ByteRecord) -> Option<Fields<'_>>
     ensures some { IfSome result (λ fields. fields_of row.now ≡ fields.word.now
         ∷ fields.argument.now ∷ fields.free.now ∷ fields.receptions.now ∷ []) }
@@ -92,7 +92,7 @@ pub(crate) fn four_fields(row: &ByteRecord) -> Option<Fields<'_>>
     })
 }
 
-/// Reads the command of a word and its argument where none stands. Most rows have none, and pay for none.
+/// Reads the command of a word and its argument, if there is one. Most rows have none, and pay for none.
 #[inline(always)]
 fn read_command(word: &[u8], argument: &[u8], command: &mut Command) -> bool
     requires { command.old ≡ commands.Quiet }
@@ -107,8 +107,8 @@ fn read_command(word: &[u8], argument: &[u8], command: &mut Command) -> bool
     read_told(word, argument, command)
 }
 
-/// Reads the command of a word and its argument, whatever they say. It stands apart so that most rows pay nothing for its
-/// copies.
+/// Reads any command of a word and its argument. The function is not inlined, so that most rows do not clear the room
+/// for its copies.
 #[inline(never)]
 fn read_told(word: &[u8], argument: &[u8], command: &mut Command) -> bool
     ensures text { IsTrue result → IsUtf8 argument.now }
@@ -123,7 +123,7 @@ fn read_told(word: &[u8], argument: &[u8], command: &mut Command) -> bool
     true
 }
 
-/// The command of a word and its argument.
+/// Returns the command of a word and its argument.
 fn command_of(word: &[u8], argument: &[u8]) -> Option<Command>
     ensures text { IfSome result (λ _. IsUtf8 argument.now) }
     ensures some { IfSome result (SaysCommand word.now argument.now) }
@@ -140,7 +140,7 @@ fn command_of(word: &[u8], argument: &[u8]) -> Option<Command>
     }
 }
 
-/// The characters of an argument, where it is UTF-8.
+/// Returns the characters of an argument. `None` if it is not UTF-8.
 pub(crate) fn characters(argument: &[u8]) -> Option<&str>
     ensures some { IfSome result (λ text. (text.now ≡ argument.now) × IsUtf8 argument.now) }
     ensures none { IfNone result (IsUtf8 argument.now → ⊥) }
@@ -148,7 +148,7 @@ pub(crate) fn characters(argument: &[u8]) -> Option<&str>
     str::from_utf8(argument).ok()
 }
 
-/// The verb that the word is.
+/// Returns the verb of a word.
 pub(crate) fn verb_of(word: &[u8]) -> Option<Verb>
     ensures some { IfSome result (λ verb. word.now ≡ verb_word verb) }
     ensures none { IfNone result ((verb : Verb) → word.now ≡ verb_word verb → ⊥) }
@@ -163,31 +163,31 @@ pub(crate) fn verb_of(word: &[u8]) -> Option<Verb>
     }
 }
 
-/// The text that is given in its printed form.
+/// Reads a text in its printed form.
 fn text_of(argument: &str) -> Option<Text>
     ensures some { IfSome result (λ x. IsReadAs argument.now x × IsText x) }
     ensures none { IfNone result ((x : List ℕ) → IsReadAs argument.now x → IsText x → ⊥) }
 {
-    // the law by which no other text is read
+    // No other text has this printed form: this law is used below.
     text_is_read_one_way();
     let mut bytes = [0; LONGEST_TEXT];
     let count = read_text(argument, &mut bytes).ok()?;
     Text::new(&bytes[..count]).ok()
 }
 
-/// The name that is given in its printed form.
+/// Reads a name in its printed form.
 fn name_of(argument: &str) -> Option<Name>
     ensures some { IfSome result (IsNameArgument argument.now) }
     ensures none { IfNone result ((x : List ℕ) → IsNameArgument argument.now x → ⊥) }
 {
-    // the law by which no other name is read
+    // No other name has this printed form: this law is used below.
     text_is_read_one_way();
     let mut bytes = [0; LONGEST_TEXT];
     let count = read_text(argument, &mut bytes).ok()?;
     Name::new(&bytes[..count]).ok()
 }
 
-/// The pair of tags that eight numbers say.
+/// Reads a pair of tags from eight numbers.
 fn pair_of(argument: &str) -> Option<TagPair>
     ensures some { IfSome result
         (λ pair. AreNumbers argument.now (numbers_of_pair pair) × IsPair pair) }
@@ -197,7 +197,8 @@ fn pair_of(argument: &str) -> Option<TagPair>
     pair_of_numbers(numbers_of(argument)?.into_inner().ok()?)
 }
 
-/// The pair of tags of these numbers: toggle and running bit, then class, start and extra of each tag.
+/// Makes a pair of tags from numbers: toggle bit and running bit, then content type, start and length marker of each
+/// tag.
 fn pair_of_numbers(numbers: [u8; 8]) -> Option<TagPair>
     ensures some { IfSome result (λ pair. (numbers ≡ numbers_of_pair pair) × IsPair pair) }
     ensures none { IfNone result ((pair : PairFields) → numbers ≡ numbers_of_pair pair
@@ -218,7 +219,7 @@ fn pair_of_numbers(numbers: [u8; 8]) -> Option<TagPair>
     TagPair::new(bit_of(toggle)?, bit_of(running)?, one, two).ok()
 }
 
-/// The bit that is written as 0 or 1.
+/// Reads a bit, 0 or 1.
 fn bit_of(number: u8) -> Option<bool>
     ensures some { IfSome result (λ bit. number ≡ from_bool bit) }
     ensures none { IfNone result ((bit : Bool) → number ≡ from_bool bit → ⊥) }
@@ -230,7 +231,7 @@ fn bit_of(number: u8) -> Option<bool>
     }
 }
 
-/// The numbers of a text, up to eight of them.
+/// Reads the numbers of a text, at most eight.
 fn numbers_of(text: &str) -> Option<ArrayVec<u8, 8>>
     ensures some { IfSome result (λ numbers. AreNumbers text.now numbers.items) }
     ensures none { IfNone result ((numbers : List ℕ) → length numbers ≤ 8
@@ -246,7 +247,7 @@ fn numbers_of(text: &str) -> Option<ArrayVec<u8, 8>>
     Some(numbers)
 }
 
-/// What stands before the first space, and what after it.
+/// Splits a text at its first space.
 pub(crate) fn cut_at_space(text: &str) -> Option<(&str, &str)>
     ensures some { IfSome result (λ cut. IsCut text.now cut.0.now cut.1.now) }
     ensures none { IfNone result (HasNoSpace text.now) }
@@ -254,7 +255,7 @@ pub(crate) fn cut_at_space(text: &str) -> Option<(&str, &str)>
     text.split_once(' ')
 }
 
-/// The number up to 255 that one to three decimal digits write.
+/// Reads a number up to 255 of one to three decimal digits.
 pub(crate) fn number_of(text: &str) -> Option<u8>
     ensures some { IfSome result (IsNumber text.now) }
     ensures none { IfNone result ((n : ℕ) → IsNumber text.now n → ⊥) }
@@ -265,7 +266,7 @@ pub(crate) fn number_of(text: &str) -> Option<u8>
     text.parse().ok()
 }
 
-/// Whether the slot is free.
+/// Reads whether the slot is free.
 pub(crate) fn free_of(field: &[u8]) -> Option<bool>
     ensures some { IfSome result (λ free. field.now ≡ free_field free) }
     ensures none { IfNone result ((free : Bool) → field.now ≡ free_field free → ⊥) }
@@ -277,7 +278,7 @@ pub(crate) fn free_of(field: &[u8]) -> Option<bool>
     }
 }
 
-/// Reads what each receiver gets where nothing stands; false also for more than eight receivers.
+/// Reads the reception of each receiver into an empty list. Returns `false` if they are malformed or more than eight.
 fn read_receptions(field: &[u8], receptions: &mut ArrayVec<Reception, MOST_RECEIVERS>) -> bool
     requires { receptions.old.items ≡ [] }
     ensures some { IsTrue result → AreReceptions field.now receptions.new.items }
@@ -298,7 +299,7 @@ fn read_receptions(field: &[u8], receptions: &mut ArrayVec<Reception, MOST_RECEI
     true
 }
 
-/// How many decimal digits the text begins with.
+/// Returns how many decimal digits the text begins with.
 pub(crate) fn digits_in_front(text: &[u8]) -> usize
     ensures within { result ≤ length text.now }
     ensures digits { (k : ℕ) → k < result → IsAsciiDigit (slice_index text.now k) }
@@ -313,7 +314,7 @@ pub(crate) fn digits_in_front(text: &[u8]) -> usize
     }
 }
 
-/// What a letter says with the digits after it.
+/// Returns the reception of a letter and the digits after it.
 pub(crate) fn reception_of(byte: u8, digits: &[u8]) -> Option<Reception>
     requires { AllDigits 10 digits.now }
     ensures some { IfSome result (λ reception. (byte ≡ letter reception)
@@ -329,7 +330,7 @@ pub(crate) fn reception_of(byte: u8, digits: &[u8]) -> Option<Reception>
     }
 }
 
-/// The number of slots that up to four digits write; 0 where there are none.
+/// Reads a number of slots of up to four digits. Returns 0 if there are none.
 fn lateness_of(digits: &[u8]) -> Option<u16>
     requires { AllDigits 10 digits.now }
     ensures some { IfSome result (IsLateness digits.now) }

@@ -37,7 +37,7 @@ use rds_charset::{Stop, measure_text, read_text};
 use rds_fields::{Late, Which};
 use rds_world::{MOST_RECEIVERS, Reception, SlotEvent, StepRefused};
 
-/// How many numbers `tags` takes.
+/// The number of numbers that `tags` takes.
 const TAG_NUMBERS: usize = 8;
 
 /// The most that each number of `tags` may be.

@@ -1,4 +1,4 @@
-//! A world whose receivers are watched.
+//! A world, and the changes of its receivers' views.
 ghost use Rattle.std.specs.Prelude.{◌≡◌, ◌≤◌, ◌<◌, ◌++◌, ◌∷◌, [], ℕ, IfErr, IfOk, OnErr, OnOk, length, map};
 ghost use Rattle.rds_world.specs.declared.event.TheConstants.{MOST_RECEIVERS};
 ghost use Rattle.rds_world.specs.State.{distance};
@@ -22,13 +22,13 @@ use rds_view_lines::{KeptView, SLOT_ROOM, Stamp, show};
 use rds_world::{Config, MOST_RECEIVERS, SlotEvent, StepRefused, World};
 use std::alloc::Global;
 
-/// Room for the output of a row: the reply, the group, and what changed at each receiver.
+/// The most bytes of the output of a row: the reply, the group, and the changes at each receiver.
 pub(crate) const ROW_ROOM: usize = MOST_RECEIVERS * SLOT_ROOM + ANSWER_ROOM;
 
 /// The output of a row.
 pub(crate) type RowLines = Lines<ROW_ROOM>;
 
-/// A world, and what each of its receivers showed at the end of the last slot.
+/// A world, and the view of each of its receivers at the end of the last slot.
 #[derive(Drop)]
 pub(crate) struct Watched {
     world: World,
@@ -38,7 +38,7 @@ pub(crate) struct Watched {
 impl Watched {
     ghost use Rattle.rds_script.specs.Inside.Watched.{WatchedStandsAt, WhereWatchedStands, views_kept};
 
-    /// A world with so many receivers, before its first slot.
+    /// Makes a world with this many receivers, before its first slot.
     pub(crate) fn new(
         alloc: Global,
         config: Config,
@@ -58,7 +58,7 @@ impl Watched {
         }
     }
 
-    /// Plays the slot of an event, and gives its lines; notes the first thing that was set too early.
+    /// Plays the slot of an event, and appends its lines. Notes the first thing that was set too early.
     pub(crate) fn play(
         &mut self,
         form: Form,
@@ -102,7 +102,7 @@ impl Watched {
     }
 }
 
-/// Nothing is shown by so many receivers.
+/// Returns the views of this many receivers that show nothing.
 fn nothing_shown(receivers: usize) -> ArrayVec<KeptView, MOST_RECEIVERS>
     requires { receivers ≤ MOST_RECEIVERS }
     ensures nothing { AreKept (map view_kept result.items) [] }
@@ -115,8 +115,7 @@ fn nothing_shown(receivers: usize) -> ArrayVec<KeptView, MOST_RECEIVERS>
     shown
 }
 
-/// Appends what changed at each receiver, and keeps what it shows now. Where a receiver shows what it showed in the
-/// slot before, nothing of it is looked at.
+/// Appends the changes at each receiver, and keeps its view. Skips a receiver whose view did not change.
 fn push_views(slot: u64, world: &World, shown: &mut [KeptView], lines: &mut RowLines)
     requires few { length shown.old ≤ MOST_RECEIVERS }
     requires room { length lines.old ≤ ANSWER_ROOM }
