@@ -20,7 +20,7 @@ use rds_fields::{Dwell, Late};
 ///
 /// # Errors
 ///
-/// `RDSRT_BAD_ARGUMENT` and no change where the dwell is 0 or the lateness over 1024.
+/// `RDSRT_BAD_ARGUMENT` and no change if the dwell is 0 or the lateness over 1024.
 #[unsafe(no_mangle)]
 pub extern "C" fn rdsrt_audit_init(audit: &mut StoredAudit, pi: u16, dwell: u16, late: u16) -> u32
     ensures code { result ≡ RDSRT_OK ↔ ((0 < dwell) × (late ≤ 1024)) }
@@ -38,12 +38,12 @@ pub extern "C" fn rdsrt_audit_init(audit: &mut StoredAudit, pi: u16, dwell: u16,
     codes::OK
 }
 
-/// Takes the next slot: the four blocks of the group that was sent in it, or no blocks. `RDSRT_OK` where the log passes
-/// so far, and the code of its fault where it does not.
+/// Takes the next slot: the four blocks of its group, or no blocks. Returns `RDSRT_OK` if the log passes so far, and
+/// the code of its fault if not.
 ///
 /// # Errors
 ///
-/// `RDSRT_BAD_ARGUMENT` and no change where the blocks are neither four nor none.
+/// `RDSRT_BAD_ARGUMENT` and no change if the number of blocks is neither four nor zero.
 #[unsafe(no_mangle)]
 pub extern "C" fn rdsrt_audit_slot(audit: &mut StoredAudit, blocks: &[u16]) -> u32
     ensures code { result ≢ RDSRT_BAD_ARGUMENT ↔ IsCount blocks.now }
@@ -62,7 +62,7 @@ pub extern "C" fn rdsrt_audit_slot(audit: &mut StoredAudit, blocks: &[u16]) -> u
     told(found)
 }
 
-/// Whether the log passes so far: 1 or 0.
+/// Returns 1 if the log passes so far, and 0 if not.
 #[unsafe(no_mangle)]
 pub extern "C" fn rdsrt_audit_passed(audit: &StoredAudit) -> u32
     ensures few { result ≤ 1 }
@@ -74,7 +74,7 @@ pub extern "C" fn rdsrt_audit_passed(audit: &StoredAudit) -> u32
     u32::from(Audit::restore(audit).passed())
 }
 
-/// Returns 1 if the log passes so far and turned the A/B flag with each new text, and else 0.
+/// Returns 1 if the log passes so far and turned the A/B flag with each new text, and 0 if not.
 #[unsafe(no_mangle)]
 pub extern "C" fn rdsrt_audit_texts_turn_the_flag(audit: &StoredAudit) -> u32
     ensures few { result ≤ 1 }
@@ -85,7 +85,7 @@ pub extern "C" fn rdsrt_audit_texts_turn_the_flag(audit: &StoredAudit) -> u32
     u32::from(Audit::restore(audit).texts_turn_the_flag())
 }
 
-/// Returns 1 if the log passes so far and turned the A/B flag with each new name, and else 0.
+/// Returns 1 if the log passes so far and turned the A/B flag with each new name, and 0 if not.
 #[unsafe(no_mangle)]
 pub extern "C" fn rdsrt_audit_names_turn_the_flag(audit: &StoredAudit) -> u32
     ensures few { result ≤ 1 }
@@ -96,7 +96,7 @@ pub extern "C" fn rdsrt_audit_names_turn_the_flag(audit: &StoredAudit) -> u32
     u32::from(Audit::restore(audit).names_turn_the_flag())
 }
 
-/// The code of what was found.
+/// Returns the code of a fault, or of none.
 fn told(found: Result<(), AuditFault>) -> u32
     ensures told { result ≡ code_of (fault_in found) }
     ensures answer { result ≢ RDSRT_BAD_ARGUMENT }

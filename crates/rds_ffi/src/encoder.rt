@@ -35,7 +35,7 @@ pub struct RdsrtOnAir {
     pub name: RdsrtName,
 }
 
-/// For how many slots more a set would be refused; 0 where it would not.
+/// The number of slots for which a set would be refused. 0 if it would be accepted.
 #[repr(C)]
 #[derive(Clone, Copy)]
 pub struct RdsrtWait {
@@ -44,11 +44,11 @@ pub struct RdsrtWait {
     pub name: u32,
 }
 
-/// Makes an encoder at a restart, silent for the dwell and the lateness, in slots, from this slot on.
+/// Makes an encoder at a restart. It is silent for the dwell and the lateness, both in slots, from this slot on.
 ///
 /// # Errors
 ///
-/// `RDSRT_BAD_ARGUMENT` and no change where the programme type is over 31, the dwell 0 or the lateness over 1024.
+/// `RDSRT_BAD_ARGUMENT` and no change if the programme type is over 31, the dwell 0 or the lateness over 1024.
 #[unsafe(no_mangle)]
 pub extern "C" fn rdsrt_encoder_init(
     encoder: &mut StoredEncoder,
@@ -89,8 +89,8 @@ pub extern "C" fn rdsrt_encoder_init(
 ///
 /// # Errors
 ///
-/// `RDSRT_TOO_LONG` over 64 bytes, `RDSRT_BAD_BYTE` with the place of the first byte that no text has, and then
-/// `RDSRT_SILENT` or `RDSRT_HELD` with the slots to wait. Nothing changes.
+/// `RDSRT_TOO_LONG` for over 64 bytes, `RDSRT_BAD_BYTE` with the place of the first byte that a text may not contain,
+/// and then `RDSRT_SILENT` or `RDSRT_HELD` with the slots to wait. Nothing changes.
 #[unsafe(no_mangle)]
 pub extern "C" fn rdsrt_encoder_set_text(encoder: &mut StoredEncoder, text: &[u8]) -> RdsrtReply
     ensures reply { IsText text.now → WhereItIs encoder.old
@@ -110,12 +110,12 @@ pub extern "C" fn rdsrt_encoder_set_text(encoder: &mut StoredEncoder, text: &[u8
     answered(encoder, &inner, reply)
 }
 
-/// Puts the name of these bytes on air from this slot on, with spaces up to eight.
+/// Puts the name of these bytes on air from this slot on, padded with spaces to eight.
 ///
 /// # Errors
 ///
-/// `RDSRT_TOO_LONG` over 8 bytes, `RDSRT_BAD_BYTE` with the place of the first byte that no name has, and then
-/// `RDSRT_SILENT` or `RDSRT_HELD` with the slots to wait. Nothing changes.
+/// `RDSRT_TOO_LONG` for over 8 bytes, `RDSRT_BAD_BYTE` with the place of the first byte that a name may not contain,
+/// and then `RDSRT_SILENT` or `RDSRT_HELD` with the slots to wait. Nothing changes.
 #[unsafe(no_mangle)]
 pub extern "C" fn rdsrt_encoder_set_name(encoder: &mut StoredEncoder, name: &[u8]) -> RdsrtReply
     ensures reply { IsGivenName name.now → WhereItIs encoder.old
@@ -136,11 +136,11 @@ pub extern "C" fn rdsrt_encoder_set_name(encoder: &mut StoredEncoder, name: &[u8
     answered(encoder, &inner, reply)
 }
 
-/// Gives the text on air these tags.
+/// Sets the tags of the text on air.
 ///
 /// # Errors
 ///
-/// `RDSRT_BAD_TAGS` where the numbers are no pair of tags, and then `RDSRT_SILENT` with the slots to wait,
+/// `RDSRT_BAD_TAGS` if the numbers are not a valid pair of tags, and then `RDSRT_SILENT` with the slots to wait,
 /// `RDSRT_NO_TEXT`, or `RDSRT_OUT_OF_TEXT_1` or `_2` for the first tag that does not end in the text. Nothing changes.
 #[unsafe(no_mangle)]
 pub extern "C" fn rdsrt_encoder_set_tags(
@@ -165,8 +165,8 @@ pub extern "C" fn rdsrt_encoder_set_tags(
     answered(encoder, &inner, reply)
 }
 
-/// Ends the slot, and gives the four blocks of the group that is sent in it: `RDSRT_SENT`, or `RDSRT_OK` and the blocks
-/// as they were where nothing is sent. A slot that is not free belongs to other services.
+/// Ends the slot, and writes the four blocks of its group. Returns `RDSRT_SENT`, or `RDSRT_OK` and unchanged blocks if
+/// no group is sent. A slot that is not free belongs to other services.
 #[unsafe(no_mangle)]
 pub extern "C" fn rdsrt_encoder_tick(
     encoder: &mut StoredEncoder,
@@ -206,7 +206,7 @@ pub extern "C" fn rdsrt_encoder_on_air(encoder: &StoredEncoder, air: &mut RdsrtO
     };
 }
 
-/// For how many slots more a set would be refused, this one included.
+/// Returns the number of slots for which a set would be refused, including this one.
 #[unsafe(no_mangle)]
 pub extern "C" fn rdsrt_encoder_wait(encoder: &StoredEncoder, wait: &mut RdsrtWait)
     ensures silent { WhereItIs encoder.now
@@ -224,7 +224,7 @@ pub extern "C" fn rdsrt_encoder_wait(encoder: &StoredEncoder, wait: &mut RdsrtWa
     };
 }
 
-/// The reply, and the encoder stored where the set was taken.
+/// Returns the reply, and stores the encoder if the set was accepted.
 fn answered(encoder: &mut StoredEncoder, inner: &Encoder, reply: Result<(), Refusal>) -> RdsrtReply
     ensures reply { result ≡ reply_of reply }
     ensures same { OnErr reply (inner.now ≡ encoder_stored encoder.old)

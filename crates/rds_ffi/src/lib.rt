@@ -1,7 +1,7 @@
 //! Receivers, encoders and audits for C programs: plain structs in the caller's memory, and functions over them.
 //!
-//! Each call takes any numbers in a struct: they are safe numbers, whoever wrote them. Where only these functions
-//! wrote them, what a call answers is what the definitions say of all slots since the struct was made.
+//! Each call is safe for any numbers in a struct. If only these functions wrote them, the result of a call is the one
+//! that the definitions give for all slots since the struct was made.
 #![tactic(auto)]
 
 mod audit;

@@ -17,11 +17,11 @@ use rds_block::Blocks;
 use rds_fields::Dwell;
 use rds_receiver::{Receiver, StoredReceiver};
 
-/// Makes a receiver of this programme that heard nothing yet; the dwell is in slots.
+/// Makes a receiver of this programme that heard nothing yet. The dwell is in slots.
 ///
 /// # Errors
 ///
-/// `RDSRT_BAD_ARGUMENT` and no change where the dwell is 0.
+/// `RDSRT_BAD_ARGUMENT` and no change if the dwell is 0.
 #[unsafe(no_mangle)]
 pub extern "C" fn rdsrt_receiver_init(receiver: &mut StoredReceiver, pi: u16, dwell: u16) -> u32
     ensures code { result ≡ RDSRT_OK ↔ 0 < dwell }
@@ -37,12 +37,12 @@ pub extern "C" fn rdsrt_receiver_init(receiver: &mut StoredReceiver, pi: u16, dw
     codes::OK
 }
 
-/// Handles what one slot brought: the four blocks of a group, or no blocks for nothing. `RDSRT_OK` where the view is
-/// what it was, and `RDSRT_CHANGED` where it may have changed.
+/// Handles one slot: the four blocks of a group, or no blocks if none came. Returns `RDSRT_OK` if the view did not
+/// change, and `RDSRT_CHANGED` if it may have changed.
 ///
 /// # Errors
 ///
-/// `RDSRT_BAD_ARGUMENT` and no change where the blocks are neither four nor none.
+/// `RDSRT_BAD_ARGUMENT` and no change if the number of blocks is neither four nor zero.
 #[unsafe(no_mangle)]
 pub extern "C" fn rdsrt_receiver_slot(receiver: &mut StoredReceiver, blocks: &[u16]) -> u32
     ensures code { result ≢ RDSRT_BAD_ARGUMENT ↔ IsCount blocks.now }
@@ -56,7 +56,7 @@ pub extern "C" fn rdsrt_receiver_slot(receiver: &mut StoredReceiver, blocks: &[u
     let Ok(slot) = brought(blocks) else {
         return codes::BAD_ARGUMENT;
     };
-    // a copy by a name of its own: what is passed on may not have been lent
+    // Prover: a value is copied by a new name before its second use (docs/PROVER.md, "Workarounds").
     let given = slot;
     if receiver.rest(given) {
         return codes::OK;
@@ -64,7 +64,8 @@ pub extern "C" fn rdsrt_receiver_slot(receiver: &mut StoredReceiver, blocks: &[u
     go_on(receiver, slot)
 }
 
-/// Handles a slot by a receiver that is made for it. It is never inlined, so that a slot that rests pays nothing for it.
+/// Handles a slot with a receiver that is rebuilt for it. The function is not inlined, so that slots without a change
+/// pay nothing for it.
 #[inline(never)]
 fn go_on(receiver: &mut StoredReceiver, slot: Option<Blocks>) -> u32
     ensures few { (result ≡ RDSRT_OK) ⊎ (result ≡ RDSRT_CHANGED) }
@@ -78,7 +79,7 @@ fn go_on(receiver: &mut StoredReceiver, slot: Option<Blocks>) -> u32
     told(changed)
 }
 
-/// What the receiver shows.
+/// Writes the view of the receiver.
 #[unsafe(no_mangle)]
 pub extern "C" fn rdsrt_receiver_view(receiver: &StoredReceiver, view: &mut RdsrtView)
     ensures shown { WhereItIs receiver.now (λ t input. IsView t input (viewed view.new)) }
@@ -89,7 +90,7 @@ pub extern "C" fn rdsrt_receiver_view(receiver: &StoredReceiver, view: &mut Rdsr
     *view = seen(&Receiver::restore(receiver));
 }
 
-/// The code of a slot in which the view may have changed, or has not.
+/// Returns the code of a slot, by whether the view may have changed.
 fn told(changed: bool) -> u32
     ensures same { result ≡ RDSRT_OK → IsFalse changed }
     ensures few { (result ≡ RDSRT_OK) ⊎ (result ≡ RDSRT_CHANGED) }

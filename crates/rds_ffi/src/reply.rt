@@ -7,7 +7,8 @@ use rds_assembly::TextRefused;
 use rds_encoder::Refusal;
 use rds_fields::Which;
 
-/// What became of a set: its code, and beside some codes a number, of slots to wait or the place of a bad byte.
+/// The reply to a set: its code and, with some codes, a number: of slots to wait, or the place of the byte that is
+/// refused.
 #[repr(C)]
 #[derive(Clone, Copy)]
 pub struct RdsrtReply {
@@ -15,7 +16,7 @@ pub struct RdsrtReply {
     pub number: u32,
 }
 
-/// The reply of an encoder.
+/// Returns the reply of an encoder.
 pub(crate) fn plain_reply(reply: Result<(), Refusal>) -> RdsrtReply
     ensures { result ≡ reply_of reply }
 {
@@ -30,7 +31,7 @@ pub(crate) fn plain_reply(reply: Result<(), Refusal>) -> RdsrtReply
     RdsrtReply { code, number }
 }
 
-/// The reply to bytes that are no text or no name.
+/// Returns the reply to bytes that are not a valid text or name.
 pub(crate) fn plain_refusal(refused: TextRefused) -> RdsrtReply
     requires { (place : ℕ) → refused ≡ TextRefused.BadByte place → place < 64 }
     ensures { result ≡ refusal_of refused }

@@ -1,14 +1,14 @@
-//! What one slot brought, as blocks.
+//! The blocks of one slot.
 ghost use Rattle.std.specs.Prelude.{◌↔◌, IfOk, IsOk};
 ghost use Rattle.rds_ffi.specs.Slots.{Bring, IsCount};
 
 use rds_block::Blocks;
 
-/// The blocks of a slot are neither none nor four.
+/// The number of blocks is neither four nor zero.
 #[derive(Clone, Copy)]
 pub(crate) struct BadCount;
 
-/// What the blocks bring.
+/// Returns the blocks of a slot's group. `None` if the slot has none.
 pub(crate) fn brought(blocks: &[u16]) -> Result<Option<Blocks>, BadCount>
     ensures count { IsOk result ↔ IsCount blocks.now }
     ensures value { IfOk result (Bring blocks.now) }

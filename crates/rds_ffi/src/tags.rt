@@ -15,7 +15,7 @@ pub struct RdsrtTags {
     pub running: u8,
 }
 
-/// The pair of these numbers; `None` where they are none.
+/// Makes a pair of tags from numbers. `None` if they are not valid.
 pub(crate) fn pair_given(tags: &RdsrtTags) -> Option<TagPair>
     ensures given { IsSome result ↔ AreGiven tags.now }
     ensures value { IfSome result (λ pair. pair ≡ pair_of tags.now) }
@@ -25,7 +25,7 @@ pub(crate) fn pair_given(tags: &RdsrtTags) -> Option<TagPair>
     TagPair::new(tags.toggle != 0, tags.running != 0, one, two).ok()
 }
 
-/// The tag of these numbers; `None` where they are none.
+/// Makes a tag from numbers. `None` if they are not valid.
 fn tag_given(tag: RdsrtTag) -> Option<Tag>
     ensures given { IsSome result ↔ IsGiven tag }
     ensures value { IfSome result (λ is. is ≡ fields_of tag) }

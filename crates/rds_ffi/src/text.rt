@@ -1,4 +1,4 @@
-//! Texts as people read them.
+//! Texts in their printed form, which is UTF-8.
 ghost use Rattle.std.specs.Prelude.{◌≡◌, ◌≢◌, ◌<◌, ◌≤◌, ◌↔◌, ◌⊎◌, ℕ, List, IsUtf8, length, take, drop};
 ghost use Rattle.rds_charset.specs.Printed.{printed};
 ghost use Rattle.rds_charset.specs.ReadAs.{HasBadEscape, HasNoRoom, HasUnknownCharacter, IsReadAs};
@@ -15,12 +15,12 @@ use std::str;
 /// The most bytes of a text in its printed form.
 const ROOM: usize = 4 * LONGEST_TEXT;
 
-/// Writes a text of up to 64 bytes in its printed form, which is UTF-8, and gives the number of its bytes.
+/// Writes a text of up to 64 bytes in its printed form, which is UTF-8, and returns the number of its bytes.
 ///
 /// # Errors
 ///
-/// `RDSRT_TOO_LONG` where the text has more than 64 bytes; `RDSRT_NO_ROOM` where the printed form does not fit, and the
-/// number is then the room that is needed. Nothing is written into the slice.
+/// `RDSRT_TOO_LONG` if the text has more than 64 bytes. `RDSRT_NO_ROOM` if the printed form does not fit; the number is
+/// then the room that it needs. Nothing is written into the slice.
 #[unsafe(no_mangle)]
 pub extern "C" fn rdsrt_text_to_utf8(text: &[u8], into: &mut [u8], count: &mut usize) -> u32
     ensures printed { result ≡ RDSRT_OK → take count.new into.new ≡ printed text.now }
@@ -48,12 +48,12 @@ pub extern "C" fn rdsrt_text_to_utf8(text: &[u8], into: &mut [u8], count: &mut u
     codes::OK
 }
 
-/// Reads a text in its printed form into the front of the slice, and gives the number of its bytes.
+/// Reads a text in its printed form into the front of the slice, and returns the number of its bytes.
 ///
 /// # Errors
 ///
-/// `RDSRT_NOT_UTF8`; then `RDSRT_BAD_ESCAPE` or `RDSRT_NO_CHARACTER`, whichever stands first, and the number is then
-/// its place in bytes; then `RDSRT_NO_ROOM`. Nothing is written into the slice.
+/// `RDSRT_NOT_UTF8`; then `RDSRT_BAD_ESCAPE` or `RDSRT_NO_CHARACTER`, whichever comes first, with its place in bytes;
+/// then `RDSRT_NO_ROOM`. Nothing is written into the slice.
 #[unsafe(no_mangle)]
 pub extern "C" fn rdsrt_text_from_utf8(utf8: &[u8], into: &mut [u8], count: &mut usize) -> u32
     ensures read { result ≡ RDSRT_OK → IsReadAs utf8.now (take count.new into.new) }

@@ -1,10 +1,10 @@
-//! Which library this is.
+//! The version of the library, and `RDSRT_ABI`, the number of its interface.
 ghost use Rattle.std.specs.Prelude.{◌≡◌};
 ghost use Rattle.rds_ffi.specs.Codes.{RDSRT_ABI};
 
 use crate::codes;
 
-/// The number of the interface that a library was built with, and the version of the project.
+/// The number of the interface of a library, and the version of the project.
 #[repr(C)]
 #[derive(Clone, Copy)]
 pub struct RdsrtVersion {
@@ -14,7 +14,7 @@ pub struct RdsrtVersion {
     pub patch: u32,
 }
 
-/// The number of this interface and the version, 0.1.0, as the program tells it.
+/// Returns the number of this interface and the version.
 #[unsafe(no_mangle)]
 pub extern "C" fn rdsrt_version() -> RdsrtVersion
     ensures { result ≡ record { abi = RDSRT_ABI; major = 0; minor = 1; patch = 0 } }

@@ -1,4 +1,4 @@
-//! What a receiver shows, as a plain struct.
+//! The view of a receiver as a plain struct.
 ghost use Rattle.std.specs.Prelude.{◌≡◌, ◌≢◌, ◌+◌, ◌≤◌, ℕ, List, None, Some, length};
 ghost use Rattle.std.specs.Option.{ForSome, option_copied};
 ghost use Rattle.rds_receiver.specs.Shown.{IsView};
@@ -12,7 +12,7 @@ use rds_assembly::LONGEST_TEXT;
 use rds_fields::{Tag, TagPair, Which};
 use rds_receiver::Receiver;
 
-/// A text, its first `length` bytes. Where `is_shown` is 0 there is none.
+/// A text, its first `length` bytes. `is_shown` is 0 if there is none.
 #[repr(C)]
 #[derive(Clone, Copy)]
 pub struct RdsrtText {
@@ -21,7 +21,7 @@ pub struct RdsrtText {
     pub is_shown: u8,
 }
 
-/// A name. Where `is_shown` is 0 there is none.
+/// A name. `is_shown` is 0 if there is none.
 #[repr(C)]
 #[derive(Clone, Copy)]
 pub struct RdsrtName {
@@ -29,7 +29,7 @@ pub struct RdsrtName {
     pub is_shown: u8,
 }
 
-/// The two bits of the item. Where `is_shown` is 0 there are none.
+/// The two bits of the item. `is_shown` is 0 if there are none.
 #[repr(C)]
 #[derive(Clone, Copy)]
 pub struct RdsrtItem {
@@ -38,7 +38,7 @@ pub struct RdsrtItem {
     pub running: u8,
 }
 
-/// A class of RadioText Plus, and where its piece stands in the text. Class 0 is no tag.
+/// A content type of RadioText Plus, and the place of its piece in the text. Content type 0 means no tag.
 #[repr(C)]
 #[derive(Clone, Copy)]
 pub struct RdsrtTag {
@@ -58,7 +58,7 @@ pub struct RdsrtView {
     pub two: RdsrtTag,
 }
 
-/// What the receiver shows.
+/// Returns the view of the receiver.
 pub(crate) fn seen(receiver: &Receiver) -> RdsrtView
     ensures shown { WhereItStands receiver.now (λ t input. IsView t input (viewed result)) }
     ensures tags { WhatItHeard receiver.now (λ m first heard. AreTagsOf (pair_held m first heard) result) }
@@ -74,7 +74,7 @@ pub(crate) fn seen(receiver: &Receiver) -> RdsrtView
     }
 }
 
-/// The text.
+/// Returns the text.
 pub(crate) fn plain_text(text: Option<&[u8]>) -> RdsrtText
     requires { ForSome text (λ x. length x.now ≤ 64) }
     ensures same { text_viewed result ≡ option_copied text.entry }
@@ -98,7 +98,7 @@ pub(crate) fn plain_text(text: Option<&[u8]>) -> RdsrtText
     }
 }
 
-/// The name.
+/// Returns the name.
 pub(crate) fn plain_name(name: Option<&[u8]>) -> RdsrtName
     requires { ForSome name (λ x. length x.now ≡ 8) }
     ensures same { name_viewed result ≡ option_copied name.entry }
@@ -112,7 +112,7 @@ pub(crate) fn plain_name(name: Option<&[u8]>) -> RdsrtName
     RdsrtName { bytes, is_shown: 1 }
 }
 
-/// The bits of the item.
+/// Returns the bits of the item.
 fn plain_item(item: Option<(bool, bool)>) -> RdsrtItem
     ensures same { item_viewed result ≡ item }
     ensures plain { IsPlainItem result }
@@ -131,7 +131,7 @@ fn plain_item(item: Option<(bool, bool)>) -> RdsrtItem
     }
 }
 
-/// A tag of the pair, where it is shown beside the text.
+/// Returns a tag of the pair, if it is shown with the text.
 fn plain_tag(text: Option<&[u8]>, which: Which, pair: Option<TagPair>) -> RdsrtTag
     requires { ForSome text (λ x. length x.now ≤ 64) }
     ensures same { tag_viewed result (option_copied text.entry)
@@ -154,7 +154,7 @@ fn plain_tag(text: Option<&[u8]>, which: Which, pair: Option<TagPair>) -> RdsrtT
     cut(tag, text.len())
 }
 
-/// No tag.
+/// Returns the value for no tag.
 fn no_tag() -> RdsrtTag
     ensures { result ≡ specs.no_tag }
 {
@@ -165,7 +165,7 @@ fn no_tag() -> RdsrtTag
     }
 }
 
-/// The tag, where it is none of the dummies and ends in a text of so many bytes.
+/// Returns the tag, if it is not a dummy and ends in a text of this many bytes.
 fn cut(tag: Tag, count: usize) -> RdsrtTag
     requires { count ≤ 64 }
     ensures same { (x : List ℕ) → length x ≡ count → tag_viewed result (Some x) ≡ cut_by tag x }

@@ -1,10 +1,10 @@
-//! A burst of lost slots, and what is received where it is lost.
+//! A burst of lost slots, and the slots of a log without it.
 ghost use Rattle.std.specs.Prelude.{◌≡◌, ◌<◌, Some, length};
 ghost use Rattle.rds_witness.specs.Lost.{is_lost, received};
 
 use rds_block::Group;
 
-/// Slots of a log that stand side by side: these two, and all between them.
+/// Consecutive lost slots of a log: these two and all between them.
 #[derive(Clone, Copy)]
 pub struct Burst {
     pub first: usize,
@@ -12,7 +12,7 @@ pub struct Burst {
 }
 
 impl Burst {
-    /// Whether the slot is one of them.
+    /// Returns whether the burst has the slot.
     pub fn has(self, slot: usize) -> bool
         ensures { result ≡ is_lost (Some self) slot }
     {
@@ -20,7 +20,7 @@ impl Burst {
     }
 }
 
-/// What comes in a slot of a log, where the burst is lost, if any is.
+/// Returns the group of a slot of the log, or nothing if the slot is lost.
 pub(crate) fn received(log: &[Option<Group>], lost: Option<Burst>, slot: usize) -> Option<Group>
     requires { slot < length log.now }
     ensures { result ≡ received lost log.now slot }

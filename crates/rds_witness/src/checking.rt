@@ -1,4 +1,4 @@
-//! Whether what a receiver shows is a mix.
+//! Checks whether a receiver shows a mix.
 ghost use Rattle.std.specs.Prelude.{◌≡◌, ◌<◌, ◌≤◌, ◌+◌, IsTrue, None, Option, Some, length};
 ghost use Rattle.rds_log.specs.LogWrites.{tuned};
 ghost use Rattle.rds_receiver.specs.StandsAt.{StandsAt};
@@ -13,7 +13,7 @@ use rds_block::Group;
 use rds_fields::Dwell;
 use rds_receiver::Receiver;
 
-/// The receiver that got what came before a slot, but for what is lost.
+/// Returns the receiver before a slot, after all earlier slots except the lost ones.
 pub(crate) fn receiver_before(
     log: &[Option<Group>],
     pi: u16,
@@ -31,7 +31,7 @@ pub(crate) fn receiver_before(
     receiver
 }
 
-/// Whether a receiver that loses nothing never shows the thing in the first slots.
+/// Returns whether a receiver that loses nothing never shows the thing in the first slots.
 pub(crate) fn is_never_shown(
     log: &[Option<Group>],
     pi: u16,
@@ -52,7 +52,7 @@ pub(crate) fn is_never_shown(
     true
 }
 
-/// How many slots there are up to a dwell after this one.
+/// Returns the number of slots up to a dwell after this one.
 pub(crate) fn slots_until(log: &[Option<Group>], dwell: Dwell, slot: usize) -> usize
     requires { slot < length log.now }
     ensures value { result ≡ until dwell log.now slot }

@@ -1,4 +1,4 @@
-//! Keeps a receiver only if no other one that is kept holds all that it holds.
+//! Drops each receiver that holds only a part of what another kept one holds.
 ghost use Rattle.std.specs.Prelude.{◌≡◌, ◌≤◌, ◌<◌, ◌⊎◌, ◌↔◌, ◌∷◌, ◌+◌, All, IsTrue, List, OnOk, Option, Some, length, slice_index_or, ℕ};
 ghost use Rattle.std.specs.FinMap.{get};
 ghost use Rattle.rds_assembly.specs.Body.{segment_of};
@@ -16,10 +16,10 @@ use rds_block::{Blocks, Group};
 use rds_receiver::{Receiver, StoredReceiver, StoredSegments};
 use std::alloc::AllocError;
 
-/// How many segments may be held.
+/// The most segments that are held.
 const SEGMENTS: u8 = 16;
 
-/// Whether the first one holds nothing at the address, or the second one holds the same bytes there.
+/// Returns whether the first receiver holds nothing at the address, or the second one holds the same bytes there.
 fn has_segment(one: &StoredSegments, other: &StoredSegments, address: u8) -> bool
     requires { address < 16 }
     ensures { IsTrue result → (b : List ℕ) → get (held_cells one.now.mask one.now.bytes) address ≡ Some b
@@ -36,7 +36,7 @@ fn has_segment(one: &StoredSegments, other: &StoredSegments, address: u8) -> boo
     is_same(segment_at(one, address), segment_at(other, address))
 }
 
-/// The bytes at the address.
+/// Returns the bytes at the address.
 fn segment_at(stored: &StoredSegments, address: u8) -> &[u8]
     requires { address < 16 }
     ensures bytes { result.now ≡ segment_of stored.now.bytes address }
@@ -46,7 +46,7 @@ fn segment_at(stored: &StoredSegments, address: u8) -> &[u8]
     &stored.bytes[first..first + 4]
 }
 
-/// Whether two segments are the same, compared as one word.
+/// Returns whether two segments are equal. Compares them as one word.
 fn is_same(one: &[u8], other: &[u8]) -> bool
     requires one { length one.now ≡ 4 }
     requires other { length other.now ≡ 4 }
@@ -57,8 +57,8 @@ fn is_same(one: &[u8], other: &[u8]) -> bool
     u32::from_le_bytes(word) == u32::from_le_bytes(other_word)
 }
 
-/// Whether the first one holds a part of what the second one holds, and heard its newest segment no later. What holds
-/// nothing is a part of everything.
+/// Returns whether the first receiver holds a part of what the second one holds, and heard its newest segment at the
+/// same time or earlier. An empty receiver is a part of every other.
 pub(crate) fn is_part(one: &StoredSegments, other: &StoredSegments) -> bool
     ensures cells { IsTrue result
         → HasCells (held_cells one.now.mask one.now.bytes) (held_cells other.now.mask other.now.bytes) }
@@ -81,7 +81,7 @@ pub(crate) fn is_part(one: &StoredSegments, other: &StoredSegments) -> bool
     true
 }
 
-/// Whether the runs of the first receiver are parts of those of the second one, if both heard as many slots.
+/// Returns whether the runs of the first receiver are parts of those of the second one, if both heard as many slots.
 pub(crate) fn is_receiver_part(one: &StoredReceiver, other: &StoredReceiver) -> bool
     ensures { IsTrue result → (pi m : ℕ) (input more : List (Option Group))
         → StandsAt (tuned pi m) (receiver_stored one.now) input
@@ -91,21 +91,21 @@ pub(crate) fn is_receiver_part(one: &StoredReceiver, other: &StoredReceiver) -> 
     is_part(&one.text, &other.text) && is_part(&one.name, &other.name)
 }
 
-/// What came in a slot, by its blocks.
+/// Returns the blocks of a slot's group.
 fn blocks_of(group: Option<Group>) -> Option<Blocks>
     ensures { result ≡ group }
 {
     Some(group?.blocks())
 }
 
-/// The receiver one slot later.
+/// Returns the receiver one slot later.
 pub(crate) fn after_slot(stored: &StoredReceiver, group: Option<Group>) -> StoredReceiver
     ensures stands { IsStored stored.now → WhereItStands (receiver_stored stored.now)
         (λ t input. StandsAt t (receiver_stored result) (group ∷ input)) }
     ensures good { IsStored stored.now → IsStored result }
 {
     let blocks = blocks_of(group);
-    // a copy by a name of its own: what is passed on may not have been lent
+    // Prover: a value is copied by a new name before its second use (docs/PROVER.md, "Workarounds").
     let given = blocks;
     let mut rested = *stored;
     if rested.rest(given) {
@@ -116,7 +116,7 @@ pub(crate) fn after_slot(stored: &StoredReceiver, group: Option<Group>) -> Store
     receiver.store()
 }
 
-/// The receiver at this place.
+/// Returns the receiver at this place.
 pub(crate) fn receiver_at(receivers: &[StoredReceiver], place: usize) -> &StoredReceiver
     requires { place < length receivers.now }
     ensures { (d : StoredReceiver) → slice_index_or receivers.now place d ≡ result.now }
@@ -124,7 +124,7 @@ pub(crate) fn receiver_at(receivers: &[StoredReceiver], place: usize) -> &Stored
     &receivers[place]
 }
 
-/// Keeps a receiver, unless one that is kept holds all that it holds.
+/// Keeps a receiver, unless a kept one holds all that it holds.
 pub(crate) fn keep(kept: &mut Vec<StoredReceiver>, one: StoredReceiver) -> Result<(), AllocError>
     ensures { OnOk result ((pi m n : ℕ) → All (IsAt (tuned pi m) n) kept.old.items → IsAt (tuned pi m) n one
         → Keeps (tuned pi m) n one kept.old.items kept.new.items) }

@@ -1,4 +1,4 @@
-//! Whether a log shows a receiver that pays for a rule that it breaks.
+//! The engine of `witness`: finds a receiver that shows a mix because the log breaks a rule.
 ghost use Rattle.std.specs.Prelude.{◌≡◌, ◌≤◌, ◌^◌, [], ℕ, Err, OnOk, length};
 ghost use Rattle.rds_block.specs.declared.group.Group.{Group};
 ghost use Rattle.rds_charset.specs.Puts.{Puts};
@@ -23,14 +23,14 @@ use rds_log::{LogNotes, gather_with_notes};
 use rds_view_lines::LogFault;
 use std::alloc::Global;
 
-/// Reads a log of all groups that were sent, a slot a line, and looks for a burst of lost slots after which a receiver
-/// shows a mix. Writes the line of each mix of one slot, behind the slots that are lost: true. Or it writes that no
-/// witness was found: false. Then no burst makes a receiver show a mix of a text or a name, unless the line tells up to
-/// which slot none was found.
+/// Reads a log of all groups of a station, one slot a line, and looks for a burst of lost slots after which a receiver
+/// shows a mix. If there is one, writes the lost slots and the line of each mix of one slot, and returns true. If not,
+/// writes that no witness was found, and returns false. Then no burst makes a receiver show a mix of a text or a name,
+/// unless the line says up to which slot the search went.
 ///
 /// # Errors
 ///
-/// The first fault: a bad line, a read or a write that failed, 2^32 reads without an end, or no memory.
+/// The first fault: a malformed line, a failed read or write, 2^32 reads without an end, or out of memory.
 pub fn witness<R: TellingRead, W: TellingWrite>(
     alloc: Global,
     reader: &mut R,
@@ -45,7 +45,7 @@ pub fn witness<R: TellingRead, W: TellingWrite>(
     witness_with_notes(alloc, reader, writer, pi, dwell, &mut LogNotes::new(pi))
 }
 
-/// [`witness`] with notes for a person: with them or without, it writes and returns the same.
+/// Does what [`witness`] does, and takes notes for a person. The output and the answer are the same.
 pub fn witness_with_notes<R: TellingRead, W: TellingWrite>(
     alloc: Global,
     reader: &mut R,
@@ -87,7 +87,7 @@ fn answer<W: TellingWrite>(
     Ok(is_found)
 }
 
-/// Appends the answer to a log: the mixes of what was found, where it has some, or that no witness was found.
+/// Appends the answer to a log: the mixes of the witness, or that no witness was found.
 fn push_answer(
     log: &[Option<Group>],
     pi: u16,

@@ -1,21 +1,16 @@
-//! When a receiver that loses nothing first shows each thing.
+//! The slot in which a receiver that loses nothing first shows each thing.
 
-use crate::number::number_of;
+use crate::number::{NAME_KIND, TEXT_KIND, number_of};
 use rds_block::Group;
 use rds_fields::{Dwell, Message, Tag, TagPair};
 use rds_receiver::{Receiver, View, heard};
 use std::alloc::{AllocError, Global};
 use std::collections::BTreeMap;
 
-/// The kinds of text and name; a tag has its class, from 1 to 63.
-const TEXT: u8 = 0;
-
-const NAME: u8 = 64;
-
-/// How many pairs of tags of one run are kept.
+/// The most pairs of tags that are kept of one run.
 const MOST_PAIRS: usize = 16;
 
-/// How many things are kept. Past them a thing that is shown is taken for one that is not, which the check refutes.
+/// The most things that are kept. After these, a thing that is shown counts as not shown, and the check refutes it.
 const MOST_THINGS: usize = 500_000;
 
 /// The first slot of each thing, by its number.
@@ -27,8 +22,8 @@ pub(crate) struct FirstShown {
 }
 
 impl FirstShown {
-    /// Of all slots of a log. With a text that is shown, all pairs of tags count that came in its run of segments,
-    /// though another pair may have taken their place.
+    /// Reads all slots of a log. With a text that is shown, all pairs of tags of its run of segments count, even if
+    /// another pair replaced them.
     pub(crate) fn of(
         alloc: Global,
         log: &[Option<Group>],
@@ -53,15 +48,15 @@ impl FirstShown {
         Ok(first)
     }
 
-    /// Whether the view shows a thing that was shown in no slot before this one.
+    /// Returns whether the view shows a thing that was shown in no slot before this one.
     pub(crate) fn lacks_some(&self, view: View<'_>, until: usize) -> bool {
         if let Some(text) = view.text {
-            if self.lacks(number_of(TEXT, text), until) {
+            if self.lacks(number_of(TEXT_KIND, text), until) {
                 return true;
             }
         }
         if let Some(name) = view.name {
-            if self.lacks(number_of(NAME, name), until) {
+            if self.lacks(number_of(NAME_KIND, name), until) {
                 return true;
             }
         }
@@ -92,15 +87,15 @@ impl FirstShown {
         Ok(())
     }
 
-    /// Notes what the receiver shows in this slot.
+    /// Notes the things that the receiver shows in this slot.
     fn note(&mut self, receiver: &Receiver, slot: usize) -> Result<(), AllocError> {
         if let Some(name) = receiver.name() {
-            self.note_number(number_of(NAME, name), slot)?;
+            self.note_number(number_of(NAME_KIND, name), slot)?;
         }
         let Some(text) = receiver.text() else {
             return Ok(());
         };
-        self.note_number(number_of(TEXT, text), slot)?;
+        self.note_number(number_of(TEXT_KIND, text), slot)?;
         for place in 0..self.pairs.len() {
             let Some(pair) = self.pairs.as_slice().get(place) else {
                 break;
@@ -128,7 +123,7 @@ impl FirstShown {
     }
 }
 
-/// Whether a segment of a text begins a run: with the other flag, or where nothing is held by then.
+/// Returns whether a segment of a text begins a run: its flag is the other one, or nothing is held at that time.
 fn begins_run(receiver: &Receiver, dwell: Dwell, message: &Option<Message>) -> bool {
     let Some(Message::Text { flag, .. }) = message else {
         return false;

@@ -9,32 +9,32 @@ use rds_fields::{Dwell, Message};
 use rds_receiver::{Receiver, StoredReceiver};
 use std::alloc::{AllocError, Global};
 
-/// How many receivers are followed at most.
+/// The most receivers that are followed.
 const MOST: usize = 4096;
 
-/// The work of a step in which a receiver hears something; it is 1 where it hears nothing.
+/// The work of a step in which a receiver hears something. It is 1 if it hears nothing.
 const STEP: u64 = 8;
 
-/// How many numbers of states are kept.
+/// The most numbers of states that are kept.
 const SEEN: usize = 1024;
 
-/// What may be a mix: what is lost, and the slot in which it is shown.
+/// A possible mix: the lost slots, and the slot in which it is shown.
 #[derive(Clone, Copy)]
 pub(crate) struct Candidate {
     pub(crate) burst: Burst,
     pub(crate) slot: usize,
 }
 
-/// A receiver, and what it lost.
+/// A receiver, and the slots that it lost.
 #[derive(Drop)]
 pub(crate) struct Hearing {
     pub(crate) receiver: Receiver,
     pub(crate) burst: Burst,
-    /// Whether it is let go.
+    /// Whether it is dropped.
     pub(crate) is_over: bool,
 }
 
-/// What came in a slot, and what a receiver that loses nothing holds with it.
+/// The group of a slot, and the state of a receiver that loses nothing after it.
 #[derive(Drop)]
 pub(crate) struct Heard {
     pub(crate) slot: usize,
@@ -42,14 +42,15 @@ pub(crate) struct Heard {
     pub(crate) whole: StoredReceiver,
 }
 
-/// The receivers that lost a burst and hear again. Of equal ones some are left out; so is each that holds a part of what
-/// the receiver holds that loses nothing: both hear the same from now on, so what it makes whole is whole there too.
+/// The receivers that lost a burst and hear again. Equal ones are kept once. A receiver that holds a part of what the
+/// one without a loss holds is dropped: both hear the same from now on, so each value that it completes is complete
+/// there too.
 #[derive(Drop)]
 pub(crate) struct Followed {
     service: Service,
     dwell: Dwell,
     hearing: Vec<Hearing>,
-    /// Those that hear again since this slot.
+    /// The receivers that hear again from this slot on.
     fresh: Vec<Hearing>,
     /// Numbers of states of this slot, each at its place, among older ones.
     seen: [u64; SEEN],
@@ -69,7 +70,7 @@ impl Followed {
         }
     }
 
-    /// A slot in which the service hears nothing, for so many receivers beside those that are followed.
+    /// Counts the work of a slot in which the service hears nothing, for the followed receivers and this many more.
     pub(crate) fn rest(&mut self, others: usize) {
         let receivers = self.hearing.len().saturating_add(others);
         self.work = self.work.saturating_add(receivers as u64);
@@ -78,7 +79,7 @@ impl Followed {
         }
     }
 
-    /// Lets one hear that just lost a burst, and follows it; what it shows then where that may be a mix.
+    /// Lets a receiver hear that just lost a burst, and follows it. Returns a possible mix.
     pub(crate) fn follow(
         &mut self,
         first: &FirstShown,
@@ -101,8 +102,7 @@ impl Followed {
         Ok(None)
     }
 
-    /// Lets those hear that are followed, and lets go whom there is nothing to be seen of; what one of them shows then
-    /// where that may be a mix.
+    /// Lets the followed receivers hear, and drops those that can show nothing new. Returns a possible mix.
     pub(crate) fn hear(
         &mut self,
         first: &FirstShown,
@@ -125,18 +125,18 @@ impl Followed {
     }
 }
 
-/// What comes of a receiver that hears.
+/// The result for a receiver that hears.
 #[derive(Drop)]
 enum Outcome {
     /// It may show a mix.
     Mix(Candidate),
-    /// It holds what another one holds, or a part of what the one holds that loses nothing.
+    /// Another receiver holds the same, or the one that loses nothing holds all of it.
     Known,
-    /// Neither.
+    /// It is followed on.
     Other,
 }
 
-/// Lets a receiver hear.
+/// Lets a receiver hear the slot.
 fn hear(
     it: &mut Hearing,
     first: &FirstShown,
@@ -160,7 +160,7 @@ fn hear(
     Outcome::Other
 }
 
-/// Whether the one holds a part of what the other holds.
+/// Returns whether the first one holds a part of what the second one holds.
 fn is_inside(service: Service, one: &StoredReceiver, whole: &StoredReceiver) -> bool {
     let pair = number_of_pair(&one.pair);
     one.is_known <= whole.is_known
@@ -168,7 +168,7 @@ fn is_inside(service: Service, one: &StoredReceiver, whole: &StoredReceiver) -> 
         && is_part(&service.held(one), &service.held(whole))
 }
 
-/// Whether a receiver that came to this slot before holds the same; for most of those that do.
+/// Returns whether an earlier receiver of this slot holds the same. It finds most of them.
 fn is_seen(service: Service, stored: &StoredReceiver, slot: usize, seen: &mut [u64; SEEN]) -> bool {
     let held = service.held(stored);
     let number = number_of_state(number_of_content(stored, &held), held.age, slot);

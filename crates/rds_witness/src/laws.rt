@@ -1,4 +1,4 @@
-//! What holds of all witnesses.
+//! The laws of witnesses.
 ghost use Rattle.std.specs.Prelude.{◌≡◌, ◌<◌, ◌∷◌, ℕ, List, None, Option, Some, length, reverse};
 ghost use Rattle.rds_block.specs.declared.group.Group.{Group};
 ghost use Rattle.rds_log.specs.LogWrites.{AreViews};
@@ -14,8 +14,8 @@ ghost use Rattle.rds_witness.specs.Part.{IsPart};
 ghost use Rattle.rds_witness.specs.Prints.{HasPart};
 ghost use Rattle.rds_witness.specs.declared.burst.Burst.{Burst};
 
-/// What a mix means by `decode`: what it writes of the slots of the log with the burst lost has the line of the thing,
-/// and a receiver that loses nothing gets just the slots of the log.
+/// Shows the meaning of a mix by `decode`: the output for the slots of the log without the burst has the line of the
+/// thing, and a receiver that loses nothing gets exactly the slots of the log.
 pub fn what_a_mix_means()
     ensures prints { (t : Tuning) (log : List (Option Group)) (burst : Burst) (slot : ℕ) (thing : Thing)
         (views : List ShownView) → IsMix t log burst slot thing
@@ -23,8 +23,8 @@ pub fn what_a_mix_means()
     ensures whole { (log : List (Option Group)) → got None log (length log) ≡ reverse log }
 {}
 
-/// A receiver whose run is a part of another one's shows no text or name that the other one does not show, and its run
-/// stays a part, whatever both hear in the next slot.
+/// Shows that a receiver whose run is a part of another one's shows no text or name that the other one does not show,
+/// and that its run stays a part in the next slot, whatever both hear.
 pub fn a_part_shows_no_more()
     ensures stays { (pick : Message → Option Fragment) (m : ℕ) (x : Option Message)
         (one other : List (Option Message)) → 0 < m → length one ≡ length other

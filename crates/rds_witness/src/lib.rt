@@ -1,8 +1,8 @@
-//! Witnesses of what a broken rule costs: slots of a log that a receiver has to lose to show what nobody sent.
+//! Witnesses against a log that breaks a rule: slots that a receiver must lose to show a mix.
 //!
-//! [`witness`] looks for them twice. The first search promises nothing, and receivers of their own check what it finds: so
-//! what is written is a mix by the definitions of `decode` (`IsMix`). If it finds nothing, a second search rules out every
-//! burst (`NoMixes`).
+//! [`witness`] searches twice. The first search promises nothing, and its result is checked with receivers of their
+//! own. So each written mix is a mix by the definitions of `decode` (`IsMix`). If it finds nothing, a second search
+//! rules out every burst (`NoMixes`).
 #![tactic(auto)]
 
 mod burst;

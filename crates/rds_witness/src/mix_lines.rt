@@ -16,7 +16,7 @@ use rds_fields::{Dwell, Which};
 use rds_receiver::View;
 use rds_view_lines::{push_class, push_quoted};
 
-/// Room for the lines of the four things of a slot.
+/// The most bytes of the lines of the four things of a slot.
 pub(crate) const ROOM: usize = 2048;
 
 /// Appends the slots of a burst.
@@ -32,7 +32,7 @@ fn push_burst(burst: Burst, lines: &mut Lines<ROOM>)
     }
 }
 
-/// Appends the line of `decode` where this is shown in a slot.
+/// Appends the line that `decode` writes if a thing is shown in a slot.
 fn push_shown(slot: usize, thing: Thing<'_>, lines: &mut Lines<ROOM>)
     requires short { IsShortThing thing }
     requires room { length lines.old + 310 ≤ 2048 }
@@ -59,7 +59,7 @@ fn push_shown(slot: usize, thing: Thing<'_>, lines: &mut Lines<ROOM>)
     lines.push(b"\n");
 }
 
-/// The name of a tag's part.
+/// Returns the name of a tag in the output.
 fn tag_name(which: Which) -> &'static [u8]
     ensures name { result.now ≡ tag_name which }
     ensures four { length result.now ≡ 4 }
@@ -70,8 +70,8 @@ fn tag_name(which: Which) -> &'static [u8]
     }
 }
 
-/// Whether a thing that is shown in a slot is a mix there: not shown in the slot before, and nowhere where nothing is
-/// lost.
+/// Returns whether a thing that is shown in a slot is a mix there: the slot before does not show it, and a receiver
+/// that loses nothing shows it in no slot.
 fn is_mix(place: &Place<'_>, before: View<'_>, thing: Thing<'_>) -> bool
     requires { place.now.slot < length place.now.log.now }
     ensures new { IsTrue result → Shows (view_of before.entry) (thing_of thing.entry) → ⊥ }
@@ -85,7 +85,7 @@ fn is_mix(place: &Place<'_>, before: View<'_>, thing: Thing<'_>) -> bool
     is_never_shown(place.log, place.pi, place.dwell, until, thing)
 }
 
-/// Appends the line of a thing that the view after the slot has, where it is a mix.
+/// Appends the line of a thing of the view after the slot, if it is a mix.
 fn push_if_mix(
     place: &Place<'_>,
     before: View<'_>,

@@ -1,4 +1,4 @@
-//! Whether no burst makes a receiver show a mix of a text or a name.
+//! The second search: rules out that a burst makes a receiver show a mix of a text or a name.
 ghost use Rattle.std.specs.Prelude.{◌≡◌, ◌≤◌, ℕ, All, IfOk, IsTrue, List, None, Option, Some, length};
 ghost use Rattle.rds_block.specs.declared.group.Group.{Group};
 ghost use Rattle.rds_log.specs.LogWrites.{tuned};
@@ -17,10 +17,10 @@ use rds_fields::Dwell;
 use rds_receiver::StoredReceiver;
 use std::alloc::{AllocError, Global};
 
-/// How many times receivers are compared at most.
+/// The most comparisons of receivers.
 const MOST_COMPARISONS: u64 = 500_000_000;
 
-/// Finds what may be a mix. `Nothing` means that no burst makes a receiver show a mix of a text or a name.
+/// Finds a possible mix. `Nothing` means that no burst makes a receiver show a mix of a text or a name.
 pub(crate) fn find_surely(
     alloc: Global,
     log: &[Option<Group>],
@@ -40,7 +40,7 @@ pub(crate) fn find_surely(
     }
 }
 
-/// The first slot in which a mix was not ruled out.
+/// Returns the first slot in which a mix was not ruled out.
 fn first_doubt(
     alloc: Global,
     log: &[Option<Group>],
@@ -67,7 +67,8 @@ fn first_doubt(
     Ok(None)
 }
 
-/// Whether one that loses nothing shows the texts and names of these receivers in some of the first slots.
+/// Returns whether a receiver that loses nothing shows the texts and names of these receivers in some of the first
+/// slots.
 fn has_all_of(all: &AllSeen, now: Now<'_>, receivers: &[StoredReceiver]) -> bool
     ensures { IsTrue result → (t : Tuning) (n : ℕ) (log : List (Option Group)) → All (IsAt t n) receivers.now
         → AreSeen t log all.now → IsNow t log now.entry → ShowNoOthers t log now.entry.slots receivers.now }

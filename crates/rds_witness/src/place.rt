@@ -1,10 +1,10 @@
-//! Where a mix is looked for.
+//! A place in which a mix is looked for.
 
 use crate::burst::Burst;
 use rds_block::Group;
 use rds_fields::Dwell;
 
-/// A log, the receivers of it, what they lose, and the slot in which they may show a mix.
+/// A log, the tuning of its receivers, the lost slots, and the slot in which a receiver may show a mix.
 #[derive(Drop)]
 pub(crate) struct Place<'a> {
     pub(crate) log: &'a [Option<Group>],

@@ -1,7 +1,8 @@
-//! A search for a burst of lost slots after which a receiver shows what one that loses nothing never shows.
+//! The first search: looks for a burst of lost slots after which a receiver shows a thing that one without a loss never
+//! shows.
 //!
-//! It goes over the log once for texts and once for names, and keeps the receiver that loses nothing, those that lose
-//! now, and those that hear again.
+//! It goes over the log once for texts and once for names. It keeps the receiver that loses nothing, those that lose
+//! slots now, and those that hear again.
 
 use crate::burst::Burst;
 use crate::first_shown::FirstShown;
@@ -14,25 +15,25 @@ use rds_receiver::{Receiver, StoredReceiver};
 use std::alloc::{AllocError, Global};
 use std::collections::VecDeque;
 
-/// How much work the receivers of a service do at most: 20,000,000 steps.
+/// The most work for the receivers of a service: 20,000,000 steps.
 const MOST_WORK: u64 = 160_000_000;
 
-/// How many receivers that lose now are kept at most.
+/// The most receivers that lose slots now.
 const MOST: usize = 4096;
 
-/// A receiver that has heard nothing of a service since some slot.
+/// A receiver that heard nothing of a service since some slot.
 #[derive(Drop)]
 struct Losing {
     receiver: Receiver,
-    /// Tells what it held then.
+    /// The hash of its state at that time.
     content: u64,
     /// The first slot that it lost.
     after: usize,
-    /// The slot from which on it holds nothing.
+    /// The first slot in which it holds nothing.
     expires: usize,
 }
 
-/// What is left of such a receiver where it holds nothing.
+/// The remains of such a receiver once it holds nothing.
 #[derive(Clone, Copy)]
 struct Deaf {
     after: usize,
@@ -40,13 +41,13 @@ struct Deaf {
     is_known: u8,
 }
 
-/// What a search comes to.
+/// The result of a search.
 #[derive(Clone, Copy)]
 pub(crate) enum Found {
-    /// This may be a mix, and is the first that was found.
+    /// A possible mix, the first that was found.
     Candidate(Candidate),
     Nothing,
-    /// Nothing up to this slot: by then the receivers had done all their work.
+    /// No mix up to this slot, at which the receivers had done all their work.
     Stopped(usize),
 }
 
@@ -60,13 +61,13 @@ struct Search<'a> {
     /// The receiver that loses nothing.
     whole: Receiver,
     followed: Followed,
-    /// Those that lose now, of equal ones the one that lost last,
+    /// The receivers that lose slots now. Of equal ones, the one that lost its first slot last.
     losing: Vec<Losing>,
-    /// what will be left of them, the oldest first,
+    /// The remains of them, the oldest first.
     waiting: VecDeque<Deaf>,
-    /// and the last of those of which just that is left.
+    /// The last receiver that holds nothing.
     deaf: Deaf,
-    /// The slot behind the last one in which the service heard something.
+    /// The slot after the last one in which the service heard something.
     newest: usize,
 }
 
@@ -96,7 +97,7 @@ impl Search<'_> {
         }
     }
 
-    /// The first mix that is found in the first slots.
+    /// Returns the first mix that is found in the first slots.
     fn run(&mut self, first: &FirstShown, slots: usize) -> Result<Found, AllocError> {
         for slot in 0..slots {
             let Some(group) = self.log.get(slot) else {
@@ -118,7 +119,7 @@ impl Search<'_> {
         Ok(Found::Nothing)
     }
 
-    /// A slot in which the service hears nothing.
+    /// Takes a slot in which the service hears nothing.
     fn rest(&mut self) {
         self.whole.slot_message(None);
         self.followed.rest(self.losing.len());
@@ -127,7 +128,7 @@ impl Search<'_> {
         }
     }
 
-    /// A slot in which it hears this: the receivers that lost something hear it, and one more loses it.
+    /// Takes a slot in which the service hears this. The receivers that lost something hear it, and one more loses it.
     fn hear(
         &mut self,
         first: &FirstShown,
@@ -151,7 +152,7 @@ impl Search<'_> {
         Ok(None)
     }
 
-    /// Those that lose now hear again.
+    /// Lets the receivers that lose slots now hear again.
     fn hear_after_loss(
         &mut self,
         first: &FirstShown,
@@ -190,14 +191,14 @@ impl Search<'_> {
         Ok(None)
     }
 
-    /// The receiver that lost a dwell.
+    /// Returns the receiver that lost a whole dwell.
     fn deaf_receiver(&self) -> Receiver {
         let mut stored = Receiver::new(self.pi, self.dwell).store();
         stored.is_known = self.deaf.is_known;
         Receiver::restore(&stored)
     }
 
-    /// Lets go those that hold nothing by this slot.
+    /// Drops the receivers that hold nothing by this slot.
     fn expire(&mut self, slot: usize) {
         for _ in 0..self.waiting.len() {
             match self.waiting.front() {
@@ -214,7 +215,7 @@ impl Search<'_> {
         self.losing.retain(|it| it.expires > slot);
     }
 
-    /// A receiver as the one that loses nothing loses from the next slot on.
+    /// Returns a receiver that loses the slots from the next one on.
     fn lose(&mut self, whole: &StoredReceiver, slot: usize) -> Result<(), AllocError> {
         let held = self.service.held(whole);
         let slots = usize::from(self.dwell.get()).saturating_sub(usize::from(held.age));
@@ -246,7 +247,7 @@ impl Search<'_> {
         Ok(())
     }
 
-    /// The burst without slots at its front in which the service hears nothing.
+    /// Shortens a burst by its first slots in which the service hears nothing.
     fn trimmed(&self, found: Candidate) -> Candidate {
         let Burst { first, last } = found.burst;
         for slot in first..last {
@@ -267,7 +268,7 @@ impl Search<'_> {
     }
 }
 
-/// The first slot of a log in which a receiver may show a mix, and what it lost then.
+/// Returns the first slot of a log in which a receiver may show a mix, and its lost slots.
 pub(crate) fn find(
     alloc: Global,
     log: &[Option<Group>],
@@ -284,7 +285,7 @@ pub(crate) fn find(
     Ok(earlier(text, name))
 }
 
-/// What both searches come to, where that of names went no further than the first mix of texts.
+/// Returns the result of both searches. The one of names went no further than the first mix of texts.
 fn earlier(text: Found, name: Found) -> Found {
     match (text, name) {
         (_, Found::Candidate(found)) => Found::Candidate(found),

@@ -1,4 +1,4 @@
-//! What a receiver that loses nothing shows, and when first.
+//! The texts and names that a receiver without a loss shows, and the first slot of each.
 ghost use Rattle.std.specs.Prelude.{◌≡◌, ◌+◌, ◌<◌, IfOk, IsTrue, List, None, OnOk, Option, length, slice_index_or};
 ghost use Rattle.rds_block.specs.declared.group.Group.{Group};
 ghost use Rattle.rds_log.specs.LogWrites.{tuned};
@@ -11,7 +11,7 @@ ghost use Rattle.rds_witness.specs.declared.seen.Seen.{Seen};
 ghost use Rattle.rds_witness.specs.Search.{AreSeen, IsNow, IsShownBefore, ShowsNoOther, ShowsNoOtherName, ShowsNoOtherText};
 
 use crate::burst::received;
-use crate::number::number_of;
+use crate::number::{NAME_KIND, TEXT_KIND, number_of};
 use crate::thing::{Thing, shows};
 use rds_block::Group;
 use rds_fields::Dwell;
@@ -19,19 +19,14 @@ use rds_receiver::{Receiver, StoredReceiver};
 use std::alloc::{AllocError, Global};
 use std::collections::BTreeMap;
 
-/// The kinds of text and name.
-const TEXT: u8 = 0;
-
-const NAME: u8 = 64;
-
-/// A receiver behind a slot.
+/// A receiver after a slot.
 #[derive(Clone, Copy)]
 pub(crate) struct Seen {
     pub(crate) slot: usize,
     pub(crate) receiver: StoredReceiver,
 }
 
-/// The receiver that loses nothing behind a slot, and how many slots there are up to a dwell later.
+/// The receiver that loses nothing, after a slot, and the number of slots up to a dwell later.
 #[derive(Clone, Copy)]
 pub(crate) struct Now<'a> {
     pub(crate) whole: &'a Receiver,
@@ -39,11 +34,11 @@ pub(crate) struct Now<'a> {
     pub(crate) slots: usize,
 }
 
-/// The receiver that loses nothing, in slots in which it shows a text or a name for the first time.
+/// The receiver that loses nothing, in the slots in which it shows a text or a name for the first time.
 #[derive(Drop)]
 pub(crate) struct AllSeen {
     pub(crate) seen: Vec<Seen>,
-    /// Where in `seen` to look for a text or a name, by its number.
+    /// The place in `seen` of a text or a name, by its hash.
     places: BTreeMap<u64, usize>,
 }
 
@@ -55,7 +50,7 @@ fn seen_at(seen: &[Seen], place: usize) -> &Seen
 }
 
 impl AllSeen {
-    /// Of all slots of a log.
+    /// Reads all slots of a log.
     pub(crate) fn of(
         alloc: Global,
         log: &[Option<Group>],
@@ -92,16 +87,16 @@ impl AllSeen {
         Ok(())
     }
 
-    /// Whether the receiver shows a text or a name for the first time. It is then looked for at this place.
+    /// Returns whether the receiver shows a text or a name for the first time, and keeps this place for it.
     fn is_new(&mut self, receiver: &Receiver, place: usize) -> Result<bool, AllocError>
         ensures { self.new.seen ≡ self.old.seen }
     {
         let text = match receiver.text() {
-            Some(text) => self.is_new_number(number_of(TEXT, text), place)?,
+            Some(text) => self.is_new_number(number_of(TEXT_KIND, text), place)?,
             None => false,
         };
         let name = match receiver.name() {
-            Some(name) => self.is_new_number(number_of(NAME, name), place)?,
+            Some(name) => self.is_new_number(number_of(NAME_KIND, name), place)?,
             None => false,
         };
         Ok(text || name)
@@ -117,7 +112,8 @@ impl AllSeen {
         Ok(true)
     }
 
-    /// Whether a receiver that loses nothing shows the text or the name now, or in another one of the first slots.
+    /// Returns whether a receiver that loses nothing shows the text or the name now, or in another one of the first
+    /// slots.
     fn has(&self, now: Now<'_>, thing: Thing<'_>, number: u64) -> bool
         ensures { IsTrue result → (t : Tuning) (log : List (Option Group)) → AreSeen t log self.now
             → IsNow t log now.entry → IsShownBefore t log now.entry.slots (thing_of thing.entry) }
@@ -140,7 +136,7 @@ impl AllSeen {
             → IsNow t log now.entry → ShowsNoOtherText t log now.entry.slots receiver.now }
     {
         match receiver.text() {
-            Some(text) => self.has(now, Thing::Text(text), number_of(TEXT, text)),
+            Some(text) => self.has(now, Thing::Text(text), number_of(TEXT_KIND, text)),
             None => true,
         }
     }
@@ -150,12 +146,13 @@ impl AllSeen {
             → IsNow t log now.entry → ShowsNoOtherName t log now.entry.slots receiver.now }
     {
         match receiver.name() {
-            Some(name) => self.has(now, Thing::Name(name), number_of(NAME, name)),
+            Some(name) => self.has(now, Thing::Name(name), number_of(NAME_KIND, name)),
             None => true,
         }
     }
 
-    /// Whether one that loses nothing shows the text and the name of this receiver in some of the first slots.
+    /// Returns whether a receiver that loses nothing shows the text and the name of this receiver in some of the first
+    /// slots.
     pub(crate) fn has_all(&self, now: Now<'_>, receiver: &StoredReceiver) -> bool
         ensures { IsTrue result → IsStored receiver.now → (t : Tuning) (log : List (Option Group))
             → AreSeen t log self.now → IsNow t log now.entry

@@ -1,4 +1,4 @@
-//! The two services of a receiver, which hear different groups and know nothing of one another.
+//! The two services of a receiver. They hear different groups, and neither depends on the other.
 
 use rds_block::Group;
 use rds_fields::{Message, RTPLUS_AID, RTPLUS_CODE};
@@ -12,7 +12,7 @@ pub(crate) enum Service {
 }
 
 impl Service {
-    /// What the service hears in a slot.
+    /// Returns the message of a slot that the service hears.
     pub(crate) fn heard(self, pi: u16, group: Option<Group>) -> Option<Message> {
         let message = heard(pi, group)?;
         let is_heard = match message {
@@ -26,7 +26,7 @@ impl Service {
         if is_heard { Some(message) } else { None }
     }
 
-    /// The segments that are held of the service.
+    /// Returns the held segments of the service.
     pub(crate) fn held(self, receiver: &StoredReceiver) -> StoredSegments {
         match self {
             Service::Texts => receiver.text,

@@ -1,4 +1,4 @@
-//! A search of all bursts at once, by a few receivers that hold all that any receiver with one burst holds.
+//! A search over all bursts at once, by a few receivers that together hold all that any receiver with one burst holds.
 ghost use Rattle.std.specs.Prelude.{◌≡◌, ◌+◌, ℕ, IfOk, List, None, OnOk, Option};
 ghost use Rattle.rds_block.specs.declared.group.Group.{Group};
 ghost use Rattle.rds_log.specs.LogWrites.{tuned};
@@ -14,16 +14,16 @@ use std::alloc::{AllocError, Global};
 /// The receivers of a search.
 #[derive(Drop)]
 pub(crate) struct Sweep {
-    /// The one that loses nothing,
+    /// The receiver that loses nothing.
     pub(crate) whole: Receiver,
-    /// it and those that lose now,
+    /// That receiver, and those that lose slots now.
     pub(crate) losing: Vec<StoredReceiver>,
-    /// and it and those that hear again.
+    /// That receiver, and those that hear again.
     pub(crate) hearing: Vec<StoredReceiver>,
 }
 
 impl Sweep {
-    /// The receivers before the first slot.
+    /// Returns the receivers before the first slot.
     pub(crate) fn new(alloc: Global, pi: u16, dwell: Dwell) -> Result<Sweep, AllocError>
         ensures { IfOk result (λ sweep. (log : List (Option Group)) → StandsAfter (tuned pi dwell) log 0 sweep) }
     {
@@ -37,7 +37,7 @@ impl Sweep {
         })
     }
 
-    /// Lets all hear the next slot, and lets those that lose now lose it too.
+    /// Lets all receivers hear the next slot, and lets those that lose slots now lose it too.
     pub(crate) fn next(&mut self, alloc: Global, group: &Option<Group>) -> Result<(), AllocError>
         ensures { OnOk result ((pi m n : ℕ) (log : List (Option Group)) → group.now ≡ received None log n
             → StandsAfter (tuned pi m) log n self.old → StandsAfter (tuned pi m) log (n + 1) self.new) }
@@ -56,7 +56,7 @@ impl Sweep {
         Ok(())
     }
 
-    /// How many times receivers are compared in a slot at most.
+    /// Returns the most comparisons of receivers in a slot.
     pub(crate) fn comparisons(&self) -> u64 {
         let receivers = self.losing.len().saturating_add(self.hearing.len()) as u64;
         receivers.saturating_mul(receivers)

@@ -13,11 +13,11 @@ use rds_receiver::View;
 pub(crate) enum Thing<'a> {
     Text(&'a [u8]),
     Name(&'a [u8]),
-    /// One of the two tags: its class, and its piece of the text.
+    /// One of the two tags: its content type, and its piece of the text.
     Tag(Which, u8, &'a [u8]),
 }
 
-/// Whether a view shows the thing, a tag in either place.
+/// Returns whether a view shows the thing. A tag may be in either place.
 pub(crate) fn shows(view: View<'_>, thing: Thing<'_>) -> bool
     ensures { IsTrue result ↔ Shows (view_of view.entry) (thing_of thing.entry) }
 {
