@@ -275,7 +275,7 @@ fn one_of<R: TellingRead + Drop>(mut reader: R, buf: &mut [u8]) -> Option<usize>
     reader.read_one(buf)
 }
 
-/// A reader that is lent counts its failures where it stands.
+/// A borrowed reader counts its own failures.
 #[test]
 fn lent_reader_counts_too(rt: HostRuntime) {
     let mut told = Told::new(Failing {

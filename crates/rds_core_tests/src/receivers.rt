@@ -1,4 +1,4 @@
-//! What a receiver lends of all that it shows, and tells of it. Worked logs are cases of the built program.
+//! Tests of a receiver's view, and of the results of its calls. The tests of the built program have worked logs.
 
 use crate::same::same;
 use rds_block::Group;

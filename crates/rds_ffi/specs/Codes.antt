@@ -1,5 +1,4 @@
--- The codes that the calls answer, by the names that C has for them, and the number of this interface (this project's
--- own).
+-- The codes that the calls return, by their names in C, and the number of this interface (this project's own).
 use Rattle.std.specs.Prelude.{◌≡◌, ℕ, Option, Some, None, Ok, Err}
 use Rattle.rds_fields.specs.declared.pair.Which.TheVariants.{One, Two}
 use Rattle.rds_assembly.specs.declared.text.TextRefused.{TextRefused}
@@ -11,7 +10,7 @@ use Rattle.rds_audit.specs.declared.audit.AuditFault.TheVariants.{Changed, NotOn
 use Rattle.rds_audit.specs.declared.audit.AuditFault.TheVariants.{EarlyTag, TagOutside}
 use Rattle.rds_ffi.specs.declared.reply.RdsrtReply.{RdsrtReply}
 
--- it changes with every size, place, code or call of the header
+-- it changes with every size, offset, code or call of the header
 abbrev pub RDSRT_ABI : ℕ
 RDSRT_ABI = 2
 
@@ -91,12 +90,12 @@ reply_of (Err (OutOfText Two)) = record { code = RDSRT_OUT_OF_TEXT_2; number = 0
 abbrev pub IsReplyOf : (Reply → Type 0) → RdsrtReply → Type 0
 IsReplyOf IsKind r = (reply : Reply) × IsKind reply × (r ≡ reply_of reply)
 
--- the code of bytes that are no text or no name, with the place of the first bad one
+-- the code of bytes that are not a valid text or name, with the place of the first byte that is refused
 abbrev pub refusal_of : TextRefused → RdsrtReply
 refusal_of TooLong = record { code = RDSRT_TOO_LONG; number = 0 }
 refusal_of (BadByte place) = record { code = RDSRT_BAD_BYTE; number = place }
 
--- the code of what an audit finds
+-- the code of an audit's fault, or of none
 abbrev pub code_of : Option AuditFault → ℕ
 code_of None = RDSRT_OK
 code_of (Some Changed) = RDSRT_FAULT_CHANGED

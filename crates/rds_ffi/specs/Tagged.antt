@@ -1,4 +1,4 @@
--- A pair of tags that is given as plain numbers (this project's own).
+-- A pair of tags as plain numbers (this project's own).
 use Rattle.std.specs.Prelude.{◌≡◌, ◌-◌, ◌<◌, ◌↔◌}
 use Rattle.rds_fields.specs.Stored.{is_set}
 use Rattle.rds_fields.specs.Tag.{IsTag, PairFields, TagFields}
@@ -16,7 +16,7 @@ pair_of p = record {
   two = fields_of p.two;
 }
 
--- it is a tag, and only the dummy, of class 0, names no bytes
+-- the numbers are a tag, and only the dummy, with content type 0, names no bytes
 pub record IsGiven (t : RdsrtTag) : Type 0 where
   pub tag : IsTag (fields_of t)
   pub dummy : (t.content_type ≡ 0) ↔ (t.length ≡ 0)

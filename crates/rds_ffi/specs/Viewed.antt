@@ -1,4 +1,4 @@
--- The view that the plain struct spells (this project's own).
+-- The view of a plain struct (this project's own).
 use Rattle.std.specs.Prelude.{◌≡◌, ◌≢◌, ◌+◌, ◌-◌, ◌≤◌, ◌⊎◌, ℕ, Bool, List, Option, Some, None}
 use Rattle.std.specs.Prelude.{if◌then◌else◌, length, take, drop, replicate}
 use Rattle.std.specs.Borrow.{Bor}
@@ -14,23 +14,23 @@ use Rattle.rds_ffi.specs.declared.view.RdsrtItem.{RdsrtItem}
 use Rattle.rds_ffi.specs.declared.view.RdsrtTag.{RdsrtTag}
 use Rattle.rds_ffi.specs.declared.view.RdsrtView.{RdsrtView}
 
--- the first bytes, where they are shown
+-- the first bytes, if they are shown
 abbrev pub text_viewed : RdsrtText → Option (List ℕ)
 text_viewed t = if is_set t.is_shown then Some (take t.length t.bytes) else None
 
--- how many bytes are lent: 0 where none are
+-- the number of shown bytes: 0 if there are none
 abbrev pub count_of : Option (Bor (List ℕ)) → ℕ
 count_of None = 0
 count_of (Some x) = length x.now
 
--- all eight bytes, where they are shown
+-- all eight bytes, if they are shown
 abbrev pub name_viewed : RdsrtName → Option (List ℕ)
 name_viewed n = if is_set n.is_shown then Some n.bytes else None
 
 abbrev pub item_viewed : RdsrtItem → Option (Bool × Bool)
 item_viewed i = if is_set i.is_shown then Some (is_set i.toggle, is_set i.running) else None
 
--- the class, and the bytes of the text from the start on; no tag is shown where the class is 0
+-- the content type, and the bytes of the text from the start on; content type 0 shows no tag
 abbrev pub tag_viewed : RdsrtTag → Option (List ℕ) → Option (ℕ × List ℕ)
 tag_viewed tag None = None
 tag_viewed tag (Some x) =
@@ -89,7 +89,7 @@ pub record IsPlainView (v : RdsrtView) : Type 0 where
 
 -- ---- tags as they were received
 
--- the class of a tag, its start, and the number of its characters
+-- the content type of a tag, its start, and the number of its characters
 abbrev pub tag_plain : TagFields → RdsrtTag
 tag_plain tag = record { content_type = tag.class; start = tag.start; length = tag.extra + 1 }
 

@@ -11,4 +11,4 @@ pub mod Notes
 -- What the objects of the crate hold, a file for each. No caller needs them.
 pub mod Inside
 -- Lemmas that crates above use.
-pub mod LentReads
+pub mod BorrowedReads

@@ -57,11 +57,11 @@ impl KeptView {
         ensures { view_of result ≡ view_kept self.now }
     {
         View {
-            text: lent_text(&self.text),
-            name: lent_text(&self.name),
+            text: as_text(&self.text),
+            name: as_text(&self.name),
             item: self.item,
-            one: lent_tag(&self.one),
-            two: lent_tag(&self.two),
+            one: as_tag(&self.one),
+            two: as_tag(&self.two),
         }
     }
 }
@@ -90,14 +90,14 @@ fn copied(bytes: &[u8]) -> Bytes
     copy
 }
 
-fn lent_text(text: &Option<Bytes>) -> Option<&[u8]>
+fn as_text(text: &Option<Bytes>) -> Option<&[u8]>
     ensures bytes { option_copied result ≡ text_kept text.now }
     ensures short { ForSome result (λ x. length x.now ≤ 64) }
 {
     Some(text.as_ref()?.as_slice())
 }
 
-fn lent_tag(tag: &Option<(u8, Bytes)>) -> Option<(u8, &[u8])>
+fn as_tag(tag: &Option<(u8, Bytes)>) -> Option<(u8, &[u8])>
     ensures tag { borrowed_tag result ≡ tag_kept tag.now }
     ensures short { ForSome result (λ tag. length tag.1.now ≤ 64) }
 {

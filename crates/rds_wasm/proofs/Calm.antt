@@ -3,7 +3,7 @@ use Rattle.std.proofs.Common.{◌^◌, ℕ, List, Option, arith, inl, inr}
 use Rattle.std.proofs.Math.Logic.{∥∥₁_elim}
 use Rattle.rds_charset.specs.Told.{Failed, Traffic}
 use Rattle.rds_view_lines.specs.ReadFailed.{SomeReadFailed}
-use Rattle.rds_script.specs.LentReads.{plays_by}
+use Rattle.rds_script.specs.BorrowedReads.{plays_by}
 use Rattle.rds_script.specs.Play.{Plays}
 use Rattle.rds_script.specs.declared.form.Form.{Form}
 use Rattle.rds_script.specs.declared.form.Form.TheVariants.{Log, Simulation}

@@ -1,4 +1,4 @@
--- The thing that a value of the program lends.
+-- The thing of a borrowed value of the program.
 use Rattle.std.specs.Prelude.{◌≤◌, length}
 use Rattle.rds_witness.specs.Mix.{Thing, Text, Name, Tag}
 use Rattle.rds_witness.specs.declared.thing.Thing as declared

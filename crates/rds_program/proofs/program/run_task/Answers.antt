@@ -1,6 +1,6 @@
 use Rattle.std.proofs.Common.{rules, ◌^◌}
 use Rattle.rds_charset.specs.Told.{traffic}
-use Rattle.rds_script.specs.LentReads.{failed_behind, plays_by}
+use Rattle.rds_script.specs.BorrowedReads.{failed_behind, plays_by}
 use Rattle.rds_script.specs.declared.form.Form.TheVariants.{Log, Simulation}
 use Rattle.rds_program.proofs.program.run_task.Goals as goal
 

@@ -14,15 +14,15 @@ returns-in-Ok-clause-stands c config receivers events s =
     let world = c.in-Ok.ensures.stands config events s.world in
     let world_count : length c.step.new.self.receivers ≡ length c.args.self.now.world.receivers = c.in-Ok.ensures.count in
     let as_many : length old ≡ length c.step.new.self.receivers = s.kept ∙ sym s.count ∙ sym world_count in
-    let lent = c.as_mut_slice.ensures.value in
-    let kept : length new ≡ length old = c.push_views.ensures.count ∙ ap length lent in
+    let shared = c.as_mut_slice.ensures.value in
+    let kept : length new ≡ length old = c.push_views.ensures.count ∙ ap length shared in
     let were : WereShown config (length old) (c.args.event.now ∷ events) (map view_kept old) = λ i within. s.shown i (omega (arith, within, s.kept)) in
     let back = take_at new (drop (length new) old) (length old) kept in
     record {
       world = world;
       count = world_count ∙ s.count;
       kept = ap length back ∙ kept ∙ s.kept;
-      shown = λ i within. rw (← back) at (c.push_views.ensures.views (ap length lent ∙ as_many) config (c.args.event.now ∷ events) world (rw lent were) i (omega (arith, within, s.kept, ap length lent)));
+      shown = λ i within. rw (← back) at (c.push_views.ensures.views (ap length shared ∙ as_many) config (c.args.event.now ∷ events) world (rw shared were) i (omega (arith, within, s.kept, ap length shared)));
     }
 
 pub returns-in-Ok-clause-taken : goal.returns-in-Ok-clause-taken
@@ -38,8 +38,8 @@ returns-in-Ok-clause-outcome c config receivers events s =
     let world = c.in-Ok.ensures.stands config events s.world in
     let world_count : length c.step.new.self.receivers ≡ length c.args.self.now.world.receivers = c.in-Ok.ensures.count in
     let as_many : length old ≡ length c.step.new.self.receivers = s.kept ∙ sym s.count ∙ sym world_count in
-    let lent = c.as_mut_slice.ensures.value in
-    let kept : length new ≡ length old = c.push_views.ensures.count ∙ ap length lent in
+    let shared = c.as_mut_slice.ensures.value in
+    let kept : length new ≡ length old = c.push_views.ensures.count ∙ ap length shared in
     let shown : length views ≡ length old = length-map new view_kept ∙ kept in
     let were : WereShown config (length old) (c.args.event.now ∷ events) (map view_kept old) = λ i within. s.shown i (omega (arith, within, s.kept)) in
     let back = take_at new (drop (length new) old) (length old) kept in
@@ -50,8 +50,8 @@ returns-in-Ok-clause-outcome c config receivers events s =
         reply = c.in-Ok.ensures.reply config events s.world;
         sent = c.in-Ok.ensures.sent config events s.world;
         receivers = shown ∙ s.kept ∙ sym s.count ∙ sym taken.count;
-        views = λ i within. c.push_views.ensures.views (ap length lent ∙ as_many) config (c.args.event.now ∷ events) world (rw lent were) i (omega (arith, within, shown, ap length lent));
+        views = λ i within. c.push_views.ensures.views (ap length shared ∙ as_many) config (c.args.event.now ∷ events) world (rw shared were) i (omega (arith, within, shown, ap length shared));
       },
       ap (λ (l : List KeptView). map view_kept l) (sym back),
-      rw lent at (c.push_views.ensures.lines (ap length lent ∙ as_many)) ∙ ap₂ (λ (x y : List ℕ). x ++ y) answered (ap (λ n. receiver_changes c.args.slot n (map view_kept old) views) (sym shown)),
+      rw shared at (c.push_views.ensures.lines (ap length shared ∙ as_many)) ∙ ap₂ (λ (x y : List ℕ). x ++ y) answered (ap (λ n. receiver_changes c.args.slot n (map view_kept old) views) (sym shown)),
     )

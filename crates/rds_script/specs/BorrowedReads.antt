@@ -1,4 +1,4 @@
--- The reader behind a view of it, as behind a loan: what was told of the one is told of the other.
+-- A reader and a view of it, as for a borrowed reader: a statement about one is a statement about the other.
 use Rattle.std.proofs.Math.Logic.{∥∥₁_map}
 use Rattle.std.specs.Prelude.{ℕ, Err, List, Ok, Option, Result}
 use Rattle.rds_charset.specs.Told.{Failed, Traffic}
@@ -18,7 +18,7 @@ failed_behind {A} {B} view failures some =
     ∥∥₁_map some (λ (f : (before : A) × (after : A) × Failed (failures (view before)) (failures (view after))).
     (view f.0, view f.1, f.2))
 
--- a script that was played, where what was told of its reads says something else
+-- a script that was played, with another statement about its reads
 pub plays_by : {P Q : Type 0} → (P → Q)
     → (form : Form) (config : Config) (most : ℕ) (known : Option (List ℕ)) (w : Traffic)
     (result : Result (Unit {0}) LogFault) → Plays form config most record { known = known; Failed = P } w result
@@ -32,7 +32,7 @@ plays_by says form config most known w (Err Write) p = p
 plays_by says form config most known w (Err TooLong) p = p
 plays_by says form config most known w (Err Memory) p = p
 
--- and what is noted of it
+-- and its notes
 pub notes_by : {P Q : Type 0} → (P → Q)
     → (form : Form) (config : Config) (most : ℕ) (known : Option (List ℕ)) (w : Traffic)
     (result : Result (Unit {0}) LogFault) (notes : ScriptNotes)
