@@ -1,4 +1,4 @@
--- What the program takes from its words.
+-- The request of the arguments.
 use Rattle.rds_cli.specs.CommandLine.{Requested}
 use Rattle.rds_cli.specs.declared.request.Request.{Request}
 

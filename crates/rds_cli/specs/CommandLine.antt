@@ -1,5 +1,5 @@
--- The words of the program, as a simple command of `clap`, and what they ask for.
--- This is the project's own command line.
+-- The arguments of the program, as a simple command of `clap`, and what they ask for. This is the project's own command
+-- line.
 use Rattle.std.specs.Prelude.{◌≡◌, ◌&&◌, ◌∷◌, []}
 use Rattle.std.specs.Prelude.{ℕ, Bool, List, Option, Some, None, false, true, codes, if◌then◌else◌}
 use Rattle.std.specs.Prelude.{length, nat_le, nat_lt, not, option_and_then, option_map, pos}
@@ -31,7 +31,7 @@ pi_rule = record (new_rule (codes "pi")) {
   required = true;
 }
 
--- an option that takes a number, its parser, and the number where it isn't given
+-- an option that takes a number, its parser, and its default
 abbrev pub number_rule : Text → ValueParser → Text → Rule
 number_rule name parser default = record (new_rule name) {
   long = Some name;
@@ -68,7 +68,7 @@ quiet_rule = flag_rule (codes "quiet")
 unfoldable pub log_app : Text → App
 log_app name = with_rule (with_rule (with_rule (new_app name) pi_rule) dwell_rule) quiet_rule
 
--- a subcommand that speaks of late groups
+-- a subcommand that takes `--k`
 unfoldable pub late_app : Text → App
 late_app name = with_rule (log_app name) late_rule
 
@@ -76,7 +76,7 @@ late_app name = with_rule (log_app name) late_rule
 unfoldable pub station_app : Text → App
 station_app name = with_rule (with_rule (late_app name) pty_rule) tp_rule
 
--- `rdsrt`, which has a version and wants a subcommand
+-- `rdsrt`, which has a version and requires a subcommand
 abbrev pub top_app : App
 top_app = on_top (λ s. record s { has_version = true; subcommand_required = true }) (new_app (codes "rdsrt"))
 
@@ -84,27 +84,26 @@ top_app = on_top (λ s. record s { has_version = true; subcommand_required = tru
 abbrev pub decoder_app : App
 decoder_app = with_subcommand top_app (log_app (codes "decode")).top
 
--- with those that read a log
+-- with the subcommands that read a log
 unfoldable pub log_readers_app : App
 log_readers_app =
     with_subcommand (with_subcommand decoder_app (late_app (codes "audit")).top) (log_app (codes "witness")).top
 
--- with all but `sim`
+-- with all subcommands except `sim`
 abbrev pub without_sim_app : App
 without_sim_app = with_subcommand log_readers_app (station_app (codes "encode")).top
 
--- with all five
+-- with all five subcommands
 abbrev pub whole_app : App
 whole_app = with_subcommand without_sim_app (station_app (codes "sim")).top
 
--- `clap`'s definition takes the words, the program's own name first
+-- `clap`'s definition takes the arguments, the program's own name first
 abbrev pub TakesWords : List Text → Type 0
 TakesWords words = takes whole_app words ≡ true
 
--- ---- what the words ask for
+-- ---- the request of the arguments
 
--- what is to be done, the text that is given as programme identification, the dwell in slots, and whether warnings are
--- left out
+-- the task, the argument of `--pi`, the dwell in slots, and whether warnings are left out
 pub record Requested : Type 0 where
   pub task : Task
   pub pi : Text
@@ -116,7 +115,7 @@ pub record IsPi (given : Text) (pi : ℕ) : Type 0 where
   pub four : length given ≡ 4
   pub word : HasWord given 0 pi
 
--- the number that decimal digits write, where a plus may stand first, if it lies between the two
+-- the number that decimal digits write, with or without a plus before them, if it is in this range
 abbrev pub number_from_to : ℕ → ℕ → Text → Option ℕ
 number_from_to least most text =
     let digits = without_leading_plus text in
@@ -145,7 +144,7 @@ quiet_in = flag_in (codes "quiet")
 abbrev pub programme_in : List Row → Option Programme
 programme_in rows = option_map (λ pty. record { pty = pty; tp = tp_in rows }) (pty_in rows)
 
--- what a station of this programme and these late groups does
+-- the task of a station with this programme and lateness
 abbrev pub with_station : (Programme → ℕ → Task) → List Row → Option Task
 with_station task rows = option_and_then (λ programme. option_map (task programme) (late_in rows)) (programme_in rows)
 
@@ -162,36 +161,36 @@ abbrev pub asked : Option Task → Option Text → Option ℕ → Bool → Optio
 asked (Some task) (Some pi) (Some dwell) quiet = Some (record { task = task; pi = pi; dwell = dwell; quiet = quiet })
 asked _ _ _ _ = None
 
--- of the name of a subcommand and what was found for its options
+-- the request of a subcommand and its options
 abbrev pub asked_of : Text × List Row → Option Requested
 asked_of p = asked (task_in p.0 p.1) (first_of (codes "pi") p.1) (dwell_in p.1) (quiet_in p.1)
 
--- what the words ask for, as `clap`'s definition reads them
+-- the request of the arguments, as `clap`'s definition reads them
 abbrev pub asked_in : List Text → Option Requested
 asked_in words = option_and_then asked_of (subcommand_of whole_app words)
 
--- the words are taken, and ask for this
+-- the arguments are taken, and this is their request
 pub record AskFor (words : List Text) (asked : Requested) : Type 0 where
   pub taken : TakesWords words
   pub ask : asked_in words ≡ Some asked
 
--- ---- other words
+-- ---- other arguments
 
 abbrev pub is_shown : ErrorKind → Bool
 is_shown DisplayHelp = true
 is_shown DisplayVersion = true
 is_shown _ = false
 
--- `clap`'s definition answers the words, always by a kind that passes the test
+-- `clap`'s definition answers the arguments, always by a kind that passes the test
 abbrev pub AreAnswered : (ErrorKind → Bool) → List Text → Type 0
 AreAnswered test words =
     let kinds = fault_of whole_app words in
     (nat_lt 0 (length kinds) && list_all test kinds) ≡ true
 
--- by its help or the version
+-- it answers by its help or the version
 abbrev pub AskForHelp : List Text → Type 0
 AskForHelp words = AreAnswered is_shown words
 
--- by a refusal
+-- it answers by a refusal
 abbrev pub AreRefused : List Text → Type 0
 AreRefused words = AreAnswered (λ kind. not (is_shown kind)) words

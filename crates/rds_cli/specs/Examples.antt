@@ -1,4 +1,4 @@
--- Words that are written out, and what they ask for.
+-- Written-out arguments, and what they ask for.
 use Rattle.std.specs.Prelude.{◌≡◌, ◌==◌, ◌∷◌, ℕ, Bool, List, [], codes, false, true, if◌then◌else◌}
 use Rattle.clap.specs.Words.{Text, fault_of, takes}
 use Rattle.clap.specs.declared.error.kind.ErrorKind.TheVariants.{DisplayHelp, InvalidSubcommand}
@@ -9,17 +9,17 @@ abbrev pub in_front : ℕ → List Text → List Text
 in_front c [] = (c ∷ []) ∷ []
 in_front c (word ∷ rest) = (c ∷ word) ∷ rest
 
--- a line, cut at its spaces
+-- a line, split at its spaces
 abbrev pub typed : List ℕ → List Text
 typed [] = [] ∷ []
 typed (c ∷ rest) = if c == 32 then [] ∷ typed rest else in_front c (typed rest)
 
--- the words are not taken, and refused
+-- the arguments are not taken, and refused
 pub record AreNotTaken (words : List Text) : Type 0 where
   pub taken : takes whole_app words ≡ false
   pub refused : AreRefused words
 
--- the words are not taken, and answered by help or by the refusal of the command that they name
+-- the arguments are not taken, and answered by help or by the refusal of the command that they name
 pub record CallForHelp (words : List Text) : Type 0 where
   pub taken : takes whole_app words ≡ false
   pub kinds : fault_of whole_app words ≡ DisplayHelp ∷ InvalidSubcommand ∷ []

@@ -1,6 +1,6 @@
--- What `audit` answers, and what it leaves at each end: how much of the reader it took, and what it wrote. Lists of
--- slots and of lines have the newest first; d is the number of slots that keeps broadcasts apart, the dwell and the
--- lateness; r is what a call did to the reader, w what it did to the writer.
+-- The answer of `audit`, and its state at each end: how much of the reader it read, and what it wrote. Lists of slots
+-- and of lines have the newest first. d is M + K, the number of slots that keeps broadcasts apart. r is the traffic
+-- with the reader, w the traffic with the writer.
 use Rattle.std.specs.Prelude.{◌≡◌, ◌↔◌, ◌+◌, ◌++◌, ◌∷◌, []}
 use Rattle.std.specs.Prelude.{ℕ, Bool, true, false, List, IsTrue, Ok, Err, Result, None, Some, codes, decimal, length, Option}
 use Rattle.std.specs.Io.KnownBytes.{Appends, Consumes, IsAtEnd}
@@ -43,14 +43,14 @@ pub record SlotsFail (pi d t : ℕ) (fault : AuditFault) (slots : List (Option G
   pub are : AreHeard pi slots heard
   pub fault_is : IsFaultOf d heard fault
 
--- no receiver of dwell m breaks any part of the promise by these slots, of which it is handed none more than k slots
--- late, whatever it loses and whenever it restarts
+-- no receiver of dwell m breaks any part of the promise over these slots, provided that no group reaches it more than k
+-- slots late; it may lose groups and restart at any time
 pub record SlotsAreSafe (pi m k : ℕ) (slots : List (Option Group)) : Type 0 where
   pub heard : List (Option Message)
   pub are : AreHeard pi slots heard
   pub safe : IsSafeLog m k heard
 
--- no plans of these slots are lawful and dense
+-- these slots have no lawful and dense plans
 pub record SlotsHaveNoPlans (pi d : ℕ) (slots : List (Option Group)) : Type 0 where
   pub heard : List (Option Message)
   pub are : AreHeard pi slots heard
@@ -81,13 +81,13 @@ pub record LinesPass (pi d : ℕ) (lines : List Line) : Type 0 where
   pub say : AreSlots lines slots
   pub pass : SlotsPass pi d slots
 
--- a line of the text is bad, and those before it pass
+-- a line of the text is malformed, and the slots of the lines before it pass
 pub record AuditStopsAtBadLine (pi d n : ℕ) (text : List ℕ) (left : Option (List ℕ)) : Type 0 where
   pub lines : List Line
   pub next : NextIsBad n lines text left
   pub pass : LinesPass pi d lines
 
--- the text begins with good lines, whose slots pass up to the newest, which has number t
+-- the text begins with good lines. The newest slot of these has number t, and the slots before it pass
 pub record AuditStopsAtSlot (pi d t : ℕ) (fault : AuditFault) (text : List ℕ) (left : Option (List ℕ)) : Type 0 where
   pub lines : List Line
   pub begins : BeginsWith text left lines
@@ -95,7 +95,7 @@ pub record AuditStopsAtSlot (pi d t : ℕ) (fault : AuditFault) (text : List ℕ
   pub say : AreSlots lines slots
   pub fail : SlotsFail pi d t fault slots
 
--- the text is of good lines, n of them slots, which pass
+-- all lines of the text are good, n of them are slots, and these pass
 pub record WholePasses (pi d n : ℕ) (text : List ℕ) : Type 0 where
   pub lines : List Line
   pub are : AreLines text lines
@@ -104,21 +104,21 @@ pub record WholePasses (pi d n : ℕ) (text : List ℕ) : Type 0 where
   pub number : n ≡ length slots
   pub pass : SlotsPass pi d slots
 
--- the verdict of all bytes of a log: yes where they are of good lines and the slots pass; no where they begin with good
--- lines whose slots pass up to the newest, whatever comes after
+-- the verdict of all bytes of a log: yes if all lines are good and the slots pass; no if the log begins with good lines
+-- whose slots pass except the newest, whatever follows
 abbrev pub IsVerdictOf : ℕ → ℕ → List ℕ → Verdict → Type 0
 IsVerdictOf pi d bytes (Yes n) = WholePasses pi d n bytes
 IsVerdictOf pi d bytes (No t fault) = AuditStopsAtSlot pi d t fault bytes (Some [])
 
 -- ---- reading
 
--- the slots of the closed lines pass, and the reader gave at least so many bytes
+-- the slots of the complete lines pass, and the reader gave at least this many bytes
 pub record PassesSoFar (pi d : ℕ) (r : Traffic) (least : ℕ) : Type 0 where
   pub closed : List Line
   pub reads : ReadsUpTo r least closed
   pub pass : LinesPass pi d closed
 
--- what was read: to the reader's end where all slots pass, and else up to where the audit stopped
+-- the bytes that were read: all up to the reader's end if all slots pass, and if not, up to where the audit stopped
 abbrev pub Judges : ℕ → ℕ → ℕ → Traffic → Result Verdict LogFault → Type 0
 Judges pi d reads r (Ok (Yes n)) =
     (text : List ℕ) × Consumes r.before r.after text × IsAtEnd r.after × WholePasses pi d n text × IsCalm r
@@ -134,25 +134,25 @@ Judges pi d reads r (Err Memory) = ⊥
 
 -- ---- answering
 
--- the verdict's line was written, whole, or a first part of it where the writer failed; nothing where there is none
+-- the line of the verdict was written, or some first part of it if the writer failed; nothing, if there is no verdict
 abbrev pub Answers : Result Verdict LogFault → Traffic → Result Bool LogFault → Type 0
 Answers (Ok v) w (Ok passed) = (IsTrue passed ↔ IsYes v) × Appends w.before w.after (verdict_line v) × IsCalm w
 Answers (Ok v) w (Err fault) = (fault ≡ Write) × AppendsPrefix w.before w.after (verdict_line v) × HasFailed w
 Answers (Err given) w (Ok passed) = ⊥
 Answers (Err given) w (Err fault) = (fault ≡ given) × PutsNothing w
 
--- what `audit` did, with at most so many reads: it came to a verdict or a fault, and answered it
+-- the result of `audit` with at most this many reads: it came to a verdict or a fault, and answered it
 abbrev pub Audits : ℕ → ℕ → ℕ → Traffic → Traffic → Result Bool LogFault → Type 0
 Audits pi d reads r w result = (judged : Result Verdict LogFault) × Judges pi d reads r judged × Answers judged w result
 
--- the verdict of the bytes was answered
+-- the answer is the verdict of the bytes
 pub record AnswersVerdictOf (pi d : ℕ) (bytes : List ℕ) (w : Traffic) (passed : Bool) : Type 0 where
   pub verdict : Verdict
   pub is : IsVerdictOf pi d bytes verdict
   pub answer : IsTrue passed ↔ IsYes verdict
   pub wrote : Appends w.before w.after (verdict_line verdict)
 
--- ---- what an answer means
+-- ---- the meaning of an answer
 
 -- the log was read to its end, its lines are good, and their slots are safe
 pub record WholeIsSafe (pi m k : ℕ) (r : Traffic) : Type 0 where
@@ -175,8 +175,8 @@ pub record BeginsWithNoPlans (pi d : ℕ) (r : Traffic) : Type 0 where
   pub say : AreSlots lines slots
   pub none : SlotsHaveNoPlans pi d slots
 
--- after a yes the whole log is safe for every receiver of dwell m whose groups come no more than k slots late; after a
--- no the log has no plans that are lawful and dense
+-- after a yes, the whole log is safe for every receiver of dwell m whose groups come at most k slots late; after a no,
+-- the log has no lawful and dense plans
 abbrev pub Means : ℕ → ℕ → ℕ → Traffic → Result Bool LogFault → Type 0
 Means pi m k r (Ok true) = WholeIsSafe pi m k r
 Means pi m k r (Ok false) = BeginsWithNoPlans pi (m + k) r

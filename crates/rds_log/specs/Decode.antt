@@ -1,5 +1,5 @@
--- What `decode` leaves at each end: how much of the reader it took, and what it wrote. Lists of lines have the
--- newest first; r is what a call did to the reader, w what it did to the writer.
+-- The state of `decode` at each end: how much of the reader it read, and what it wrote. Lists of lines have the newest
+-- first. r is the traffic with the reader, w the traffic with the writer.
 use Rattle.std.specs.Prelude.{ℕ, List, Ok, Err, Result, Option}
 use Rattle.std.specs.Io.KnownBytes.{Appends, Consumes, IsAtEnd}
 use Rattle.rds_charset.specs.Told.{AppendsPrefix, HasFailed, IsCalm, Traffic}
@@ -17,33 +17,33 @@ pub record WroteLines (t : Tuning) (w : Traffic) (lines : List Line) : Type 0 wh
   pub wrote : Appends w.before w.after written
   pub calm : IsCalm w
 
--- the writer failed: a first part of the output of these lines was written
+-- the writer failed: some first part of the output of these lines was written
 pub record WrotePart (t : Tuning) (w : Traffic) (lines : List Line) : Type 0 where
   pub written : List ℕ
   pub write : LinesWrite t lines written
   pub wrote : AppendsPrefix w.before w.after written
   pub failed : HasFailed w
 
--- a line of the text is bad, none before it is, and the output of those before it was written
+-- a line of the text is malformed, the lines before it are good, and their output was written
 pub record DecodeStopsAtBadLine (t : Tuning) (n : ℕ) (text : List ℕ) (left : Option (List ℕ))
     (w : Traffic) : Type 0 where
   pub lines : List Line
   pub next : NextIsBad n lines text left
   pub wrote : WroteLines t w lines
 
--- the writer failed while it took the output of lines that the text begins with
+-- the writer failed at the output of lines that the text begins with
 pub record DecodeStopsAtWrite (t : Tuning) (text : List ℕ) (left : Option (List ℕ)) (w : Traffic) : Type 0 where
   pub lines : List Line
   pub begins : BeginsWith text left lines
   pub wrote : WrotePart t w lines
 
--- the output of the lines that were closed was written, and the reader gave at least so many bytes
+-- the output of the complete lines was written, and the reader gave at least this many bytes
 pub record StopsBetween (t : Tuning) (r w : Traffic) (least : ℕ) : Type 0 where
   pub closed : List Line
   pub reads : ReadsUpTo r least closed
   pub wrote : WroteLines t w closed
 
--- the reader was read to its end, and what its bytes write was written
+-- the reader was read to its end, and the output of its bytes was written
 pub record DecodesAll (t : Tuning) (r w : Traffic) : Type 0 where
   pub text : List ℕ
   pub written : List ℕ
@@ -54,7 +54,7 @@ pub record DecodesAll (t : Tuning) (r w : Traffic) : Type 0 where
   pub read_calm : IsCalm r
   pub write_calm : IsCalm w
 
--- what `decode` did, with at most so many reads: each fault comes only for its cause
+-- the result of `decode` with at most this many reads: each fault has its cause
 abbrev pub Decodes : Tuning → ℕ → Traffic → Traffic → Result (Unit {0}) LogFault → Type 0
 Decodes t reads r w (Ok done) = DecodesAll t r w
 Decodes t reads r w (Err (BadLine n)) =

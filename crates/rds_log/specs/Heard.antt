@@ -1,4 +1,4 @@
--- Of which programmes the groups of a log are. This is the project's own rule. Lists have the newest first.
+-- The programmes of a log's groups. This is the project's own rule. Lists have the newest first.
 use Rattle.std.specs.Prelude.{◌≡◌, ◌<◌, ◌+◌, ◌↔◌, ◌==◌, ◌∷◌, [], if◌then◌else◌}
 use Rattle.std.specs.Prelude.{ℕ, Bool, List, Option, Some, None, IsTrue, MatchOption, false}
 use Rattle.std.specs.Option.{option_map_or}
@@ -13,7 +13,7 @@ use Rattle.rds_log.specs.declared.heard.Heard.{Heard}
 abbrev pub is_of : ℕ → Option Group → Bool
 is_of pi slot = option_map_or (λ (g : Group). g.pi == pi) slot false
 
--- how many of the slots have
+-- how many of the slots have a group of this programme
 abbrev pub groups_of : ℕ → List (Option Group) → ℕ
 groups_of pi [] = 0
 groups_of pi (slot ∷ before) = if is_of pi slot then groups_of pi before + 1 else groups_of pi before
@@ -24,24 +24,25 @@ groups_in [] = 0
 groups_in (None ∷ before) = groups_in before
 groups_in (Some g ∷ before) = groups_in before + 1
 
--- while no group is of the wanted programme: how many groups there are, and how many of one programme, that of the first
+-- if no group is of the wanted programme: the number of groups, and the number of groups with the programme of the
+-- first
 pub record AreCounted (slots : List (Option Group)) (h : Heard) : Type 0 where
   pub groups : h.groups ≡ groups_in slots
   pub first : MatchOption h.first (groups_in slots ≡ 0)
       (λ first. (h.of_first ≡ groups_of first slots) × (0 < h.of_first))
 
--- this was heard of the slots
+-- this is the result for the slots
 pub record IsHeard (pi : ℕ) (slots : List (Option Group)) (h : Heard) : Type 0 where
   pub wanted : IsTrue h.wanted ↔ (0 < groups_of pi slots)
   pub counted : h.wanted ≡ false → AreCounted slots h
 
--- this was heard of the slots of the lines
+-- this is the result for the slots of the lines
 pub record HeardLines (pi : ℕ) (lines : List Line) (h : Heard) : Type 0 where
   pub slots : List (Option Group)
   pub say : AreSlots lines slots
   pub heard : IsHeard pi slots h
 
--- this was heard of a log that was read to its end
+-- this is the result for a log that was read to its end
 pub record HeardLog (pi : ℕ) (r : Traffic) (h : Heard) : Type 0 where
   pub text : List ℕ
   pub read : Consumes r.before r.after text

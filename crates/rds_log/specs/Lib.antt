@@ -1,4 +1,4 @@
--- What a line of a log says, and what its slots write.
+-- The meaning of the lines of a log, and the output of its slots.
 pub mod LogLines
 pub mod LineSays
 pub mod LineCauses
@@ -10,5 +10,5 @@ pub mod Decode
 pub mod Audit
 pub mod Gather
 pub mod Notes
--- What the objects of the crate hold, a file for each. No caller needs them.
+-- The state of the crate's objects, a file for each. Callers do not need them.
 pub mod Inside

@@ -1,5 +1,5 @@
--- Why a line is no log line, from its left: another form, or the first block that is not good. Blocks are counted from
--- 1 in a cause, and from 0 by their places, which are 5 bytes apart. This is the project's own rule.
+-- The reasons why a line of a log is malformed, from its left: another form, or the first malformed block. Blocks count
+-- from 1 in a cause, and from 0 in their places, which are 5 bytes apart. This is the project's own rule.
 use Rattle.std.specs.Prelude.{◌≡◌, ◌≢◌, ◌⊎◌, ◌<◌, ◌≤◌, ◌+◌, ◌-◌, ◌*◌}
 use Rattle.std.specs.Prelude.{ℕ, List, None, Some, drop, length, slice_index, take}
 use Rattle.memchr.specs.Find.{IsFirstByte, is_byte}
@@ -16,12 +16,12 @@ brace = 0x7B
 abbrev pub comma : ℕ
 comma = 0x2C
 
--- four bytes stand from the place on, and then a space or the end of the line
+-- four bytes begin at this place, followed by a space or the end of the line
 abbrev pub EndsAfterFour : Line → ℕ → Type 0
 EndsAfterFour line place = (place + 4 ≤ content_length line)
     × ((content_length line ≡ place + 4) ⊎ (slice_index line (place + 4) ≡ space))
 
--- a good block stands from the place on: four digits or four dashes, and then a space or the end of the line
+-- a good block begins at this place: four digits or four dashes, followed by a space or the end of the line
 pub record IsGoodAt (line : Line) (place : ℕ) : Type 0 where
   pub block : Block
   pub is : IsBlock line place block
@@ -34,12 +34,12 @@ IsGoodBlock line block = IsGoodAt line (5 * block)
 abbrev pub AreGoodBlocks : Line → ℕ → Type 0
 AreGoodBlocks line n = (block : ℕ) → block < n → IsGoodBlock line block
 
--- so many bytes stand before the first space, or before the end
+-- this many bytes come before the first space, or before the end
 abbrev pub StandBeforeSpace : List ℕ → ℕ → Type 0
 StandBeforeSpace bytes n = IsFirstByte (is_byte space) bytes (Some n)
     ⊎ (IsFirstByte (is_byte space) bytes None × (n ≡ length bytes))
 
--- a comma stands before any space
+-- a comma comes before any space
 abbrev pub HasCommaBeforeSpace : Line → Type 0
 HasCommaBeforeSpace line = (place : ℕ) × IsFirstByte (is_byte comma) line (Some place)
     × (IsFirstByte (is_byte space) line None
@@ -49,7 +49,7 @@ HasCommaBeforeSpace line = (place : ℕ) × IsFirstByte (is_byte comma) line (So
 abbrev pub rest_from : Line → ℕ → List ℕ
 rest_from line block = take (content_length line - 5 * block) (drop (5 * block) line)
 
--- the blocks before this one are good, and it is not
+-- the blocks before this one are good, and it is malformed
 pub record IsFirstNotGood (line : Line) (block : ℕ) : Type 0 where
   pub few : block < 4
   pub before : AreGoodBlocks line block

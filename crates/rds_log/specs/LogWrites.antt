@@ -1,5 +1,4 @@
--- What the lines of a log write: the changes of the views of their slots.
--- All lists have the newest first.
+-- The output of the lines of a log: the changes of the views of their slots. All lists have the newest first.
 use Rattle.std.specs.Prelude.{◌≡◌, ◌⊎◌, ℕ, List, [], ◌∷◌, Option}
 use Rattle.rds_block.specs.declared.group.Group.{Group}
 use Rattle.rds_receiver.specs.Receipts.{Tuning}
@@ -13,7 +12,7 @@ use Rattle.rds_log.specs.declared.log_line.LogLine.TheVariants.{Skip, Slot}
 abbrev pub tuned : ℕ → ℕ → Tuning
 tuned pi m = record { programme = pi; dwell = m; first = 0 }
 
--- the lines are good, and these are the slots that they say
+-- the lines are good, and these are their slots
 abbrev pub AreSlots : List Line → List (Option Group) → Type 0
 AreSlots [] slots = slots ≡ []
 AreSlots (line ∷ before) slots = (LineSays line Skip × AreSlots before slots)
@@ -33,13 +32,13 @@ pub record SlotsWrite (t : Tuning) (slots : List (Option Group)) (written : List
   pub are : AreViews t slots views
   pub changes : written ≡ changes_of views
 
--- the lines are good and write this
+-- the lines are good, and this is their output
 pub record LinesWrite (t : Tuning) (lines : List Line) (written : List ℕ) : Type 0 where
   pub slots : List (Option Group)
   pub say : AreSlots lines slots
   pub write : SlotsWrite t slots written
 
--- the bytes of a log whose lines are all good write this
+-- this is the output of the bytes of a log, all of whose lines are good
 pub record LogWrites (t : Tuning) (text : List ℕ) (written : List ℕ) : Type 0 where
   pub cut : List Line
   pub are : AreLines text cut

@@ -1,4 +1,4 @@
--- What is noted of a run over a log. This is the project's own rule. r is what a call did to the reader.
+-- The notes on a log. This is the project's own rule. r is the traffic with the reader.
 use Rattle.std.specs.Prelude.{◌≡◌, ◌⊎◌, ℕ, List, Option, Some, None, Ok, Err, Result, IfNone, IfSome, take}
 use Rattle.std.specs.Io.KnownBytes.{Consumes}
 use Rattle.rds_charset.specs.Told.{Traffic}
@@ -16,14 +16,14 @@ use Rattle.rds_log.specs.declared.verdict.Verdict.TheVariants.{No, Yes}
 use Rattle.rds_view_lines.specs.declared.fault.LogFault.{LogFault}
 use Rattle.rds_view_lines.specs.declared.fault.LogFault.TheVariants.{BadLine, BadRow, Read, Write, TooLong, Memory}
 
--- a line that begins with these bytes is noted, and a cause that is given holds of them; none is given only for a line
--- that is skipped, or whose four blocks are good
+-- the note on a line that begins with these bytes: a cause in the note holds of the line. There is no cause only for a
+-- line that is skipped, or whose four blocks are good
 pub record IsNoteOn (first : List ℕ) (note : BadStart) : Type 0 where
   pub start : note.start.items ≡ first
   pub cause : IfSome note.cause (IsLineCause first)
   pub none : IfNone note.cause (IsSkipped first ⊎ AreGoodBlocks first 4)
 
--- this is noted at a fault: of a bad line its first bytes, and else nothing
+-- the note at a fault: the first bytes of a malformed line, and nothing for other faults
 abbrev pub HasNote : List ℕ → LogFault → Option BadStart → Type 0
 HasNote first (BadLine n) noted = (note : BadStart) × (noted ≡ Some note) × IsNoteOn first note
 HasNote first (BadRow n) noted = noted ≡ None
@@ -32,7 +32,7 @@ HasNote first Write noted = noted ≡ None
 HasNote first TooLong noted = noted ≡ None
 HasNote first Memory noted = noted ≡ None
 
--- line n of the log is bad, and its first bytes are noted
+-- line n of the log is malformed, and the note has its first bytes
 pub record NotesBadLine (r : Traffic) (n : ℕ) (note : BadStart) : Type 0 where
   pub text : List ℕ
   pub read : Consumes r.before r.after text
@@ -40,7 +40,7 @@ pub record NotesBadLine (r : Traffic) (n : ℕ) (note : BadStart) : Type 0 where
   pub next : NextIsBad n lines text r.after
   pub noted : IsNoteOn (take deciding next.line) note
 
--- what is noted of a run that ends with this fault
+-- the notes of a run that ends with this fault
 abbrev pub NotesFault : Traffic → LogFault → Option BadStart → Type 0
 NotesFault r (BadLine n) noted = (note : BadStart) × (noted ≡ Some note) × NotesBadLine r n note
 NotesFault r (BadRow n) noted = noted ≡ None
@@ -49,11 +49,11 @@ NotesFault r Write noted = noted ≡ None
 NotesFault r TooLong noted = noted ≡ None
 NotesFault r Memory noted = noted ≡ None
 
--- the slot and the fault of a no are noted
+-- the note has the slot and the fault of a no
 abbrev pub NotesNo : ℕ → ℕ → ℕ → Traffic → Option NoNote → Type 0
 NotesNo pi d reads r noted = (note : NoNote) × (noted ≡ Some note) × Judges pi d reads r (Ok (No note.slot note.fault))
 
--- what is noted of an audit that comes to this: after a yes what was heard of the log, at a no its slot and its fault
+-- the notes of an audit with this result: after a yes, the programmes of the log, and at a no, its slot and its fault
 abbrev pub NotesVerdict : ℕ → Traffic → LogNotes → Result Verdict LogFault → Type 0
 NotesVerdict pi r notes (Ok (Yes n)) = HeardLog pi r notes.heard
 NotesVerdict pi r notes (Ok (No slot fault)) =

@@ -1,5 +1,5 @@
--- What the objects of the crate hold after what they took, a file for each, from the bytes of a reader up to the lines
--- that are written.
+-- The state of the crate's objects after each of their inputs, a file for each object, from the bytes of a reader to
+-- the lines that are written.
 pub mod FailureFlag
 pub mod Unread
 pub mod Watched

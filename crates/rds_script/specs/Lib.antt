@@ -1,4 +1,4 @@
--- What a row of a script says, and what its slots write.
+-- The meaning of the rows of a script, and the output of its slots.
 pub mod Verbs
 pub mod Receptions
 pub mod Rows
@@ -6,9 +6,9 @@ pub mod RowCauses
 pub mod Outcomes
 -- The promise of the calls: `simulate` and `encode` play a script.
 pub mod Play
--- and what they note beside the output.
+-- Their notes beside the output.
 pub mod Notes
--- What the objects of the crate hold, a file for each. No caller needs them.
+-- The state of the crate's objects, a file for each. Callers do not need them.
 pub mod Inside
 -- Lemmas that crates above use.
 pub mod BorrowedReads

@@ -46,7 +46,7 @@ wait_of slot command reply.Quiet = None
 wait_of slot command reply.Restarted = None
 wait_of slot command reply.Done = None
 
--- the wait before, or else the later one
+-- the earlier wait, or the new one if there is none
 abbrev pub first_of : Option Wait → Option Wait → Option Wait
 first_of None before = before
 first_of (Some later) None = Some later

@@ -1,7 +1,6 @@
--- What the slots of a station come to, and what is written for them: for a simulation the reply, the group that was
--- sent, and the changes of each receiver's view; for a log the reply as a comment, and the group as a line of a log.
--- This is the project's own format. Lists have the newest first, so the slot of an outcome is the number of outcomes
--- behind it.
+-- The outcomes of a station's slots, and their output. `sim` writes the reply, the group, and the changes of each
+-- receiver's view. `encode` writes the reply as a comment, and the group as a line of a log. This is the project's own
+-- format. Lists have the newest first, so the slot of an outcome is the number of outcomes behind it.
 use Rattle.std.specs.Prelude.{◌≡◌, ◌<◌, ◌++◌, [], ◌∷◌}
 use Rattle.std.specs.Prelude.{ℕ, zero, suc, List, Option, Some, None, codes, decimal, length, slice_index_or}
 use Rattle.rds_block.specs.declared.group.Group.{Group}
@@ -28,11 +27,11 @@ use Rattle.rds_view_lines.specs.Output.{change, line_of, nothing_shown, receiver
 use Rattle.rds_script.specs.declared.form.Form.{Form}
 use Rattle.rds_script.specs.declared.form.Form.TheVariants.{Simulation, Log}
 
--- what receiver i shows, and nothing where there is none
+-- the view of receiver i; it shows nothing if there is no such receiver
 abbrev pub view_at : List ShownView → ℕ → ShownView
 view_at views i = slice_index_or views i nothing_shown
 
--- what a slot comes to: the command, its reply, the group that was sent, and what the receivers show at its end
+-- the outcome of a slot: the command, its reply, the group, and the views of the receivers at its end
 pub record Outcome : Type 0 where
   pub command : Command
   pub reply : Reply
@@ -56,7 +55,7 @@ AreOutcomes config (e ∷ before) [] = ⊥
 AreOutcomes config (e ∷ before) (o ∷ older) =
     IsOutcome config e before o × AreOutcomes config before older
 
--- what a reply line says of a text, a name or tags
+-- the content of a reply line for a text, a name or tags
 abbrev pub thing_set : Command → List ℕ
 thing_set Quiet = []
 thing_set Restart = []
@@ -74,7 +73,7 @@ refusal_content (Held k) = codes " held " ++ decimal k
 refusal_content NoText = codes " notext"
 refusal_content (OutOfText which) = codes " outoftext " ++ number_of_tag which
 
--- what a reply line is about, and what it says of it
+-- the thing and the content of a reply line
 abbrev pub reply_thing : Command → Reply → List ℕ
 reply_thing command reply.Quiet = []
 reply_thing command Restarted = codes "restart"
@@ -87,7 +86,7 @@ reply_content Restarted = []
 reply_content Done = codes " ok"
 reply_content (Refused refusal) = refusal_content refusal
 
--- the line of a reply, behind this mark; where there was no command there is none
+-- the line of a reply, after this mark; no line if there was no command
 abbrev pub reply_line : List ℕ → ℕ → Command → Reply → List ℕ
 reply_line mark slot command reply.Quiet = []
 reply_line mark slot command Restarted =
@@ -104,7 +103,7 @@ spaced_digits w = codes " " ++ word_digits w
 abbrev pub block_digits : Group → List ℕ
 block_digits g = word_digits g.pi ++ spaced_digits (second_word_of g) ++ spaced_digits g.c ++ spaced_digits g.d
 
--- the line of what was sent
+-- the line of the group
 abbrev pub sent_line : ℕ → Option Group → List ℕ
 sent_line slot None = []
 sent_line slot (Some g) = line_of (slot_stamp slot) (codes "sent ") (block_digits g)
@@ -125,12 +124,12 @@ abbrev pub answer_lines : Form → ℕ → Command → Reply → Option Group �
 answer_lines Simulation slot command reply sent = reply_line [] slot command reply ++ sent_line slot sent
 answer_lines Log slot command reply sent = reply_line (codes "# ") slot command reply ++ log_line sent
 
--- the lines of a slot, where the receivers showed this before; a log has no receivers
+-- the lines of a slot after these earlier views; a log has no receivers
 abbrev pub slot_lines : Form → ℕ → List ShownView → Outcome → List ℕ
 slot_lines form slot before o =
     answer_lines form slot o.command o.reply o.sent ++ receiver_changes slot (length o.views) before o.views
 
--- what the receivers show at the end
+-- the views of the receivers at the end
 abbrev pub newest_views : List Outcome → List ShownView
 newest_views [] = []
 newest_views (o ∷ older) = o.views
@@ -140,7 +139,7 @@ abbrev pub lines_of : Form → List Outcome → List ℕ
 lines_of form [] = []
 lines_of form (o ∷ older) = lines_of form older ++ slot_lines form (length older) (newest_views older) o
 
--- the slots of a station write the lines of their outcomes
+-- the output of a station's slots is the lines of their outcomes
 pub record EventsWrite (form : Form) (config : Config) (events : List Event) (written : List ℕ) : Type 0 where
   pub outcomes : List Outcome
   pub are : AreOutcomes config events outcomes

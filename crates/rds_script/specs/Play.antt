@@ -1,6 +1,6 @@
--- What `simulate` and `encode` leave at each end. What the records of a script are, is the definition of `csv`: fields
--- between commas, in quotes or not, one record a line. Lists of records and of events have the newest first; w is
--- what a call did to the writer.
+-- The state of `simulate` and `encode` at each end. `csv` defines the records of a script: fields between commas, with
+-- or without quotation marks, one record a line. Lists of records and of events have the newest first. w is the traffic
+-- with the writer.
 use Rattle.std.specs.Prelude.{◌≡◌, ◌<◌, ◌≤◌, ◌+◌, ◌∷◌, []}
 use Rattle.std.specs.Prelude.{ℕ, List, Option, None, Some, Ok, Err, Result, length, reverse}
 use Rattle.std.specs.Io.KnownBytes.{Appends}
@@ -18,7 +18,7 @@ use Rattle.rds_view_lines.specs.declared.fault.LogFault.{LogFault}
 use Rattle.rds_view_lines.specs.declared.fault.LogFault.TheVariants.{BadLine, BadRow, Read, Write, TooLong, Memory}
 use Rattle.rds_script.specs.declared.form.Form.{Form}
 
--- the script begins with these records, and goes on like this
+-- the script begins with these records, and continues like this
 pub record RecordsUpTo (script : List ℕ) (records : List Record) (state : State) (rest : List ℕ) : Type 0 where
   pub reached : Reached default_config StartRecord (strip_bom script) (reverse records) state rest
 
@@ -27,19 +27,19 @@ abbrev pub HasRecords : Option (List ℕ) → List Record → Type 0
 HasRecords known records =
     (script : List ℕ) → known ≡ Some script → (state : State) × (rest : List ℕ) × RecordsUpTo script records state rest
 
--- and it has no others
+-- the script has exactly these records
 abbrev pub HasAllRecords : Option (List ℕ) → List Record → Type 0
 HasAllRecords known records = (script : List ℕ) → known ≡ Some script
     → (state : State) × (rest : List ℕ) × RecordsUpTo script records state rest
     × (next_record default_config state [] [] rest ≡ None)
 
--- the records are rows, and write this
+-- the records are rows, and this is their output
 pub record RowsWrite (form : Form) (config : Config) (records : List Record) (written : List ℕ) : Type 0 where
   pub events : List Event
   pub say : RowsSay config.late form records events
   pub write : EventsWrite form config events written
 
--- the bytes of a script whose records are all rows write this
+-- this is the output of the bytes of a script, all of whose records are rows
 pub record ScriptWrites (form : Form) (config : Config) (script written : List ℕ) : Type 0 where
   pub records : List Record
   pub are : AreRecords default_config StartRecord (strip_bom script) (reverse records)
@@ -54,7 +54,7 @@ pub record WroteRows (form : Form) (config : Config) (known : Option (List ℕ))
   pub wrote : Appends w.before w.after written
   pub calm : IsCalm w
 
--- the record after these is no row, and their output was written
+-- the record after these is not a row, and the output of these was written
 pub record PlayStopsAtBadRow (form : Form) (config : Config) (known : Option (List ℕ)) (w : Traffic)
     (n : ℕ) : Type 0 where
   pub records : List Record
@@ -64,7 +64,7 @@ pub record PlayStopsAtBadRow (form : Form) (config : Config) (known : Option (Li
   pub none : AreNoRows config.late form (bad ∷ records)
   pub number : n ≡ length records + 1
 
--- the writer failed: a first part of the output of these records, no more than the bound, was written
+-- the writer failed: some first part of the output of these records, at most as many as the bound, was written
 pub record PlayStopsAtWrite (form : Form) (config : Config) (most : ℕ) (known : Option (List ℕ))
     (w : Traffic) : Type 0 where
   pub records : List Record
@@ -82,7 +82,7 @@ pub record PlaysAll (form : Form) (config : Config) (most : ℕ) (known : Option
   pub fewer : length records < most
   pub wrote : WroteRows form config known w records
 
--- what is told of the reader of a script: the bytes that it has left, and that one of its reads failed
+-- the reader of a script: its remaining bytes, and the statement that one of its reads failed
 pub record Reading : Type 1 where
   pub known : Option (List ℕ)
   pub Failed : Type 0
@@ -90,8 +90,8 @@ pub record Reading : Type 1 where
 abbrev pub reading : {R : Type 0} → (R → Option (List ℕ)) → (R → ℕ) → R → Reading
 reading remaining failures reader = record { known = remaining reader; Failed = SomeReadFailed failures }
 
--- what playing a script did, with this bound of its records: each fault comes only for its cause. Where it ends well,
--- and at a failed read and for want of memory, the records are fewer than the bound; it is too long at as many
+-- the result of a script with this bound on its records: each fault has its cause. If it ends without a fault, at a
+-- failed read or out of memory, there are fewer records than the bound. It is too long at as many
 abbrev pub Plays : Form → Config → ℕ → Reading → Traffic → Result (Unit {0}) LogFault → Type 0
 Plays form config most r w (Ok done) = PlaysAll form config most r.known w
 Plays form config most r w (Err (BadLine n)) = ⊥

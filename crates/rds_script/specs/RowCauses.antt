@@ -53,14 +53,14 @@ TakesCharacters word = (word ≡ verb_word verb.Text) ⊎ (word ≡ verb_word ve
 abbrev pub TakesUtf8 : List ℕ → Type 0
 TakesUtf8 word = TakesCharacters word ⊎ (word ≡ verb_word verb.Tags)
 
--- the argument is read as so many bytes over the most
+-- the argument gives this many bytes more than it may
 pub record IsTooLong (most : ℕ) (argument : List ℕ) (over : ℕ) : Type 0 where
   pub bytes : List ℕ
   pub read : IsReadAs argument bytes
   pub count : length bytes ≡ most + over
   pub some : 0 < over
 
--- the argument is read as bytes of which this one, at this place, is the first that may not be there
+-- the argument gives bytes of which this one, at this place, is the first that may not be there
 pub record HasBadByte (most : ℕ) (is_allowed : ℕ → Bool) (argument : List ℕ) (byte place : ℕ) : Type 0 where
   pub bytes : List ℕ
   pub read : IsReadAs argument bytes
@@ -70,11 +70,11 @@ pub record HasBadByte (most : ℕ) (is_allowed : ℕ → Bool) (argument : List 
   pub is_byte : byte ≡ slice_index bytes at
   pub is_place : place ≡ at + 1
 
--- how many spaces there are
+-- the number of spaces
 abbrev pub spaces : List ℕ → ℕ
 spaces text = count_by (λ b. b == space) text
 
--- the text begins with these numbers, each with a space behind it, and the rest follows
+-- the text begins with these numbers, each followed by a space, and then comes the rest
 unfoldable pub BeginsWithNumbers : List ℕ → List ℕ → List ℕ → Type 0
 BeginsWithNumbers text [] rest = text ≡ rest
 BeginsWithNumbers text (n ∷ more) rest =
@@ -176,14 +176,14 @@ IsFree field = (free : Bool) × (field ≡ free_field free)
 
 -- RECEPTIONS
 
--- the field begins with these receptions, each with all digits behind its letter, and the rest follows
+-- the field begins with these receptions, each with all digits after its letter, and then comes the rest
 unfoldable pub BeginsWith : List ℕ → List Reception → List ℕ → Type 0
 BeginsWith field [] rest = field ≡ rest
 BeginsWith field (first ∷ others) rest =
     (after : List ℕ) × (digits : List ℕ) × (later : List ℕ) × (field ≡ letter first ∷ after)
     × IsDigitCut after digits later × HasDigits first digits × BeginsWith later others rest
 
--- behind less than eight receptions comes this byte, at this place, and then these digits
+-- after fewer than eight receptions comes this byte, at this place, and then these digits
 pub record ComesNext (field : List ℕ) (place byte : ℕ) (digits : List ℕ) : Type 0 where
   pub receptions : List Reception
   pub after : List ℕ
@@ -250,8 +250,8 @@ pub record HasFieldCause (row : Record) (cause : RowCause) : Type 0 where
   pub fields : row ≡ word ∷ argument ∷ free ∷ receptions ∷ []
   pub field : IsFieldCause word argument free receptions cause
 
--- the cause why this record, after the records before it, is not a row of a script of this form; a group may come k slots
--- late
+-- the cause for which this record, after the records before it, is not a row of a script of this form; a group may come
+-- k slots late
 abbrev pub IsRowCause : Form → ℕ → List Record → Record → RowCause → Type 0
 IsRowCause form k before row cause =
     IsFieldCountCause row cause ⊎ (HasFieldCause row cause ⊎ IsEventCause form k before row cause)

@@ -1,5 +1,5 @@
--- A row of a script: a record of four fields that says what happens in one slot. This is the project's own format.
--- Lists of records and of events have the newest first.
+-- A row of a script: a record of four fields that describes one slot. This is the project's own format. Lists of
+-- records and of events have the newest first.
 use Rattle.std.specs.Prelude.{◌≡◌, ◌≢◌, ◌≤◌, ◌++◌, ℕ, All, Bool, true, false, List, [], ◌∷◌, IsUtf8, codes, length}
 use Rattle.std.specs.Int.{from_bool}
 use Rattle.std.specs.Str.Parse.{IsNumeral, digits_value}
@@ -34,7 +34,7 @@ pub record IsNumber (text : List ℕ) (n : ℕ) : Type 0 where
 abbrev pub HasNoSpace : List ℕ → Type 0
 HasNoSpace text = All (λ b. b ≢ space) text
 
--- the text is cut at its first space
+-- the text is split at its first space
 pub record IsCut (text first rest : List ℕ) : Type 0 where
   pub cut : text ≡ first ++ space ∷ rest
   pub first_space : HasNoSpace first
@@ -49,19 +49,19 @@ AreNumbers text (n ∷ m ∷ more) =
 abbrev pub numbers_of_tag : TagFields → List ℕ
 numbers_of_tag tag = tag.class ∷ tag.start ∷ tag.extra ∷ []
 
--- toggle and running bit, then the first tag, then the second
+-- toggle bit and running bit, then the first tag, then the second
 abbrev pub numbers_of_pair : PairFields → List ℕ
 numbers_of_pair pair = from_bool pair.toggle ∷ from_bool pair.running ∷ numbers_of_tag pair.one
     ++ numbers_of_tag pair.two
 
--- the argument is read as a name, which is padded to its eight bytes
+-- the argument is a name, which is padded to eight bytes
 pub record IsNameArgument (argument name : List ℕ) : Type 0 where
   pub given : List ℕ
   pub read : IsReadAs argument given
   pub is_name : IsGivenName given
   pub padded : name ≡ name_body given
 
--- the word and its argument say the command
+-- the word and its argument are this command
 abbrev pub SaysCommand : List ℕ → List ℕ → Command → Type 0
 SaysCommand word argument Quiet = (word ≡ verb_word Nothing) × (argument ≡ [])
 SaysCommand word argument Restart = (word ≡ verb_word verb.Restart) × (argument ≡ [])
@@ -75,7 +75,7 @@ abbrev pub free_field : Bool → List ℕ
 free_field false = codes "0"
 free_field true = codes "1"
 
--- four fields: the command, its argument in UTF-8, whether the slot is free, and what each receiver gets
+-- four fields: the command, its argument in UTF-8, whether the slot is free, and the reception of each receiver
 pub record SaysEvent (row : Record) (e : Event) : Type 0 where
   pub word : List ℕ
   pub argument : List ℕ
@@ -85,13 +85,13 @@ pub record SaysEvent (row : Record) (e : Event) : Type 0 where
   pub command : SaysCommand word argument e.command
   pub spelled : AreReceptions receptions e.receptions
 
--- a script that is simulated names up to eight receivers, and one that is encoded names none
+-- a script for `sim` names up to eight receivers, and one for `encode` names none
 abbrev pub IsAllowed : Form → ℕ → Type 0
 IsAllowed Simulation receivers = receivers ≤ MOST_RECEIVERS
 IsAllowed Log receivers = receivers ≡ 0
 
--- the records are rows that say these events, each with so many receivers, to which each reception is due: at most
--- k slots late, and in the order of sending
+-- the records are rows with these events and this number of receivers, and each reception is due: at most k slots late,
+-- and in the order of sending
 abbrev pub AreRows : ℕ → ℕ → List Record → List Event → Type 0
 AreRows k receivers [] [] = Unit {0}
 AreRows k receivers [] (e ∷ older) = ⊥

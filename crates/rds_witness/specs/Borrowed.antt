@@ -9,7 +9,7 @@ thing_of (borrowed.Text x) = Text x.now
 thing_of (borrowed.Name x) = Name x.now
 thing_of (borrowed.Tag which class piece) = Tag which class piece.now
 
--- no text, name or piece has more bytes than a text has
+-- no text, name or piece has more than 64 bytes
 abbrev pub IsShortThing : declared.Thing → Type 0
 IsShortThing (borrowed.Text x) = length x.now ≤ 64
 IsShortThing (borrowed.Name x) = length x.now ≤ 64

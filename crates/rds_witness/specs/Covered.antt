@@ -1,5 +1,5 @@
 -- Stored receivers that hold all that another receiver holds, so that it shows nothing that they do not show (this
--- project's own).
+-- project's own rule).
 use Rattle.std.specs.Prelude.{◌≡◌, ◌∷◌, ◌+◌, ℕ, All, List, Option, length}
 use Rattle.std.specs.List.{Contains}
 use Rattle.rds_block.specs.declared.group.Group.{Group}
@@ -17,7 +17,7 @@ IsRunPart pick t one other =
     (h k : List (Option Message)) → AreHeard t.programme one h → AreHeard t.programme other k
     → IsPart (run_at pick t.dwell t.first h) (run_at pick t.dwell t.first k)
 
--- the inputs have as many slots, and the runs after the one are parts of the runs after the other
+-- the inputs have as many slots, and the runs after the first are parts of the runs after the second
 pub record IsInputPart (t : Tuning) (one other : List (Option Group)) : Type 0 where
   pub long : length one ≡ length other
   pub texts : IsRunPart text_fragment t one other
@@ -37,19 +37,20 @@ pub record Covers (t : Tuning) (input : List (Option Group)) (s : StoredReceiver
   pub stored : IsStored s
   pub part : IsInputPart t input other
 
--- one of the stored receivers does
+-- one of the stored receivers stands there
 pub record IsCovered (t : Tuning) (set : List StoredReceiver) (input : List (Option Group)) : Type 0 where
   pub by : StoredReceiver
   pub is_there : Contains set by
   pub covers : Covers t input by
 
--- after a receiver was offered to the kept ones, they cover the inputs of n slots that it covers, and all that they covered
+-- after a receiver was offered: the kept receivers cover the inputs of n slots that it covers, and all that they
+-- covered before
 pub record Keeps (t : Tuning) (n : ℕ) (offered : StoredReceiver) (old new : List StoredReceiver) : Type 0 where
   pub at : All (IsAt t n) new
   pub stays : (input : List (Option Group)) → IsCovered t old input → IsCovered t new input
   pub more : (input : List (Option Group)) → length input ≡ n → Covers t input offered → IsCovered t new input
 
--- after receivers took a slot and were offered to the kept ones
+-- the same after receivers took a slot and were offered
 pub record KeepsNext (t : Tuning) (n : ℕ) (group : Option Group) (offered old new : List StoredReceiver) : Type 0 where
   pub at : All (IsAt t (n + 1)) new
   pub stays : (input : List (Option Group)) → IsCovered t old input → IsCovered t new input

@@ -1,12 +1,12 @@
--- What a receiver gets of a log of which it loses some slots, and when what it shows then is a mix.
+-- The input of a receiver that loses some slots of a log, and when its view is a mix.
 pub mod Lost
 pub mod Mix
 pub mod Borrowed
--- When what one receiver shows another one shows too.
+-- When a receiver shows all that another one shows.
 pub mod Part
 pub mod Covered
 pub mod Search
--- The lines that are written, and the promise of the call.
+-- The output lines, and the promise of the call.
 pub mod Lines
 pub mod Witness
 pub mod Prints

@@ -14,19 +14,19 @@ abbrev pub tag_name : Which → List ℕ
 tag_name One = codes "tag1"
 tag_name Two = codes "tag2"
 
--- the line of `decode` where this is shown in a slot
+-- the line of `decode` if this is shown in a slot
 abbrev pub shown_line : ℕ → Thing → List ℕ
 shown_line slot (Text x) = line_of (slot_stamp slot) (codes "text") (text_content (Some x))
 shown_line slot (Name x) = line_of (slot_stamp slot) (codes "name") (text_content (Some x))
 shown_line slot (Tag which class piece) =
     line_of (slot_stamp slot) (tag_name which) (tag_content (Some (class, piece)))
 
--- the slots of a burst: its first and its last one, or the one that it is
+-- the slots of a burst: its first and its last one, or the only one
 abbrev pub burst_text : Burst → List ℕ
 burst_text burst =
     if burst.first == burst.last then decimal burst.first else decimal burst.first ++ codes "-" ++ decimal burst.last
 
--- the slots to lose, and the line of `decode` then
+-- the slots to lose, and the line of `decode` after that
 abbrev pub mix_line : Burst → ℕ → Thing → List ℕ
 mix_line burst slot thing = codes "lose " ++ burst_text burst ++ codes ": " ++ shown_line slot thing
 
@@ -42,7 +42,7 @@ pub record AreMixLines (t : Tuning) (log : List (Option Group)) (burst : Burst) 
   pub mixes : All (IsMix t log burst slot) things
   pub are : lines ≡ mix_lines burst slot things
 
--- what is appended to lines of mixes makes lines of mixes
+-- lines of mixes appended to lines of mixes are lines of mixes
 abbrev pub AddsMixes : Tuning → List (Option Group) → Burst → ℕ → List ℕ → List ℕ → Type 0
 AddsMixes t log burst slot before after =
     AreMixLines t log burst slot before → AreMixLines t log burst slot after
@@ -50,12 +50,12 @@ AddsMixes t log burst slot before after =
 abbrev pub no_witness : List ℕ
 no_witness = codes "no witness found with one burst lost\n"
 
--- where the search ended at this slot
+-- the slot at which the search ended
 abbrev pub no_witness_up_to : ℕ → List ℕ
 no_witness_up_to slot = codes "no witness found with one burst lost up to slot " ++ decimal slot ++ codes "\n"
 
--- the answer to a log: lines of mixes, one at least; or that none was found, only if no burst makes a mix of a text or a
--- name; or up to which slot none was found
+-- the answer to a log: one or more lines of mixes; or that no witness was found, which is written only if no burst
+-- makes a mix of a text or a name; or the slot up to which none was found
 abbrev pub IsAnswer : Tuning → List (Option Group) → Bool → List ℕ → Type 0
 IsAnswer t log true written =
     (burst : Burst) × (slot : ℕ) × AreMixLines t log burst slot written × (written ≢ [])

@@ -1,5 +1,5 @@
--- What a receiver gets of a log of which it loses a burst, slots that stand side by side. A log has its oldest slot
--- first; what a receiver got has the newest first.
+-- The input of a receiver that loses a burst of a log, which is a range of slots. A log has its oldest slot first, and
+-- the input of a receiver the newest first.
 use Rattle.std.proofs.Common.{add-one, ap, refl}
 use Rattle.std.specs.Prelude.{◌≡◌, ◌&&◌, ◌+◌, ◌∷◌, [], ℕ, Bool, List, Option, None, Some, false, nat_le}
 use Rattle.std.specs.Prelude.{slice_index_or, if◌then◌else◌, suc, zero}
@@ -11,11 +11,11 @@ abbrev pub is_lost : Option Burst → ℕ → Bool
 is_lost None n = false
 is_lost (Some burst) n = nat_le burst.first n && nat_le n burst.last
 
--- what comes in slot n
+-- the group of slot n
 abbrev pub received : Option Burst → List (Option Group) → ℕ → Option Group
 received lost log n = if is_lost lost n then None else slice_index_or log n None
 
--- what came before slot n
+-- the input before slot n
 unfoldable pub got : Option Burst → List (Option Group) → ℕ → List (Option Group)
 got lost log zero = []
 got lost log (suc n) = received lost log n ∷ got lost log n

@@ -1,5 +1,5 @@
--- When a thing that a receiver shows is a mix: a receiver that lost a burst shows it newly, and one that lost nothing
--- shows it nowhere up to a dwell later.
+-- When the view of a receiver has a mix: a receiver that lost a burst newly shows a thing, and a receiver that lost
+-- nothing does not show it in any slot up to a dwell later.
 use Rattle.std.specs.Prelude.{◌≡◌, ◌⊎◌, ◌≤◌, ◌<◌, ◌+◌, ℕ, List, Option, None, Some, length, nat_le, if◌then◌else◌}
 use Rattle.rds_block.specs.declared.group.Group.{Group}
 use Rattle.rds_fields.specs.declared.pair.Which.{Which}
@@ -28,7 +28,7 @@ Has view (Name x) = view.name ≡ Some x
 Has view (Tag One class piece) = view.one ≡ Some (class, piece)
 Has view (Tag Two class piece) = view.two ≡ Some (class, piece)
 
--- with these slots lost, the view of slot t has the thing, and that of the slot before does not show it
+-- with these slots lost, the view of slot t has the thing, and that of the slot before does not
 pub record IsNew (t : Tuning) (log : List (Option Group)) (lost : Option Burst) (slot : ℕ) (thing : Thing) : Type 0 where
   pub before : ShownView
   pub after : ShownView
@@ -42,24 +42,24 @@ abbrev pub NeverShows : Tuning → List (Option Group) → ℕ → Thing → Typ
 NeverShows t log n thing =
     (slot : ℕ) (view : ShownView) → slot < n → IsView t (got None log (slot + 1)) view → Shows view thing → ⊥
 
--- the number of slots up to a dwell after this one, or of all where there are fewer
+-- the number of slots up to a dwell after this one, or of all slots if there are fewer
 abbrev pub until : ℕ → List (Option Group) → ℕ → ℕ
 until dwell log slot = if nat_le (slot + dwell) (length log) then slot + dwell else length log
 
--- the burst stands before the slot, and both in the log
+-- the burst is before the slot, and the log has both
 pub record IsPlace (burst : Burst) (slot : ℕ) (log : List (Option Group)) : Type 0 where
   pub order : burst.first ≤ burst.last
   pub before : burst.last < slot
   pub inside : slot < length log
 
--- the views before the slot and after it, with the burst lost
+-- the views before and after the slot, with the burst lost
 pub record AreAround (t : Tuning) (log : List (Option Group)) (burst : Burst) (slot : ℕ)
     (before after : ShownView) : Type 0 where
   pub place : IsPlace burst slot log
   pub was : IsView t (got (Some burst) log slot) before
   pub is : IsView t (got (Some burst) log (slot + 1)) after
 
--- with the burst lost the thing is new in the slot, and with nothing lost it is shown in no slot up to a dwell later
+-- with the burst lost the thing is new in the slot, and with nothing lost no slot up to a dwell later shows it
 pub record IsMix (t : Tuning) (log : List (Option Group)) (burst : Burst) (slot : ℕ) (thing : Thing) : Type 0 where
   pub place : IsPlace burst slot log
   pub new : IsNew t log (Some burst) slot thing

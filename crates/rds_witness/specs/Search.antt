@@ -1,4 +1,4 @@
--- A search of all bursts at once (this project's own).
+-- A search over all bursts at once (this project's own rule).
 use Rattle.std.specs.Prelude.{◌≡◌, ◌≤◌, ◌<◌, ◌+◌, ℕ, All, List, Option, None, Some, length}
 use Rattle.rds_block.specs.declared.group.Group.{Group}
 use Rattle.rds_fields.specs.declared.message.Message.{Message}
@@ -28,8 +28,8 @@ NoMixesIn t log n = (burst : Burst) (slot : ℕ) (x : List ℕ) → slot < n
 abbrev pub NoMixes : Tuning → List (Option Group) → Type 0
 NoMixes t log = NoMixesIn t log (length log)
 
--- after n slots: the receiver that lost nothing; receivers that hold all that is held by one that lost a burst up to the
--- newest slot; and receivers that hold all that is held by one that heard again after its burst
+-- after n slots: the receiver that lost nothing; receivers that together hold all that any receiver holds that lost a
+-- burst up to the newest slot; and receivers that hold all that any receiver holds that heard again after its burst
 pub record StandsAfter (t : Tuning) (log : List (Option Group)) (n : ℕ) (sweep : Sweep) : Type 0 where
   pub whole : StandsAt t sweep.whole (got None log n)
   pub losing_at : All (IsAt t n) sweep.losing.items
@@ -48,7 +48,7 @@ pub record IsShownBefore (t : Tuning) (log : List (Option Group)) (n : ℕ) (thi
   pub is : IsView t (got None log (slot + 1)) view
   pub shows : Shows view thing
 
--- the receiver that loses nothing stands so behind the slot
+-- the receiver that loses nothing has this state after the slot
 pub record IsSeen (t : Tuning) (log : List (Option Group)) (seen : Seen) : Type 0 where
   pub inside : seen.slot < length log
   pub stands : StandsAt t (receiver_stored seen.receiver) (got None log (seen.slot + 1))
@@ -57,13 +57,13 @@ pub record IsSeen (t : Tuning) (log : List (Option Group)) (seen : Seen) : Type 
 abbrev pub AreSeen : Tuning → List (Option Group) → AllSeen → Type 0
 AreSeen t log all = All (IsSeen t log) all.seen.items
 
--- each text that the receiver shows is shown in one of the first n slots by one that loses nothing
+-- if the receiver shows a text, a receiver that loses nothing shows it in one of the first n slots
 abbrev pub ShowsNoOtherText : Tuning → List (Option Group) → ℕ → ReceiverState → Type 0
 ShowsNoOtherText t log n r = (input : List (Option Group)) (heard : List (Option Message)) (x : List ℕ)
     → StandsAt t r input → AreHeard t.programme input heard → IsTextShown t.dwell t.first heard (Some x)
     → IsShownBefore t log n (Text x)
 
--- each name
+-- the same for a name
 abbrev pub ShowsNoOtherName : Tuning → List (Option Group) → ℕ → ReceiverState → Type 0
 ShowsNoOtherName t log n r = (input : List (Option Group)) (heard : List (Option Message)) (x : List ℕ)
     → StandsAt t r input → AreHeard t.programme input heard → IsNameShown t.dwell t.first heard (Some x)
@@ -75,11 +75,11 @@ ShowsNoOther t log n r = ShowsNoOtherText t log n r × ShowsNoOtherName t log n 
 abbrev pub ShowNoOthers : Tuning → List (Option Group) → ℕ → List StoredReceiver → Type 0
 ShowNoOthers t log n receivers = All (λ s. ShowsNoOther t log n (receiver_stored s)) receivers
 
--- the receiver that loses nothing stands behind a slot, which is one of the first ones
+-- the receiver that loses nothing, after a slot that is one of the first ones
 abbrev pub IsNow : Tuning → List (Option Group) → Now → Type 0
 IsNow t log now = StandsAt t now.whole.now (got None log (now.slot + 1)) × (now.slot < now.slots)
 
--- nothing is found only if no burst makes a receiver show a mix of a text or a name
+-- the result `Nothing` comes only if no burst makes a receiver show a mix of a text or a name
 abbrev pub IsSure : Tuning → List (Option Group) → Found → Type 0
 IsSure t log Nothing = NoMixes t log
 IsSure t log (Candidate found) = Unit {0}

@@ -1,5 +1,5 @@
--- What `witness` leaves at each end: how much of the reader it took, and what it wrote. r is what a call did to the
--- reader, w what it did to the writer.
+-- The state of `witness` at each end: how much of the reader it read, and what it wrote. r is the traffic with the
+-- reader, w the traffic with the writer.
 use Rattle.std.specs.Prelude.{◌^◌, ℕ, Bool, List, Ok, Err, Result, Option}
 use Rattle.std.specs.Io.KnownBytes.{Appends}
 use Rattle.rds_block.specs.declared.group.Group.{Group}
@@ -18,7 +18,7 @@ pub record WroteAnswer (t : Tuning) (log : List (Option Group)) (found : Bool) (
   pub wrote : Appends w.before w.after written
   pub calm : IsCalm w
 
--- the writer failed: a first part of an answer to the log was written
+-- the writer failed: some first part of an answer to the log was written
 pub record WrotePart (t : Tuning) (log : List (Option Group)) (w : Traffic) : Type 0 where
   pub found : Bool
   pub written : List ℕ
@@ -26,12 +26,12 @@ pub record WrotePart (t : Tuning) (log : List (Option Group)) (w : Traffic) : Ty
   pub wrote : AppendsPrefix w.before w.after written
   pub failed : HasFailed w
 
--- what was written in answer to the log
+-- the output of the answer to the log
 abbrev pub Answers : Tuning → List (Option Group) → Traffic → Result Bool WriteFault → Type 0
 Answers t log w (Ok found) = WroteAnswer t log found w
 Answers t log w (Err fault) = WrotePart t log w
 
--- what `witness` did: it read the log to its end and answered it, or came to a fault, each of them for its cause
+-- the result of `witness`: it read the log to its end and answered it, or came to a fault, which has its cause
 abbrev pub Witnesses : Tuning → Traffic → Traffic → Result Bool LogFault → Type 0
 Witnesses t r w (Ok found) = (log : List (Option Group)) × GathersAll r log × WroteAnswer t log found w
 Witnesses t r w (Err Write) = (log : List (Option Group)) × GathersAll r log × WrotePart t log w

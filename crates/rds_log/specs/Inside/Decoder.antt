@@ -1,4 +1,4 @@
--- What the decoder of a log holds after these lines, the newest first; w is what it did to the writer.
+-- The state of the decoder of a log after these lines, the newest first. w is the traffic with the writer.
 use Rattle.std.specs.Prelude.{◌++◌, ℕ, List, Option}
 use Rattle.std.specs.Io.KnownBytes.{Appends}
 use Rattle.rds_block.specs.declared.group.Group.{Group}
@@ -9,7 +9,7 @@ use Rattle.rds_log.specs.LogWrites.{AreSlots}
 use Rattle.rds_log.specs.Inside.ViewLines.{ViewsStandAt}
 use Rattle.rds_log.specs.declared.decoder.Decoder.{Decoder}
 
--- the decoder took these lines; of their output, some was written, and the rest waits
+-- the decoder took these lines; a part of their output was written, and the rest waits
 pub record HasDecoded (t : Tuning) (d : Decoder) (w : Traffic) (lines : List Line) : Type 0 where
   pub slots : List (Option Group)
   pub say : AreSlots lines slots

@@ -1,5 +1,5 @@
--- What a source of lines holds after the lines that it gave, and what it gives next. Lists of lines have the newest
--- first. A source may make so many reads at most: `most`. Its reader stood at `start` before the first of them.
+-- The state of a source of lines after the lines that it returned, and what it returns next. Lists of lines have the
+-- newest first. A source makes at most `most` reads. Its reader was in the state `start` before the first of them.
 use Rattle.std.specs.Prelude.{◌≡◌, ◌≤◌, ◌+◌, ◌-◌, ◌++◌, ◌∷◌}
 use Rattle.std.specs.Prelude.{ℕ, Bool, List, MatchBool, MatchOption, None, Ok, Err}
 use Rattle.std.specs.Prelude.{Option, Result, Some, drop, false, length, take, true}
@@ -14,7 +14,7 @@ use Rattle.rds_view_lines.specs.declared.fault.LogFault.TheVariants.{BadLine, Ba
 use Rattle.rds_log.specs.declared.log_line.LogLine.{LogLine}
 use Rattle.rds_log.specs.declared.source.Source.{Source}
 
--- how a reader stands: the bytes that it has left, its failures and its counted reads
+-- the state of a reader: its remaining bytes, and its counts of failures and of reads
 pub record ReaderState : Type 0 where
   pub left : Option (List ℕ)
   pub failures : ℕ
@@ -24,7 +24,7 @@ abbrev pub state_of : {R : Type 0} → (R → Option (List ℕ)) → (R → ℕ)
 state_of remaining failures reads reader =
     record { left = remaining reader; failures = failures reader; reads = reads reader }
 
--- what was done to the reader between these
+-- the traffic of the reader between two states
 abbrev pub since : ReaderState → ReaderState → Traffic
 since start now = record {
   before = start.left;
@@ -33,23 +33,23 @@ since start now = record {
   failures_after = now.failures;
 }
 
--- the bytes of the chunk that no line was closed with yet
+-- the bytes of the chunk that are not part of a complete line
 abbrev pub waiting : Source → List ℕ
 waiting s = take (s.count - s.at) (drop s.at s.chunk)
 
--- how many bytes wait and may yet come, and the end
+-- the number of bytes that wait or may yet come, and one for the end
 abbrev pub budget : Source → ℕ
 budget s = to_come s.at s.count s.left s.ended
 
--- the text is of these lines, of the bytes of the next one that the cutter took, and of those that wait; the source
--- knows where that line ends in them
+-- the text has these lines, the bytes of the next one that the cutter took, and the waiting bytes; the source knows
+-- where that line ends in these
 pub record HasLine (s : Source) (lines : List Line) (text : List ℕ) : Type 0 where
   pub begun : Line
   pub cut : text ≡ text_of lines begun ++ waiting s
   pub cutter : CutterStandsAt s.cutter lines begun
   pub line : MatchOption s.line (IsLine (waiting s)) (EndsAt (waiting s))
 
--- so many reads were made of those that may be, and none failed
+-- some of the allowed reads were made, and none failed
 pub record HasMade (s : Source) (most : ℕ) (start now : ReaderState) : Type 0 where
   pub made : ℕ
   pub leaves : made + s.left ≡ most
@@ -70,13 +70,13 @@ pub record IsThrough (start now : ReaderState) (lines : List Line) : Type 0 wher
   pub end : IsAtEnd now.left
   pub are : AreLines text lines
 
--- the source gave these lines
+-- the source returned these lines
 pub record SourceStandsAt (s : Source) (most : ℕ) (start now : ReaderState) (lines : List Line) : Type 0 where
   pub reads : HasMade s most start now
   pub where_it_is :
       MatchBool s.ended (IsThrough start now lines × (s.line ≡ None)) (IsInside s most start now lines)
 
--- the reader is at its end, and the last line may be begun
+-- the reader is at its end, and the last line may be incomplete
 pub record IsAtLast (s : Source) (most : ℕ) (start now : ReaderState) (lines : List Line) : Type 0 where
   pub reads : HasMade s most start now
   pub begun : Line
@@ -84,7 +84,7 @@ pub record IsAtLast (s : Source) (most : ℕ) (start now : ReaderState) (lines :
   pub end : IsAtEnd now.left
   pub cutter : CutterStandsAt s.cutter lines begun
 
--- why there is no further line. These are the first bytes of one that is bad
+-- the reason why there is no further line, with the first bytes of a malformed one
 abbrev pub HasNoNext : ℕ → ReaderState → ReaderState → List Line → List ℕ → LogFault → Type 0
 HasNoNext most start now lines first (BadLine n) =
     (text : List ℕ) × Consumes start.left now.left text
@@ -95,13 +95,13 @@ HasNoNext most start now lines first (BadRow n) = ⊥
 HasNoNext most start now lines first Write = ⊥
 HasNoNext most start now lines first Memory = ⊥
 
--- what the line after these says; there is none where the log ends with them
+-- the meaning of the line after these; there is none if the log ends with them
 abbrev pub GivesNext : Source → ℕ → ReaderState → ReaderState → List Line → Option LogLine → Type 0
 GivesNext s most start now lines None = SourceStandsAt s most start now lines × IsThrough start now lines
 GivesNext s most start now lines (Some said) =
     (line : Line) × LineSays line said × SourceStandsAt s most start now (line ∷ lines)
 
--- what is given, if anything is
+-- the returned line, if there is one
 abbrev pub given_if : Bool → LogLine → Option LogLine
 given_if true said = Some said
 given_if false said = None
@@ -115,7 +115,7 @@ ReadsOn s most start now lines (Err fault) = HasNoNext most start now lines s.cu
 abbrev pub IsBadLineFault : LogFault → Type 0
 IsBadLineFault fault = (n : ℕ) × (fault ≡ BadLine n)
 
--- wherever the source and its reader stand, this holds of the lines that it gave
+-- for each state of the source and its reader: this holds of the returned lines
 abbrev pub WhereItReads : Source → ReaderState → (ℕ → ReaderState → List Line → Type 0) → Type 0
 WhereItReads s now Holds = (most : ℕ) (start : ReaderState) (lines : List Line)
     → SourceStandsAt s most start now lines → Holds most start lines

@@ -1,8 +1,8 @@
--- A reader that remembers whether a read of it failed.
+-- A reader that remembers whether one of its reads failed.
 use Rattle.std.specs.Prelude.{ℕ, Bool, List, Option}
 use Rattle.rds_script.specs.declared.failure_flag.FailureFlag.{FailureFlag}
 
--- the reader that is asked
+-- the wrapped reader
 abbrev pub flagged_reader : {R : Type 0} {g h : _} → FailureFlag R g h → R
 flagged_reader asked = asked.inner
 
@@ -10,6 +10,6 @@ flagged_reader asked = asked.inner
 abbrev pub asked_bytes : {R : Type 0} {g h : _} → (R → Option (List ℕ)) → FailureFlag R g h → Option (List ℕ)
 asked_bytes remaining asked = remaining (flagged_reader asked)
 
--- whether a read of it failed
+-- whether one of its reads failed
 abbrev pub has_failed : {R : Type 0} {g h : _} → FailureFlag R g h → Bool
 has_failed asked = asked.failed

@@ -1,5 +1,5 @@
--- What the parts of a script's engine hold: its reader after these records, and its station after their slots.
--- Lists have the newest first.
+-- The state of the parts of a script's engine: its reader after these records, and its station after their slots. Lists
+-- have the newest first.
 use Rattle.std.specs.Prelude.{◌≡◌, ◌⊎◌, ◌<◌, ◌++◌, ◌∷◌, ℕ, [], List, None, Option, Some, length, true}
 use Rattle.std.specs.Io.KnownBytes.{Appends}
 use Rattle.csv.specs.Reading.{Ready, default_config, is_flexible, reader_config, reader_state, reader_trim, source_of}
@@ -24,7 +24,7 @@ use Rattle.rds_script.specs.declared.row.RowRefused.TheVariants as refused
 use Rattle.rds_script.specs.declared.records.Records.{Records}
 use Rattle.rds_script.specs.declared.watched.Watched.{Watched}
 
--- the reader of a script gave these records
+-- the reader of a script returned these records
 pub record ScriptStandsAt {R : Type 0} {g h : _} (remaining : R → Option (List ℕ)) (known : Option (List ℕ))
     (s : Records R g h) (records : List Record) : Type 0 where
   pub plain : reader_trim s.reader ≡ untrimmed
@@ -35,19 +35,18 @@ pub record ScriptStandsAt {R : Type 0} {g h : _} (remaining : R → Option (List
       → (rest : List ℕ) × (source_of (asked_bytes remaining) s.reader ≡ Some rest)
       × RecordsUpTo script records (reader_state s.reader) rest
 
--- a read of a record fails for want of memory, or where a read of the reader failed
+-- reading a record fails only if the program is out of memory, or if a read of the reader failed
 abbrev pub IsReadFault : Type 0 → LogFault → Type 0
 IsReadFault ReadFailed fault = (fault ≡ Memory) ⊎ ((fault ≡ Read) × ReadFailed)
 
--- after slots there is a world whose receivers are watched, and what is kept of them is what the newest outcome shows;
--- before the first slot there is none
+-- after the first slot there is a world whose receivers are watched, and the kept views are those of the newest
+-- outcome; before it there is no world
 abbrev pub HasWatched : Config → ℕ → Option Watched → List Event → List Outcome → Type 0
 HasWatched config receivers None events outcomes = events ≡ []
 HasWatched config receivers (Some w) events outcomes =
     (0 < length events) × WatchedStandsAt config receivers w events × AreKept (views_kept w) (newest_views outcomes)
 
--- what a player played: in which form, for which station, with how many receivers, which records, and the lines that
--- it gave
+-- the history of a player: its form, its station, its number of receivers, its records, and their lines
 pub record Played : Type 0 where
   pub form : Form
   pub config : Config
@@ -59,12 +58,12 @@ pub record Played : Type 0 where
 abbrev pub nothing_played : Form → Config → Played
 nothing_played form config = record { form = form; config = config; receivers = 0; records = []; written = [] }
 
--- and a row more, which gave these lines; the first row fixes the number of receivers
+-- one more row with these lines; the first row fixes the number of receivers
 abbrev pub with_row : ℕ → Record → List ℕ → Played → Played
 with_row receivers row lines played =
     record played { receivers = receivers; records = row ∷ played.records; written = played.written ++ lines }
 
--- the player played these rows, each with so many receivers, and gave the lines of their slots
+-- the player played these rows, each with this number of receivers, and returned the lines of their slots
 pub record PlayerStandsAt (p : Player) (played : Played) : Type 0 where
   pub form_is : p.form ≡ played.form
   pub config_is : p.config ≡ played.config
@@ -78,20 +77,21 @@ pub record PlayerStandsAt (p : Player) (played : Played) : Type 0 where
   pub lines : played.written ≡ lines_of played.form outcomes
   pub wait : p.wait ≡ first_wait played.config events
 
--- wherever the player stands, this holds of what it played
+-- for each state of the player: this holds of its history
 abbrev pub WherePlayerStands : Player → (Played → Type 0) → Type 0
 WherePlayerStands p Holds = (played : Played) → PlayerStandsAt p played → Holds played
 
--- the player goes on by this row, and gives these lines
+-- the player plays this row, and returns these lines
 abbrev pub PlaysRow : Player → Record → List ℕ → Played → Type 0
 PlaysRow p row lines before = (receivers : ℕ) × PlayerStandsAt p (with_row receivers row lines before)
 
--- the world that is watched where there was this one or none
+-- the world that is watched if there was this one or none
 abbrev pub IsBegun : Config → ℕ → Option Watched → Watched → Type 0
 IsBegun config receivers None w = WatchedStandsAt config receivers w [] × AreKept (views_kept w) []
 IsBegun config receivers (Some before) w = w ≡ before
 
--- why a record is not played after these: not all are rows, and this is the cause, or it is the first and there is no memory for a world
+-- the reason why a record is not played after these: they are not all rows, for this cause; or it is the first, and
+-- there is no memory for a world
 abbrev pub IsRowRefused : Played → Record → RowRefused → Type 0
 IsRowRefused played row (NoRow cause) =
     AreNoRows played.config.late played.form (row ∷ played.records)

@@ -1,4 +1,4 @@
--- Why an argument is not read as at most so many bytes.
+-- The reasons why an argument does not give at most this many bytes.
 use Rattle.std.specs.Prelude.{ℕ, List}
 use Rattle.rds_charset.specs.Stops.{IsStop}
 use Rattle.rds_script.specs.RowCauses.{IsTooLong}

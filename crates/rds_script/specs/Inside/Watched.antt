@@ -1,4 +1,4 @@
--- What a world and the views kept of its receivers hold after these slots. Lists have the newest first.
+-- The state of a world and of the kept views of its receivers after these slots. Lists have the newest first.
 use Rattle.std.specs.Prelude.{◌≡◌, ◌<◌, ◌∷◌, ℕ, [], List, length, map}
 use Rattle.rds_world.specs.declared.world.Config.{Config}
 use Rattle.rds_world.specs.Event.{Event}
@@ -10,7 +10,7 @@ use Rattle.rds_view_lines.specs.KeptView.{view_kept}
 use Rattle.rds_script.specs.Outcomes.{view_at}
 use Rattle.rds_script.specs.declared.watched.Watched.{Watched}
 
--- the views that are kept are those of the receivers
+-- the kept views are those of the receivers
 abbrev pub AreKept : List ShownView → List ShownView → Type 0
 AreKept kept views = (i : ℕ) → view_at kept i ≡ view_at views i
 
@@ -20,11 +20,11 @@ WereShown config n [] views = ⊥
 WereShown config n (e ∷ before) views =
     (i : ℕ) → i < n → station.IsViewOfInput config (input_of (distance config) i before) (view_at views i)
 
--- what is kept of each receiver
+-- the kept view of each receiver
 abbrev pub views_kept : Watched → List ShownView
 views_kept w = map view_kept w.shown.items
 
--- the world of these slots, with so many receivers, and what each of them shows after the last
+-- the world after these slots, with this number of receivers, and the view of each of them after the last
 pub record WatchedStandsAt (config : Config) (receivers : ℕ) (w : Watched) (events : List Event) : Type 0 where
   pub world : station.StandsAt config w.world events
   pub count : length w.world.receivers ≡ receivers
@@ -32,7 +32,7 @@ pub record WatchedStandsAt (config : Config) (receivers : ℕ) (w : Watched) (ev
   pub shown : (i : ℕ) → i < receivers
       → station.IsViewOfInput config (input_of (distance config) i events) (view_at (views_kept w) i)
 
--- wherever it stands, this holds of its station, of the number of its receivers and of its slots
+-- for each state: this holds of its station, of the number of its receivers and of its slots
 abbrev pub WhereWatchedStands : Watched → (Config → ℕ → List Event → Type 0) → Type 0
 WhereWatchedStands w Holds = (config : Config) (receivers : ℕ) (events : List Event)
     → WatchedStandsAt config receivers w events → Holds config receivers events
