@@ -1,6 +1,6 @@
 pub mod Numbers
 pub mod Commands
-pub mod Records
+pub mod ReadRecords
 pub mod Changes
 pub mod Receptions
 pub mod SecondReading

@@ -1,6 +1,6 @@
 use Rattle.std.proofs.Common.{rules}
 use Rattle.csv.specs.Records.{fields_of}
-use Rattle.rds_script.proofs.Records.{next_stands}
+use Rattle.rds_script.proofs.ReadRecords.{next_stands}
 use Rattle.rds_script.proofs.records.Records.next.Goals as goal
 
 pub returns-in-Ok-clause-found : goal.returns-in-Ok-clause-found
