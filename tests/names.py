@@ -55,7 +55,7 @@ EXCEPTIONS = {
 # paragraphs that each cite one name that does not exist
 STALE = [
     "The function `audit_everything` does it.", "A call of `Audit::restart`.", "By rds_world `Audit::restore`.",
-    "| rds_page `rdsrt_run` (`Runs`) |\n|---|\n", "See `specs/Nowhere` or tests/nowhere.py.", "The option `--nowhere`.",
+    "| rds_wasm `rdsrt_run` (`Runs`) |\n|---|\n", "See `specs/Nowhere` or tests/nowhere.py.", "The option `--nowhere`.",
     "The edit restores_no_faults.", "The test neighbours_in_two_slots.", "The clause `first` of `step`.",
     "The crate rds_nowhere.", "See [README](README.md#nowhere).", '{}, "Look at nothing".'.format("README"),
     "See [here](docs/NOWHERE.md).", "## rds_encoder\n\n| Module | What |\n|---|---|\n| `late` | the lateness |",

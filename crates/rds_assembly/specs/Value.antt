@@ -1,7 +1,7 @@
 -- Which bytes are a text and which are a name, and why others are not.
 use Rattle.std.specs.Prelude.{◌≡◌, ℕ, ◌<◌, ◌≤◌, ◌==◌, ◌||◌, Bool, true, false, List, length, slice_index, nat_le}
-use Rattle.rds_assembly.specs.declared.refused.TextRefused.{TextRefused}
-use Rattle.rds_assembly.specs.declared.refused.TextRefused.TheVariants.{TooLong, BadByte}
+use Rattle.rds_assembly.specs.declared.text.TextRefused.{TextRefused}
+use Rattle.rds_assembly.specs.declared.text.TextRefused.TheVariants.{TooLong, BadByte}
 
 -- a byte of a text: none below the space, but the line feed, the end of a headline and the soft hyphen
 -- (IEC 62106, RadioText; that other control characters are refused is this project's own rule)

@@ -5,13 +5,14 @@ ghost use Rattle.std.specs.FinMap as map;
 ghost use Rattle.rds_assembly.specs.Held.{held_cells};
 
 use crate::Service;
+use crate::text::LONGEST_TEXT;
 use std::marker::{Model, PhantomData};
 
 /// The segments of one service that are held, each at its address. Callers see the map of cells.
 #[derive(Drop)]
 pub struct Assembly<S: Service> {
     /// Segment a stands at the places 4 * a to 4 * a + 3.
-    bytes: [u8; 64],
+    bytes: [u8; LONGEST_TEXT],
     /// Bit a says that segment a is held.
     mask: u16,
     /// How many of the bytes are the whole value, where there is one.
@@ -44,7 +45,7 @@ impl<S: Service> Assembly<S> {
         ensures { result ≡ map.empty }
     {
         Assembly {
-            bytes: [0; 64],
+            bytes: [0; LONGEST_TEXT],
             mask: 0,
             whole: None,
             service: PhantomData,
@@ -53,7 +54,7 @@ impl<S: Service> Assembly<S> {
 
     /// Holds these segments: segment a stands at the places 4 * a to 4 * a + 3 of the bytes, and is
     /// held where bit a of the mask is 1.
-    pub fn restore(bytes: [u8; 64], mask: u16) -> Self
+    pub fn restore(bytes: [u8; LONGEST_TEXT], mask: u16) -> Self
         ensures { result ≡ held_cells mask bytes }
     {
         let whole = S::length(&bytes, mask);
@@ -66,7 +67,7 @@ impl<S: Service> Assembly<S> {
     }
 
     /// The segments held, as `restore` takes them.
-    pub fn store(&self) -> ([u8; 64], u16)
+    pub fn store(&self) -> ([u8; LONGEST_TEXT], u16)
         ensures { held_cells result.1 result.0 ≡ self.now }
     {
         (self.bytes, self.mask)

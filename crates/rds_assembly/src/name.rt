@@ -3,8 +3,8 @@ ghost use Rattle.std.specs.Prelude.{◌≡◌, ℕ, ◌<◌, ◌≤◌, ◌↔�
 ghost use Rattle.rds_assembly.specs.Body.{segment_count, segment_of, name_body};
 ghost use Rattle.rds_assembly.specs.Value.{IsGivenName, IsName, IsRefusedFor, is_name_byte};
 
-use crate::TextRefused;
-use crate::type_name::NAME;
+use crate::text::TextRefused;
+use crate::type_name::NAME_LENGTH;
 use std::marker::Model;
 
 /// A programme type name: eight bytes (IEC 62106, programme type name). Callers see them.
@@ -34,13 +34,13 @@ impl Name {
         ensures value { IfOk result (λ name. name ≡ name_body bytes.now) }
         ensures refused { IfErr result (IsRefusedFor 8 is_name_byte bytes.now) }
     {
-        if bytes.len() > NAME {
+        if bytes.len() > NAME_LENGTH {
             return Err(TextRefused::TooLong);
         }
         if let Some(place) = bytes.iter().position(|byte| *byte < b' ') {
             return Err(TextRefused::BadByte(place));
         }
-        let mut padded = [b' '; NAME];
+        let mut padded = [b' '; NAME_LENGTH];
         padded[..bytes.len()].copy_from_slice(bytes);
         Ok(Name { bytes: padded })
     }

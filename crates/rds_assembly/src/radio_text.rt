@@ -6,6 +6,7 @@ ghost use Rattle.rds_assembly.specs.Held.{held_cells};
 
 use crate::Service;
 use crate::lanes::{returns_in, spread};
+use crate::text::LONGEST_TEXT;
 
 /// The byte that ends a text of fewer than 64 bytes (IEC 62106, RadioText).
 pub const CARRIAGE_RETURN: u8 = 0x0D;
@@ -42,7 +43,7 @@ impl Service for RadioText {
     ghost all = { all_text };
 
     /// The bytes before the first carriage return held, or all 64, where all of them are held.
-    fn length(bytes: &[u8; 64], mask: u16) -> Option<usize> {
+    fn length(bytes: &[u8; LONGEST_TEXT], mask: u16) -> Option<usize> {
         let held = spread(mask);
         // The first carriage return held, or 64, the end of a full text.
         let place = (returns_in(bytes) & held).trailing_zeros();

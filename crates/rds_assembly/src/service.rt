@@ -5,6 +5,8 @@ ghost use Rattle.rds_assembly.specs.Cells.{Cells};
 ghost use Rattle.rds_assembly.specs.Held.{held_cells};
 ghost use Rattle.rds_assembly.specs.Body.{AreAllHeld, AreSegmentsOf};
 
+use crate::text::LONGEST_TEXT;
+
 /// A service whose values go out in segments of four bytes, each at an address.
 pub trait Service {
     ghost SEGMENTS: { ℕ };
@@ -24,7 +26,7 @@ pub trait Service {
     /// How many bytes the whole value has, where the segments held make one whole: its bytes are
     /// the first of these. Segment a stands at the places 4 * a to 4 * a + 3, and is held where
     /// bit a of the mask is 1.
-    fn length(bytes: &[u8; 64], mask: u16) -> Option<usize>
+    fn length(bytes: &[u8; LONGEST_TEXT], mask: u16) -> Option<usize>
         ensures within { IfSome result (λ n. n ≤ 64) }
         ensures whole { IfSome result (λ n. is_whole (held_cells mask bytes.now)
             (take n bytes.now)) }

@@ -3,17 +3,28 @@ ghost use Rattle.std.specs.Prelude.{◌≡◌, ℕ, ◌<◌, ◌≤◌, ◌↔�
 ghost use Rattle.rds_assembly.specs.Body.{segment_count, segment_of, text_body};
 ghost use Rattle.rds_assembly.specs.Value.{IsRefusedFor, IsText, is_text_byte};
 
-use crate::TextRefused;
 use crate::radio_text::CARRIAGE_RETURN;
 use std::marker::Model;
+use thiserror::Error;
 
-/// The most bytes of a text.
-const LONGEST: usize = 64;
+/// Why bytes are no text, or no name.
+#[derive(Clone, Copy, Debug, PartialEq, Eq, Error)]
+pub enum TextRefused {
+    /// There are over 64 bytes, of a name over eight.
+    #[error("there are too many bytes")]
+    TooLong,
+    /// The byte at this place, counted from 0, is the first that may not stand there.
+    #[error("the byte at place {0} may not stand there")]
+    BadByte(usize),
+}
+
+/// The most bytes of a text (IEC 62106, RadioText).
+pub const LONGEST_TEXT: usize = 64;
 
 /// A RadioText of at most 64 bytes (IEC 62106, RadioText). Callers see its bytes.
 #[derive(Clone, Copy, Debug, PartialEq, Eq)]
 pub struct Text {
-    buffer: [u8; 64],
+    buffer: [u8; LONGEST_TEXT],
     end: u8,
 }
 
@@ -42,13 +53,13 @@ impl Text {
         ensures value { IfOk result (λ text. text ≡ bytes.now) }
         ensures refused { IfErr result (IsRefusedFor 64 is_text_byte bytes.now) }
     {
-        if bytes.len() > LONGEST {
+        if bytes.len() > LONGEST_TEXT {
             return Err(TextRefused::TooLong);
         }
         if let Some(place) = bytes.iter().position(|byte| !is_text_byte(*byte)) {
             return Err(TextRefused::BadByte(place));
         }
-        let mut buffer = [0; 64];
+        let mut buffer = [0; LONGEST_TEXT];
         buffer[..bytes.len()].copy_from_slice(bytes);
         Ok(Text {
             buffer,
@@ -70,7 +81,7 @@ impl Text {
         ensures some { 0 < result }
         ensures few { result ≤ 16 }
     {
-        if self.end as usize == LONGEST {
+        if self.end as usize == LONGEST_TEXT {
             16
         } else {
             self.end / 4 + 1

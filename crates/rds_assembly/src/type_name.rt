@@ -5,9 +5,10 @@ ghost use Rattle.rds_assembly.specs.Cells.{Cells};
 ghost use Rattle.rds_assembly.specs.Held.{held_cells};
 
 use crate::Service;
+use crate::text::LONGEST_TEXT;
 
-/// The bytes of a name.
-pub(crate) const NAME: usize = 8;
+/// The bytes of a name (IEC 62106, programme type name).
+pub const NAME_LENGTH: usize = 8;
 
 /// The name of group 10A (IEC 62106, programme type name).
 #[derive(Clone, Copy, Debug, PartialEq, Eq)]
@@ -41,9 +42,9 @@ impl Service for TypeName {
     ghost all = { all_name };
 
     /// All eight bytes, where both segments are held.
-    fn length(_bytes: &[u8; 64], mask: u16) -> Option<usize> {
+    fn length(_bytes: &[u8; LONGEST_TEXT], mask: u16) -> Option<usize> {
         if mask & 0b11 == 0b11 {
-            Some(NAME)
+            Some(NAME_LENGTH)
         } else {
             None
         }

@@ -3,7 +3,7 @@ use Rattle.std.proofs.Common.{◌≡◌, ◌⊎◌, ◌+◌, ◌<◌, ◌≤◌,
 use Rattle.std.proofs.lemmas.Bool.{and_parts, cases_lt, eqb-true}
 use Rattle.rds_assembly.specs.Body.{text_body}
 use Rattle.rds_assembly.specs.Value.{IsText, is_text_byte}
-use Rattle.rds_audit.specs.declared.lengths.Lengths.{Lengths}
+use Rattle.rds_audit.specs.declared.audited.Lengths.{Lengths}
 use Rattle.rds_audit.specs.Lengths.{are_spaces, lengths_from}
 use Rattle.rds_audit.proofs.Bodies.{text_below, text_end, text_full, text_past}
 

@@ -4,7 +4,7 @@ use Rattle.rds_fields.specs.declared.message.Message.{Message}
 use Rattle.rds_fields.specs.declared.message.Message.TheVariants.{Text, Tags}
 use Rattle.rds_fields.specs.Tag.{PairFields}
 use Rattle.rds_assembly.specs.Value.{IsText, is_text_byte}
-use Rattle.rds_audit.specs.declared.audit_fault.AuditFault.TheVariants.{Changed, NotOneText, EarlyFlag, EarlyTag, TagOutside}
+use Rattle.rds_audit.specs.declared.audit.AuditFault.TheVariants.{Changed, NotOneText, EarlyFlag, EarlyTag, TagOutside}
 use Rattle.rds_safety.specs.Lawful.{texts}
 use Rattle.rds_safety.specs.Marks.{Mark, Nothing, Tagged}
 use Rattle.rds_audit.specs.Rules.{HaveOneValue, IsFaultOf, LogPasses}

@@ -5,7 +5,7 @@ use Rattle.rds_block.specs.declared.group.Group.{Group}
 use Rattle.rds_fields.specs.declared.message.Message.{Message}
 use Rattle.rds_fields.specs.Tag.{PairFields}
 use Rattle.rds_receiver.specs.Receipts.{Hears}
-use Rattle.rds_audit.specs.declared.audit_fault.AuditFault.{AuditFault}
+use Rattle.rds_audit.specs.declared.audit.AuditFault.{AuditFault}
 use Rattle.rds_audit.specs.Ages.{aged}
 use Rattle.rds_audit.specs.AuditStandsAt.{AuditStandsAt, HoldsLog, HoldsMarks, HoldsNewest, HoldsSlot, Judges}
 use Rattle.rds_audit.specs.AuditState.{AuditState, ReignsState}

@@ -5,9 +5,9 @@ use Rattle.std.proofs.lemmas.Bool.Decides.{nat_tests}
 use Rattle.std.proofs.lemmas.List.{get_or-replicate, get_or-set_other, get_or-set_same, length-set}
 use Rattle.rds_fields.specs.Tag.{PairFields}
 use Rattle.rds_receiver.specs.Receipts.{Fragment}
-use Rattle.rds_audit.specs.declared.audit_fault.AuditFault.{AuditFault}
-use Rattle.rds_audit.specs.declared.audit_fault.AuditFault.TheVariants.{Changed, NotOneText, EarlyFlag, EarlyTag, TagOutside}
-use Rattle.rds_audit.specs.declared.lengths.Lengths.{Lengths}
+use Rattle.rds_audit.specs.declared.audit.AuditFault.{AuditFault}
+use Rattle.rds_audit.specs.declared.audit.AuditFault.TheVariants.{Changed, NotOneText, EarlyFlag, EarlyTag, TagOutside}
+use Rattle.rds_audit.specs.declared.audited.Lengths.{Lengths}
 use Rattle.rds_audit.specs.AuditStandsAt.{HoldsContent}
 use Rattle.rds_audit.specs.AuditState.{CanTake, CannotTake, ContentState, HasRoom, HoldsNoOther, cell_at, no_content, tagged, taken}
 use Rattle.rds_audit.specs.Lengths.{AreMeasured, Gauge, IsExact, IsFormed, lengths_of, narrowed, pair_end, sent_last, tags_end}

@@ -5,7 +5,7 @@ use Rattle.std.specs.Bool.{then_some}
 use Rattle.std.proofs.lemmas.Bool.{and_parts, eq-eqb, eqb-true}
 use Rattle.std.proofs.lemmas.Bool.Decides.{nat_tests}
 use Rattle.rds_assembly.specs.Value.{is_name_byte, is_text_byte}
-use Rattle.rds_audit.specs.declared.lengths.Lengths.{Lengths}
+use Rattle.rds_audit.specs.declared.audited.Lengths.{Lengths}
 use Rattle.rds_audit.specs.Lengths.{are_name_bytes, are_spaces, lengths_from}
 
 other : (b : ℕ) → b ≢ 13 → nat_eq b 13 ≡ false

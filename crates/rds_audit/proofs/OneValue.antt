@@ -14,7 +14,7 @@ use Rattle.rds_receiver.specs.Receipts.{Fragment}
 use Rattle.rds_safety.specs.Lawful.{IsFragmentOf, names, texts}
 use Rattle.rds_audit.specs.Rules.{AreUnchanged, HaveOneValue}
 use Rattle.rds_audit.specs.Reigns.{SentTags}
-use Rattle.rds_audit.specs.declared.lengths.Lengths.{Lengths}
+use Rattle.rds_audit.specs.declared.audited.Lengths.{Lengths}
 use Rattle.rds_audit.specs.Lengths.{AreMeasured, IsFormed, are_name_bytes, lengths_of, name_lengths, sent_last, tag_end, tags_end, text_lengths}
 use Rattle.rds_audit.proofs.Bodies.{segment_byte, segment_long, text_below, text_end, text_full, text_long, text_past}
 use Rattle.rds_audit.proofs.Allowed.{Agrees, Allows, Stands, allowed_agree, body_allows}

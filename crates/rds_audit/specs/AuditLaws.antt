@@ -5,7 +5,7 @@ use Rattle.rds_fields.specs.declared.message.Message.{Message}
 use Rattle.rds_fields.specs.Tag.{BothEndIn}
 use Rattle.rds_encoder.specs.Plan.{Broadcast, HasNumber}
 use Rattle.rds_receiver.specs.Receipts.{Fragment}
-use Rattle.rds_audit.specs.declared.audit_fault.AuditFault.{AuditFault}
+use Rattle.rds_audit.specs.declared.audit.AuditFault.{AuditFault}
 use Rattle.rds_audit.specs.Dense.{AreDense, HasPlans, IsDense}
 use Rattle.rds_safety.specs.Lawful.{HasFragment, IsLawful, IsFragmentOf, Kind}
 use Rattle.rds_safety.specs.Marks.{IsMarkIn, Mark, Sends}

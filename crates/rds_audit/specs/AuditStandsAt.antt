@@ -3,7 +3,7 @@ use Rattle.std.specs.Prelude.{◌≡◌, ◌<◌, ℕ, List, [], ◌∷◌, Opti
 use Rattle.rds_block.specs.declared.group.Group.{Group}
 use Rattle.rds_fields.specs.declared.message.Message.{Message}
 use Rattle.rds_receiver.specs.Receipts.{AreHeard, Fragment}
-use Rattle.rds_audit.specs.declared.audit_fault.AuditFault.{AuditFault}
+use Rattle.rds_audit.specs.declared.audit.AuditFault.{AuditFault}
 use Rattle.rds_audit.specs.Ages.{HoldsAges}
 use Rattle.rds_audit.specs.AuditState.{AuditState, ContentState, ReignsState, cell_at}
 use Rattle.rds_audit.specs.Lengths.{Gauge, lengths_of, name_gauge, sent_last, tags_end, text_gauge}

@@ -5,10 +5,10 @@ use Rattle.std.specs.Prelude.{refl, replicate, slice_index_or, slice_set, if◌t
 use Rattle.std.specs.Coded.{Coded, code_by, coded×, coded_ℕ, coded_bool, coded_list, coded_option}
 use Rattle.rds_fields.specs.Tag.{PairFields}
 use Rattle.rds_audit.specs.declared.ages.Ages.{Ages}
-use Rattle.rds_audit.specs.declared.audit_fault.AuditFault.{AuditFault}
-use Rattle.rds_audit.specs.declared.audit_fault.AuditFault.TheVariants.{Changed, NotOneText, EarlyFlag}
-use Rattle.rds_audit.specs.declared.audit_fault.AuditFault.TheVariants.{EarlyTag, TagOutside}
-use Rattle.rds_audit.specs.declared.lengths.Lengths.{Lengths}
+use Rattle.rds_audit.specs.declared.audit.AuditFault.{AuditFault}
+use Rattle.rds_audit.specs.declared.audit.AuditFault.TheVariants.{Changed, NotOneText, EarlyFlag}
+use Rattle.rds_audit.specs.declared.audit.AuditFault.TheVariants.{EarlyTag, TagOutside}
+use Rattle.rds_audit.specs.declared.audited.Lengths.{Lengths}
 use Rattle.rds_audit.specs.Ages.{opened_ages}
 use Rattle.rds_audit.specs.Lengths.{narrowed, pair_end}
 

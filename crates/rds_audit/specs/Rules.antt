@@ -6,9 +6,9 @@ use Rattle.std.specs.List.{AllByRecursion}
 use Rattle.rds_fields.specs.declared.message.Message.{Message}
 use Rattle.rds_fields.specs.Tag.{BothEndIn, PairFields}
 use Rattle.rds_receiver.specs.Receipts.{Fragment}
-use Rattle.rds_audit.specs.declared.audit_fault.AuditFault.{AuditFault}
-use Rattle.rds_audit.specs.declared.audit_fault.AuditFault.TheVariants.{Changed, NotOneText, EarlyFlag}
-use Rattle.rds_audit.specs.declared.audit_fault.AuditFault.TheVariants.{EarlyTag, TagOutside}
+use Rattle.rds_audit.specs.declared.audit.AuditFault.{AuditFault}
+use Rattle.rds_audit.specs.declared.audit.AuditFault.TheVariants.{Changed, NotOneText, EarlyFlag}
+use Rattle.rds_audit.specs.declared.audit.AuditFault.TheVariants.{EarlyTag, TagOutside}
 use Rattle.rds_safety.specs.Lawful.{IsFragmentOf, Kind, names, texts}
 use Rattle.rds_safety.specs.Marks.{IsMarkIn, Mark, Nothing, Sends, Tagged, marks, name_mark, text_mark}
 use Rattle.rds_audit.specs.Reigns.{Reign, SentTags, reigns}

@@ -3,9 +3,9 @@ use Rattle.std.specs.Prelude.{ℕ, ◌<◌, ◌≤◌, ◌==◌, List, Option, S
 use Rattle.rds_fields.specs.Stored.{is_set}
 use Rattle.rds_audit.specs.AuditState.{AuditState, ContentState, ReignsState}
 use Rattle.rds_audit.specs.declared.ages.Ages.{Ages}
-use Rattle.rds_audit.specs.declared.audit_fault.AuditFault.{AuditFault}
-use Rattle.rds_audit.specs.declared.audit_fault.AuditFault.TheVariants.{Changed, NotOneText, EarlyFlag}
-use Rattle.rds_audit.specs.declared.audit_fault.AuditFault.TheVariants.{EarlyTag, TagOutside}
+use Rattle.rds_audit.specs.declared.audit.AuditFault.{AuditFault}
+use Rattle.rds_audit.specs.declared.audit.AuditFault.TheVariants.{Changed, NotOneText, EarlyFlag}
+use Rattle.rds_audit.specs.declared.audit.AuditFault.TheVariants.{EarlyTag, TagOutside}
 use Rattle.rds_audit.specs.declared.stored.StoredCell.{StoredCell}
 use Rattle.rds_audit.specs.declared.stored.StoredReigns.{StoredReigns}
 use Rattle.rds_audit.specs.declared.stored.StoredAudit.{StoredAudit}

@@ -5,7 +5,7 @@ ghost use Rattle.rds_block.specs.declared.group.Group.{Group};
 ghost use Rattle.rds_fields.specs.declared.message.Message.{Message};
 ghost use Rattle.rds_fields.specs.Spells.{Spells};
 ghost use Rattle.rds_receiver.specs.Receipts.{Hears};
-ghost use Rattle.rds_audit.specs.declared.audit_fault.AuditFault.{AuditFault};
+ghost use Rattle.rds_audit.specs.declared.audit.AuditFault.{AuditFault};
 ghost use Rattle.rds_audit.specs.AuditLaws.{IsSafeLog};
 ghost use Rattle.rds_audit.specs.AuditStandsAt.{AuditStandsAt, HoldsLog, HoldsSlot, Judges, WhereTheAuditStands};
 ghost use Rattle.rds_audit.specs.Dense.{HasPlans};
@@ -18,14 +18,33 @@ ghost use Rattle.rds_safety.specs.Marks.{marks, name_mark, text_mark};
 use crate::audited::{Names, Texts};
 use crate::reigns::Reigns;
 use crate::stored::StoredAudit;
-use crate::{
-    AuditFault, one_fault, passes_by_plans, what_passes_is_safe, what_passes_is_safe_by_the_flag,
-};
+use crate::{one_fault, passes_by_plans, what_passes_is_safe, what_passes_is_safe_by_the_flag};
 use rds_block::{Blocks, Group};
 use rds_encoder::Distance;
 use rds_fields::{Dwell, Late, Message};
 use rds_receiver::heard;
 use std::marker::Model;
+use thiserror::Error;
+
+/// The rule that a log breaks first (this project's own rules).
+#[derive(Clone, Copy, Debug, PartialEq, Eq, Error)]
+pub enum AuditFault {
+    /// A segment's address was sent with other bytes in this text or name.
+    #[error("an address was sent with other bytes")]
+    Changed,
+    /// No text, or no name, has the segment beside those sent before it.
+    #[error("the segments are not of one text")]
+    NotOneText,
+    /// The flag changed again too soon: the text or name before the last had not been gone for M + K slots.
+    #[error("the flag changed too early")]
+    EarlyFlag,
+    /// Tags came before any text, or before their text had been on air for M + K slots.
+    #[error("tags came too early")]
+    EarlyTag,
+    /// A tag ends past the end of its text.
+    #[error("a tag ends past its text")]
+    TagOutside,
+}
 
 /// The audit of a log: what a station sent, slot by slot. It passes the log where some texts and names of a
 /// station that keeps them apart by the dwell and the lateness could have been sent so.

@@ -2,8 +2,14 @@
 ghost use Rattle.std.specs.Prelude.{◌≡◌, ℕ, ◌<◌, ◌≤◌, ◌↔◌, IsTrue, EachIndex, slice_index};
 ghost use Rattle.rds_audit.specs.Lengths.{Gauge, IsExact};
 
-use crate::lengths::Lengths;
 use rds_assembly::{CARRIAGE_RETURN, is_text_byte};
+
+/// The lengths from `least` to `most`, in bytes; none where `least` is over `most`.
+#[derive(Clone, Copy)]
+pub(crate) struct Lengths {
+    pub(crate) least: u8,
+    pub(crate) most: u8,
+}
 
 /// A service that is audited, of texts or of names.
 pub(crate) trait Audited {

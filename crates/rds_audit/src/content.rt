@@ -6,8 +6,7 @@ ghost use Rattle.rds_audit.specs.Stored.{ages_stored, content_stored};
 
 use crate::AuditFault;
 use crate::ages::Ages;
-use crate::audited::Audited;
-use crate::lengths::Lengths;
+use crate::audited::{Audited, Lengths};
 use crate::stored::{StoredReigns, cells_restored, cells_stored};
 use rds_fields::{Tag, TagPair};
 use std::marker::{Model, PhantomData};

@@ -4,16 +4,13 @@
 
 mod ages;
 mod audit;
-mod audit_fault;
 mod audit_laws;
 mod audited;
 mod content;
-mod lengths;
 mod reigns;
 mod stored;
 
-pub use audit::Audit;
-pub use audit_fault::AuditFault;
+pub use audit::{Audit, AuditFault};
 pub use audit_laws::{
     broadcasts_are_the_reigns, one_fault, passes_by_plans, what_passes_is_safe,
     what_passes_is_safe_by_the_flag,

@@ -7,7 +7,7 @@ use Rattle.std.proofs.lemmas.List.{take-append-drop, take_at}
 use Rattle.std.specs.Prelude.{Result, Ok, Err, IsErr}
 use Rattle.std.specs.Io.KnownBytes.{Appends}
 use Rattle.rds_charset.specs.Told.{AppendsPrefix, HasFailed, IsCalm, Traffic}
-use Rattle.rds_charset.specs.declared.output.WriteFault.{WriteFault}
+use Rattle.rds_charset.specs.declared.told.WriteFault.{WriteFault}
 
 abbrev pub Puts : Traffic → List ℕ → Result (Unit {0}) WriteFault → Type 0
 Puts t bytes (Ok done) = Appends t.before t.after bytes × IsCalm t

@@ -13,7 +13,6 @@
 mod hexadecimal;
 mod laws;
 mod lines;
-mod output;
 mod printing;
 mod reading;
 mod table;
@@ -22,7 +21,6 @@ mod told;
 pub use hexadecimal::{digits_of_four, four_words, word_at};
 pub use laws::{printed_is_read_back, printed_is_text, printed_takes_four, text_is_read_one_way};
 pub use lines::Lines;
-pub use output::{WriteFault, put};
 pub use printing::{push_text, write_text};
 pub use reading::{Stop, TextFault, measure_text, read_text};
-pub use told::{TellingRead, TellingWrite, Told};
+pub use told::{TellingRead, TellingWrite, Told, WriteFault, put};

@@ -5,9 +5,8 @@ ghost use Rattle.rds_charset.specs.Printed.{printed, printed_byte, shown_charact
 ghost use Rattle.rds_charset.specs.Puts.{Puts};
 ghost use Rattle.rds_charset.specs.Told.{traffic};
 
-use crate::output::{WriteFault, put};
 use crate::table::character_of;
-use crate::told::TellingWrite;
+use crate::told::{TellingWrite, WriteFault, put};
 use arrayvec::ArrayVec;
 
 /// How many bytes of a text go out in one chunk.

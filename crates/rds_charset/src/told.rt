@@ -1,9 +1,11 @@
 //! Readers and writers that count their failures, so that a program can tell them from an end.
-
 ghost use Rattle.std.specs.Prelude.{◌≡◌, ℕ};
 ghost use Rattle.rds_charset.specs.Told.{failures_of, inner_of, next_count, reads_of, traffic, ReadsOne, WritesOne};
+ghost use Rattle.rds_charset.specs.Puts.{Puts};
+ghost use Rattle.rds_charset.specs.Told.{traffic};
 
 use std::io::{self, Read, Write};
+use thiserror::Error;
 
 /// A reader that counts the reads of it, and those that failed.
 ///
@@ -61,6 +63,13 @@ impl<T> Told<T> {
             failures: 0,
             reads: 0,
         }
+    }
+
+    /// Returns the reader or the writer.
+    pub fn inner(&self) -> &T
+        ensures { result.now ≡ inner_of self.now }
+    {
+        &self.inner
     }
 
     /// How many calls of `read_one` and `write_one` failed.
@@ -146,4 +155,27 @@ impl<R: TellingRead> TellingRead for &mut R {
     fn read_one(&mut self, buf: &mut [u8]) -> Option<usize> {
         (**self).read_one(buf)
     }
+}
+
+/// The writer failed before all of the bytes were out.
+#[derive(Clone, Copy, Debug, PartialEq, Eq, Error)]
+#[error("the writer failed")]
+pub struct WriteFault;
+
+/// Writes all of the bytes, in as many writes as the writer asks for.
+///
+/// # Errors
+///
+/// [`WriteFault`] at the first write that fails. The bytes that were taken before it are out.
+pub fn put<W: TellingWrite>(bytes: &[u8], writer: &mut W) -> Result<(), WriteFault>
+    ensures { Puts (traffic W.contents W.failures writer.old writer.new) bytes.now result }
+{
+    let mut sent = 0;
+    while sent < bytes.len() {
+        match writer.write_one(&bytes[sent..]) {
+            Some(count) => sent += count,
+            None => return Err(WriteFault),
+        }
+    }
+    Ok(())
 }

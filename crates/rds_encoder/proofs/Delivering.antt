@@ -6,8 +6,8 @@ use Rattle.std.proofs.lemmas.Nat.{div-add-mod', mod-mul-add}
 use Rattle.std.proofs.Math.Nat.{add-mod_right, mod-lt}
 use Rattle.rds_fields.specs.declared.message.Message.TheVariants.{Text, Name}
 use Rattle.rds_assembly.specs.Body.{name_body, segment_count, segment_of, text_body}
-use Rattle.rds_encoder.specs.declared.turn.Turn.{Turn}
-use Rattle.rds_encoder.specs.declared.turn.Turn.TheVariants as turn
+use Rattle.rds_encoder.specs.declared.round.Turn.{Turn}
+use Rattle.rds_encoder.specs.declared.round.Turn.TheVariants as turn
 use Rattle.rds_encoder.specs.Delivery.{IsOnThroughout, IsSentAmong, free_in}
 use Rattle.rds_encoder.specs.Entries.{Entry, Restart, SetText, SetName, SetTags, Tick, Move, name_moves, restart_before, slot_of, text_moves}
 use Rattle.rds_encoder.specs.Plan.{OnAir, on_air}

@@ -1,7 +1,7 @@
 -- A pair is on air with a text only.
 use Rattle.std.proofs.Common.{◌≡◌, ◌+◌, ℕ, List, [], ◌∷◌, length, Bool, true, false, nat_lt, nat_le, Option, Some, None, Ok, Err, refl, sym, is_ok, option_map}
 use Rattle.rds_fields.specs.declared.pair.Which.TheVariants.{One, Two}
-use Rattle.rds_encoder.specs.declared.refusal.Refusal.TheVariants.{NoText, OutOfText}
+use Rattle.rds_encoder.specs.declared.reply.Refusal.TheVariants.{NoText, OutOfText}
 use Rattle.rds_fields.specs.declared.message.Message.TheVariants.{Tags}
 use Rattle.rds_fields.specs.Tag.{PairFields, ends_in}
 use Rattle.rds_encoder.specs.Entries.{Entry, Restart, SetText, SetName, SetTags, Tick, restart_before, slot_of, text_moves}

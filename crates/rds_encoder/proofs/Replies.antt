@@ -1,8 +1,8 @@
 -- Replies, part by part.
 use Rattle.std.proofs.Common.{◌≡◌, ℕ, ◌+◌, ◌-◌, ◌*◌, ◌<◌, List, [], ◌∷◌, Bool, true, false, nat_lt, Option, Some, None, Ok, Err, refl, sym, ap, arith}
 use Rattle.std.proofs.lemmas.Bool.Decides.{nat_tests}
-use Rattle.rds_encoder.specs.declared.refusal.Refusal.{Refusal}
-use Rattle.rds_encoder.specs.declared.refusal.Refusal.TheVariants.{Silent}
+use Rattle.rds_encoder.specs.declared.reply.Refusal.{Refusal}
+use Rattle.rds_encoder.specs.declared.reply.Refusal.TheVariants.{Silent}
 use Rattle.rds_encoder.specs.Entries.{Entry, Restart, SetText, SetName, SetTags, Tick, Move, name_moves, restart_before, slot_of, text_moves}
 use Rattle.rds_encoder.specs.Reply.{Reply, held_for, held_reply, last_accepted, reply_to, unless_silent}
 use Rattle.rds_encoder.specs.StandsAt.{hold_left}

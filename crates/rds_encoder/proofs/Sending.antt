@@ -8,8 +8,8 @@ use Rattle.rds_fields.specs.declared.message.Message.{Message}
 use Rattle.rds_fields.specs.declared.message.Message.TheVariants.{Text, Name, Tags}
 use Rattle.rds_fields.specs.Tag.{BothEndIn, PairFields, ends_in}
 use Rattle.rds_assembly.specs.Body.{name_body, segment_count, text_body}
-use Rattle.rds_encoder.specs.declared.turn.Turn.{Turn}
-use Rattle.rds_encoder.specs.declared.turn.Turn.TheVariants as turn
+use Rattle.rds_encoder.specs.declared.round.Turn.{Turn}
+use Rattle.rds_encoder.specs.declared.round.Turn.TheVariants as turn
 use Rattle.rds_encoder.specs.Entries.{Entry, Restart, SetText, SetName, SetTags, Tick, Move, name_moves, restart_before, slot_of, text_moves}
 use Rattle.rds_encoder.specs.Laws.{IsSegmentOf}
 use Rattle.rds_encoder.specs.Plan.{OnAir, on_air}

@@ -7,7 +7,7 @@ use Rattle.rds_encoder.proofs.OnAir.{air_since}
 use Rattle.std.proofs.lemmas.Bool.Decides.{nat_tests}
 use Rattle.rds_fields.specs.declared.head.Head.{Head}
 use Rattle.rds_assembly.specs.Body.{segment_count, text_body}
-use Rattle.rds_encoder.specs.declared.turn.Turn.TheVariants.{Text}
+use Rattle.rds_encoder.specs.declared.round.Turn.TheVariants.{Text}
 use Rattle.rds_encoder.specs.Entries.{Entry, Tick, Move, Begin, Set, End, name_moves, restart_before, slot_of, text_moves}
 use Rattle.rds_encoder.specs.Plan.{OnAir, bytes_of, on_air}
 use Rattle.rds_encoder.specs.Round.{turn_in}

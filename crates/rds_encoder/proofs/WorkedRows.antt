@@ -5,7 +5,7 @@ use Rattle.rds_fields.specs.declared.message.Message.TheVariants.{Text, Name, Ta
 use Rattle.rds_fields.specs.declared.pair.Which.TheVariants.{One}
 use Rattle.rds_fields.specs.RadioTextPlus.{announcement}
 use Rattle.rds_fields.specs.Tag.{PairFields, TagFields}
-use Rattle.rds_encoder.specs.declared.refusal.Refusal.TheVariants.{Silent, Held, NoText, OutOfText}
+use Rattle.rds_encoder.specs.declared.reply.Refusal.TheVariants.{Silent, Held, NoText, OutOfText}
 use Rattle.rds_encoder.specs.Entries.{Entry, Restart, SetText, SetName, SetTags, Tick, name_moves, text_moves}
 use Rattle.rds_encoder.specs.Plan.{on_air, plan_of}
 use Rattle.rds_encoder.specs.Reply.{reply_to}

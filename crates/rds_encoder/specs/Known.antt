@@ -9,8 +9,8 @@ use Rattle.rds_encoder.specs.Plan.{OnAir, on_air}
 use Rattle.rds_encoder.specs.Round.{turn_in}
 use Rattle.rds_encoder.specs.Sent.{is_turn, name_segment, sent_at_turn, sent_in, tags_due, text_segment, turn_of}
 use Rattle.rds_encoder.specs.Tags.{pair_on_air}
-use Rattle.rds_encoder.specs.declared.turn.Turn.{Turn}
-use Rattle.rds_encoder.specs.declared.turn.Turn.TheVariants as turn
+use Rattle.rds_encoder.specs.declared.round.Turn.{Turn}
+use Rattle.rds_encoder.specs.declared.round.Turn.TheVariants as turn
 
 unless_if : (b : Bool) (x : Option Message) → x ≢ Some Other → (if b then x else None) ≢ Some Other
 unless_if true x h = h

@@ -5,7 +5,7 @@ use Rattle.std.specs.Prelude.{ℕ, true, Bool, List, Some, IfSome, is_ok, length
 use Rattle.rds_fields.specs.declared.message.Message.TheVariants.{Text, Name, Tags}
 use Rattle.rds_fields.specs.Tag.{BothEndIn, PairFields}
 use Rattle.rds_assembly.specs.Body.{name_body, segment_count, segment_of, text_body}
-use Rattle.rds_encoder.specs.declared.turn.Turn.TheVariants as turn
+use Rattle.rds_encoder.specs.declared.round.Turn.TheVariants as turn
 use Rattle.rds_encoder.specs.Entries.{Entry, Move, Begin, Set, End, name_moves, restart_before, slot_of, text_moves}
 use Rattle.rds_encoder.specs.Plan.{Broadcast, Covers, HasNumber, OnAir, ending_in, endless, on_air, plan_of}
 use Rattle.rds_encoder.specs.Reply.{reply_to}

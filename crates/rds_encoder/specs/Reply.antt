@@ -4,8 +4,8 @@
 -- first.
 use Rattle.std.specs.Prelude.{◌+◌, ◌-◌, ◌*◌, [], ◌∷◌}
 use Rattle.std.specs.Prelude.{ℕ, List, Option, Some, None, Result, Ok, Err, is_ok, nat_lt, if◌then◌else◌}
-use Rattle.rds_encoder.specs.declared.refusal.Refusal.{Refusal}
-use Rattle.rds_encoder.specs.declared.refusal.Refusal.TheVariants.{Silent, Held, NoText, OutOfText}
+use Rattle.rds_encoder.specs.declared.reply.Refusal.{Refusal}
+use Rattle.rds_encoder.specs.declared.reply.Refusal.TheVariants.{Silent, Held, NoText, OutOfText}
 use Rattle.rds_encoder.specs.Entries.{Move, Begin, Set, End, slot_of, restart_before}
 
 -- a set is done, or refused

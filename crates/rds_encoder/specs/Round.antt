@@ -1,7 +1,7 @@
 -- The round: whose turn each free slot is (this project's own schedule).
 use Rattle.std.specs.Prelude.{ℕ, ◌<◌, List, [], ◌∷◌, slice_index_or}
-use Rattle.rds_encoder.specs.declared.turn.Turn.{Turn}
-use Rattle.rds_encoder.specs.declared.turn.Turn.TheVariants.{Text, Name, Announcement, Tags}
+use Rattle.rds_encoder.specs.declared.round.Turn.{Turn}
+use Rattle.rds_encoder.specs.declared.round.Turn.TheVariants.{Text, Name, Announcement, Tags}
 
 -- eight turns make a round
 abbrev pub round : List Turn

@@ -9,8 +9,8 @@ use Rattle.rds_fields.specs.declared.message.Message.TheVariants.{Text, Name, Ta
 use Rattle.rds_fields.specs.RadioTextPlus.{announcement}
 use Rattle.rds_fields.specs.Tag.{PairFields}
 use Rattle.rds_assembly.specs.Body.{name_body, segment_count, segment_of, text_body}
-use Rattle.rds_encoder.specs.declared.turn.Turn.{Turn}
-use Rattle.rds_encoder.specs.declared.turn.Turn.TheVariants as turn
+use Rattle.rds_encoder.specs.declared.round.Turn.{Turn}
+use Rattle.rds_encoder.specs.declared.round.Turn.TheVariants as turn
 use Rattle.rds_encoder.specs.Entries.{Entry, Move, Begin, Set, End, name_moves, restart_before, slot_of, text_moves}
 use Rattle.rds_encoder.specs.Plan.{OnAir, on_air}
 use Rattle.rds_encoder.specs.Round.{turn_in}

@@ -3,7 +3,7 @@
 use Rattle.std.specs.Prelude.{ℕ, List, [], ◌∷◌, Option, Some, None, Ok, Err, is_ok, length, if◌then◌else◌}
 use Rattle.rds_fields.specs.declared.pair.Which.TheVariants.{One, Two}
 use Rattle.rds_fields.specs.Tag.{PairFields, ends_in}
-use Rattle.rds_encoder.specs.declared.refusal.Refusal.TheVariants.{NoText, OutOfText}
+use Rattle.rds_encoder.specs.declared.reply.Refusal.TheVariants.{NoText, OutOfText}
 use Rattle.rds_encoder.specs.Entries.{Entry, Restart, SetText, SetName, SetTags}
 use Rattle.rds_encoder.specs.Entries.{Tick, restart_before, slot_of, text_moves}
 use Rattle.rds_encoder.specs.Plan.{OnAir, on_air}

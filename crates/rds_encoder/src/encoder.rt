@@ -16,12 +16,11 @@ ghost use Rattle.rds_encoder.specs.Tags.{fitting_reply, pair_on_air, tags_reply}
 
 use crate::distance::Distance;
 use crate::hold::Hold;
-use crate::round::Round;
+use crate::round::{Round, Turn};
 use crate::silence::Silence;
 use crate::stored::{StoredEncoder, StoredName};
 use crate::text_on_air::TextOnAir;
 use crate::track::Track;
-use crate::turn::Turn;
 use crate::{Refusal, Wait};
 use rds_assembly::{Name, Text};
 use rds_block::{Group, Place};

@@ -16,14 +16,12 @@ mod distance;
 mod encoder;
 mod hold;
 mod laws;
-mod refusal;
+mod reply;
 mod round;
 mod silence;
 mod stored;
 mod text_on_air;
 mod track;
-mod turn;
-mod wait;
 
 pub use distance::Distance;
 pub use encoder::Encoder;
@@ -33,6 +31,5 @@ pub use laws::{
     planned_is_what_was_on_air, sent_is_of_what_is_on_air,
 };
 pub use rds_fields::Late;
-pub use refusal::Refusal;
+pub use reply::{Refusal, Wait};
 pub use stored::{StoredEncoder, StoredHold, StoredName, StoredText};
-pub use wait::Wait;

@@ -2,8 +2,20 @@
 ghost use Rattle.std.specs.Prelude.{◌≡◌, ◌+◌, ◌%◌, ◌<◌};
 ghost use Rattle.rds_encoder.specs.Round.{IsTurn, turn_in};
 
-use crate::turn::Turn;
 use std::marker::Model;
+
+/// What a free slot is for.
+#[derive(Clone, Copy, PartialEq)]
+pub(crate) enum Turn {
+    /// The next segment of the text.
+    Text,
+    /// The segment of the name with this address.
+    Name(u8),
+    /// The announcement of RadioText Plus.
+    Announcement,
+    /// The tags of the text.
+    Tags,
+}
 
 /// The place in the round of the turn that is next.
 #[derive(Drop)]

@@ -4,7 +4,7 @@ ghost use Rattle.rds_assembly.specs.Value.{IsName};
 ghost use Rattle.rds_fields.specs.Stored.{is_set};
 ghost use Rattle.rds_encoder.specs.Stored.{name_stored};
 
-use rds_assembly::Name;
+use rds_assembly::{LONGEST_TEXT, Name};
 use rds_fields::StoredPair;
 
 /// For how many slots more a service holds its next set back, and the flag that it will have.
@@ -19,7 +19,7 @@ pub struct StoredHold {
 #[repr(C)]
 #[derive(Clone, Copy)]
 pub struct StoredText {
-    pub bytes: [u8; 64],
+    pub bytes: [u8; LONGEST_TEXT],
     pub length: u8,
     pub next: u8,
     pub is_on_air: u8,

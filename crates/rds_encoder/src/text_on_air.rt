@@ -9,7 +9,7 @@ ghost use Rattle.rds_fields.specs.Stored.{is_set};
 
 use crate::stored::StoredText;
 use crate::track::Track;
-use rds_assembly::Text;
+use rds_assembly::{LONGEST_TEXT, Text};
 use rds_block::Place;
 use rds_fields::Message;
 use std::marker::Model;
@@ -66,7 +66,7 @@ impl TextOnAir {
         ensures same { text_stored result ≡ on_air.now }
         ensures good { IsTrue (is_set result.is_on_air) → IsTextStored result }
     {
-        let mut bytes = [0; 64];
+        let mut bytes = [0; LONGEST_TEXT];
         let Some(text) = on_air else {
             return StoredText {
                 bytes,

@@ -5,7 +5,7 @@ use crate::same::same;
 use rds_charset::Told;
 use rds_fields::{Dwell, Late};
 use rds_log::audit_within;
-use rds_output::LogFault;
+use rds_view_lines::LogFault;
 use std::alloc::Global;
 use std::cell::Cell;
 use std::io::Read;

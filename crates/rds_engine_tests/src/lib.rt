@@ -1,4 +1,4 @@
-//! The tests of rds_log, rds_witness and rds_script, which make their public calls as rds_run does. Worked rows, from words and
+//! The tests of rds_log, rds_witness and rds_script, which make their public calls as rds_program does. Worked rows, from words and
 //! input to output and status, are cases of the built program.
 //!
 //! They stand in one crate of their own, since a crate with tests is proved once more for them.

@@ -6,7 +6,7 @@ use rds_fields::{Dwell, Late};
 use rds_log::{
     LineCause, LogNotes, NoNote, audit_with_notes, decode_with_notes, gather_with_notes,
 };
-use rds_output::LogFault;
+use rds_view_lines::LogFault;
 use rds_witness::witness_with_notes;
 use std::test::Fail;
 

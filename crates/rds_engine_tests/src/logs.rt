@@ -6,8 +6,8 @@ use rds_fields::Dwell;
 use rds_log::{
     bytes_have_one_verdict, bytes_write_one_output, decode, decode_within, what_an_answer_means,
 };
-use rds_output::LogFault;
 use rds_script::{rows_write_one_output, script_writes_one_output};
+use rds_view_lines::LogFault;
 use std::alloc::Global;
 use std::cell::Cell;
 use std::io::{self, ErrorKind, Read, Write};

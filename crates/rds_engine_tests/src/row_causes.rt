@@ -6,11 +6,11 @@ use crate::scripts::{ENCODED, ENCODED_LOG, SIMULATED, SIMULATED_OUTPUT, config};
 use rds_charset::Told;
 use rds_encoder::Refusal;
 use rds_fields::Late;
-use rds_output::LogFault;
 use rds_script::{
     BadRow, RowCause, ScriptNotes, Thing, Wait, encode, encode_with_notes, simulate,
     simulate_with_notes,
 };
+use rds_view_lines::LogFault;
 use std::alloc::Global;
 use std::cell::Cell;
 use std::process::Abort;

@@ -5,7 +5,7 @@ use crate::same::same;
 use rds_charset::Told;
 use rds_fields::Dwell;
 use rds_log::{gather, gather_within};
-use rds_output::LogFault;
+use rds_view_lines::LogFault;
 use rds_witness::witness;
 use std::alloc::Global;
 use std::cell::Cell;

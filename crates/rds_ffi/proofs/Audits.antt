@@ -7,15 +7,15 @@ use Rattle.rds_audit.specs.AuditStandsAt.{AuditStandsAt, WhereTheAuditStands}
 use Rattle.rds_audit.specs.AuditState.{AuditState}
 use Rattle.rds_audit.specs.Rules.{IsFaultOf, LogPasses}
 use Rattle.rds_audit.specs.Stored.{IsStored, audit_stored}
-use Rattle.rds_audit.specs.declared.audit_fault.AuditFault.{AuditFault}
+use Rattle.rds_audit.specs.declared.audit.AuditFault.{AuditFault}
 use Rattle.rds_audit.specs.declared.stored.StoredAudit.{StoredAudit}
-use Rattle.rds_ffi.specs.AuditLies.{AuditLies, Tells, WhereItHeard, fault_in}
+use Rattle.rds_ffi.specs.AuditInMemory.{AuditInMemory, Tells, WhereItHeard, fault_in}
 use Rattle.rds_ffi.specs.Codes.{code_of}
 
-pub there : (pi d : ℕ) (s : StoredAudit) (log : List (Option Group)) (a : AuditState) → (IsStored s → a ≡ audit_stored s) → AuditLies pi d s log → AuditStandsAt pi d a log
+pub there : (pi d : ℕ) (s : StoredAudit) (log : List (Option Group)) (a : AuditState) → (IsStored s → a ≡ audit_stored s) → AuditInMemory pi d s log → AuditStandsAt pi d a log
 there pi d s log a restored lies = subst (λ (x : AuditState). AuditStandsAt pi d x log) (sym (restored lies.good)) lies.at
 
-pub back : (pi d : ℕ) (s : StoredAudit) (log : List (Option Group)) (a : AuditState) → audit_stored s ≡ a → IsStored s → AuditStandsAt pi d a log → AuditLies pi d s log
+pub back : (pi d : ℕ) (s : StoredAudit) (log : List (Option Group)) (a : AuditState) → audit_stored s ≡ a → IsStored s → AuditStandsAt pi d a log → AuditInMemory pi d s log
 back pi d s log a same good stands = record {
   good = good;
   at = subst (λ (x : AuditState). AuditStandsAt pi d x log) (sym same) stands;

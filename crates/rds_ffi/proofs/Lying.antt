@@ -8,14 +8,14 @@ use Rattle.rds_encoder.specs.StandsAt.{StandsAt}
 use Rattle.rds_encoder.specs.State.{EncoderState}
 use Rattle.rds_encoder.specs.Stored.{IsStored, encoder_stored}
 use Rattle.rds_encoder.specs.declared.stored.StoredEncoder.{StoredEncoder}
-use Rattle.rds_ffi.specs.EncoderLies.{EncoderLies}
+use Rattle.rds_ffi.specs.EncoderInMemory.{EncoderInMemory}
 
 -- the encoder that was restored stands where the one that lies there does
-pub there : (station : Head) (m : ℕ) (s : StoredEncoder) (entries : List Entry) (e : EncoderState) → (IsStored s → e ≡ encoder_stored s) → EncoderLies station m s entries → StandsAt station m e entries
+pub there : (station : Head) (m : ℕ) (s : StoredEncoder) (entries : List Entry) (e : EncoderState) → (IsStored s → e ≡ encoder_stored s) → EncoderInMemory station m s entries → StandsAt station m e entries
 there station m s entries e restored lies = subst (λ (x : EncoderState). StandsAt station m x entries) (sym (restored lies.good)) lies.at
 
 -- and the one that is stored lies there
-pub back : (station : Head) (m : ℕ) (s : StoredEncoder) (entries : List Entry) (e : EncoderState) → encoder_stored s ≡ e → IsStored s → StandsAt station m e entries → EncoderLies station m s entries
+pub back : (station : Head) (m : ℕ) (s : StoredEncoder) (entries : List Entry) (e : EncoderState) → encoder_stored s ≡ e → IsStored s → StandsAt station m e entries → EncoderInMemory station m s entries
 back station m s entries e same good stands = record {
   good = good;
   at = subst (λ (x : EncoderState). StandsAt station m x entries) (sym same) stands;

@@ -2,13 +2,13 @@
 -- own).
 use Rattle.std.specs.Prelude.{◌≡◌, ℕ, Option, Some, None, Ok, Err}
 use Rattle.rds_fields.specs.declared.pair.Which.TheVariants.{One, Two}
-use Rattle.rds_assembly.specs.declared.refused.TextRefused.{TextRefused}
-use Rattle.rds_assembly.specs.declared.refused.TextRefused.TheVariants.{TooLong, BadByte}
-use Rattle.rds_encoder.specs.declared.refusal.Refusal.TheVariants.{Silent, Held, NoText, OutOfText}
+use Rattle.rds_assembly.specs.declared.text.TextRefused.{TextRefused}
+use Rattle.rds_assembly.specs.declared.text.TextRefused.TheVariants.{TooLong, BadByte}
+use Rattle.rds_encoder.specs.declared.reply.Refusal.TheVariants.{Silent, Held, NoText, OutOfText}
 use Rattle.rds_encoder.specs.Reply.{Reply}
-use Rattle.rds_audit.specs.declared.audit_fault.AuditFault.{AuditFault}
-use Rattle.rds_audit.specs.declared.audit_fault.AuditFault.TheVariants.{Changed, NotOneText, EarlyFlag}
-use Rattle.rds_audit.specs.declared.audit_fault.AuditFault.TheVariants.{EarlyTag, TagOutside}
+use Rattle.rds_audit.specs.declared.audit.AuditFault.{AuditFault}
+use Rattle.rds_audit.specs.declared.audit.AuditFault.TheVariants.{Changed, NotOneText, EarlyFlag}
+use Rattle.rds_audit.specs.declared.audit.AuditFault.TheVariants.{EarlyTag, TagOutside}
 use Rattle.rds_ffi.specs.declared.reply.RdsrtReply.{RdsrtReply}
 
 -- it changes with every size, place, code or call of the header

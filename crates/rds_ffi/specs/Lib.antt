@@ -1,9 +1,9 @@
 pub mod Codes
 pub mod Slots
 pub mod Viewed
-pub mod Lies
-pub mod EncoderLies
+pub mod ReceiverInMemory
+pub mod EncoderInMemory
 pub mod Sent
 pub mod Texts
 pub mod Tagged
-pub mod AuditLies
+pub mod AuditInMemory

@@ -6,7 +6,7 @@ ghost use Rattle.rds_audit.specs.Dense.{HasPlans};
 ghost use Rattle.rds_audit.specs.FlagLaws.{NamesAreSafeByFlag, TextsAreSafeByFlag};
 ghost use Rattle.rds_audit.specs.Reigns.{AlternateFlags, reigns};
 ghost use Rattle.rds_audit.specs.Rules.{LogPasses};
-ghost use Rattle.rds_ffi.specs.AuditLies.{AuditLies, IsAnswer, Tells, WhereItHeard, WhereItLies, fault_in};
+ghost use Rattle.rds_ffi.specs.AuditInMemory.{AuditInMemory, IsAnswer, Tells, WhereItHeard, WhereItIs, fault_in};
 ghost use Rattle.rds_ffi.specs.Codes.{RDSRT_BAD_ARGUMENT, RDSRT_OK, code_of};
 ghost use Rattle.rds_ffi.specs.Slots.{Bring, IsCount};
 ghost use Rattle.rds_safety.specs.Marks.{marks, name_mark, text_mark};
@@ -24,7 +24,7 @@ use rds_fields::{Dwell, Late};
 #[unsafe(no_mangle)]
 pub extern "C" fn rdsrt_audit_init(audit: &mut StoredAudit, pi: u16, dwell: u16, late: u16) -> u32
     ensures code { result ≡ RDSRT_OK ↔ ((0 < dwell) × (late ≤ 1024)) }
-    ensures stands { result ≡ RDSRT_OK → AuditLies pi (dwell + late) audit.new [] }
+    ensures stands { result ≡ RDSRT_OK → AuditInMemory pi (dwell + late) audit.new [] }
     ensures bad { result ≢ RDSRT_OK → result ≡ RDSRT_BAD_ARGUMENT }
     ensures kept { result ≢ RDSRT_OK → audit.new ≡ audit.old }
 {
@@ -35,7 +35,7 @@ pub extern "C" fn rdsrt_audit_init(audit: &mut StoredAudit, pi: u16, dwell: u16,
         return codes::BAD_ARGUMENT;
     };
     *audit = Audit::new(pi, dwell, late).store();
-    codes::DONE
+    codes::OK
 }
 
 /// Takes the next slot: the four blocks of the group that was sent in it, or no blocks. `RDSRT_OK` where the log passes
@@ -47,8 +47,8 @@ pub extern "C" fn rdsrt_audit_init(audit: &mut StoredAudit, pi: u16, dwell: u16,
 #[unsafe(no_mangle)]
 pub extern "C" fn rdsrt_audit_slot(audit: &mut StoredAudit, blocks: &[u16]) -> u32
     ensures code { result ≢ RDSRT_BAD_ARGUMENT ↔ IsCount blocks.now }
-    ensures stands { result ≢ RDSRT_BAD_ARGUMENT → WhereItLies audit.old (λ pi d log.
-        (slot : Option Group) × Bring blocks.now slot × AuditLies pi d audit.new (slot ∷ log)) }
+    ensures stands { result ≢ RDSRT_BAD_ARGUMENT → WhereItIs audit.old (λ pi d log.
+        (slot : Option Group) × Bring blocks.now slot × AuditInMemory pi d audit.new (slot ∷ log)) }
     ensures which { result ≢ RDSRT_BAD_ARGUMENT → WhereItHeard audit.new (Tells result) }
     ensures codes { result ≢ RDSRT_BAD_ARGUMENT → IsAnswer result }
     ensures kept { result ≡ RDSRT_BAD_ARGUMENT → audit.new ≡ audit.old }
@@ -102,7 +102,7 @@ fn told(found: Result<(), AuditFault>) -> u32
     ensures answer { result ≢ RDSRT_BAD_ARGUMENT }
 {
     match found {
-        Ok(()) => codes::DONE,
+        Ok(()) => codes::OK,
         Err(AuditFault::Changed) => codes::FAULT_CHANGED,
         Err(AuditFault::NotOneText) => codes::FAULT_NOT_ONE_TEXT,
         Err(AuditFault::EarlyFlag) => codes::FAULT_EARLY_FLAG,

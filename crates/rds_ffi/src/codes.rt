@@ -4,7 +4,7 @@
 pub(crate) const ABI: u32 = 2;
 
 /// Done. Of a receiver's slot: the view is what it was. Of a tick: nothing is sent.
-pub(crate) const DONE: u32 = 0;
+pub(crate) const OK: u32 = 0;
 
 /// What a receiver shows may have changed.
 pub(crate) const CHANGED: u32 = 1;

@@ -3,7 +3,7 @@ ghost use Rattle.std.specs.Prelude.{◌≡◌, ◌≢◌, ◌+◌, ◌<◌, ◌�
 ghost use Rattle.rds_block.specs.declared.group.Group.{Group};
 ghost use Rattle.rds_fields.specs.declared.head.Head.{Head};
 ghost use Rattle.rds_fields.specs.Stored.{is_set};
-ghost use Rattle.rds_assembly.specs.declared.refused.TextRefused.{TextRefused};
+ghost use Rattle.rds_assembly.specs.declared.text.TextRefused.{TextRefused};
 ghost use Rattle.rds_assembly.specs.Body.{name_body};
 ghost use Rattle.rds_assembly.specs.Value.{IsGivenName, IsRefusedFor, IsText, is_name_byte, is_text_byte};
 ghost use Rattle.rds_encoder.specs.Entries.{Entry, Restart, SetName, SetTags, SetText, Tick, name_moves, text_moves};
@@ -13,7 +13,7 @@ ghost use Rattle.rds_encoder.specs.Sent.{IsSent, sent_in};
 ghost use Rattle.rds_encoder.specs.Stored.{IsStored, encoder_stored};
 ghost use Rattle.rds_encoder.specs.Tags.{tags_reply};
 ghost use Rattle.rds_ffi.specs.Codes.{RDSRT_BAD_ARGUMENT, RDSRT_BAD_TAGS, RDSRT_OK, IsReplyOf, refusal_of, reply_of};
-ghost use Rattle.rds_ffi.specs.EncoderLies.{EncoderLies, TakesStored, WhereItLies};
+ghost use Rattle.rds_ffi.specs.EncoderInMemory.{EncoderInMemory, TakesStored, WhereItIs};
 ghost use Rattle.rds_ffi.specs.Sent.{IsOut};
 ghost use Rattle.rds_ffi.specs.Tagged.{AreGiven, pair_of};
 ghost use Rattle.rds_ffi.specs.Viewed.{IsPlainName, IsPlainText, name_viewed, text_viewed};
@@ -59,10 +59,10 @@ pub extern "C" fn rdsrt_encoder_init(
     late: u16,
 ) -> u32
     ensures code { result ≡ RDSRT_OK ↔ ((pty < 32) × (0 < dwell) × (late ≤ 1024)) }
-    ensures first { result ≡ RDSRT_OK → EncoderLies record { pi = pi; tp = is_set tp; pty = pty } (dwell + late)
+    ensures first { result ≡ RDSRT_OK → EncoderInMemory record { pi = pi; tp = is_set tp; pty = pty } (dwell + late)
         encoder.new [] }
     ensures again { result ≡ RDSRT_OK → (entries : List Entry)
-        → EncoderLies record { pi = pi; tp = is_set tp; pty = pty } (dwell + late)
+        → EncoderInMemory record { pi = pi; tp = is_set tp; pty = pty } (dwell + late)
         encoder.new (Restart ∷ entries) }
     ensures bad { result ≢ RDSRT_OK → result ≡ RDSRT_BAD_ARGUMENT }
     ensures kept { result ≢ RDSRT_OK → encoder.new ≡ encoder.old }
@@ -82,7 +82,7 @@ pub extern "C" fn rdsrt_encoder_init(
         pty,
     };
     *encoder = Encoder::new(head, dwell, late).store();
-    codes::DONE
+    codes::OK
 }
 
 /// Puts the text of these bytes on air from this slot on.
@@ -93,7 +93,7 @@ pub extern "C" fn rdsrt_encoder_init(
 /// `RDSRT_SILENT` or `RDSRT_HELD` with the slots to wait. Nothing changes.
 #[unsafe(no_mangle)]
 pub extern "C" fn rdsrt_encoder_set_text(encoder: &mut StoredEncoder, text: &[u8]) -> RdsrtReply
-    ensures reply { IsText text.now → WhereItLies encoder.old
+    ensures reply { IsText text.now → WhereItIs encoder.old
         (λ _ m entries. result ≡ reply_of (reply_to m (text_moves entries))) }
     ensures stands { IsText text.now → TakesStored encoder.old encoder.new (SetText text.now) }
     ensures refused { (IsText text.now → ⊥) → (refused : TextRefused)
@@ -118,7 +118,7 @@ pub extern "C" fn rdsrt_encoder_set_text(encoder: &mut StoredEncoder, text: &[u8
 /// `RDSRT_SILENT` or `RDSRT_HELD` with the slots to wait. Nothing changes.
 #[unsafe(no_mangle)]
 pub extern "C" fn rdsrt_encoder_set_name(encoder: &mut StoredEncoder, name: &[u8]) -> RdsrtReply
-    ensures reply { IsGivenName name.now → WhereItLies encoder.old
+    ensures reply { IsGivenName name.now → WhereItIs encoder.old
         (λ _ m entries. result ≡ reply_of (reply_to m (name_moves entries))) }
     ensures stands { IsGivenName name.now
         → TakesStored encoder.old encoder.new (SetName (name_body name.now)) }
@@ -147,7 +147,7 @@ pub extern "C" fn rdsrt_encoder_set_tags(
     encoder: &mut StoredEncoder,
     tags: &RdsrtTags,
 ) -> RdsrtReply
-    ensures reply { AreGiven tags.now → WhereItLies encoder.old
+    ensures reply { AreGiven tags.now → WhereItIs encoder.old
         (λ _ m entries. result ≡ reply_of (tags_reply m (pair_of tags.now) entries)) }
     ensures stands { AreGiven tags.now → TakesStored encoder.old encoder.new (SetTags (pair_of tags.now)) }
     ensures refused { (AreGiven tags.now → ⊥) → result ≡ record { code = RDSRT_BAD_TAGS; number = 0 } }
@@ -173,7 +173,7 @@ pub extern "C" fn rdsrt_encoder_tick(
     free: u8,
     blocks: &mut [u16; 4],
 ) -> u32
-    ensures sent { WhereItLies encoder.old (λ station m entries. (group : Option Group)
+    ensures sent { WhereItIs encoder.old (λ station m entries. (group : Option Group)
         × IsSent station (sent_in m (is_set free) entries) group × IsOut result blocks.new group) }
     ensures stands { TakesStored encoder.old encoder.new (Tick (is_set free)) }
     ensures few { result ≤ 1 }
@@ -183,7 +183,7 @@ pub extern "C" fn rdsrt_encoder_tick(
     let sent = inner.tick(free != 0);
     *encoder = inner.store();
     let Some(group) = sent else {
-        return codes::DONE;
+        return codes::OK;
     };
     *blocks = group.to_blocks();
     codes::SENT
@@ -192,9 +192,9 @@ pub extern "C" fn rdsrt_encoder_tick(
 /// The text and the name on air.
 #[unsafe(no_mangle)]
 pub extern "C" fn rdsrt_encoder_on_air(encoder: &StoredEncoder, air: &mut RdsrtOnAir)
-    ensures text { WhereItLies encoder.now (λ _ m entries.
+    ensures text { WhereItIs encoder.now (λ _ m entries.
         text_viewed air.new.text ≡ option_map bytes_of (on_air m (text_moves entries))) }
-    ensures name { WhereItLies encoder.now (λ _ m entries.
+    ensures name { WhereItIs encoder.now (λ _ m entries.
         name_viewed air.new.name ≡ option_map bytes_of (on_air m (name_moves entries))) }
     ensures plain_text { IsPlainText air.new.text }
     ensures plain_name { IsPlainName air.new.name }
@@ -209,11 +209,11 @@ pub extern "C" fn rdsrt_encoder_on_air(encoder: &StoredEncoder, air: &mut RdsrtO
 /// For how many slots more a set would be refused, this one included.
 #[unsafe(no_mangle)]
 pub extern "C" fn rdsrt_encoder_wait(encoder: &StoredEncoder, wait: &mut RdsrtWait)
-    ensures silent { WhereItLies encoder.now
+    ensures silent { WhereItIs encoder.now
         (λ _ m entries. wait.new.silent ≡ silent_for (reply_to m (text_moves entries))) }
-    ensures text { WhereItLies encoder.now
+    ensures text { WhereItIs encoder.now
         (λ _ m entries. wait.new.text ≡ held_for (reply_to m (text_moves entries))) }
-    ensures name { WhereItLies encoder.now
+    ensures name { WhereItIs encoder.now
         (λ _ m entries. wait.new.name ≡ held_for (reply_to m (name_moves entries))) }
 {
     let left = Encoder::restore(encoder).wait();

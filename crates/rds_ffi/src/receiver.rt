@@ -6,7 +6,7 @@ ghost use Rattle.rds_receiver.specs.Receipts.{AreHeard};
 ghost use Rattle.rds_receiver.specs.Shown.{IsView, ShownView};
 ghost use Rattle.rds_receiver.specs.Tags.{pair_held};
 ghost use Rattle.rds_ffi.specs.Codes.{RDSRT_BAD_ARGUMENT, RDSRT_CHANGED, RDSRT_OK};
-ghost use Rattle.rds_ffi.specs.Lies.{ReceiverLies, WhereItLies};
+ghost use Rattle.rds_ffi.specs.ReceiverInMemory.{ReceiverInMemory, WhereItIs};
 ghost use Rattle.rds_ffi.specs.Slots.{Bring, IsCount};
 ghost use Rattle.rds_ffi.specs.Viewed.{AreTagsOf, IsPlainView, viewed};
 
@@ -27,14 +27,14 @@ pub extern "C" fn rdsrt_receiver_init(receiver: &mut StoredReceiver, pi: u16, dw
     ensures code { result ≡ RDSRT_OK ↔ 0 < dwell }
     ensures bad { result ≢ RDSRT_OK → result ≡ RDSRT_BAD_ARGUMENT }
     ensures stands { result ≡ RDSRT_OK → (first : ℕ)
-        → ReceiverLies record { programme = pi; dwell = dwell; first = first } receiver.new [] }
+        → ReceiverInMemory record { programme = pi; dwell = dwell; first = first } receiver.new [] }
     ensures kept { result ≢ RDSRT_OK → receiver.new ≡ receiver.old }
 {
     let Some(dwell) = Dwell::new(dwell) else {
         return codes::BAD_ARGUMENT;
     };
     *receiver = Receiver::new(pi, dwell).store();
-    codes::DONE
+    codes::OK
 }
 
 /// Handles what one slot brought: the four blocks of a group, or no blocks for nothing. `RDSRT_OK` where the view is
@@ -47,9 +47,9 @@ pub extern "C" fn rdsrt_receiver_init(receiver: &mut StoredReceiver, pi: u16, dw
 pub extern "C" fn rdsrt_receiver_slot(receiver: &mut StoredReceiver, blocks: &[u16]) -> u32
     ensures code { result ≢ RDSRT_BAD_ARGUMENT ↔ IsCount blocks.now }
     ensures few { result ≢ RDSRT_BAD_ARGUMENT → (result ≡ RDSRT_OK) ⊎ (result ≡ RDSRT_CHANGED) }
-    ensures stands { result ≢ RDSRT_BAD_ARGUMENT → WhereItLies receiver.old (λ t input.
-        (slot : Option Group) × Bring blocks.now slot × ReceiverLies t receiver.new (slot ∷ input)) }
-    ensures same { result ≡ RDSRT_OK → (view : ShownView) → WhereItLies receiver.old (λ t input.
+    ensures stands { result ≢ RDSRT_BAD_ARGUMENT → WhereItIs receiver.old (λ t input.
+        (slot : Option Group) × Bring blocks.now slot × ReceiverInMemory t receiver.new (slot ∷ input)) }
+    ensures same { result ≡ RDSRT_OK → (view : ShownView) → WhereItIs receiver.old (λ t input.
         IsView t input view → (slot : Option Group) × Bring blocks.now slot × IsView t (slot ∷ input) view) }
     ensures kept { result ≡ RDSRT_BAD_ARGUMENT → receiver.new ≡ receiver.old }
 {
@@ -59,7 +59,7 @@ pub extern "C" fn rdsrt_receiver_slot(receiver: &mut StoredReceiver, blocks: &[u
     // a copy by a name of its own: what is passed on may not have been lent
     let given = slot;
     if receiver.rest(given) {
-        return codes::DONE;
+        return codes::OK;
     }
     go_on(receiver, slot)
 }
@@ -68,8 +68,8 @@ pub extern "C" fn rdsrt_receiver_slot(receiver: &mut StoredReceiver, blocks: &[u
 #[inline(never)]
 fn go_on(receiver: &mut StoredReceiver, slot: Option<Blocks>) -> u32
     ensures few { (result ≡ RDSRT_OK) ⊎ (result ≡ RDSRT_CHANGED) }
-    ensures stands { WhereItLies receiver.old (λ t input. ReceiverLies t receiver.new (slot ∷ input)) }
-    ensures same { result ≡ RDSRT_OK → (view : ShownView) → WhereItLies receiver.old
+    ensures stands { WhereItIs receiver.old (λ t input. ReceiverInMemory t receiver.new (slot ∷ input)) }
+    ensures same { result ≡ RDSRT_OK → (view : ShownView) → WhereItIs receiver.old
         (λ t input. IsView t input view → IsView t (slot ∷ input) view) }
 {
     let mut inner = Receiver::restore(receiver);
@@ -81,8 +81,8 @@ fn go_on(receiver: &mut StoredReceiver, slot: Option<Blocks>) -> u32
 /// What the receiver shows.
 #[unsafe(no_mangle)]
 pub extern "C" fn rdsrt_receiver_view(receiver: &StoredReceiver, view: &mut RdsrtView)
-    ensures shown { WhereItLies receiver.now (λ t input. IsView t input (viewed view.new)) }
-    ensures tags { WhereItLies receiver.now (λ t input. (heard : List (Option Message))
+    ensures shown { WhereItIs receiver.now (λ t input. IsView t input (viewed view.new)) }
+    ensures tags { WhereItIs receiver.now (λ t input. (heard : List (Option Message))
         → AreHeard t.programme input heard → AreTagsOf (pair_held t.dwell t.first heard) view.new) }
     ensures plain { IsPlainView view.new }
 {
@@ -94,5 +94,5 @@ fn told(changed: bool) -> u32
     ensures same { result ≡ RDSRT_OK → IsFalse changed }
     ensures few { (result ≡ RDSRT_OK) ⊎ (result ≡ RDSRT_CHANGED) }
 {
-    if changed { codes::CHANGED } else { codes::DONE }
+    if changed { codes::CHANGED } else { codes::OK }
 }

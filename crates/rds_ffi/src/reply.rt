@@ -20,7 +20,7 @@ pub(crate) fn plain_reply(reply: Result<(), Refusal>) -> RdsrtReply
     ensures { result ≡ reply_of reply }
 {
     let (code, number) = match reply {
-        Ok(()) => (codes::DONE, 0),
+        Ok(()) => (codes::OK, 0),
         Err(Refusal::Silent(slots)) => (codes::SILENT, slots),
         Err(Refusal::Held(slots)) => (codes::HELD, slots),
         Err(Refusal::NoText) => (codes::NO_TEXT, 0),

@@ -8,14 +8,12 @@ ghost use Rattle.rds_ffi.specs.Texts.{IsToldBy};
 
 use crate::codes;
 use arrayvec::ArrayVec;
+use rds_assembly::LONGEST_TEXT;
 use rds_charset::{TextFault, push_text, read_text};
 use std::str;
 
-/// The most bytes of a text.
-const LONGEST: usize = 64;
-
 /// The most bytes of a text in its printed form.
-const ROOM: usize = 4 * LONGEST;
+const ROOM: usize = 4 * LONGEST_TEXT;
 
 /// Writes a text of up to 64 bytes in its printed form, which is UTF-8, and gives the number of its bytes.
 ///
@@ -36,7 +34,7 @@ pub extern "C" fn rdsrt_text_to_utf8(text: &[u8], into: &mut [u8], count: &mut u
     ensures kept { result ≢ RDSRT_OK → into.new ≡ into.old }
     ensures uncounted { result ≡ RDSRT_TOO_LONG → count.new ≡ count.old }
 {
-    if text.len() > LONGEST {
+    if text.len() > LONGEST_TEXT {
         return codes::TOO_LONG;
     }
     let mut line = ArrayVec::<u8, ROOM>::new();
@@ -47,7 +45,7 @@ pub extern "C" fn rdsrt_text_to_utf8(text: &[u8], into: &mut [u8], count: &mut u
         return codes::NO_ROOM;
     }
     into[..needed].copy_from_slice(line.as_slice());
-    codes::DONE
+    codes::OK
 }
 
 /// Reads a text in its printed form into the front of the slice, and gives the number of its bytes.
@@ -75,7 +73,7 @@ pub extern "C" fn rdsrt_text_from_utf8(utf8: &[u8], into: &mut [u8], count: &mut
         return codes::NOT_UTF8;
     };
     let (code, number) = match read_text(text, into) {
-        Ok(read) => (codes::DONE, read),
+        Ok(read) => (codes::OK, read),
         Err(TextFault::BadEscape(place)) => (codes::BAD_ESCAPE, place),
         Err(TextFault::NoSuchCharacter(place)) => (codes::NO_CHARACTER, place),
         Err(TextFault::NoRoom) => return codes::NO_ROOM,

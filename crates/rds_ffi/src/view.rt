@@ -8,6 +8,7 @@ ghost use Rattle.rds_ffi.specs.Viewed as specs;
 ghost use Rattle.rds_ffi.specs.Viewed.{AreTagsOf, IsPlainItem, IsPlainName, IsPlainText, IsPlainView, IsTagOf};
 ghost use Rattle.rds_ffi.specs.Viewed.{count_of, item_viewed, name_viewed, tag_plain, tag_viewed, text_viewed, viewed};
 
+use rds_assembly::LONGEST_TEXT;
 use rds_fields::{Tag, TagPair, Which};
 use rds_receiver::Receiver;
 
@@ -15,7 +16,7 @@ use rds_receiver::Receiver;
 #[repr(C)]
 #[derive(Clone, Copy)]
 pub struct RdsrtText {
-    pub bytes: [u8; 64],
+    pub bytes: [u8; LONGEST_TEXT],
     pub length: u8,
     pub is_shown: u8,
 }
@@ -81,7 +82,7 @@ pub(crate) fn plain_text(text: Option<&[u8]>) -> RdsrtText
     ensures plain { IsPlainText result }
     ensures none { result.is_shown ≡ 0 → text.entry ≡ None }
 {
-    let mut bytes = [0; 64];
+    let mut bytes = [0; LONGEST_TEXT];
     let Some(text) = text else {
         return RdsrtText {
             bytes,

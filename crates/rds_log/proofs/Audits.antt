@@ -5,7 +5,7 @@ use Rattle.rds_block.specs.declared.group.Group.{Group}
 use Rattle.rds_audit.specs.AuditState.{AuditState}
 use Rattle.rds_audit.specs.AuditStandsAt.{AuditStandsAt, HoldsLog}
 use Rattle.rds_audit.specs.Rules.{IsFaultOf}
-use Rattle.rds_audit.specs.declared.audit_fault.AuditFault.{AuditFault}
+use Rattle.rds_audit.specs.declared.audit.AuditFault.{AuditFault}
 use Rattle.rds_log.specs.LogLines.{Line}
 use Rattle.rds_log.specs.LineSays.{LineSays}
 use Rattle.rds_log.specs.Inside.Source.{ReaderState, SourceStandsAt, since}

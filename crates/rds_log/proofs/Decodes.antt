@@ -17,11 +17,11 @@ use Rattle.rds_log.specs.Inside.Source.{HasNoNext, IsBadLineFault, IsInside, IsT
 use Rattle.rds_log.specs.Decode.{Decodes, WroteLines, WrotePart}
 use Rattle.rds_log.specs.Inside.Decoder.{HasDecoded}
 use Rattle.rds_log.specs.declared.decoder.Decoder.{Decoder}
-use Rattle.rds_output.specs.declared.fault.LogFault.{LogFault}
-use Rattle.rds_output.specs.declared.fault.LogFault.TheVariants.{BadLine, BadRow, Read, Write, TooLong, Memory}
+use Rattle.rds_view_lines.specs.declared.fault.LogFault.{LogFault}
+use Rattle.rds_view_lines.specs.declared.fault.LogFault.TheVariants.{BadLine, BadRow, Read, Write, TooLong, Memory}
 use Rattle.rds_log.specs.declared.log_line.LogLine.TheVariants.{Slot}
 use Rattle.rds_log.specs.declared.source.Source.{Source}
-use Rattle.rds_log.specs.declared.view_lines.ViewLines.{ViewLines}
+use Rattle.rds_log.specs.declared.decoder.ViewLines.{ViewLines}
 
 -- the output of the lines
 lines_write : (t : Tuning) (v : ViewLines) (lines : List Line) (slots : List (Option Group)) (written : List ℕ) → AreSlots lines slots → ViewsStandAt t v slots written → LinesWrite t lines written

@@ -12,8 +12,8 @@ use Rattle.rds_receiver.specs.OneView.{same_heard}
 use Rattle.rds_receiver.specs.Receipts.{AreHeard}
 use Rattle.rds_audit.specs.AuditLaws.{ALogHasOneFault, WhatHasAFaultDoesNotPass}
 use Rattle.rds_audit.specs.Rules.{IsFaultOf}
-use Rattle.rds_audit.specs.declared.audit_fault.AuditFault.{AuditFault}
-use Rattle.rds_output.specs.Alike.{WriteAlike}
+use Rattle.rds_audit.specs.declared.audit.AuditFault.{AuditFault}
+use Rattle.rds_view_lines.specs.Alike.{WriteAlike}
 use Rattle.rds_log.specs.Audit.{AnswersVerdictOf, Audits, IsVerdictOf, IsYes, SlotsFail, SlotsPass, AuditStopsAtSlot, WholePasses, verdict_line}
 use Rattle.rds_log.specs.LogWrites.{AreSlots}
 use Rattle.rds_log.specs.Reads.{BeginsWith}

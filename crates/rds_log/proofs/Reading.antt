@@ -12,9 +12,9 @@ use Rattle.rds_log.specs.LineSays.{LineSays}
 use Rattle.rds_log.specs.Inside.Cutter.{Closes, CutterStandsAt, IsBadLine}
 use Rattle.rds_log.specs.Reads.{MadeReads, ReadsUpTo}
 use Rattle.rds_log.specs.Inside.Source.{GivesNext, HasLine, HasNoNext, HasMade, IsAtLast, IsInside, IsThrough, ReaderState, SourceStandsAt, since, waiting}
-use Rattle.rds_output.specs.declared.fault.BadLine as fault
-use Rattle.rds_output.specs.declared.fault.LogFault.{LogFault}
-use Rattle.rds_output.specs.declared.fault.LogFault.TheVariants.{BadLine, TooLong}
+use Rattle.rds_view_lines.specs.declared.fault.BadLine as fault
+use Rattle.rds_view_lines.specs.declared.fault.LogFault.{LogFault}
+use Rattle.rds_view_lines.specs.declared.fault.LogFault.TheVariants.{BadLine, TooLong}
 use Rattle.rds_log.specs.declared.log_line.LogLine.{LogLine}
 use Rattle.rds_log.specs.declared.source.Source.{Source}
 use Rattle.rds_log.proofs.Cutting.{text_of-more}

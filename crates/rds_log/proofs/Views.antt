@@ -5,12 +5,12 @@ use Rattle.rds_block.specs.declared.group.Group.{Group}
 use Rattle.rds_receiver.specs.Receipts.{Tuning}
 use Rattle.rds_receiver.specs.Shown.{IsView, ShownView}
 use Rattle.rds_receiver.specs.StandsAt.{StandsAt}
-use Rattle.rds_output.specs.NoChange.{no_change, view_of_none}
-use Rattle.rds_output.specs.Output.{change, newest, slot_stamp}
+use Rattle.rds_view_lines.specs.NoChange.{no_change, view_of_none}
+use Rattle.rds_view_lines.specs.Output.{change, newest, slot_stamp}
 use Rattle.rds_log.specs.LogWrites.{AreViews}
-use Rattle.rds_output.specs.KeptView.{view_kept}
+use Rattle.rds_view_lines.specs.KeptView.{view_kept}
 use Rattle.rds_log.specs.Inside.ViewLines.{ViewsStandAt}
-use Rattle.rds_log.specs.declared.view_lines.ViewLines.{ViewLines}
+use Rattle.rds_log.specs.declared.decoder.ViewLines.{ViewLines}
 
 -- a slot that was handled: its view, and the changes that it appends
 pub slot_given : (t : Tuning) (v after : ViewLines) (slots : List (Option Group)) (written before now : List ℕ) (group : Option Group) (view : ShownView) (s : ViewsStandAt t v slots written)

@@ -6,8 +6,8 @@ use Rattle.rds_charset.specs.Told.{HasFailed, IsCalm, Traffic}
 use Rattle.rds_log.specs.LogLines.{AreLines, Line}
 use Rattle.rds_log.specs.LogWrites.{AreSlots}
 use Rattle.rds_log.specs.Reads.{NextIsBad, ReadsUpTo}
-use Rattle.rds_output.specs.declared.fault.LogFault.{LogFault}
-use Rattle.rds_output.specs.declared.fault.LogFault.TheVariants.{BadLine, BadRow, Read, Write, TooLong, Memory}
+use Rattle.rds_view_lines.specs.declared.fault.LogFault.{LogFault}
+use Rattle.rds_view_lines.specs.declared.fault.LogFault.TheVariants.{BadLine, BadRow, Read, Write, TooLong, Memory}
 
 -- the bytes are of good lines, and this is what came in their slots, the oldest first
 pub record HasSlots (text : List ℕ) (log : List (Option Group)) : Type 0 where

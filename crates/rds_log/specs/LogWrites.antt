@@ -6,7 +6,7 @@ use Rattle.rds_receiver.specs.Receipts.{Tuning}
 use Rattle.rds_receiver.specs.Shown.{IsView, ShownView}
 use Rattle.rds_log.specs.LogLines.{AreLines, Line}
 use Rattle.rds_log.specs.LineSays.{LineSays}
-use Rattle.rds_output.specs.Output.{changes_of}
+use Rattle.rds_view_lines.specs.Output.{changes_of}
 use Rattle.rds_log.specs.declared.log_line.LogLine.TheVariants.{Skip, Slot}
 
 -- a receiver of this programme and this dwell that hears a log from its first slot on

@@ -13,8 +13,8 @@ use Rattle.rds_log.specs.declared.notes.NoNote.{NoNote}
 use Rattle.rds_log.specs.declared.notes.LogNotes.{LogNotes}
 use Rattle.rds_log.specs.declared.verdict.Verdict.{Verdict}
 use Rattle.rds_log.specs.declared.verdict.Verdict.TheVariants.{No, Yes}
-use Rattle.rds_output.specs.declared.fault.LogFault.{LogFault}
-use Rattle.rds_output.specs.declared.fault.LogFault.TheVariants.{BadLine, BadRow, Read, Write, TooLong, Memory}
+use Rattle.rds_view_lines.specs.declared.fault.LogFault.{LogFault}
+use Rattle.rds_view_lines.specs.declared.fault.LogFault.TheVariants.{BadLine, BadRow, Read, Write, TooLong, Memory}
 
 -- a line that begins with these bytes is noted, and a cause that is given holds of them; none is given only for a line
 -- that is skipped, or whose four blocks are good

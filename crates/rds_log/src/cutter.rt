@@ -10,7 +10,7 @@ use crate::log_line::{DECIDING, LogLine, said_by};
 use crate::notes::BadStart;
 use arrayvec::ArrayVec;
 use memchr::memchr;
-use rds_output::BadLine;
+use rds_view_lines::BadLine;
 use std::simd::prelude::*;
 
 /// How many bytes are asked at once for a line feed.

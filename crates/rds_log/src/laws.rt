@@ -3,7 +3,7 @@ ghost use Rattle.std.specs.Prelude.{◌≡◌, ◌+◌, ◌<◌, ℕ, Bool, List
 ghost use Rattle.rds_block.specs.declared.group.Group.{Group};
 ghost use Rattle.rds_charset.specs.Told.{Traffic};
 ghost use Rattle.rds_receiver.specs.Receipts.{Tuning};
-ghost use Rattle.rds_output.specs.Alike.{WriteAlike};
+ghost use Rattle.rds_view_lines.specs.Alike.{WriteAlike};
 ghost use Rattle.rds_log.specs.Audit.{AnswersVerdictOf, Audits, IsVerdictOf, SlotsAreSafe};
 ghost use Rattle.rds_log.specs.Audit.{SlotsFail, SlotsHaveNoPlans, SlotsPass};
 ghost use Rattle.rds_log.specs.LogLines.{Line};
@@ -12,7 +12,7 @@ ghost use Rattle.rds_log.specs.LogWrites.{LogWrites};
 ghost use Rattle.rds_log.specs.Decode.{DecodesAll};
 ghost use Rattle.rds_log.specs.declared.log_line.LogLine.{LogLine};
 ghost use Rattle.rds_log.specs.declared.verdict.Verdict.{Verdict};
-ghost use Rattle.rds_audit.specs.declared.audit_fault.AuditFault.{AuditFault};
+ghost use Rattle.rds_audit.specs.declared.audit.AuditFault.{AuditFault};
 
 use rds_audit::{one_fault, passes_by_plans, what_passes_is_safe};
 

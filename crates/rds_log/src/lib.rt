@@ -11,11 +11,11 @@
 //! ```
 #![tactic(auto)]
 
-mod auditing;
+mod audit_log;
 mod cutter;
+mod decode_log;
 mod decoder;
-mod decoding;
-mod gathering;
+mod gather_log;
 mod heard;
 mod laws;
 mod line_cause;
@@ -23,11 +23,10 @@ mod log_line;
 mod notes;
 mod source;
 mod verdict;
-mod view_lines;
 
-pub use auditing::{audit, audit_with_notes, audit_within};
-pub use decoding::{decode, decode_with_notes, decode_within};
-pub use gathering::{gather, gather_with_notes, gather_within};
+pub use audit_log::{audit, audit_with_notes, audit_within};
+pub use decode_log::{decode, decode_with_notes, decode_within};
+pub use gather_log::{gather, gather_with_notes, gather_within};
 pub use heard::Heard;
 pub use laws::{bytes_have_one_verdict, bytes_write_one_output, what_an_answer_means};
 pub use line_cause::LineCause;

@@ -4,13 +4,13 @@ ghost use Rattle.std.specs.Prelude.{ℕ, List, None, Some, IfErr, IfOk, IsTrue, 
 ghost use Rattle.rds_log.specs.LogLines.{Line};
 ghost use Rattle.rds_log.specs.Notes.{HasNote};
 ghost use Rattle.rds_log.specs.Reads.{MadeReads, to_come};
-ghost use Rattle.rds_output.specs.declared.fault.LogFault.TheVariants as faults;
+ghost use Rattle.rds_view_lines.specs.declared.fault.LogFault.TheVariants as faults;
 
 use crate::cutter::{Cutter, line_end};
 use crate::log_line::LogLine;
 use crate::notes::BadStart;
 use rds_charset::TellingRead;
-use rds_output::{BadLine, LogFault};
+use rds_view_lines::{BadLine, LogFault};
 
 /// How many bytes one read asks for.
 const CHUNK: usize = 65536;

@@ -6,7 +6,7 @@ use rds_audit::AuditFault;
 use rds_charset::Lines;
 
 /// Room for the line of a verdict.
-pub(crate) const ANSWER: usize = 64;
+pub(crate) const ANSWER_ROOM: usize = 64;
 
 /// What the audit of a log comes to.
 #[derive(Clone, Copy)]
@@ -29,7 +29,7 @@ impl Verdict {
     }
 
     /// Appends its line.
-    pub(crate) fn push(self, lines: &mut Lines<ANSWER>)
+    pub(crate) fn push(self, lines: &mut Lines<ANSWER_ROOM>)
         requires { length lines.old + 36 ≤ 64 }
         ensures { lines.new ≡ lines.old ++ verdict_line self }
     {

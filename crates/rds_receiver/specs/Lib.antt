@@ -6,6 +6,6 @@ pub mod Shown
 pub mod State
 pub mod Stored
 pub mod Codes
-pub mod Lent
+pub mod Borrowed
 pub mod StandsAt
 pub mod OneView

@@ -11,7 +11,7 @@ segments_stored s = record { cells = held_cells s.mask s.bytes; flag = is_set s.
 
 abbrev pub receiver_stored : StoredReceiver → ReceiverState
 receiver_stored s = record {
-  programme = s.programme;
+  programme = s.pi;
   dwell = s.dwell;
   text = segments_stored s.text;
   name = segments_stored s.name;

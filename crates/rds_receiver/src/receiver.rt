@@ -5,7 +5,7 @@ ghost use Rattle.std.specs.Option.{option_copied};
 ghost use Rattle.rds_block.specs.declared.group.Group.{Group};
 ghost use Rattle.rds_fields.specs.declared.message.Message.{Message};
 ghost use Rattle.rds_fields.specs.Spells.{Spells};
-ghost use Rattle.rds_receiver.specs.Lent.{tag_lent, view_lent};
+ghost use Rattle.rds_receiver.specs.Borrowed.{borrowed_tag, view_of};
 ghost use Rattle.rds_receiver.specs.Receipts.{Hears};
 ghost use Rattle.rds_receiver.specs.Shown.{IsItemShown, IsNameShown, IsTagShown, IsTextShown, IsView, ShownView};
 ghost use Rattle.rds_receiver.specs.StandsAt.{HearsMore, HoldsAt, ShowsAlike, StandsAt};
@@ -84,10 +84,10 @@ impl Receiver {
     /// Rebuilds a stored receiver. Invalid numbers give an arbitrary valid receiver of the stored programme.
     pub fn restore(stored: &StoredReceiver) -> Receiver
         ensures same { IsStored stored.now → result ≡ receiver_stored stored.now }
-        ensures programme { result.programme ≡ stored.now.programme }
+        ensures programme { result.programme ≡ stored.now.pi }
     {
         Receiver {
-            pi: stored.programme,
+            pi: stored.pi,
             dwell: Dwell::at_least_one(stored.dwell),
             text: Held::restore(&stored.text),
             name: Held::restore(&stored.name),
@@ -102,7 +102,7 @@ impl Receiver {
         ensures good { IsStored result }
     {
         StoredReceiver {
-            programme: self.pi,
+            pi: self.pi,
             dwell: self.dwell.get(),
             text: self.text.store(),
             name: self.name.store(),
@@ -162,7 +162,7 @@ impl Receiver {
 
     /// Returns all that is shown, borrowed from the receiver.
     pub fn view(&self) -> View<'_>
-        ensures { WhereItStands self.now (λ t input. IsView t input (view_lent result)) }
+        ensures { WhereItStands self.now (λ t input. IsView t input (view_of result)) }
     {
         View {
             text: self.text(),
@@ -205,7 +205,7 @@ impl Receiver {
     /// is shown or no pair is held, if the tag is the dummy, and if it does not end in the text.
     pub fn tag(&self, which: Which) -> Option<(u8, &[u8])>
         ensures shown { WhatItHeard self.now
-            (λ m first heard. IsTagShown m first heard which (tag_lent result)) }
+            (λ m first heard. IsTagShown m first heard which (borrowed_tag result)) }
         ensures class { IfSome result (λ tag. tag.0 < 64) }
         ensures short { IfSome result (λ tag. length tag.1.now ≤ 64) }
     {

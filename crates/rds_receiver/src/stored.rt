@@ -8,6 +8,7 @@ ghost use Rattle.rds_fields.specs.Stored.{is_set};
 ghost use Rattle.rds_receiver.specs.Tags.{says_of_rtplus};
 ghost use Rattle.rds_receiver.specs.Stored.{IsStored, receiver_stored, segments_stored};
 
+use rds_assembly::LONGEST_TEXT;
 use rds_block::Blocks;
 use rds_fields::{Message, RTPLUS_AID, RTPLUS_CODE, StoredPair};
 
@@ -16,7 +17,7 @@ use rds_fields::{Message, RTPLUS_AID, RTPLUS_CODE, StoredPair};
 #[repr(C)]
 #[derive(Clone, Copy)]
 pub struct StoredSegments {
-    pub bytes: [u8; 64],
+    pub bytes: [u8; LONGEST_TEXT],
     pub mask: u16,
     /// The slots since the newest segment came, or the dwell if no segment is held.
     pub age: u16,
@@ -55,7 +56,7 @@ fn is_same(segment: &[u8], bytes: &[u8; 4]) -> bool
 #[repr(C)]
 #[derive(Clone, Copy)]
 pub struct StoredReceiver {
-    pub programme: u16,
+    pub pi: u16,
     /// The dwell in slots.
     pub dwell: u16,
     pub text: StoredSegments,
@@ -86,7 +87,7 @@ impl StoredReceiver {
         let Some(group) = group else {
             return self.grow_older();
         };
-        if group.pi() != self.programme {
+        if group.pi() != self.pi {
             return self.grow_older();
         }
         self.rest_group(group)
@@ -95,7 +96,7 @@ impl StoredReceiver {
     /// Does the same as [`rest`](Self::rest) for a group of the programme.
     #[inline(always)]
     fn rest_group(&mut self, group: Blocks) -> bool
-        ensures programme { self.new.programme ≡ self.old.programme }
+        ensures programme { self.new.pi ≡ self.old.pi }
         ensures holds { IsTrue result → (message : Message) × Spells message group
             × GoesOn (receiver_stored self.old) (receiver_stored self.new) (Some message) }
         ensures same { IsTrue result → ShowsAlike (receiver_stored self.old) (receiver_stored self.new) }
@@ -121,7 +122,7 @@ impl StoredReceiver {
     /// false and changes nothing.
     fn rest_text(&mut self, flag: bool, address: u8, bytes: [u8; 4]) -> bool
         requires { address < 16 }
-        ensures programme { self.new.programme ≡ self.old.programme }
+        ensures programme { self.new.pi ≡ self.old.pi }
         ensures holds { IsTrue result → GoesOn (receiver_stored self.old) (receiver_stored self.new)
             (Some (Message.Text flag address bytes)) }
         ensures same { IsTrue result → ShowsAlike (receiver_stored self.old) (receiver_stored self.new) }
@@ -142,7 +143,7 @@ impl StoredReceiver {
     /// false and changes nothing.
     fn rest_name(&mut self, flag: bool, address: u8, bytes: [u8; 4]) -> bool
         requires { address < 16 }
-        ensures programme { self.new.programme ≡ self.old.programme }
+        ensures programme { self.new.pi ≡ self.old.pi }
         ensures holds { IsTrue result → GoesOn (receiver_stored self.old) (receiver_stored self.new)
             (Some (Message.Name flag address bytes)) }
         ensures same { IsTrue result → ShowsAlike (receiver_stored self.old) (receiver_stored self.new) }
@@ -162,7 +163,7 @@ impl StoredReceiver {
     /// Handles a slot with an announcement that changes nothing: ages all segments. Otherwise returns false and changes
     /// nothing.
     fn rest_announced(&mut self, code: u8, aid: u16) -> bool
-        ensures programme { self.new.programme ≡ self.old.programme }
+        ensures programme { self.new.pi ≡ self.old.pi }
         ensures holds { IsTrue result → (bits : ℕ) → GoesOn (receiver_stored self.old) (receiver_stored self.new)
             (Some (Message.Announce code bits aid)) }
         ensures same { IsTrue result → ShowsAlike (receiver_stored self.old) (receiver_stored self.new) }
@@ -190,7 +191,7 @@ impl StoredReceiver {
 
     /// Ages all segments by one slot if that drops none. Otherwise returns false and changes nothing.
     fn grow_older(&mut self) -> bool
-        ensures programme { self.new.programme ≡ self.old.programme }
+        ensures programme { self.new.pi ≡ self.old.pi }
         ensures holds { IsTrue result → (m first : ℕ) (heard : List (Option Message))
             → HoldsAt m (newest_slot first heard) first (receiver_stored self.old) heard
             → HoldsAt m (first + length heard) first (receiver_stored self.new) heard }

@@ -3,11 +3,11 @@ use Rattle.std.proofs.Common.{◌≡◌, ◌≢◌, ◌⊎◌, ◌∙◌, ◌++�
 use Rattle.std.proofs.lemmas.Grind.{get_or-set_at}
 use Rattle.std.proofs.lemmas.List.{get_or-map, get_or-set_other, length-map, map-set}
 use Rattle.rds_receiver.specs.Shown.{ShownView}
-use Rattle.rds_output.specs.KeptView.{view_kept}
+use Rattle.rds_view_lines.specs.KeptView.{view_kept}
 use Rattle.rds_script.specs.Outcomes.{receiver_changes, view_at}
-use Rattle.rds_output.specs.Output.{change, nothing_shown, receiver_stamp}
-use Rattle.rds_output.specs.declared.kept.KeptView.{KeptView}
-use Rattle.rds_output.specs.NoChange.{no_change}
+use Rattle.rds_view_lines.specs.Output.{change, nothing_shown, receiver_stamp}
+use Rattle.rds_view_lines.specs.declared.kept.KeptView.{KeptView}
+use Rattle.rds_view_lines.specs.NoChange.{no_change}
 
 -- below the next number, or at it
 pub at_last : (i n : ℕ) → i < n + 1 → (i < n) ⊎ (i ≡ n)

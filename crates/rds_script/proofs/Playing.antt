@@ -5,7 +5,7 @@ use Rattle.rds_world.specs.Event.{Event}
 use Rattle.rds_world.specs.State.{distance}
 use Rattle.rds_receiver.specs.Shown.{ShownView}
 use Rattle.rds_script.proofs.Changes.{changes_same}
-use Rattle.rds_output.specs.NoChange.{view_of_none}
+use Rattle.rds_view_lines.specs.NoChange.{view_of_none}
 use Rattle.rds_world.specs.Slots.{entries, input_of}
 use Rattle.rds_world.specs.StandsAt.{IsViewOfInput, ShowsStill, tuned_to}
 use Rattle.rds_script.specs.Outcomes.{AreOutcomes, IsOutcome, Outcome, answer_lines, lines_of, newest_views, receiver_changes, slot_lines, view_at}

@@ -15,14 +15,14 @@ use Rattle.rds_script.specs.declared.notes.BadRow.{BadRow as BadRecord}
 use Rattle.rds_script.specs.declared.notes.ScriptNotes.{ScriptNotes}
 use Rattle.rds_script.specs.declared.row_cause.RowCause.{RowCause}
 use Rattle.rds_script.specs.Play.{HasRecords, Reading, RowsWrite, WroteRows}
-use Rattle.rds_output.specs.declared.fault.LogFault.{LogFault}
-use Rattle.rds_output.specs.declared.fault.LogFault.TheVariants.{BadRow, Write}
+use Rattle.rds_view_lines.specs.declared.fault.LogFault.{LogFault}
+use Rattle.rds_view_lines.specs.declared.fault.LogFault.TheVariants.{BadRow, Write}
 use Rattle.rds_script.specs.declared.form.Form.{Form}
 use Rattle.rds_script.specs.declared.player.Player.{Player}
-use Rattle.rds_script.specs.declared.script.Script.{Script}
+use Rattle.rds_script.specs.declared.records.Records.{Records}
 
 -- a reader that gave records: the script has them
-pub has_records : {R : Type 0} {g h : _} (remaining : R → Option (List ℕ)) (known : Option (List ℕ)) (s : Script R g h) (records : List Record) → ScriptStandsAt remaining known s records → HasRecords known records
+pub has_records : {R : Type 0} {g h : _} (remaining : R → Option (List ℕ)) (known : Option (List ℕ)) (s : Records R g h) (records : List Record) → ScriptStandsAt remaining known s records → HasRecords known records
 has_records remaining known s records stands = λ script k. let (rest, source, upto) = stands.gave script k in (reader_state s.reader, rest, upto)
 
 -- what a player played, its rows write
@@ -33,7 +33,7 @@ rows_write p played s = record {
   write = record { outcomes = s.outcomes; are = s.are; lines = s.lines };
 }
 
-pub wrote_rows : {R : Type 0} {g h : _} (remaining : R → Option (List ℕ)) (form : Form) (config : Config) (known : Option (List ℕ)) (w : Traffic) (s : Script R g h) (p : Player) (records : List Record)
+pub wrote_rows : {R : Type 0} {g h : _} (remaining : R → Option (List ℕ)) (form : Form) (config : Config) (known : Option (List ℕ)) (w : Traffic) (s : Records R g h) (p : Player) (records : List Record)
     → ScriptStandsAt remaining known s records → PlayedSoFar form config p records w → WroteRows form config known w records
 wrote_rows remaining form config known w s p records stands played = record {
   begins = has_records remaining known s records stands;
@@ -51,7 +51,7 @@ pub rows_say : (p : Player) (played : Played) (s : PlayerStandsAt p played) → 
 rows_say p played s = record { receivers = played.receivers; allowed = s.allowed; rows = s.rows }
 
 -- no record was given
-pub ends_by_read : {R : Type 0} {g h : _} (remaining : R → Option (List ℕ)) (form : Form) (config : Config) (most : ℕ) (r : Reading) (w : Traffic) (s : Script R g h) (p : Player) (records : List Record) (fault : LogFault) (bad : Option BadRecord)
+pub ends_by_read : {R : Type 0} {g h : _} (remaining : R → Option (List ℕ)) (form : Form) (config : Config) (most : ℕ) (r : Reading) (w : Traffic) (s : Records R g h) (p : Player) (records : List Record) (fault : LogFault) (bad : Option BadRecord)
     → ScriptStandsAt remaining r.known s records → PlayedSoFar form config p records w → length records < most → IsReadFault r.Failed fault → bad ≡ None → NotesTell form config most r w (Err fault) (noted bad p)
 ends_by_read remaining form config most r w s p records fault bad stands played fewer (inl e) none = rw e record {
   plays = (records, wrote_rows remaining form config r.known w s p records stands played, fewer);
@@ -69,7 +69,7 @@ ends_by_read remaining form config most r w s p records fault bad stands played 
 }
 
 -- the record that was given is no row, and the player goes on with the wait that it had
-pub ends_by_row : {R : Type 0} {g h : _} (remaining : R → Option (List ℕ)) (form : Form) (config : Config) (most : ℕ) (r : Reading) (w : Traffic) (before s : Script R g h) (p now : Player) (bad : List (List ℕ)) (records : List Record) (n line : ℕ) (cause : RowCause)
+pub ends_by_row : {R : Type 0} {g h : _} (remaining : R → Option (List ℕ)) (form : Form) (config : Config) (most : ℕ) (r : Reading) (w : Traffic) (before s : Records R g h) (p now : Player) (bad : List (List ℕ)) (records : List Record) (n line : ℕ) (cause : RowCause)
     → ScriptStandsAt remaining r.known before records → ScriptStandsAt remaining r.known s (bad ∷ records) → PlayedSoFar form config p records w → AreNoRows config.late form (bad ∷ records) × IsRowCause form config.late records bad cause
     → length records ≡ n → n < most → now.wait ≡ p.wait
     → NotesTell form config most r w (Err (BadRow (n + 1))) (noted (Some record { line = line; cause = cause }) now)
@@ -105,7 +105,7 @@ played_on form config p row records receivers start now after v w w' written lin
 }
 
 -- and where the writer failed, a first part of them
-pub ends_by_write : {R : Type 0} {g h : _} (remaining : R → Option (List ℕ)) (form : Form) (config : Config) (most : ℕ) (r : Reading) (s : Script R g h) (p : Player) (row : Record) (records : List Record) (receivers : ℕ) (start now after : Option (List ℕ)) (v w w' : ℕ) (written lines : List ℕ) (bad : Option BadRecord)
+pub ends_by_write : {R : Type 0} {g h : _} (remaining : R → Option (List ℕ)) (form : Form) (config : Config) (most : ℕ) (r : Reading) (s : Records R g h) (p : Player) (row : Record) (records : List Record) (receivers : ℕ) (start now after : Option (List ℕ)) (v w w' : ℕ) (written lines : List ℕ) (bad : Option BadRecord)
     → ScriptStandsAt remaining r.known s (row ∷ records) → length (row ∷ records) ≤ most → PlaysRow p row lines record { form = form; config = config; receivers = receivers; records = records; written = written }
     → Appends start now written → w ≡ v → AppendsPrefix now after lines → HasFailed record { before = now; after = after; failures_before = w; failures_after = w' }
     → bad ≡ None → NotesTell form config most r record { before = start; after = after; failures_before = v; failures_after = w' } (Err Write) (noted bad p)

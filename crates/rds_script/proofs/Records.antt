@@ -6,13 +6,13 @@ use Rattle.csv.proofs.ReadFacts.{rows-end, rows-more}
 use Rattle.csv.specs.Reading.{ReadRecord, default_config, is_flexible, reader_state, strip_bom, took_first}
 use Rattle.csv.specs.declared.parser.State.TheVariants.{StartRecord}
 use Rattle.csv.specs.declared.reader.Reader.{Reader}
-use Rattle.rds_script.specs.Inside.Asked.{asked_bytes}
-use Rattle.rds_script.specs.declared.asked.Asked.{Asked}
+use Rattle.rds_script.specs.Inside.FailureFlag.{asked_bytes}
+use Rattle.rds_script.specs.declared.failure_flag.FailureFlag.{FailureFlag}
 use Rattle.rds_script.specs.Inside.Player.{ScriptStandsAt}
 use Rattle.rds_script.specs.Rows.{Record}
 use Rattle.rds_script.specs.Play.{HasAllRecords}
 
-pub next_stands : {R : Type 0} {g h : _} (remaining : R → Option (List ℕ)) (old new : Reader (Asked R g h)) (found : Bool) (fields : List (List ℕ)) (known : Option (List ℕ)) (records : List Record)
+pub next_stands : {R : Type 0} {g h : _} (remaining : R → Option (List ℕ)) (old new : Reader (FailureFlag R g h)) (found : Bool) (fields : List (List ℕ)) (known : Option (List ℕ)) (records : List Record)
     → ScriptStandsAt remaining known record { reader = old } records → ReadRecord (asked_bytes remaining) old new found fields → took_first new ≡ true → is_flexible new ≡ is_flexible old
     → MatchBool found (ScriptStandsAt remaining known record { reader = new } (fields ∷ records)) (HasAllRecords known records)
 next_stands remaining old new true fields known records s read first flexible = record {

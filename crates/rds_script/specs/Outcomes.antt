@@ -11,8 +11,8 @@ use Rattle.rds_world.specs.declared.world.Config.{Config}
 use Rattle.rds_fields.specs.declared.pair.Which.{Which}
 use Rattle.rds_fields.specs.declared.pair.Which.TheVariants.{One, Two}
 use Rattle.rds_encoder.specs.Sent.{IsSent}
-use Rattle.rds_encoder.specs.declared.refusal.Refusal.{Refusal}
-use Rattle.rds_encoder.specs.declared.refusal.Refusal.TheVariants.{Silent, Held, NoText, OutOfText}
+use Rattle.rds_encoder.specs.declared.reply.Refusal.{Refusal}
+use Rattle.rds_encoder.specs.declared.reply.Refusal.TheVariants.{Silent, Held, NoText, OutOfText}
 use Rattle.rds_receiver.specs.Shown.{ShownView}
 use Rattle.rds_world.specs.declared.event.Command.{Command}
 use Rattle.rds_world.specs.declared.event.Command.TheVariants.{Quiet, Restart, SetText, SetName, SetTags}
@@ -24,7 +24,7 @@ use Rattle.rds_world.specs.Replies.{reply_at}
 use Rattle.rds_world.specs.Slots.{entries, input_of, sent_at}
 use Rattle.rds_world.specs.StandsAt.{IsViewOfInput}
 use Rattle.rds_charset.specs.Digits.{word_digits}
-use Rattle.rds_output.specs.Output.{change, line_of, nothing_shown, receiver_stamp, slot_stamp}
+use Rattle.rds_view_lines.specs.Output.{change, line_of, nothing_shown, receiver_stamp, slot_stamp}
 use Rattle.rds_script.specs.declared.form.Form.{Form}
 use Rattle.rds_script.specs.declared.form.Form.TheVariants.{Simulation, Log}
 

@@ -11,11 +11,11 @@ use Rattle.csv.specs.declared.parser.State.TheVariants.{StartRecord}
 use Rattle.rds_charset.specs.Told.{AppendsPrefix, HasFailed, IsCalm, Traffic}
 use Rattle.rds_world.specs.declared.world.Config.{Config}
 use Rattle.rds_world.specs.Event.{Event}
-use Rattle.rds_output.specs.ReadFailed.{SomeReadFailed}
+use Rattle.rds_view_lines.specs.ReadFailed.{SomeReadFailed}
 use Rattle.rds_script.specs.Rows.{AreNoRows, Record, RowsSay}
 use Rattle.rds_script.specs.Outcomes.{EventsWrite}
-use Rattle.rds_output.specs.declared.fault.LogFault.{LogFault}
-use Rattle.rds_output.specs.declared.fault.LogFault.TheVariants.{BadLine, BadRow, Read, Write, TooLong, Memory}
+use Rattle.rds_view_lines.specs.declared.fault.LogFault.{LogFault}
+use Rattle.rds_view_lines.specs.declared.fault.LogFault.TheVariants.{BadLine, BadRow, Read, Write, TooLong, Memory}
 use Rattle.rds_script.specs.declared.form.Form.{Form}
 
 -- the script begins with these records, and goes on like this

@@ -11,7 +11,7 @@ use rds_block::Group;
 use rds_charset::{Lines, digits_of_four};
 use rds_encoder::Refusal;
 use rds_fields::Which;
-use rds_output::Stamp;
+use rds_view_lines::Stamp;
 use rds_world::{Answer, Command, Reply};
 
 /// Room for the line of a reply.

@@ -6,21 +6,21 @@
 #![tactic(auto)]
 
 mod answer_lines;
-mod asked;
+mod failure_flag;
 mod form;
 mod laws;
 mod notes;
+mod play;
 mod player;
+mod records;
 mod row;
 mod row_cause;
-mod script;
-mod scripts;
 mod second_reading;
 mod watched;
 
 pub use laws::{rows_write_one_output, script_writes_one_output};
 pub use notes::{BadRow, ScriptNotes, Thing, Wait};
-pub use row_cause::{RowCause, TagNumber};
-pub use scripts::{
+pub use play::{
     encode, encode_with_notes, encode_within, simulate, simulate_with_notes, simulate_within,
 };
+pub use row_cause::{RowCause, TagNumber};

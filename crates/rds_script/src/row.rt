@@ -22,13 +22,10 @@ ghost use Rattle.rds_script.specs.Rows.{SaysCommand, SaysEvent, free_field, numb
 use crate::row_cause::RowCause;
 use arrayvec::ArrayVec;
 use csv::ByteRecord;
-use rds_assembly::{Name, Text};
+use rds_assembly::{LONGEST_TEXT, Name, Text};
 use rds_charset::{read_text, text_is_read_one_way};
 use rds_fields::{Tag, TagPair};
 use rds_world::{Command, MOST_RECEIVERS, Reception, SlotEvent};
-
-/// The most bytes of a text, and more than those of a name.
-pub(crate) const LONGEST: usize = 64;
 
 /// What a row tells the encoder to do; its argument says with what.
 #[derive(Clone, Copy)]
@@ -173,7 +170,7 @@ fn text_of(argument: &str) -> Option<Text>
 {
     // the law by which no other text is read
     text_is_read_one_way();
-    let mut bytes = [0; LONGEST];
+    let mut bytes = [0; LONGEST_TEXT];
     let count = read_text(argument, &mut bytes).ok()?;
     Text::new(&bytes[..count]).ok()
 }
@@ -185,7 +182,7 @@ fn name_of(argument: &str) -> Option<Name>
 {
     // the law by which no other name is read
     text_is_read_one_way();
-    let mut bytes = [0; LONGEST];
+    let mut bytes = [0; LONGEST_TEXT];
     let count = read_text(argument, &mut bytes).ok()?;
     Name::new(&bytes[..count]).ok()
 }

@@ -26,19 +26,16 @@ ghost use Rattle.rds_script.specs.declared.form.Form.{Form};
 ghost use Rattle.rds_script.specs.declared.row.Verb.TheVariants as verbs;
 
 use crate::row::{
-    LONGEST, Verb, characters, cut_at_space, digits_in_front, four_fields, free_of, number_of,
-    reception_of, verb_of,
+    Verb, characters, cut_at_space, digits_in_front, four_fields, free_of, number_of, reception_of,
+    verb_of,
 };
 use crate::row_cause::{RowCause, TagNumber};
 use arrayvec::ArrayVec;
 use csv::ByteRecord;
-use rds_assembly::{Name, Text, TextRefused};
+use rds_assembly::{LONGEST_TEXT, NAME_LENGTH, Name, Text, TextRefused};
 use rds_charset::{Stop, measure_text, read_text};
 use rds_fields::{Late, Which};
 use rds_world::{MOST_RECEIVERS, Reception, SlotEvent, StepRefused};
-
-/// The most bytes of a name.
-const LONGEST_NAME: usize = 8;
 
 /// How many numbers `tags` takes.
 const TAG_NUMBERS: usize = 8;
@@ -107,8 +104,8 @@ enum Unread {
 }
 
 /// Reads an argument of at most so many bytes into the front of a buffer.
-fn read_within(argument: &str, most: usize, bytes: &mut [u8; LONGEST]) -> Result<usize, Unread>
-    requires { most ≤ LONGEST }
+fn read_within(argument: &str, most: usize, bytes: &mut [u8; LONGEST_TEXT]) -> Result<usize, Unread>
+    requires { most ≤ LONGEST_TEXT }
     ensures read { IfOk result (λ count. (count ≤ most) × (count ≤ length bytes.new)
         × IsReadAs argument.now (take count bytes.new)) }
     ensures unread { IfErr result (IsUnread argument.now most) }
@@ -140,8 +137,8 @@ fn text_cause(argument: &str) -> Option<RowCause>
     ensures some { IfSome result (IsArgumentCause (verb_word verbs.Text) argument.now) }
     ensures none { IfNone result ((x : List ℕ) × IsReadAs argument.now x × IsText x) }
 {
-    let mut bytes = [0; LONGEST];
-    match read_within(argument, LONGEST, &mut bytes) {
+    let mut bytes = [0; LONGEST_TEXT];
+    match read_within(argument, LONGEST_TEXT, &mut bytes) {
         Err(Unread::Stop(stop)) => Some(stop_cause(stop)),
         Err(Unread::TooLong(over)) => Some(RowCause::TextTooLong(over)),
         Ok(count) => match Text::new(&bytes[..count]) {
@@ -157,8 +154,8 @@ fn name_cause(argument: &str) -> Option<RowCause>
     ensures some { IfSome result (IsArgumentCause (verb_word verbs.Name) argument.now) }
     ensures none { IfNone result ((x : List ℕ) × IsNameArgument argument.now x) }
 {
-    let mut bytes = [0; LONGEST];
-    match read_within(argument, LONGEST_NAME, &mut bytes) {
+    let mut bytes = [0; LONGEST_TEXT];
+    match read_within(argument, NAME_LENGTH, &mut bytes) {
         Err(Unread::Stop(stop)) => Some(stop_cause(stop)),
         Err(Unread::TooLong(over)) => Some(RowCause::NameTooLong(over)),
         Ok(count) => match Name::new(&bytes[..count]) {

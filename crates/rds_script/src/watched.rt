@@ -5,7 +5,7 @@ ghost use Rattle.rds_world.specs.State.{distance};
 ghost use Rattle.rds_world.specs.Slots.{entries, input_of};
 ghost use Rattle.rds_world.specs.Replies.{CanBeTaken, IsStepRefused, reply_at};
 ghost use Rattle.rds_world.specs.StandsAt.{IsViewOfInput, WhereItStands};
-ghost use Rattle.rds_output.specs.KeptView.{view_kept};
+ghost use Rattle.rds_view_lines.specs.KeptView.{view_kept};
 ghost use Rattle.rds_script.specs.Inside.Watched.{AreKept, WereShown};
 ghost use Rattle.rds_script.specs.Notes.{first_of, wait_of};
 ghost use Rattle.rds_script.specs.Outcomes.{IsOutcome, Outcome, receiver_changes, slot_lines, view_at};
@@ -18,7 +18,7 @@ use crate::notes::{Wait, note_wait};
 use crate::row::RowRefused;
 use arrayvec::ArrayVec;
 use rds_charset::Lines;
-use rds_output::{KeptView, SLOT_ROOM, Stamp, show};
+use rds_view_lines::{KeptView, SLOT_ROOM, Stamp, show};
 use rds_world::{Config, MOST_RECEIVERS, SlotEvent, StepRefused, World};
 use std::alloc::Global;
 

@@ -5,6 +5,6 @@ pub mod Parts
 pub mod PartSteps
 pub mod Stored
 pub mod HeldParts
-pub mod Kept
+pub mod KeptReceivers
 pub mod Losses
 pub mod Rulings

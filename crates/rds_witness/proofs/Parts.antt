@@ -10,8 +10,8 @@ use Rattle.rds_fields.specs.declared.pair.Which.TheVariants.{One, Two}
 use Rattle.rds_receiver.specs.OneView.{same_view}
 use Rattle.rds_receiver.specs.Receipts.{Tuning}
 use Rattle.rds_receiver.specs.Shown.{IsView, ShownView}
-use Rattle.rds_output.specs.NoChange.{view_of_none}
-use Rattle.rds_output.specs.Output.{change, changes_of, is_same_tag, is_same_text, item_change, line_of, newest, slot_stamp, tag_change, tag_content, text_change, text_content, unless_same}
+use Rattle.rds_view_lines.specs.NoChange.{view_of_none}
+use Rattle.rds_view_lines.specs.Output.{change, changes_of, is_same_tag, is_same_text, item_change, line_of, newest, slot_stamp, tag_change, tag_content, text_change, text_content, unless_same}
 use Rattle.rds_log.specs.LogWrites.{AreViews}
 use Rattle.rds_witness.specs.Lines.{shown_line}
 use Rattle.rds_witness.specs.Lost.{got}

@@ -1,7 +1,7 @@
 -- What a receiver gets of a log of which it loses some slots, and when what it shows then is a mix.
 pub mod Lost
 pub mod Mix
-pub mod Lent
+pub mod Borrowed
 -- When what one receiver shows another one shows too.
 pub mod Part
 pub mod Covered

@@ -5,7 +5,7 @@ use Rattle.rds_block.specs.declared.group.Group.{Group}
 use Rattle.rds_fields.specs.declared.pair.Which.{Which}
 use Rattle.rds_fields.specs.declared.pair.Which.TheVariants.{One, Two}
 use Rattle.rds_receiver.specs.Receipts.{Tuning}
-use Rattle.rds_output.specs.Output.{line_of, slot_stamp, tag_content, text_content}
+use Rattle.rds_view_lines.specs.Output.{line_of, slot_stamp, tag_content, text_content}
 use Rattle.rds_witness.specs.Mix.{IsMix, Name, Tag, Text, Thing}
 use Rattle.rds_witness.specs.Search.{NoMixes}
 use Rattle.rds_witness.specs.declared.burst.Burst.{Burst}

@@ -2,8 +2,8 @@
 ghost use Rattle.std.specs.Prelude.{◌≡◌, ◌<◌, ◌≤◌, ◌+◌, IsTrue, None, Option, Some, length};
 ghost use Rattle.rds_log.specs.LogWrites.{tuned};
 ghost use Rattle.rds_receiver.specs.StandsAt.{StandsAt};
-ghost use Rattle.rds_receiver.specs.Lent.{view_lent};
-ghost use Rattle.rds_witness.specs.Lent.{thing_lent};
+ghost use Rattle.rds_receiver.specs.Borrowed.{view_of};
+ghost use Rattle.rds_witness.specs.Borrowed.{thing_of};
 ghost use Rattle.rds_witness.specs.Lost.{got};
 ghost use Rattle.rds_witness.specs.Mix.{NeverShows, until};
 
@@ -40,7 +40,7 @@ pub(crate) fn is_never_shown(
     thing: Thing<'_>,
 ) -> bool
     requires { slots ≤ length log.now }
-    ensures { IsTrue result → NeverShows (tuned pi dwell) log.now slots (thing_lent thing.entry) }
+    ensures { IsTrue result → NeverShows (tuned pi dwell) log.now slots (thing_of thing.entry) }
 {
     let mut receiver = Receiver::new(pi, dwell);
     for n in 0..slots {

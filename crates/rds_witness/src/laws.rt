@@ -2,7 +2,7 @@
 ghost use Rattle.std.specs.Prelude.{◌≡◌, ◌<◌, ◌∷◌, ℕ, List, None, Option, Some, length, reverse};
 ghost use Rattle.rds_block.specs.declared.group.Group.{Group};
 ghost use Rattle.rds_log.specs.LogWrites.{AreViews};
-ghost use Rattle.rds_output.specs.Output.{changes_of};
+ghost use Rattle.rds_view_lines.specs.Output.{changes_of};
 ghost use Rattle.rds_fields.specs.declared.message.Message.{Message};
 ghost use Rattle.rds_receiver.specs.Receipts.{Fragment, Tuning, name_fragment, text_fragment};
 ghost use Rattle.rds_receiver.specs.Run.{run_at};

@@ -8,6 +8,7 @@
 mod burst;
 mod checking;
 mod covering;
+mod find_witness;
 mod first_shown;
 mod followed;
 mod laws;
@@ -20,8 +21,7 @@ mod seen;
 mod services;
 mod sweep;
 mod thing;
-mod witnessing;
 
 pub use burst::Burst;
+pub use find_witness::{witness, witness_with_notes};
 pub use laws::{a_part_shows_no_more, what_a_mix_means};
-pub use witnessing::{witness, witness_with_notes};

@@ -1,8 +1,8 @@
 //! The lines of mixes.
 ghost use Rattle.std.specs.Prelude.{◌≡◌, ◌≤◌, ◌<◌, ◌+◌, ◌++◌, [], IsTrue, length};
 ghost use Rattle.rds_log.specs.LogWrites.{tuned};
-ghost use Rattle.rds_receiver.specs.Lent.{view_lent};
-ghost use Rattle.rds_witness.specs.Lent.{IsShortThing, thing_lent};
+ghost use Rattle.rds_receiver.specs.Borrowed.{view_of};
+ghost use Rattle.rds_witness.specs.Borrowed.{IsShortThing, thing_of};
 ghost use Rattle.rds_witness.specs.Lines.{AddsMixes, AreMixLines, burst_text, shown_line, tag_name};
 ghost use Rattle.rds_witness.specs.Mix.{AreAround, Has, NeverShows, Shows, until};
 
@@ -13,8 +13,8 @@ use crate::thing::{Thing, shows};
 use rds_block::Group;
 use rds_charset::Lines;
 use rds_fields::{Dwell, Which};
-use rds_output::{push_class, push_quoted};
 use rds_receiver::View;
+use rds_view_lines::{push_class, push_quoted};
 
 /// Room for the lines of the four things of a slot.
 pub(crate) const ROOM: usize = 2048;
@@ -36,7 +36,7 @@ fn push_burst(burst: Burst, lines: &mut Lines<ROOM>)
 fn push_shown(slot: usize, thing: Thing<'_>, lines: &mut Lines<ROOM>)
     requires short { IsShortThing thing }
     requires room { length lines.old + 310 ≤ 2048 }
-    ensures shown { lines.new ≡ lines.old ++ shown_line slot (thing_lent thing.entry) }
+    ensures shown { lines.new ≡ lines.old ++ shown_line slot (thing_of thing.entry) }
     ensures room { length lines.new ≤ length lines.old + 310 }
 {
     lines.push_number(slot as u64);
@@ -74,9 +74,9 @@ fn tag_name(which: Which) -> &'static [u8]
 /// lost.
 fn is_mix(place: &Place<'_>, before: View<'_>, thing: Thing<'_>) -> bool
     requires { place.now.slot < length place.now.log.now }
-    ensures new { IsTrue result → Shows (view_lent before.entry) (thing_lent thing.entry) → ⊥ }
+    ensures new { IsTrue result → Shows (view_of before.entry) (thing_of thing.entry) → ⊥ }
     ensures never { IsTrue result → NeverShows (tuned place.now.pi place.now.dwell) place.now.log.now
-        (until place.now.dwell place.now.log.now place.now.slot) (thing_lent thing.entry) }
+        (until place.now.dwell place.now.log.now place.now.slot) (thing_of thing.entry) }
 {
     if shows(before, thing) {
         return false;
@@ -94,8 +94,8 @@ fn push_if_mix(
     lines: &mut Lines<ROOM>,
 )
     requires around { AreAround (tuned place.now.pi place.now.dwell) place.now.log.now place.now.burst place.now.slot
-        (view_lent before) (view_lent after) }
-    requires has { Has (view_lent after) (thing_lent thing) }
+        (view_of before) (view_of after) }
+    requires has { Has (view_of after) (thing_of thing) }
     requires short { IsShortThing thing }
     requires room { length lines.old + 364 ≤ 2048 }
     ensures mixes { AddsMixes (tuned place.now.pi place.now.dwell) place.now.log.now place.now.burst place.now.slot
@@ -134,7 +134,7 @@ pub(crate) fn push_mixes(place: &Place<'_>, lines: &mut Lines<ROOM>)
 /// Appends the line of each thing of the view after the slot that is a mix.
 fn push_mixes_of(place: &Place<'_>, before: View<'_>, after: View<'_>, lines: &mut Lines<ROOM>)
     requires around { AreAround (tuned place.now.pi place.now.dwell) place.now.log.now place.now.burst place.now.slot
-        (view_lent before) (view_lent after) }
+        (view_of before) (view_of after) }
     requires room { length lines.old + 1456 ≤ 2048 }
     ensures { AddsMixes (tuned place.now.pi place.now.dwell) place.now.log.now place.now.burst place.now.slot
         lines.old lines.new }
@@ -148,7 +148,7 @@ fn push_mixes_of(place: &Place<'_>, before: View<'_>, after: View<'_>, lines: &m
 /// The text.
 fn push_text(place: &Place<'_>, before: View<'_>, after: View<'_>, lines: &mut Lines<ROOM>)
     requires around { AreAround (tuned place.now.pi place.now.dwell) place.now.log.now place.now.burst place.now.slot
-        (view_lent before) (view_lent after) }
+        (view_of before) (view_of after) }
     requires room { length lines.old + 364 ≤ 2048 }
     ensures mixes { AddsMixes (tuned place.now.pi place.now.dwell) place.now.log.now place.now.burst place.now.slot
         lines.old lines.new }
@@ -162,7 +162,7 @@ fn push_text(place: &Place<'_>, before: View<'_>, after: View<'_>, lines: &mut L
 /// The name.
 fn push_name(place: &Place<'_>, before: View<'_>, after: View<'_>, lines: &mut Lines<ROOM>)
     requires around { AreAround (tuned place.now.pi place.now.dwell) place.now.log.now place.now.burst place.now.slot
-        (view_lent before) (view_lent after) }
+        (view_of before) (view_of after) }
     requires room { length lines.old + 364 ≤ 2048 }
     ensures mixes { AddsMixes (tuned place.now.pi place.now.dwell) place.now.log.now place.now.burst place.now.slot
         lines.old lines.new }
@@ -176,7 +176,7 @@ fn push_name(place: &Place<'_>, before: View<'_>, after: View<'_>, lines: &mut L
 /// The first tag.
 fn push_one(place: &Place<'_>, before: View<'_>, after: View<'_>, lines: &mut Lines<ROOM>)
     requires around { AreAround (tuned place.now.pi place.now.dwell) place.now.log.now place.now.burst place.now.slot
-        (view_lent before) (view_lent after) }
+        (view_of before) (view_of after) }
     requires room { length lines.old + 364 ≤ 2048 }
     ensures mixes { AddsMixes (tuned place.now.pi place.now.dwell) place.now.log.now place.now.burst place.now.slot
         lines.old lines.new }
@@ -196,7 +196,7 @@ fn push_one(place: &Place<'_>, before: View<'_>, after: View<'_>, lines: &mut Li
 /// The second tag.
 fn push_two(place: &Place<'_>, before: View<'_>, after: View<'_>, lines: &mut Lines<ROOM>)
     requires around { AreAround (tuned place.now.pi place.now.dwell) place.now.log.now place.now.burst place.now.slot
-        (view_lent before) (view_lent after) }
+        (view_of before) (view_of after) }
     requires room { length lines.old + 364 ≤ 2048 }
     ensures mixes { AddsMixes (tuned place.now.pi place.now.dwell) place.now.log.now place.now.burst place.now.slot
         lines.old lines.new }

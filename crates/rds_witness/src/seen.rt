@@ -5,7 +5,7 @@ ghost use Rattle.rds_log.specs.LogWrites.{tuned};
 ghost use Rattle.rds_receiver.specs.Receipts.{Tuning};
 ghost use Rattle.rds_receiver.specs.StandsAt.{StandsAt};
 ghost use Rattle.rds_receiver.specs.Stored.{IsStored, receiver_stored};
-ghost use Rattle.rds_witness.specs.Lent.{thing_lent};
+ghost use Rattle.rds_witness.specs.Borrowed.{thing_of};
 ghost use Rattle.rds_witness.specs.Lost.{got};
 ghost use Rattle.rds_witness.specs.declared.seen.Seen.{Seen};
 ghost use Rattle.rds_witness.specs.Search.{AreSeen, IsNow, IsShownBefore, ShowsNoOther, ShowsNoOtherName, ShowsNoOtherText};
@@ -120,7 +120,7 @@ impl AllSeen {
     /// Whether a receiver that loses nothing shows the text or the name now, or in another one of the first slots.
     fn has(&self, now: Now<'_>, thing: Thing<'_>, number: u64) -> bool
         ensures { IsTrue result → (t : Tuning) (log : List (Option Group)) → AreSeen t log self.now
-            → IsNow t log now.entry → IsShownBefore t log now.entry.slots (thing_lent thing.entry) }
+            → IsNow t log now.entry → IsShownBefore t log now.entry.slots (thing_of thing.entry) }
     {
         if shows(now.whole.view(), thing) {
             return true;

@@ -1,8 +1,8 @@
 //! The things that a view shows.
 ghost use Rattle.std.specs.Prelude.{◌≡◌, ◌↔◌, IsTrue, Some};
 ghost use Rattle.std.specs.Option.{option_copied};
-ghost use Rattle.rds_receiver.specs.Lent.{tag_lent, view_lent};
-ghost use Rattle.rds_witness.specs.Lent.{thing_lent};
+ghost use Rattle.rds_receiver.specs.Borrowed.{borrowed_tag, view_of};
+ghost use Rattle.rds_witness.specs.Borrowed.{thing_of};
 ghost use Rattle.rds_witness.specs.Mix.{Shows};
 
 use rds_fields::Which;
@@ -19,7 +19,7 @@ pub(crate) enum Thing<'a> {
 
 /// Whether a view shows the thing, a tag in either place.
 pub(crate) fn shows(view: View<'_>, thing: Thing<'_>) -> bool
-    ensures { IsTrue result ↔ Shows (view_lent view.entry) (thing_lent thing.entry) }
+    ensures { IsTrue result ↔ Shows (view_of view.entry) (thing_of thing.entry) }
 {
     match thing {
         Thing::Text(text) => is_text(view.text, text),
@@ -40,7 +40,7 @@ fn is_text(shown: Option<&[u8]>, text: &[u8]) -> bool
 }
 
 fn is_tag(shown: Option<(u8, &[u8])>, class: u8, piece: &[u8]) -> bool
-    ensures { IsTrue result ↔ (tag_lent shown.entry ≡ Some (class, piece.now)) }
+    ensures { IsTrue result ↔ (borrowed_tag shown.entry ≡ Some (class, piece.now)) }
 {
     match shown {
         Some((shown_class, shown)) => shown_class == class && shown == piece,

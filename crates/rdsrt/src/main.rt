@@ -1,8 +1,8 @@
-//! `rdsrt`: texts of RDS, sent and received. `decode` reads what a receiver heard, and prints what it shows.
+//! `rdsrt` encodes, decodes, simulates and audits the text services of RDS.
 //!
-//! The program is `rds_run`: its contract says which output each input has. `main` gives it the words of the command
-//! line, standard input and standard output, whose writes are gathered: one before each read, and one at the end. Notes for
-//! a person go to standard error.
+//! The program is the crate `rds_program`: its contract says which output each input has. `main` passes it the
+//! arguments of the command line, standard input and a buffered standard output: one write before each read, and one at
+//! the end. Notes for a person go to standard error.
 //!
 //! ```text
 //! rdsrt decode --pi C201
@@ -10,8 +10,8 @@
 #![tactic(auto)]
 
 use rds_charset::Told;
-use rds_host::{Prompting, Reasoned, no_words, prompt_for, texts, words_of};
-use rds_run::{Screen, run_gathered};
+use rds_io::{Prompting, Reasoned, prompt_for};
+use rds_program::{Screen, no_words, run_buffered, texts, words_of};
 use std::cell::RefCell;
 use std::io::{ErrorKind, IsTerminal};
 use std::process::ExitCode;
@@ -31,7 +31,7 @@ fn main(rt: HostRuntime) -> ExitCode {
     ExitCode::from(status)
 }
 
-/// Runs the program over its words and the standard streams.
+/// Runs the program over its arguments and the standard streams.
 fn run(rt: &HostRuntime, words: &[&str]) -> u8 {
     let line = if rt.stdin().is_terminal() {
         prompt_for(words)
@@ -44,7 +44,7 @@ fn run(rt: &HostRuntime, words: &[&str]) -> u8 {
     };
     let reason = RefCell::new(None);
     let input = Prompting::new(rt.stdin(), line, Told::new(rt.stderr()));
-    run_gathered(
+    run_buffered(
         rt.alloc(),
         words,
         Reasoned::new(input, &reason),

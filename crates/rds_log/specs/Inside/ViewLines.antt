@@ -4,10 +4,10 @@ use Rattle.rds_block.specs.declared.group.Group.{Group}
 use Rattle.rds_receiver.specs.Receipts.{Tuning}
 use Rattle.rds_receiver.specs.Shown.{ShownView}
 use Rattle.rds_receiver.specs.StandsAt.{StandsAt}
-use Rattle.rds_output.specs.Output.{changes_of, newest}
+use Rattle.rds_view_lines.specs.Output.{changes_of, newest}
 use Rattle.rds_log.specs.LogWrites.{AreViews}
-use Rattle.rds_output.specs.KeptView.{view_kept}
-use Rattle.rds_log.specs.declared.view_lines.ViewLines.{ViewLines}
+use Rattle.rds_view_lines.specs.KeptView.{view_kept}
+use Rattle.rds_log.specs.declared.decoder.ViewLines.{ViewLines}
 
 -- these slots were handled, and gave the changes of their views
 pub record ViewsStandAt (t : Tuning) (v : ViewLines) (slots : List (Option Group)) (written : List ℕ) : Type 0 where

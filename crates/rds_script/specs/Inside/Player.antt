@@ -7,26 +7,26 @@ use Rattle.csv.specs.declared.reader.Trim.TheVariants.{None as untrimmed}
 use Rattle.rds_charset.specs.Told.{IsCalm, Traffic}
 use Rattle.rds_world.specs.declared.world.Config.{Config}
 use Rattle.rds_world.specs.Event.{Event}
-use Rattle.rds_script.specs.Inside.Asked.{asked_bytes}
+use Rattle.rds_script.specs.Inside.FailureFlag.{asked_bytes}
 use Rattle.rds_script.specs.Inside.Watched.{AreKept, WatchedStandsAt, views_kept}
 use Rattle.rds_script.specs.RowCauses.{IsRowCause}
 use Rattle.rds_script.specs.Rows.{AreNoRows, AreRows, IsAllowed, Record}
 use Rattle.rds_script.specs.Outcomes.{AreOutcomes, Outcome, lines_of, newest_views}
 use Rattle.rds_script.specs.Play.{RecordsUpTo}
 use Rattle.rds_script.specs.Notes.{first_wait}
-use Rattle.rds_output.specs.declared.fault.LogFault.{LogFault}
-use Rattle.rds_output.specs.declared.fault.LogFault.TheVariants.{Memory, Read}
+use Rattle.rds_view_lines.specs.declared.fault.LogFault.{LogFault}
+use Rattle.rds_view_lines.specs.declared.fault.LogFault.TheVariants.{Memory, Read}
 use Rattle.rds_script.specs.declared.form.Form.{Form}
 use Rattle.rds_script.specs.declared.player.Player.{Player}
 use Rattle.rds_script.specs.declared.row.RowRefused.{RowRefused}
 use Rattle.rds_script.specs.declared.row.RowRefused.TheVariants.{NoRow}
 use Rattle.rds_script.specs.declared.row.RowRefused.TheVariants as refused
-use Rattle.rds_script.specs.declared.script.Script.{Script}
+use Rattle.rds_script.specs.declared.records.Records.{Records}
 use Rattle.rds_script.specs.declared.watched.Watched.{Watched}
 
 -- the reader of a script gave these records
 pub record ScriptStandsAt {R : Type 0} {g h : _} (remaining : R → Option (List ℕ)) (known : Option (List ℕ))
-    (s : Script R g h) (records : List Record) : Type 0 where
+    (s : Records R g h) (records : List Record) : Type 0 where
   pub plain : reader_trim s.reader ≡ untrimmed
   pub flexible : is_flexible s.reader ≡ true
   pub ready : Ready s.reader

@@ -6,7 +6,7 @@ use Rattle.rds_world.specs.Slots.{input_of}
 use Rattle.rds_world.specs.StandsAt as station
 use Rattle.rds_world.specs.State.{distance}
 use Rattle.rds_receiver.specs.Shown.{ShownView}
-use Rattle.rds_output.specs.KeptView.{view_kept}
+use Rattle.rds_view_lines.specs.KeptView.{view_kept}
 use Rattle.rds_script.specs.Outcomes.{view_at}
 use Rattle.rds_script.specs.declared.watched.Watched.{Watched}
 

@@ -1,5 +1,5 @@
 use Rattle.std.proofs.Common.{sym}
-use Rattle.rds_ffi.specs.AuditLies.{Tells, fault_in}
+use Rattle.rds_ffi.specs.AuditInMemory.{Tells, fault_in}
 use Rattle.rds_ffi.proofs.Audits.{back, lying, tells, there}
 use Rattle.rds_ffi.proofs.audit.rdsrt_audit_slot.Goals as goal
 

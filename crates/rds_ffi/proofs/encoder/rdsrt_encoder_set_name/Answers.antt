@@ -1,6 +1,6 @@
 use Rattle.std.proofs.Common.{◌∷◌, ◌∙◌, ap, subst, ℕ, List}
 use Rattle.rds_encoder.specs.Entries.{SetName}
-use Rattle.rds_ffi.specs.EncoderLies.{EncoderLies}
+use Rattle.rds_ffi.specs.EncoderInMemory.{EncoderInMemory}
 use Rattle.rds_ffi.specs.Codes.{reply_of}
 use Rattle.rds_ffi.proofs.Lying.{back, there, unmoved}
 use Rattle.rds_ffi.proofs.encoder.rdsrt_encoder_set_name.Goals as goal
@@ -11,5 +11,5 @@ returns-clause-reply c given station m entries s =
 
 pub returns-clause-stands : goal.returns-clause-stands
 returns-clause-stands c given station m entries s =
-    subst (λ (x : List ℕ). EncoderLies station m c.answered.new.encoder (SetName x ∷ entries)) c.in-Ok.ensures.value
+    subst (λ (x : List ℕ). EncoderInMemory station m c.answered.new.encoder (SetName x ∷ entries)) c.in-Ok.ensures.value
     (back station m _ _ _ (c.answered.ensures.same (unmoved c.set_name-reply.result _ _ _ c.set_name-reply.ensures.kept (c.restore-inner.ensures s.good))) (c.answered.ensures.good s.good) (c.set_name-reply.ensures.stands station m entries (there station m _ entries _ c.restore-inner.ensures s)))

@@ -1,5 +1,5 @@
 use Rattle.std.proofs.Common.{sym, subst}
-use Rattle.rds_ffi.specs.Lies.{ReceiverLies}
+use Rattle.rds_ffi.specs.ReceiverInMemory.{ReceiverInMemory}
 use Rattle.rds_ffi.proofs.receiver.rdsrt_receiver_slot.Goals as goal
 
 pub returns-then-rest-clause-stands : goal.returns-then-rest-clause-stands
@@ -20,12 +20,12 @@ pub returns-clause-stands : goal.returns-clause-stands
 returns-clause-stands c good t input s = (
   c.in-Ok.slot,
   c.in-Ok.ensures.value,
-  c.go_on.ensures.stands t input (subst (λ r. ReceiverLies t r input) (sym (c.rest.ensures.kept c.if-rest.false)) s),
+  c.go_on.ensures.stands t input (subst (λ r. ReceiverInMemory t r input) (sym (c.rest.ensures.kept c.if-rest.false)) s),
 )
 
 pub returns-clause-same : goal.returns-clause-same
 returns-clause-same c none view t input s shown = (
   c.in-Ok.slot,
   c.in-Ok.ensures.value,
-  c.go_on.ensures.same none view t input (subst (λ r. ReceiverLies t r input) (sym (c.rest.ensures.kept c.if-rest.false)) s) shown,
+  c.go_on.ensures.same none view t input (subst (λ r. ReceiverInMemory t r input) (sym (c.rest.ensures.kept c.if-rest.false)) s) shown,
 )

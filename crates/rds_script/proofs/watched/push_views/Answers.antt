@@ -3,7 +3,7 @@ use Rattle.std.proofs.lemmas.Grind.{common_steps}
 use Rattle.rds_world.specs.Slots.{input_of}
 use Rattle.rds_world.specs.StandsAt.{IsViewOfInput}
 use Rattle.rds_world.specs.State.{distance}
-use Rattle.rds_output.specs.KeptView.{view_kept}
+use Rattle.rds_view_lines.specs.KeptView.{view_kept}
 use Rattle.rds_script.specs.Outcomes.{view_at}
 use Rattle.rds_script.proofs.Changes.{at_last, at_set, next_changes, no_changes, other_set, stay_changes}
 use Rattle.rds_script.proofs.Playing.{still_shown}

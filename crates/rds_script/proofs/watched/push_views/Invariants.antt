@@ -2,7 +2,7 @@ use Rattle.std.proofs.Common.{◌≡◌, ◌≤◌, ◌<◌, ◌+◌, ◌*◌, �
 use Rattle.rds_world.specs.Slots.{input_of}
 use Rattle.rds_world.specs.StandsAt.{IsViewOfInput, WhereItStands}
 use Rattle.rds_world.specs.State.{distance}
-use Rattle.rds_output.specs.KeptView.{view_kept}
+use Rattle.rds_view_lines.specs.KeptView.{view_kept}
 use Rattle.rds_script.specs.Outcomes.{receiver_changes, view_at}
 use Rattle.rds_script.specs.Inside.Watched.{WereShown}
 use Rattle.rds_script.proofs.watched.push_views.Given as goal

@@ -1,8 +1,8 @@
 use Rattle.std.proofs.Common.{IsTrue, None, arith, subst, sym}
 use Rattle.rds_log.specs.LogWrites.{tuned}
-use Rattle.rds_receiver.specs.Lent.{view_lent}
+use Rattle.rds_receiver.specs.Borrowed.{view_of}
 use Rattle.rds_receiver.specs.StandsAt.{StandsAt}
-use Rattle.rds_witness.specs.Lent.{thing_lent}
+use Rattle.rds_witness.specs.Borrowed.{thing_of}
 use Rattle.rds_witness.specs.Lost.{got-none}
 use Rattle.rds_witness.specs.Mix.{Shows}
 use Rattle.rds_witness.proofs.Slots.{never_more, never_none, stands_more}
@@ -13,7 +13,7 @@ loop-n-init c =
     let t = tuned c.args.pi c.args.dwell in
     record {
       stands = subst (StandsAt t c.new-receiver.result) (sym (got-none None c.args.log.now)) (c.new-receiver.ensures.stands 0);
-      never = never_none t c.args.log.now (thing_lent c.args.thing);
+      never = never_none t c.args.log.now (thing_of c.args.thing);
     }
 
 pub loop-n-preserved : goal.loop-n-preserved
@@ -23,8 +23,8 @@ loop-n-preserved c =
     (c.slot.ensures.stands _ _ c.loop-n.invariant.stands) in
     record {
       stands = stands;
-      never = never_more t c.args.log.now c.loop-n.n (thing_lent c.args.thing) (view_lent c.view.result) c.loop-n.invariant.never
-          (c.view.ensures t _ stands) (λ (shown : Shows (view_lent c.view.result) (thing_lent c.args.thing)). let yes : IsTrue c.shows.result = c.shows.ensures.1 shown in cc);
+      never = never_more t c.args.log.now c.loop-n.n (thing_of c.args.thing) (view_of c.view.result) c.loop-n.invariant.never
+          (c.view.ensures t _ stands) (λ (shown : Shows (view_of c.view.result) (thing_of c.args.thing)). let yes : IsTrue c.shows.result = c.shows.ensures.1 shown in cc);
     }
 
 pub returns : goal.returns

@@ -3,7 +3,7 @@ use Rattle.std.specs.List.{Contains}
 use Rattle.rds_log.specs.LogWrites.{tuned}
 use Rattle.rds_receiver.specs.declared.stored.StoredReceiver.{StoredReceiver}
 use Rattle.rds_witness.specs.Covered.{Keeps}
-use Rattle.rds_witness.proofs.Kept.{keeps_more, keeps_part}
+use Rattle.rds_witness.proofs.KeptReceivers.{keeps_more, keeps_part}
 use Rattle.rds_witness.proofs.covering.keep.Goals as goal
 
 pub returns-then-is_receiver_part : goal.returns-then-is_receiver_part

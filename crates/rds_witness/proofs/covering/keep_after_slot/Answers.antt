@@ -2,7 +2,7 @@ use Rattle.std.proofs.Common.{◌≡◌, ◌+◌, ◌∷◌, ℕ, arith, get_or,
 use Rattle.std.proofs.lemmas.Bool.{cases_lt}
 use Rattle.rds_log.specs.LogWrites.{tuned}
 use Rattle.rds_witness.specs.Covered.{Covers, IsAt}
-use Rattle.rds_witness.proofs.Kept.{at_next, covers_next}
+use Rattle.rds_witness.proofs.KeptReceivers.{at_next, covers_next}
 use Rattle.rds_witness.proofs.covering.keep_after_slot.Goals as goal
 
 pub loop-place-init : goal.loop-place-init

@@ -1,6 +1,6 @@
 use Rattle.rds_log.specs.LogWrites.{tuned}
-use Rattle.rds_receiver.specs.Lent.{view_lent}
-use Rattle.rds_witness.specs.Lent.{thing_lent}
+use Rattle.rds_receiver.specs.Borrowed.{view_of}
+use Rattle.rds_witness.specs.Borrowed.{thing_of}
 use Rattle.rds_witness.proofs.Mixes.{adds_mix}
 use Rattle.rds_witness.proofs.mix_lines.push_if_mix.Goals as goal
 
@@ -8,14 +8,14 @@ pub returns-then-is_mix-clause-mixes : goal.returns-then-is_mix-clause-mixes
 returns-then-is_mix-clause-mixes c =
     let place = c.args.place.now in
     let around = c.requires.around in
-    adds_mix (tuned place.pi place.dwell) place.log.now place.burst place.slot (thing_lent c.args.thing)
+    adds_mix (tuned place.pi place.dwell) place.log.now place.burst place.slot (thing_of c.args.thing)
     c.args.lines.now c.push.new.self c.push_burst.new.lines c.push-then-is_mix.new.self c.push_shown.new.lines
     c.push.ensures c.push_burst.ensures.burst c.push-then-is_mix.ensures c.push_shown.ensures.shown
     record {
       place = around.place;
       new = record {
-        before = view_lent c.args.before;
-        after = view_lent c.args.after;
+        before = view_of c.args.before;
+        after = view_of c.args.after;
         was = around.was;
         is = around.is;
         not_shown = c.is_mix.ensures.new c.if-is_mix.true;

@@ -1,5 +1,5 @@
 use Rattle.std.proofs.Common.{map}
-use Rattle.rds_output.specs.KeptView.{view_kept}
+use Rattle.rds_view_lines.specs.KeptView.{view_kept}
 use Rattle.rds_script.proofs.Playing.{nothing_yet}
 use Rattle.rds_script.proofs.watched.Watched.new.Goals as goal
 

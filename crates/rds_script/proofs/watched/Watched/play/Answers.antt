@@ -1,10 +1,10 @@
 use Rattle.std.proofs.Common.{◌≡◌, ◌∙◌, ◌∷◌, ◌++◌, ℕ, List, ap, ap₂, arith, drop, length, map, rules, sym}
 use Rattle.std.proofs.lemmas.List.{length-map, take_at}
 use Rattle.rds_world.specs.Event.{Event}
-use Rattle.rds_output.specs.KeptView.{view_kept}
+use Rattle.rds_view_lines.specs.KeptView.{view_kept}
 use Rattle.rds_script.specs.Inside.Watched.{WereShown}
 use Rattle.rds_script.specs.Outcomes.{answer_lines, receiver_changes}
-use Rattle.rds_output.specs.declared.kept.KeptView.{KeptView}
+use Rattle.rds_view_lines.specs.declared.kept.KeptView.{KeptView}
 use Rattle.rds_script.proofs.watched.Watched.play.Goals as goal
 
 pub returns-in-Ok-clause-stands : goal.returns-in-Ok-clause-stands

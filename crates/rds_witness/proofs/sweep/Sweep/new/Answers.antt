@@ -6,7 +6,7 @@ use Rattle.rds_receiver.specs.Stored.{receiver_stored}
 use Rattle.rds_receiver.specs.State.{ReceiverState}
 use Rattle.rds_witness.specs.Covered.{IsAt}
 use Rattle.rds_witness.specs.Lost.{got, got-none}
-use Rattle.rds_witness.proofs.Kept.{covers_itself}
+use Rattle.rds_witness.proofs.KeptReceivers.{covers_itself}
 use Rattle.rds_witness.proofs.Losses.{got_long}
 use Rattle.rds_witness.proofs.sweep.Sweep.new.Goals as goal
 

@@ -10,7 +10,7 @@ use Rattle.rds_receiver.specs.declared.stored.StoredReceiver.{StoredReceiver}
 use Rattle.rds_witness.specs.Covered.{IsAt, IsCovered}
 use Rattle.rds_witness.specs.Lost.{got, got-more}
 use Rattle.rds_witness.specs.declared.burst.Burst.{Burst}
-use Rattle.rds_witness.proofs.Kept.{covers_itself}
+use Rattle.rds_witness.proofs.KeptReceivers.{covers_itself}
 use Rattle.rds_witness.proofs.Losses.{got_before, got_long, got_together, heard_next, lost_next}
 use Rattle.rds_witness.proofs.sweep.Sweep.next.Goals as goal
 

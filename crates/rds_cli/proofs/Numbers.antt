@@ -1,0 +1,113 @@
+-- Numbers that the words give.
+use Rattle.std.proofs.Common.{◌≡◌, ◌≤◌, ◌<◌, ◌^◌, ◌&&◌, ℕ, Bool, true, false, List, [], ◌∷◌, Option, Some, None, Result, Ok, Err, inl, inr, refl, sym, ◌∙◌, ap, arith, nat_lt}
+use Rattle.std.specs.Prelude.{◌↔◌, IfSome, IsNone, IsSome, if◌then◌else◌, length, nat_le, option_and_then}
+use Rattle.std.specs.Char.{digit_value}
+use Rattle.std.specs.List.{list_all}
+use Rattle.std.specs.Str.Parse.{AllDigits, IsNumeral, ParsesUnsigned, digits_value, without_leading_plus}
+use Rattle.std.proofs.lemmas.Bool.{and_parts, cases_lt, leb-true, le-leb, lt-ltb, ltb-true}
+use Rattle.clap.specs.Matches.{ReadsOne, one_text}
+use Rattle.clap.specs.ValueTests.{is_numeral}
+use Rattle.clap.specs.Words.{Text, one_of, rows_of}
+use Rattle.clap.specs.declared.parser.matches.Found.{Found}
+use Rattle.clap.proofs.WalkLemmas.{one_text-rows}
+use Rattle.rds_cli.specs.CommandLine.{number_from_to}
+
+-- n where it lies between the two
+abbrev pub between : ℕ → ℕ → ℕ → Option ℕ
+between least most n = if nat_le least n && nat_le n most then Some n else None
+
+all_digits : (ds : List ℕ) → AllDigits 10 ds → list_all (λ d. nat_lt (digit_value d) 10) ds ≡ true
+all_digits [] h = refl
+all_digits (d ∷ ds) h = rw (lt-ltb (digit_value d) 10 h.0) (all_digits ds h.1)
+
+digits_all : (ds : List ℕ) → list_all (λ d. nat_lt (digit_value d) 10) ds ≡ true → AllDigits 10 ds
+digits_all [] e = tt
+digits_all (d ∷ ds) e =
+    let parts = and_parts _ _ e in
+    (ltb-true _ _ parts.0, digits_all ds parts.1)
+
+numeral : (ds : List ℕ) → IsNumeral 10 ds → is_numeral ds ≡ true
+numeral ds h = rw (lt-ltb 0 (length ds) h.0) (all_digits ds h.1)
+
+is_one : (ds : List ℕ) → is_numeral ds ≡ true → IsNumeral 10 ds
+is_one ds e =
+    let parts = and_parts _ _ e in
+    (ltb-true _ _ parts.0, digits_all ds parts.1)
+
+above : (least most n : ℕ) → most < n → between least most n ≡ None
+above least most n h = go (nat_le least n) (nat_le n most) refl
+  where
+    go : (a b : Bool) → nat_le n most ≡ b → (if a && b then Some n else None) ≡ None
+    go false b e = refl
+    go true false e = refl
+    go true true e = let low = leb-true n most e in absurd (omega arith)
+
+read_number : (k least most : ℕ) {E : Type 0} (G : Text → Result ℕ E → Type 0) (o : Option Text) (r : Option ℕ) → (o ≡ None → r ≡ None)
+    → ((t : Text) → o ≡ Some t → ReadsOne G t r) → ((t : Text) (x : Result ℕ E) → G t x → ParsesUnsigned k 10 t x) → most < 2 ^ k
+    → option_and_then (number_from_to least most) o ≡ option_and_then (between least most) r
+read_number k least most G None r none value only fits = rw (none refl) refl
+read_number k least most {E} G (Some t) r none value only fits = go r (value t refl) (is_numeral digits) refl
+  where
+    digits : Text
+    digits = without_leading_plus t
+
+    large : (digits_value 10 digits < 2 ^ k → ⊥) → most < digits_value 10 digits
+    large over = elim (cases_lt most (digits_value 10 digits)) [
+      | inl h ↦ h
+      | inr h ↦ absurd (over (omega (arith, fits)))
+    ]
+
+    go : (r : Option ℕ) → ReadsOne G t r → (b : Bool) → is_numeral digits ≡ b → number_from_to least most t ≡ option_and_then (between least most) r
+    go (Some v) h b e =
+        let parsed = only t (Ok v) h in
+        rw (numeral digits parsed.0.0, parsed.1) refl
+    go None h true e =
+        let number = is_one digits e in
+        rw e (above least most (digits_value 10 digits) (large (λ small. only t (Err h.0) h.1 (number, small))))
+    go None h false e = rw e refl
+
+-- what `get_one` reads of an option, at an unsigned type of k bits
+pub read_option : (k least most : ℕ) {E : Type 0} (G : Text → Result ℕ E → Type 0) (f : Found) (option : Text) (r : Option ℕ)
+    → (one_text f option ≡ None → r ≡ None) → ((t : Text) → one_text f option ≡ Some t → ReadsOne G t r)
+    → ((t : Text) (x : Result ℕ E) → G t x → ParsesUnsigned k 10 t x) → most < 2 ^ k
+    → option_and_then (number_from_to least most) (one_of option (rows_of f)) ≡ option_and_then (between least most) r
+read_option k least most G f option r none value only fits =
+    ap (option_and_then (number_from_to least most)) (sym (one_text-rows f option)) ∙ read_number k least most G (one_text f option) r none value only fits
+
+-- a dwell is a number of slots above 0
+pub dwell_between : (n : ℕ) (o : Option ℕ) → n < 65536 → IsNone o ↔ (n ≡ 0) → IfSome o (λ d. d ≡ n) → o ≡ between 1 65535 n
+dwell_between n None fits none value = rw (none.0 refl) refl
+dwell_between n (Some d) fits none value = rw (le-leb 1 n least, le-leb n 65535 (omega (arith, fits))) (ap Some value)
+  where
+    least : 1 ≤ n
+    least = elim (cases_lt 0 n) [
+      | inl h ↦ h
+      | inr h ↦
+          let gone : IsNone (Some d) = none.1 (omega (arith, h)) in
+          cc
+    ]
+
+-- a programme type is a number below 32
+pub pty_between : (n : ℕ) (o : Option ℕ) → IsSome o ↔ (n < 32) → IfSome o (λ d. d ≡ n) → o ≡ between 0 31 n
+pty_between n None some value = elim (cases_lt n 32) [
+  | inl h ↦
+      let here : IsSome {T = ℕ} None = some.1 h in
+      cc
+  | inr h ↦ sym (above 0 31 n h)
+]
+pty_between n (Some d) some value =
+    let small = some.0 refl in
+    rw (le-leb 0 n (omega arith), le-leb n 31 (omega (arith, small))) (ap Some value)
+
+-- a lateness is a number of slots up to 1024
+pub late_between : (n : ℕ) (o : Option ℕ) → IsNone o ↔ (1024 < n) → IfSome o (λ d. d ≡ n) → o ≡ between 0 1024 n
+late_between n None none value = sym (above 0 1024 n (none.0 refl))
+late_between n (Some d) none value = rw (le-leb 0 n (omega arith), le-leb n 1024 most) (ap Some value)
+  where
+    most : n ≤ 1024
+    most = elim (cases_lt 1024 n) [
+      | inl h ↦
+          let gone : IsNone (Some d) = none.1 h in
+          cc
+      | inr h ↦ h
+    ]

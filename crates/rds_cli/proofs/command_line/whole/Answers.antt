@@ -1,0 +1,32 @@
+use Rattle.std.proofs.Common.{◌≡◌, ◌∙◌, IfOk, Ok, Result, ap, codes, subst}
+use Rattle.clap.specs.Words.{App, Shape, app_of, with_subcommand}
+use Rattle.rds_cli.specs.CommandLine.{decoder_app, late_app, log_app, log_readers_app, station_app, without_sim_app}
+use Rattle.rds_cli.proofs.command_line.whole.Goals as goal
+
+-- a command that has one subcommand more than the one that was known
+one_more : {X E : Type 0} (view : X → App) (r : Result X E) (m c : X) (before : App) (sub : Shape)
+    → r ≡ Ok m → IfOk r (λ x. view x ≡ with_subcommand (view c) sub) → view c ≡ before
+    → view m ≡ with_subcommand before sub
+one_more view r m c before sub was holds is =
+    subst (λ r. IfOk r (λ x. view x ≡ with_subcommand (view c) sub)) was holds
+    ∙ ap (λ (a : App). with_subcommand a sub) is
+
+pub returns : goal.returns
+unfolding log_readers_app
+returns c =
+    let decoder : app_of c.in_ok-with_decode.with_decode ≡ decoder_app =
+    one_more app_of _ _ _ _ _ c.in_ok-with_decode.was
+    (c.with.ensures (log_app (codes "decode")) c.decode.ensures.app c.decode.ensures.local) c.top.ensures in
+    let audited : app_of c.in_ok-with_audit.with_audit ≡ with_subcommand decoder_app (late_app (codes "audit")).top =
+    one_more app_of _ _ _ _ _ c.in_ok-with_audit.was
+    (c.with-2.ensures (late_app (codes "audit")) c.audit.ensures.app c.audit.ensures.local) decoder in
+    let log_readers : app_of c.in_ok-with_witness.with_witness ≡ log_readers_app =
+    one_more app_of _ _ _ _ _ c.in_ok-with_witness.was
+    (c.with-3.ensures (log_app (codes "witness")) c.witness.ensures.app c.witness.ensures.local) audited in
+    let without_sim : app_of c.in_ok-with_encode.with_encode ≡ without_sim_app =
+    one_more app_of _ _ _ _ _ c.in_ok-with_encode.was
+    (c.with-4.ensures (station_app (codes "encode")) c.encode.ensures.app c.encode.ensures.local) log_readers in
+    record {
+      app = subst (λ a. IfOk c.with-5.result (λ m. app_of m ≡ with_subcommand a (station_app (codes "sim")).top)) without_sim
+          (c.with-5.ensures (station_app (codes "sim")) c.simulate.ensures.app c.simulate.ensures.local);
+    }

@@ -1,0 +1,36 @@
+use Rattle.std.proofs.Common.{refl}
+use Rattle.clap.proofs.OnLiterals.{clap_on_literals}
+use Rattle.rds_cli.specs.CommandLine.{late_app, log_app, log_readers_app, station_app}
+use Rattle.rds_cli.proofs.laws.words_of_the_examples.Goals as goal
+
+pub returns : goal.returns
+unfolding clap_on_literals log_app late_app station_app log_readers_app
+returns c = record {
+  decode = record { taken = refl; ask = refl };
+  decode_other = record { taken = refl; ask = refl };
+  decode_dwell = record { taken = refl; ask = refl };
+  decode_spelling = record { taken = refl; ask = refl };
+  encode = record { taken = refl; ask = refl };
+  sim = record { taken = refl; ask = refl };
+  sim_tp = record { taken = refl; ask = refl };
+  audit = record { taken = refl; ask = refl };
+  audit_late = record { taken = refl; ask = refl };
+  witness = record { taken = refl; ask = refl };
+  sim_late = record { taken = refl; ask = refl };
+  sim_of_eleven = record { taken = refl; ask = refl };
+  decode_short = record { taken = refl; ask = refl };
+  sim_short = record { taken = refl; ask = refl };
+  decode_quiet = record { taken = refl; ask = refl };
+  sim_quiet = record { taken = refl; ask = refl };
+  help = refl;
+  help_of_one = refl;
+  version = refl;
+  no_dwell = record { taken = refl; refused = refl };
+  no_programme = record { taken = refl; refused = refl };
+  no_subcommand = record { taken = refl; refused = refl };
+  too_late = record { taken = refl; refused = refl };
+  help_word = record { taken = refl; kinds = refl };
+  help_word_of_one = record { taken = refl; kinds = refl };
+  help_word_of_none = record { taken = refl; kinds = refl };
+  large_type = record { taken = refl; refused = refl };
+}

@@ -1,0 +1,28 @@
+use Rattle.std.proofs.Common.{◌≡◌, ◌∙◌, Option, None, Some, ap, codes, refl, sym}
+use Rattle.std.specs.Prelude.{ℕ, Bool, option_map}
+use Rattle.clap.specs.Words.{Text, first_of, found_of, rows_of}
+use Rattle.clap.proofs.WalkLemmas.{first_value-rows}
+use Rattle.rds_cli.specs.Asks.{asked_by}
+use Rattle.rds_cli.specs.CommandLine.{asked, dwell_in, quiet_in, task_in}
+use Rattle.rds_cli.specs.declared.request.Task.{Task}
+use Rattle.rds_cli.proofs.request.request_of.Goals as goal
+
+no_text : (task : Option Task) (dwell : Option ℕ) (quiet : Bool) → asked task None dwell quiet ≡ None
+no_text None dwell quiet = refl
+no_text (Some task) dwell quiet = refl
+
+pub returns-in_err-get_str : goal.returns-in_err-get_str
+returns-in_err-get_str c =
+    let rows = rows_of (found_of c.args.inner.now) in
+    let pi : first_of (codes "pi") rows ≡ None = sym (c.get_str.ensures ∙ first_value-rows (found_of c.args.inner.now) (codes "pi")) ∙ ap (option_map (λ s. s.now)) c.in_err-get_str.was in
+    let none = ap (λ (x : Option Text). asked (task_in c.args.name.now rows) x (dwell_in rows) (quiet_in rows)) pi ∙ no_text (task_in c.args.name.now rows) (dwell_in rows) (quiet_in rows) in
+    ap (option_map asked_by) c.from_residual-in_err-get_str.ensures ∙ sym none
+
+pub returns : goal.returns
+returns c =
+    let rows = rows_of (found_of c.args.inner.now) in
+    let pi : first_of (codes "pi") rows ≡ Some c.in_ok-get_str.field-0.now = sym (c.get_str.ensures ∙ first_value-rows (found_of c.args.inner.now) (codes "pi")) ∙ ap (option_map (λ s. s.now)) c.in_ok-get_str.was in
+    let task = sym c.task_of.ensures ∙ c.in_ok-task_of.was in
+    let dwell = sym c.dwell_of.ensures ∙ c.in_ok-dwell_of.was in
+    let quiet : quiet_in rows ≡ c.is_given.result = sym c.is_given.ensures in
+    sym (rw (task, pi, dwell, quiet) refl)

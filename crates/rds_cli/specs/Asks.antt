@@ -1,0 +1,6 @@
+-- What the program takes from its words.
+use Rattle.rds_cli.specs.CommandLine.{Requested}
+use Rattle.rds_cli.specs.declared.request.Request.{Request}
+
+abbrev pub asked_by : Request → Requested
+asked_by r = record { task = r.task; pi = r.pi.now; dwell = r.dwell; quiet = r.quiet }

@@ -1,0 +1,197 @@
+-- The words of the program, as a simple command of `clap`, and what they ask for.
+-- This is the project's own command line.
+use Rattle.std.specs.Prelude.{◌≡◌, ◌&&◌, ◌∷◌, []}
+use Rattle.std.specs.Prelude.{ℕ, Bool, List, Option, Some, None, false, true, codes, if◌then◌else◌}
+use Rattle.std.specs.Prelude.{length, nat_le, nat_lt, not, option_and_then, option_map, pos}
+use Rattle.std.specs.List.{list_all}
+use Rattle.std.specs.Option.{option_map_or}
+use Rattle.std.specs.Str.{bytes_eq}
+use Rattle.std.specs.Str.Parse.{digits_value, without_leading_plus}
+use Rattle.clap.specs.Simple.{on_top}
+use Rattle.clap.specs.ValueTests.{is_numeral}
+use Rattle.clap.specs.Words.{App, Row, Rule, Text, fault_of, first_of, new_app, new_rule}
+use Rattle.clap.specs.Words.{one_of, subcommand_of, takes, with_rule, with_subcommand}
+use Rattle.clap.specs.declared.builder.action.ArgAction.TheVariants.{SetTrue}
+use Rattle.clap.specs.declared.builder.value_parser.ValueParser.{ValueParser}
+use Rattle.clap.specs.declared.builder.value_parser.ValueParser.TheVariants.{Signed}
+use Rattle.clap.specs.declared.error.kind.ErrorKind.{ErrorKind}
+use Rattle.clap.specs.declared.error.kind.ErrorKind.TheVariants.{DisplayHelp, DisplayVersion}
+use Rattle.rds_charset.specs.Digits.{HasWord}
+use Rattle.rds_cli.specs.declared.request.Programme.{Programme}
+use Rattle.rds_cli.specs.declared.request.Task.{Task}
+use Rattle.rds_cli.specs.declared.request.Task.TheVariants.{Audit, Decode, Encode, Simulate, Witness}
+
+-- ---- the command line
+
+-- `--pi HHHH`, which must be given
+abbrev pub pi_rule : Rule
+pi_rule = record (new_rule (codes "pi")) {
+  long = Some (codes "pi");
+  value_names = 1;
+  required = true;
+}
+
+-- an option that takes a number, its parser, and the number where it isn't given
+abbrev pub number_rule : Text → ValueParser → Text → Rule
+number_rule name parser default = record (new_rule name) {
+  long = Some name;
+  value_names = 1;
+  defaults = default ∷ [];
+  parser = Some parser;
+}
+
+-- `--m N` or `-m N`, from 1 to 65535
+abbrev pub dwell_rule : Rule
+dwell_rule = record (number_rule (codes "m") (Signed (pos 1) (pos 65535)) (codes "128")) { short = Some 109 }
+
+-- `--k N` or `-k N`, from 0 to 1024
+abbrev pub late_rule : Rule
+late_rule = record (number_rule (codes "k") (Signed (pos 0) (pos 1024)) (codes "0")) { short = Some 107 }
+
+-- `--pty N`, from 0 to 31
+abbrev pub pty_rule : Rule
+pty_rule = number_rule (codes "pty") (Signed (pos 0) (pos 31)) (codes "0")
+
+-- a flag
+abbrev pub flag_rule : Text → Rule
+flag_rule name = record (new_rule name) { long = Some name; action = Some SetTrue }
+
+-- `--tp`
+abbrev pub tp_rule : Rule
+tp_rule = flag_rule (codes "tp")
+
+-- `--quiet`
+abbrev pub quiet_rule : Rule
+quiet_rule = flag_rule (codes "quiet")
+
+-- a subcommand that reads a log
+unfoldable pub log_app : Text → App
+log_app name = with_rule (with_rule (with_rule (new_app name) pi_rule) dwell_rule) quiet_rule
+
+-- a subcommand that speaks of late groups
+unfoldable pub late_app : Text → App
+late_app name = with_rule (log_app name) late_rule
+
+-- a subcommand with a station of its own
+unfoldable pub station_app : Text → App
+station_app name = with_rule (with_rule (late_app name) pty_rule) tp_rule
+
+-- `rdsrt`, which has a version and wants a subcommand
+abbrev pub top_app : App
+top_app = on_top (λ s. record s { has_version = true; subcommand_required = true }) (new_app (codes "rdsrt"))
+
+-- with the subcommand `decode` alone
+abbrev pub decoder_app : App
+decoder_app = with_subcommand top_app (log_app (codes "decode")).top
+
+-- with those that read a log
+unfoldable pub log_readers_app : App
+log_readers_app =
+    with_subcommand (with_subcommand decoder_app (late_app (codes "audit")).top) (log_app (codes "witness")).top
+
+-- with all but `sim`
+abbrev pub without_sim_app : App
+without_sim_app = with_subcommand log_readers_app (station_app (codes "encode")).top
+
+-- with all five
+abbrev pub whole_app : App
+whole_app = with_subcommand without_sim_app (station_app (codes "sim")).top
+
+-- `clap`'s definition takes the words, the program's own name first
+abbrev pub TakesWords : List Text → Type 0
+TakesWords words = takes whole_app words ≡ true
+
+-- ---- what the words ask for
+
+-- what is to be done, the text that is given as programme identification, the dwell in slots, and whether warnings are
+-- left out
+pub record Requested : Type 0 where
+  pub task : Task
+  pub pi : Text
+  pub dwell : ℕ
+  pub quiet : Bool
+
+-- four hexadecimal digits of either case, and the programme identification that they spell
+pub record IsPi (given : Text) (pi : ℕ) : Type 0 where
+  pub four : length given ≡ 4
+  pub word : HasWord given 0 pi
+
+-- the number that decimal digits write, where a plus may stand first, if it lies between the two
+abbrev pub number_from_to : ℕ → ℕ → Text → Option ℕ
+number_from_to least most text =
+    let digits = without_leading_plus text in
+    let number = digits_value 10 digits in
+    if is_numeral digits && (nat_le least number && nat_le number most) then Some number else None
+
+abbrev pub dwell_in : List Row → Option ℕ
+dwell_in rows = option_and_then (number_from_to 1 65535) (one_of (codes "m") rows)
+
+abbrev pub late_in : List Row → Option ℕ
+late_in rows = option_and_then (number_from_to 0 1024) (one_of (codes "k") rows)
+
+abbrev pub pty_in : List Row → Option ℕ
+pty_in rows = option_and_then (number_from_to 0 31) (one_of (codes "pty") rows)
+
+-- a flag is given
+abbrev pub flag_in : Text → List Row → Bool
+flag_in name rows = option_map_or (λ text. bytes_eq text (codes "true")) (first_of name rows) false
+
+abbrev pub tp_in : List Row → Bool
+tp_in = flag_in (codes "tp")
+
+abbrev pub quiet_in : List Row → Bool
+quiet_in = flag_in (codes "quiet")
+
+abbrev pub programme_in : List Row → Option Programme
+programme_in rows = option_map (λ pty. record { pty = pty; tp = tp_in rows }) (pty_in rows)
+
+-- what a station of this programme and these late groups does
+abbrev pub with_station : (Programme → ℕ → Task) → List Row → Option Task
+with_station task rows = option_and_then (λ programme. option_map (task programme) (late_in rows)) (programme_in rows)
+
+abbrev pub task_in : Text → List Row → Option Task
+task_in name rows =
+    if bytes_eq name (codes "decode") then Some Decode
+    else if bytes_eq name (codes "encode") then with_station Encode rows
+    else if bytes_eq name (codes "sim") then with_station Simulate rows
+    else if bytes_eq name (codes "audit") then option_map Audit (late_in rows)
+    else if bytes_eq name (codes "witness") then Some Witness
+    else None
+
+abbrev pub asked : Option Task → Option Text → Option ℕ → Bool → Option Requested
+asked (Some task) (Some pi) (Some dwell) quiet = Some (record { task = task; pi = pi; dwell = dwell; quiet = quiet })
+asked _ _ _ _ = None
+
+-- of the name of a subcommand and what was found for its options
+abbrev pub asked_of : Text × List Row → Option Requested
+asked_of p = asked (task_in p.0 p.1) (first_of (codes "pi") p.1) (dwell_in p.1) (quiet_in p.1)
+
+-- what the words ask for, as `clap`'s definition reads them
+abbrev pub asked_in : List Text → Option Requested
+asked_in words = option_and_then asked_of (subcommand_of whole_app words)
+
+-- the words are taken, and ask for this
+pub record AskFor (words : List Text) (asked : Requested) : Type 0 where
+  pub taken : TakesWords words
+  pub ask : asked_in words ≡ Some asked
+
+-- ---- other words
+
+abbrev pub is_shown : ErrorKind → Bool
+is_shown DisplayHelp = true
+is_shown DisplayVersion = true
+is_shown _ = false
+
+-- `clap`'s definition answers the words, always by a kind that passes the test
+abbrev pub AreAnswered : (ErrorKind → Bool) → List Text → Type 0
+AreAnswered test words =
+    let kinds = fault_of whole_app words in
+    (nat_lt 0 (length kinds) && list_all test kinds) ≡ true
+
+-- by its help or the version
+abbrev pub AskForHelp : List Text → Type 0
+AskForHelp words = AreAnswered is_shown words
+
+-- by a refusal
+abbrev pub AreRefused : List Text → Type 0
+AreRefused words = AreAnswered (λ kind. not (is_shown kind)) words

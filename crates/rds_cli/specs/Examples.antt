@@ -1,0 +1,46 @@
+-- Words that are written out, and what they ask for.
+use Rattle.std.specs.Prelude.{◌≡◌, ◌==◌, ◌∷◌, ℕ, Bool, List, [], codes, false, true, if◌then◌else◌}
+use Rattle.clap.specs.Words.{Text, fault_of, takes}
+use Rattle.clap.specs.declared.error.kind.ErrorKind.TheVariants.{DisplayHelp, InvalidSubcommand}
+use Rattle.rds_cli.specs.CommandLine.{AreRefused, Requested, whole_app}
+use Rattle.rds_cli.specs.declared.request.Task.TheVariants.{Audit, Decode, Encode, Simulate, Witness}
+
+abbrev pub in_front : ℕ → List Text → List Text
+in_front c [] = (c ∷ []) ∷ []
+in_front c (word ∷ rest) = (c ∷ word) ∷ rest
+
+-- a line, cut at its spaces
+abbrev pub typed : List ℕ → List Text
+typed [] = [] ∷ []
+typed (c ∷ rest) = if c == 32 then [] ∷ typed rest else in_front c (typed rest)
+
+-- the words are not taken, and refused
+pub record AreNotTaken (words : List Text) : Type 0 where
+  pub taken : takes whole_app words ≡ false
+  pub refused : AreRefused words
+
+-- the words are not taken, and answered by help or by the refusal of the command that they name
+pub record CallForHelp (words : List Text) : Type 0 where
+  pub taken : takes whole_app words ≡ false
+  pub kinds : fault_of whole_app words ≡ DisplayHelp ∷ InvalidSubcommand ∷ []
+
+abbrev pub decoding : Text → ℕ → Requested
+decoding pi dwell = record { task = Decode; pi = pi; dwell = dwell; quiet = false }
+
+abbrev pub encoding : ℕ → ℕ → Requested
+encoding dwell pty =
+    record { task = Encode (record { pty = pty; tp = false }) 0; pi = codes "C201"; dwell = dwell; quiet = false }
+
+abbrev pub simulating : ℕ → ℕ → Bool → ℕ → Requested
+simulating dwell pty tp late =
+    record { task = Simulate (record { pty = pty; tp = tp }) late; pi = codes "C201"; dwell = dwell; quiet = false }
+
+abbrev pub witnessing : ℕ → Requested
+witnessing dwell = record { task = Witness; pi = codes "C201"; dwell = dwell; quiet = false }
+
+abbrev pub auditing : ℕ → ℕ → Requested
+auditing dwell late = record { task = Audit late; pi = codes "C201"; dwell = dwell; quiet = false }
+
+-- the same without warnings
+abbrev pub quietly : Requested → Requested
+quietly asked = record asked { quiet = true }

@@ -1,0 +1,317 @@
+//! The command line as a command of `clap`: commands, options and help texts.
+ghost use Rattle.std.specs.Prelude.{◌≡◌, IfOk, codes, false};
+ghost use Rattle.clap.specs.Words.{App, app_of, rule_of, with_subcommand};
+ghost use Rattle.clap.specs.declared.builder.command.Command.TheViews.{out-Command};
+ghost use Rattle.rds_cli.specs.CommandLine.{dwell_rule, flag_rule, late_app, late_rule, log_app, number_rule};
+ghost use Rattle.rds_cli.specs.CommandLine.{pi_rule, pty_rule, quiet_rule, station_app, top_app, tp_rule, whole_app};
+
+use clap::builder::ValueParser;
+use clap::{Arg, ArgAction, Command, value_parser};
+use std::alloc::{AllocError, Global};
+
+/// Makes the option `--pi`. `clap` accepts any text; `identification_of` checks the four digits.
+fn pi<'a>(alloc: Global) -> Arg<'a>
+    ensures rule { rule_of result ≡ pi_rule }
+    ensures local { result.global ≡ false }
+{
+    Arg::new(alloc, "pi")
+        .long("pi")
+        .value_name("HHHH")
+        .required(true)
+        .help("PI code of the station: four hexadecimal digits, for example C201")
+}
+
+/// Makes an option that takes a number.
+fn number<'a>(
+    alloc: Global,
+    name: &'a str,
+    parser: ValueParser<'a>,
+    default: &'a str,
+    help: &'a str,
+) -> Arg<'a>
+    ensures rule { rule_of result ≡ number_rule name.entry.now parser.entry default.entry.now }
+    ensures local { result.global ≡ false }
+{
+    Arg::new(alloc, name)
+        .long(name)
+        .value_name("N")
+        .value_parser(parser)
+        .default_value(default)
+        .help(help)
+}
+
+/// Makes the option `-m`, `--m`.
+fn dwell<'a>(alloc: Global) -> Arg<'a>
+    ensures rule { rule_of result ≡ dwell_rule }
+    ensures local { result.global ≡ false }
+{
+    let parser = value_parser!(u16).range(1..);
+    number(alloc, "m", parser, "128", "Dwell M in slots, 1 to 65535")
+        .short('m')
+        .long_help(
+            "Dwell M in slots, 1 to 65535. A slot is the time of one group, about 88 ms.\n\
+             A receiver drops a text if no part of it arrived for M slots. The station needs\n\
+             the same M or a larger one. Then no receiver shows a mix of two texts.",
+        )
+}
+
+/// Makes the option `-k`, `--k`.
+fn late<'a>(alloc: Global) -> Arg<'a>
+    ensures rule { rule_of result ≡ late_rule }
+    ensures local { result.global ≡ false }
+{
+    let parser = value_parser!(u16).range(0..1025);
+    let help = "Lateness K in slots, 0 to 1024: how late a group may reach a receiver";
+    number(alloc, "k", parser, "0", help).short('k').long_help(
+        "Lateness K in slots, 0 to 1024: how late a group may reach a receiver, for example\n\
+         through a buffer or a network. Late groups must stay in their order. The station\n\
+         spaces its texts by M + K slots; a receiver needs M alone.",
+    )
+}
+
+/// Makes the option `--pty`.
+fn pty<'a>(alloc: Global) -> Arg<'a>
+    ensures rule { rule_of result ≡ pty_rule }
+    ensures local { result.global ≡ false }
+{
+    let parser = value_parser!(u8).range(0..32);
+    let help = "Programme type (PTY) in each group, 0 to 31; for example 10 is pop music";
+    number(alloc, "pty", parser, "0", help)
+}
+
+/// Makes a flag.
+fn flag<'a>(alloc: Global, name: &'a str, help: &'a str) -> Arg<'a>
+    ensures rule { rule_of result ≡ flag_rule name.entry.now }
+    ensures local { result.global ≡ false }
+{
+    Arg::new(alloc, name)
+        .long(name)
+        .action(ArgAction::SetTrue)
+        .help(help)
+}
+
+/// Makes the flag `--tp`.
+fn tp<'a>(alloc: Global) -> Arg<'a>
+    ensures rule { rule_of result ≡ tp_rule }
+    ensures local { result.global ≡ false }
+{
+    flag(
+        alloc,
+        "tp",
+        "Sets the TP flag in each group: the programme carries traffic announcements",
+    )
+}
+
+/// Makes the flag `--quiet`. Help lists it after the other options.
+fn quiet<'a>(alloc: Global) -> Arg<'a>
+    ensures rule { rule_of result ≡ quiet_rule }
+    ensures local { result.global ≡ false }
+{
+    let help = "Prints no warnings on standard error; faults are still printed";
+    flag(alloc, "quiet", help).display_order(100)
+}
+
+/// The help texts of a subcommand.
+#[derive(Clone, Copy)]
+struct Page<'a> {
+    /// One line: what the subcommand does.
+    about: &'a str,
+    /// The end of `--help`.
+    ending: &'a str,
+}
+
+/// Makes a subcommand that reads a log.
+#[tactic(auto, unfolding(crate::specs::CommandLine::log_app))]
+fn log_reader<'a>(alloc: Global, name: &'a str, page: Page<'a>) -> Result<Command<'a>, AllocError>
+    ensures app { IfOk result (λ c. app_of c ≡ log_app name.entry.now) }
+    ensures local { IfOk result (λ c. (out-Command c).has_globals ≡ false) }
+{
+    Command::new(alloc, name)
+        .about(page.about)
+        .after_long_help(page.ending)
+        .arg(pi(alloc))?
+        .arg(dwell(alloc))?
+        .arg(quiet(alloc))
+}
+
+/// Makes the subcommand `decode`.
+fn decode<'a>(alloc: Global) -> Result<Command<'a>, AllocError>
+    ensures app { IfOk result (λ c. app_of c ≡ log_app (codes "decode")) }
+    ensures local { IfOk result (λ c. (out-Command c).has_globals ≡ false) }
+{
+    let page = Page {
+        about: "Reads a log of received groups and prints what a receiver shows",
+        ending: "Prints one line for each change of the text, the name (PTYN) or the RT+ tags.\n\
+                 A log has one line for each slot, lost slots too (---- ---- ---- ----).\n\n\
+                 A receiver counts its own slots and needs M alone, so decode has no --k. K belongs\n\
+                 to the station: encode, sim and audit have it.\n\n\
+                 Example:\n  \
+                   $ echo C201 2140 4849 0D20 | rdsrt decode --pi C201\n  \
+                   0 text \"HI\"",
+    };
+    log_reader(alloc, "decode", page)
+}
+
+/// Makes a subcommand that takes `--k`.
+#[tactic(auto, unfolding(crate::specs::CommandLine::late_app))]
+fn late_reader<'a>(alloc: Global, name: &'a str, page: Page<'a>) -> Result<Command<'a>, AllocError>
+    ensures app { IfOk result (λ c. app_of c ≡ late_app name.entry.now) }
+    ensures local { IfOk result (λ c. (out-Command c).has_globals ≡ false) }
+{
+    log_reader(alloc, name, page)?.arg(late(alloc))
+}
+
+/// Makes the subcommand `audit`.
+fn audit<'a>(alloc: Global) -> Result<Command<'a>, AllocError>
+    ensures app { IfOk result (λ c. app_of c ≡ late_app (codes "audit")) }
+    ensures local { IfOk result (λ c. (out-Command c).has_globals ≡ false) }
+{
+    let page = Page {
+        about: "Reads a log of all groups that a station sent and says whether it keeps the rules",
+        ending: "Prints `yes N` with the number of slots, status 0, or `no SLOT NAME` with the first\n\
+                 slot that breaks a rule and the name of the fault, status 1.\n\n\
+                 Yes: no receiver with this M shows a mix of two texts, whichever groups it loses,\n\
+                 if its groups come at most K slots late. A log without a group of this PI gets a\n\
+                 yes too, and a warning.\n\
+                 No: a rule was broken. A receiver may or may not show a mix; `witness` looks for\n\
+                 one. A station that keeps the rules can get a no if it has few free slots.\n\n\
+                 Faults, each with its cure:\n  \
+                   EarlyFlag   A text reused the A/B flag less than M + K slots after the last\n              \
+                               group of the text before the previous one. Keep each text on\n              \
+                               air for at least M + K slots, and flip the flag only for a new\n              \
+                               text.\n  \
+                   Changed     A text changed without a flip of the A/B flag. Flip the flag with\n              \
+                               every change, even of one word.\n  \
+                   NotOneText  The segments fit no text: a forbidden control character, a\n              \
+                               character other than a space after the carriage return, or a\n              \
+                               segment past it. Send printable characters, end the text with\n              \
+                               one carriage return, fill its segment with spaces, and send no\n              \
+                               segment past it.\n  \
+                   EarlyTag    RT+ tags came before any text, or less than M + K slots after\n              \
+                               their text started. Send the first tags M + K slots after the\n              \
+                               start of their text.\n  \
+                   TagOutside  An RT+ tag ends past the end of its text. Count the start from 0,\n              \
+                               send the number of characters less one as the length, and set\n              \
+                               the tags after their text.\n\
+                 Names (PTYN) have the first three faults too.\n\n\
+                 Example:\n  \
+                   $ rdsrt audit --pi C201 --m 8 < examples/flags.log\n  \
+                   no 4 EarlyFlag",
+    };
+    late_reader(alloc, "audit", page)
+}
+
+/// Makes the subcommand `witness`.
+fn witness<'a>(alloc: Global) -> Result<Command<'a>, AllocError>
+    ensures app { IfOk result (λ c. app_of c ≡ log_app (codes "witness")) }
+    ensures local { IfOk result (λ c. (out-Command c).has_globals ≡ false) }
+{
+    let page = Page {
+        about: "Reads a log of all groups that a station sent and looks for lost slots that make a mix",
+        ending: "Prints `lose A-B: ` and a line of `decode`, status 1: a receiver with this M that loses\n\
+                 the slots A to B shows this text, name or tag in that slot. A receiver that loses\n\
+                 nothing does not show it up to M - 1 slots after that slot.\n\
+                 Prints `no witness found with one burst lost`, status 0, if no burst of lost slots\n\
+                 makes a mix of a text or a name. A tag or two bursts may still make one. If the line\n\
+                 ends with ` up to slot N`, the search stopped there.\n\n\
+                 Example:\n  \
+                   $ rdsrt witness --pi C201 --m 8 < examples/flags.log\n  \
+                   lose 2-3: 4 text \"POP  FM\"",
+    };
+    log_reader(alloc, "witness", page)
+}
+
+/// Makes a subcommand that has a station of its own.
+#[tactic(auto, unfolding(crate::specs::CommandLine::station_app))]
+fn station<'a>(alloc: Global, name: &'a str, page: Page<'a>) -> Result<Command<'a>, AllocError>
+    ensures app { IfOk result (λ c. app_of c ≡ station_app name.entry.now) }
+    ensures local { IfOk result (λ c. (out-Command c).has_globals ≡ false) }
+{
+    late_reader(alloc, name, page)?
+        .arg(pty(alloc))?
+        .arg(tp(alloc))
+}
+
+/// Makes the subcommand `encode`.
+fn encode<'a>(alloc: Global) -> Result<Command<'a>, AllocError>
+    ensures app { IfOk result (λ c. app_of c ≡ station_app (codes "encode")) }
+    ensures local { IfOk result (λ c. (out-Command c).has_globals ≡ false) }
+{
+    let page = Page {
+        about: "Reads a script and prints the log of the groups that a station sends",
+        ending: "A row of the script is one slot: COMMAND,ARGUMENT,FREE,RECEPTIONS. The last field is\n\
+                 empty here, for example text,HI,1, or -,,1, if nothing is set. Replies to commands\n\
+                 are comments in the log. The station is silent in the first M + K rows. At the\n\
+                 default M of 128, put 128 rows such as -,,1, before the first text.\n\n\
+                 Example:\n  \
+                   $ printf -- '-,,1,\\ntext,HI,1,\\n' | rdsrt encode --pi C201 --m 1\n  \
+                   ---- ---- ---- ----\n  \
+                   # 1 text ok\n  \
+                   C201 2000 4849 0D20",
+    };
+    station(alloc, "encode", page)
+}
+
+/// Makes the subcommand `sim`.
+fn simulate<'a>(alloc: Global) -> Result<Command<'a>, AllocError>
+    ensures app { IfOk result (λ c. app_of c ≡ station_app (codes "sim")) }
+    ensures local { IfOk result (λ c. (out-Command c).has_globals ≡ false) }
+{
+    let page = Page {
+        about: "Reads a script and prints what a station sends and what up to eight receivers show",
+        ending: "A row of the script is one slot: COMMAND,ARGUMENT,FREE,RECEPTIONS, for example\n\
+                 text,HI,1,GGL. RECEPTIONS has a letter for each receiver: G gets the group of this\n\
+                 slot, G3 gets the group sent 3 slots before, L loses it, R restarts. The station is\n\
+                 silent in the first M + K rows. At the default M of 128, put 128 rows such as\n\
+                 -,,1,GGL before the first text.\n\n\
+                 Example:\n  \
+                   $ printf -- '-,,1,G\\ntext,HI,1,G\\n' | rdsrt sim --pi C201 --m 1\n  \
+                   1 text ok\n  \
+                   1 sent C201 2000 4849 0D20\n  \
+                   1 r0 text \"HI\"",
+    };
+    station(alloc, "sim", page)
+}
+
+/// Makes the command `rdsrt` with its version and text.
+fn top<'a>(alloc: Global) -> Command<'a>
+    ensures { app_of result ≡ top_app }
+{
+    Command::new(alloc, "rdsrt")
+        .version("0.1.0")
+        .about(
+            "Encoder, receiver and audit for RDS texts that are never a mix of two\n\
+             Each command reads standard input and writes standard output.",
+        )
+        .after_help(
+            "Example:\n  \
+               $ echo C201 2140 4849 0D20 | rdsrt decode --pi C201\n  \
+               0 text \"HI\"\n\n\
+             `man rdsrt` has the formats of logs, scripts and output.",
+        )
+        .subcommand_required(true)
+}
+
+/// Adds a subcommand to a command.
+fn with<'a>(
+    command: Command<'a>,
+    subcommand: Result<Command<'a>, AllocError>,
+) -> Result<Command<'a>, AllocError>
+    ensures { (app : App) → IfOk subcommand.entry (λ s. app_of s ≡ app)
+        → IfOk subcommand.entry (λ s. (out-Command s).has_globals ≡ false)
+        → IfOk result (λ c. app_of c ≡ with_subcommand (app_of command.entry) app.top) }
+{
+    command.subcommand(subcommand?)
+}
+
+/// Makes the whole command line.
+#[tactic(auto, unfolding(crate::specs::CommandLine::log_readers_app))]
+pub fn whole<'a>(alloc: Global) -> Result<Command<'a>, AllocError>
+    ensures app { IfOk result (λ c. app_of c ≡ whole_app) }
+{
+    let with_decode = with(top(alloc), decode(alloc))?;
+    let with_audit = with(with_decode, audit(alloc))?;
+    let with_witness = with(with_audit, witness(alloc))?;
+    let with_encode = with(with_witness, encode(alloc))?;
+    with(with_encode, simulate(alloc))
+}

@@ -1,0 +1,42 @@
+//! What the definition of the command line says of written-out arguments.
+ghost use Rattle.std.specs.Prelude.{codes, false, true};
+ghost use Rattle.rds_cli.specs.CommandLine.{AskFor, AskForHelp};
+ghost use Rattle.rds_cli.specs.Examples.{AreNotTaken, CallForHelp, auditing, decoding, encoding, quietly, simulating, typed, witnessing};
+
+/// Shows the definition at work. The arguments of README's examples are taken and ask for these tasks. A dwell of 0
+/// slots, a programme type of 32, a subcommand without a programme and a missing subcommand are refused. Help and the
+/// version are answered. `help` followed by a command is not taken, and the definition leaves open whether that gives
+/// help or is refused.
+pub fn words_of_the_examples()
+    ensures decode { AskFor (typed (codes "rdsrt decode --pi C201")) (decoding (codes "C201") 128) }
+    ensures decode_other { AskFor (typed (codes "rdsrt decode --pi F201")) (decoding (codes "F201") 128) }
+    ensures decode_dwell { AskFor (typed (codes "rdsrt decode --pi C201 --m 8")) (decoding (codes "C201") 8) }
+    ensures decode_spelling { AskFor (typed (codes "rdsrt decode --m=+004 --pi=C201"))
+        (decoding (codes "C201") 4) }
+    ensures encode { AskFor (typed (codes "rdsrt encode --pi C201 --pty 10 --m 8")) (encoding 8 10) }
+    ensures sim { AskFor (typed (codes "rdsrt sim --pi C201 --pty 24 --m 8")) (simulating 8 24 false 0) }
+    ensures sim_tp { AskFor (typed (codes "rdsrt sim --pi C201 --pty 10 --tp")) (simulating 128 10 true 0) }
+    ensures audit { AskFor (typed (codes "rdsrt audit --pi C201 --m 4")) (auditing 4 0) }
+    ensures audit_late { AskFor (typed (codes "rdsrt audit --pi C201 --m 4 --k 2")) (auditing 4 2) }
+    ensures witness { AskFor (typed (codes "rdsrt witness --pi C201 --m 8")) (witnessing 8) }
+    ensures sim_late { AskFor (typed (codes "rdsrt sim --pi C201 --k 1024")) (simulating 128 0 false 1024) }
+    ensures sim_of_eleven { AskFor (typed (codes "rdsrt sim --pi C201 --m 8 --k 2 --pty 24 --tp --"))
+        (simulating 8 24 true 2) }
+    ensures decode_short { AskFor (typed (codes "rdsrt decode --pi C201 -m 8")) (decoding (codes "C201") 8) }
+    ensures sim_short { AskFor (typed (codes "rdsrt sim --pi C201 -k 2")) (simulating 128 0 false 2) }
+    ensures decode_quiet { AskFor (typed (codes "rdsrt decode --pi C201 --quiet"))
+        (quietly (decoding (codes "C201") 128)) }
+    ensures sim_quiet { AskFor (typed (codes "rdsrt sim --quiet --pi C201 --pty 10 --tp"))
+        (quietly (simulating 128 10 true 0)) }
+    ensures help { AskForHelp (typed (codes "rdsrt --help")) }
+    ensures help_of_one { AskForHelp (typed (codes "rdsrt decode --help")) }
+    ensures version { AskForHelp (typed (codes "rdsrt --version")) }
+    ensures no_dwell { AreNotTaken (typed (codes "rdsrt decode --pi C201 --m 0")) }
+    ensures no_programme { AreNotTaken (typed (codes "rdsrt decode")) }
+    ensures no_subcommand { AreNotTaken (typed (codes "rdsrt")) }
+    ensures too_late { AreNotTaken (typed (codes "rdsrt audit --pi C201 --k 1025")) }
+    ensures help_word { CallForHelp (typed (codes "rdsrt help")) }
+    ensures help_word_of_one { CallForHelp (typed (codes "rdsrt help decode")) }
+    ensures help_word_of_none { CallForHelp (typed (codes "rdsrt help nonsense")) }
+    ensures large_type { AreNotTaken (typed (codes "rdsrt encode --pi C201 --pty 32")) }
+{}

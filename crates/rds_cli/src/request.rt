@@ -1,0 +1,148 @@
+//! The request of the command line.
+ghost use Rattle.std.specs.Prelude.{◌≡◌, ◌⊎◌, ℕ, IfErr, IfNone, IfOk, IfSome, false, map, option_map, true};
+ghost use Rattle.clap.specs.Words.{FailsBy, fault_of, found_of, kind_of, rows_of};
+ghost use Rattle.rds_cli.specs.Asks.{asked_by};
+ghost use Rattle.rds_cli.specs.CommandLine.{AreRefused, AskForHelp, IsPi, TakesWords, asked_in, asked_of};
+ghost use Rattle.rds_cli.specs.CommandLine.{dwell_in, flag_in, is_shown, late_in, programme_in, task_in, whole_app};
+
+use crate::command_line::whole;
+use clap::error::ErrorKind;
+use clap::{ArgMatches, Error};
+use rds_block::Place;
+use rds_charset::word_at;
+use rds_fields::{Dwell, Late};
+use std::alloc::Global;
+
+/// The programme type and the traffic flag, which every group of a station carries.
+#[derive(Clone, Copy)]
+pub struct Programme {
+    /// The programme type.
+    pub pty: Place<32>,
+    /// Whether the programme carries traffic announcements.
+    pub tp: bool,
+}
+
+/// The command. `encode` and `sim` have a station; the lateness is the most slots that a group may come late.
+#[derive(Clone, Copy)]
+pub enum Task {
+    /// Print what a receiver shows of a log.
+    Decode,
+    /// Print the groups that a station sends.
+    Encode(Programme, Late),
+    /// Print what a station sends and what its receivers show.
+    Simulate(Programme, Late),
+    /// Print whether a log of all groups that were sent passes the audit.
+    Audit(Late),
+    /// Print which slots of such a log a receiver has to lose to show a mix.
+    Witness,
+}
+
+/// A command with its options.
+#[derive(Clone, Copy)]
+pub struct Request<'a> {
+    pub task: Task,
+    /// The argument of `--pi`, unchecked.
+    pub pi: &'a str,
+    pub dwell: Dwell,
+    /// Whether warnings are left out.
+    pub quiet: bool,
+}
+
+/// Reads the argument of `--pi`. `None` if it is not four hexadecimal digits, of either case.
+pub fn identification_of(given: &str) -> Option<u16>
+    ensures some { IfSome result (IsPi given.now) }
+    ensures none { IfNone result ((pi : ℕ) → IsPi given.now pi → ⊥) }
+{
+    if given.len() == 4 {
+        word_at(given.as_bytes(), 0)
+    } else {
+        None
+    }
+}
+
+/// Reads the arguments, the program's own name first. `None` if they name no task or a number is out of its range;
+/// `clap` refuses both before.
+///
+/// # Errors
+///
+/// The answer of `clap`: the arguments are refused, or they ask for help, or the program is out of memory.
+pub fn read_words<'a>(alloc: Global, words: &'a [&'a str]) -> Result<Option<Request<'a>>, Error>
+    ensures ok { IfOk result (λ o. option_map asked_by o ≡ asked_in (map (λ w. w.now) words.entry.now)) }
+    ensures err { IfErr result (λ e. TakesWords (map (λ w. w.now) words.entry.now)
+        → kind_of e ≡ ErrorKind.OutOfMemory) }
+    ensures kinds { FailsBy (fault_of whole_app (map (λ w. w.now) words.entry.now)) result }
+    ensures taken { IfOk result (λ o. TakesWords (map (λ w. w.now) words.entry.now)) }
+    ensures help { AskForHelp (map (λ w. w.now) words.entry.now)
+        → IfErr result (λ e. (kind_of e ≡ ErrorKind.OutOfMemory) ⊎ (is_shown (kind_of e) ≡ true)) }
+    ensures refused { AreRefused (map (λ w. w.now) words.entry.now)
+        → IfErr result (λ e. (kind_of e ≡ ErrorKind.OutOfMemory) ⊎ (is_shown (kind_of e) ≡ false)) }
+{
+    let matches = match whole(alloc)?.try_get_matches_from(words) {
+        Ok(matches) => matches,
+        Err(error) => return Err(error),
+    };
+    let Some((name, inner)) = matches.subcommand() else {
+        return Ok(None);
+    };
+    Ok(request_of(name, inner))
+}
+
+/// Reads a subcommand and its options.
+fn request_of<'a>(name: &'a str, inner: &ArgMatches<'a>) -> Option<Request<'a>>
+    ensures { option_map asked_by result ≡ asked_of (name.entry.now, rows_of (found_of inner.now)) }
+{
+    Some(Request {
+        task: task_of(name, inner)?,
+        pi: inner.get_str("pi")?,
+        dwell: dwell_of(inner)?,
+        quiet: is_given(inner, "quiet"),
+    })
+}
+
+/// Reads the task of a subcommand.
+fn task_of(name: &str, inner: &ArgMatches<'_>) -> Option<Task>
+    ensures { result ≡ task_in name.now (rows_of (found_of inner.now)) }
+{
+    match name {
+        "decode" => Some(Task::Decode),
+        "encode" => Some(Task::Encode(programme_of(inner)?, late_of(inner)?)),
+        "sim" => Some(Task::Simulate(programme_of(inner)?, late_of(inner)?)),
+        "audit" => Some(Task::Audit(late_of(inner)?)),
+        "witness" => Some(Task::Witness),
+        _ => None,
+    }
+}
+
+/// Reads the dwell.
+fn dwell_of(inner: &ArgMatches<'_>) -> Option<Dwell>
+    ensures { result ≡ dwell_in (rows_of (found_of inner.now)) }
+{
+    Dwell::new(inner.get_one::<u16>("m")?)
+}
+
+/// Reads the lateness.
+fn late_of(inner: &ArgMatches<'_>) -> Option<Late>
+    ensures { result ≡ late_in (rows_of (found_of inner.now)) }
+{
+    Late::new(inner.get_one::<u16>("k")?)
+}
+
+/// Reads the programme type and the traffic flag.
+fn programme_of(inner: &ArgMatches<'_>) -> Option<Programme>
+    ensures { result ≡ programme_in (rows_of (found_of inner.now)) }
+{
+    Some(Programme {
+        pty: Place::new(inner.get_one::<u8>("pty")?)?,
+        tp: is_given(inner, "tp"),
+    })
+}
+
+/// Returns whether a flag is given.
+fn is_given(inner: &ArgMatches<'_>, name: &str) -> bool
+    ensures { result ≡ flag_in name.now (rows_of (found_of inner.now)) }
+{
+    match inner.get_str(name) {
+        Some(text) => text == "true",
+        None => false,
+    }
+}

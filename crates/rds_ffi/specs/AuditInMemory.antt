@@ -1,0 +1,37 @@
+-- An audit that lies in the caller's memory (this project's own). Lists have the newest first.
+use Rattle.std.specs.Prelude.{◌≡◌, ℕ, List, Option, Some, None, Result, Ok, Err, MatchOption}
+use Rattle.rds_block.specs.declared.group.Group.{Group}
+use Rattle.rds_fields.specs.declared.message.Message.{Message}
+use Rattle.rds_audit.specs.AuditStandsAt.{AuditStandsAt}
+use Rattle.rds_audit.specs.Rules.{IsFaultOf, LogPasses}
+use Rattle.rds_audit.specs.Stored.{IsStored, audit_stored}
+use Rattle.rds_audit.specs.declared.audit.AuditFault.{AuditFault}
+use Rattle.rds_audit.specs.declared.stored.StoredAudit.{StoredAudit}
+use Rattle.rds_ffi.specs.Codes.{code_of}
+
+-- the audit of programme pi and of d slots lies there, and stands at the log
+pub record AuditInMemory (pi d : ℕ) (s : StoredAudit) (log : List (Option Group)) : Type 0 where
+  pub good : IsStored s
+  pub at : AuditStandsAt pi d (audit_stored s) log
+
+-- wherever an audit that lies there stands, this holds of its programme, of its number of slots and of its log
+abbrev pub WhereItIs : StoredAudit → (ℕ → ℕ → List (Option Group) → Type 0) → Type 0
+WhereItIs s Holds = (pi d : ℕ) (log : List (Option Group)) → AuditInMemory pi d s log → Holds pi d log
+
+-- and this of its number of slots and of what was heard
+abbrev pub WhereItHeard : StoredAudit → (ℕ → List (Option Message) → Type 0) → Type 0
+WhereItHeard s Holds = (pi d : ℕ) (log : List (Option Group)) (lies : AuditInMemory pi d s log) → Holds d lies.at.heard
+
+-- the fault of a result
+abbrev pub fault_in : Result (Unit {0}) AuditFault → Option AuditFault
+fault_in (Ok done) = None
+fault_in (Err fault) = Some fault
+
+-- the code is that of the fault of the log, or says that it passes
+abbrev pub Tells : ℕ → ℕ → List (Option Message) → Type 0
+Tells code d heard = (found : Option AuditFault) × (code ≡ code_of found)
+    × MatchOption found (LogPasses d heard) (λ fault. IsFaultOf d heard fault)
+
+-- the code is one of a fault, or of none
+abbrev pub IsAnswer : ℕ → Type 0
+IsAnswer code = (found : Option AuditFault) × (code ≡ code_of found)

@@ -1,5 +1,0 @@
-use Rattle.std.proofs.Common.{[], refl}
-use Rattle.rds_log.proofs.view_lines.ViewLines.new.Goals as goal
-
-pub returns-clause-stands : goal.returns-clause-stands
-returns-clause-stands c = record { receiver = c.new.ensures.stands 0; views = []; are = tt; slot = refl; shown = c.new-2.ensures; changes = refl }

@@ -1,0 +1,149 @@
+//! Whether what a station sent passes.
+ghost use Rattle.std.specs.Prelude.{◌≡◌, ◌≢◌, ◌≤◌, ◌+◌, ◌^◌, [], IfErr, Ok, false, true};
+ghost use Rattle.rds_charset.specs.Told.{traffic};
+ghost use Rattle.rds_log.specs.Audit.{Answers, Audits, Judges, Means};
+ghost use Rattle.rds_log.specs.Heard.{HeardLines, HeardLog};
+ghost use Rattle.rds_log.specs.Notes.{NotesFault, NotesNo, NotesVerdict};
+ghost use Rattle.rds_log.specs.Reads.{MadeReads};
+ghost use Rattle.rds_view_lines.specs.declared.fault.LogFault.TheVariants as faults;
+
+use crate::decode_log::MOST_READS;
+use crate::laws::what_an_answer_means;
+use crate::log_line::LogLine;
+use crate::notes::{LogNotes, NoNote};
+use crate::source::Source;
+use crate::verdict::Verdict;
+use rds_audit::Audit;
+use rds_charset::{Lines, TellingRead, TellingWrite, put};
+use rds_fields::{Dwell, Late};
+use rds_view_lines::LogFault;
+
+/// Audits a log of what a station sent, one slot a line, and writes the answer line: `yes` with the number of slots,
+/// or `no` with the slot that breaks a rule first and the name of the fault.
+///
+/// After a yes no receiver of that dwell, whose groups come no later, ever shows a mix of the log's texts. After a no
+/// no station that keeps its texts and names apart by the dwell and the lateness, without a gap of as many slots, could
+/// have sent the log. No read is made after the one that brought the slot that does not pass, or after a fault.
+///
+/// # Errors
+///
+/// The first fault: a bad line, a read or a write that failed, or 2^32 reads without an end.
+pub fn audit<R: TellingRead, W: TellingWrite>(
+    reader: &mut R,
+    writer: &mut W,
+    pi: u16,
+    dwell: Dwell,
+    late: Late,
+) -> Result<bool, LogFault>
+    ensures audits { Audits pi (dwell + late) (2 ^ 32)
+        (traffic R.remaining R.failures reader.old reader.new)
+        (traffic W.contents W.failures writer.old writer.new) result }
+    ensures means { Means pi dwell late (traffic R.remaining R.failures reader.old reader.new) result }
+    ensures reads { MadeReads (2 ^ 32) (R.reads reader.old) (R.reads reader.new) result }
+{
+    audit_within(reader, writer, pi, dwell, late, MOST_READS)
+}
+
+/// [`audit`] with at most so many reads: a log that is not at its end by then is too long.
+pub fn audit_within<R: TellingRead, W: TellingWrite>(
+    reader: &mut R,
+    writer: &mut W,
+    pi: u16,
+    dwell: Dwell,
+    late: Late,
+    reads: u64,
+) -> Result<bool, LogFault>
+    requires { reads ≤ 2 ^ 32 }
+    ensures audits { Audits pi (dwell + late) reads
+        (traffic R.remaining R.failures reader.old reader.new)
+        (traffic W.contents W.failures writer.old writer.new) result }
+    ensures means { Means pi dwell late (traffic R.remaining R.failures reader.old reader.new) result }
+    ensures reads { MadeReads reads (R.reads reader.old) (R.reads reader.new) result }
+{
+    what_an_answer_means();
+    let verdict = judge(reader, pi, dwell, late, reads, &mut LogNotes::new(pi))?;
+    write_verdict(verdict, writer)
+}
+
+/// [`audit`] with notes for a person: with them or without, it writes and returns the same.
+pub fn audit_with_notes<R: TellingRead, W: TellingWrite>(
+    reader: &mut R,
+    writer: &mut W,
+    pi: u16,
+    dwell: Dwell,
+    late: Late,
+    notes: &mut LogNotes,
+) -> Result<bool, LogFault>
+    ensures audits { Audits pi (dwell + late) (2 ^ 32)
+        (traffic R.remaining R.failures reader.old reader.new)
+        (traffic W.contents W.failures writer.old writer.new) result }
+    ensures means { Means pi dwell late (traffic R.remaining R.failures reader.old reader.new) result }
+    ensures reads { MadeReads (2 ^ 32) (R.reads reader.old) (R.reads reader.new) result }
+    ensures heard { result ≡ Ok true
+        → HeardLog pi (traffic R.remaining R.failures reader.old reader.new) notes.new.heard }
+    ensures no { result ≡ Ok false → NotesNo pi (dwell + late) (2 ^ 32)
+        (traffic R.remaining R.failures reader.old reader.new) notes.new.no }
+    ensures fault { IfErr result (λ fault. fault ≢ faults.Write
+        → NotesFault (traffic R.remaining R.failures reader.old reader.new) fault notes.new.bad) }
+{
+    what_an_answer_means();
+    *notes = LogNotes::new(pi);
+    let verdict = judge(reader, pi, dwell, late, MOST_READS, notes)?;
+    write_verdict(verdict, writer)
+}
+
+/// Writes the line of a verdict, and returns whether it is a yes.
+fn write_verdict<W: TellingWrite>(verdict: Verdict, writer: &mut W) -> Result<bool, LogFault>
+    ensures answers { Answers (Ok verdict) (traffic W.contents W.failures writer.old writer.new) result }
+{
+    let mut line = Lines::new();
+    verdict.push(&mut line);
+    put(line.bytes(), writer)?;
+    Ok(verdict.is_yes())
+}
+
+/// Audits the log up to its end, or to the first line that is bad or whose slot does not pass, with notes of which nothing
+/// is noted yet.
+fn judge<R: TellingRead>(
+    reader: &mut R,
+    pi: u16,
+    dwell: Dwell,
+    late: Late,
+    reads: u64,
+    notes: &mut LogNotes,
+) -> Result<Verdict, LogFault>
+    requires reads { reads ≤ 2 ^ 32 }
+    requires groups { notes.old.heard.groups ≡ 0 }
+    requires heard { HeardLines pi [] notes.old.heard }
+    ensures judges { Judges pi (dwell + late) reads (traffic R.remaining R.failures reader.old reader.new) result }
+    ensures reads { MadeReads reads (R.reads reader.old) (R.reads reader.new) result }
+    ensures notes { NotesVerdict pi (traffic R.remaining R.failures reader.old reader.new) notes.new result }
+{
+    let mut source = Source::new(reads);
+    let mut audit = Audit::new(pi, dwell, late);
+    let mut slots = 0;
+    let mut said = LogLine::Skip;
+    loop {
+        match source.next(reader, &mut said) {
+            Ok(true) => notes.heard.line(pi, said),
+            Ok(false) => {
+                notes.slots = slots;
+                return Ok(Verdict::Yes(slots));
+            }
+            Err(fault) => {
+                notes.bad = source.note(fault);
+                return Err(fault);
+            }
+        }
+        let line = said;
+        let LogLine::Slot(group) = line else {
+            continue;
+        };
+        if let Err(fault) = audit.slot_blocks(group) {
+            let why = fault;
+            notes.no = Some(NoNote::of(&audit, said, slots, source.lines(), why));
+            return Ok(Verdict::No(slots, fault));
+        }
+        slots += 1;
+    }
+}

@@ -1,0 +1,153 @@
+-- From what the words were read as to what the words say.
+use Rattle.std.proofs.Common.{◌≡◌, ◌∙◌, ◌⊎◌, ◌≤◌, ℕ, [], Bool, List, Option, Some, None, Ok, Err, ap, arith, false, true, inl, inr, refl, subst, sym}
+use Rattle.std.specs.Prelude.{Result, IfErr, IfOk, option_map}
+use Rattle.clap.specs.Words.{FailsBy, fault_of, kind_of}
+use Rattle.clap.specs.declared.error.Error.{Error}
+use Rattle.clap.specs.declared.error.kind.ErrorKind.{ErrorKind}
+use Rattle.clap.specs.declared.error.kind.ErrorKind.TheVariants.{DisplayHelp, DisplayVersion, OutOfMemory}
+use Rattle.rds_charset.specs.Told.{Traffic}
+use Rattle.rds_log.specs.LogWrites.{tuned}
+use Rattle.rds_receiver.specs.Receipts.{Tuning}
+use Rattle.rds_cli.specs.Asks.{asked_by}
+use Rattle.rds_cli.specs.CommandLine.{AreAnswered, AreRefused, AskForHelp, Requested, IsPi, TakesWords, asked_in, is_shown, whole_app}
+use Rattle.rds_cli.specs.declared.request.Request.{Request}
+use Rattle.rds_cli.specs.declared.request.Task.{Task}
+use Rattle.rds_program.specs.Run.{EndsBy, EndsRead, NoMemory, RefusesPi, RunsRead, RunsWords, TellsError, status_of}
+
+-- what is known of the answer of `read_words` to the words
+pub record ReadAs (words : List (List ℕ)) (read : Result (Option Request) Error) : Type 0 where
+  pub ok : IfOk read (λ o. option_map asked_by o ≡ asked_in words)
+  pub err : IfErr read (λ e. TakesWords words → kind_of e ≡ OutOfMemory)
+  pub kinds : FailsBy (fault_of whole_app words) read
+  pub taken : IfOk read (λ o. TakesWords words)
+  pub help : AskForHelp words → IfErr read (λ e. (kind_of e ≡ OutOfMemory) ⊎ (is_shown (kind_of e) ≡ true))
+  pub refused : AreRefused words → IfErr read (λ e. (kind_of e ≡ OutOfMemory) ⊎ (is_shown (kind_of e) ≡ false))
+
+-- ---- the status of an answer of `clap`
+
+shown_status : (kind : ErrorKind) → is_shown kind ≡ true → status_of kind ≡ 0
+shown_status DisplayHelp shown = refl
+shown_status DisplayVersion shown = refl
+shown_status _ shown = absurd (let bad : false ≡ true = shown in cc)
+
+refused_status : (kind : ErrorKind) (w : Traffic) (status : ℕ) → TellsError kind w status → is_shown kind ≡ false → NoMemory w status ⊎ (status ≡ 2)
+refused_status OutOfMemory w status tells unshown = inl (record { status_is = tells.status_is; told = tells.no_memory refl })
+refused_status DisplayHelp w status tells unshown = absurd (let bad : true ≡ false = unshown in cc)
+refused_status DisplayVersion w status tells unshown = absurd (let bad : true ≡ false = unshown in cc)
+refused_status _ w status tells unshown = inr tells.status_is
+
+either_status : (kind : ErrorKind) (w : Traffic) (status : ℕ) → TellsError kind w status → NoMemory w status ⊎ ((status ≡ 0) ⊎ (status ≡ 2))
+either_status OutOfMemory w status tells = inl (record { status_is = tells.status_is; told = tells.no_memory refl })
+either_status DisplayHelp w status tells = inr (inl tells.status_is)
+either_status DisplayVersion w status tells = inr (inl tells.status_is)
+either_status _ w status tells = inr (inr tells.status_is)
+
+no_memory : (kind : ErrorKind) (w : Traffic) (status : ℕ) → TellsError kind w status → kind ≡ OutOfMemory → NoMemory w status
+no_memory kind w status tells memory = record { status_is = tells.status_is ∙ ap status_of memory; told = tells.no_memory memory }
+
+few : (kind : ErrorKind) → status_of kind ≤ 2
+few OutOfMemory = omega arith
+few DisplayHelp = omega arith
+few DisplayVersion = omega arith
+few _ = omega arith
+
+not_shown : (kind : ErrorKind) → is_shown kind ≡ false → (status_of kind ≡ 1) ⊎ (status_of kind ≡ 2)
+not_shown OutOfMemory unshown = inl refl
+not_shown DisplayHelp unshown = absurd (let bad : true ≡ false = unshown in cc)
+not_shown DisplayVersion unshown = absurd (let bad : true ≡ false = unshown in cc)
+not_shown _ unshown = inr refl
+
+-- ---- what the words say
+
+-- words that were read well have no answer of `clap`
+none_answered : (test : ErrorKind → Bool) (words : List (List ℕ)) → fault_of whole_app words ≡ [] → AreAnswered test words → ⊥
+none_answered test words none answered = let bad : false ≡ true = rw none at answered in cc
+
+one_asked : {x y : Requested} → Some x ≡ Some y → x ≡ y
+one_asked e = cc
+
+pub by_words : (words : List (List ℕ)) (read : Result (Option Request) Error) (Engine : Task → Tuning → Type 0) (Rests : Type 0) (w : Traffic) (status : ℕ)
+    → ReadAs words read → RunsRead read Engine Rests w status → RunsWords words Engine Rests w status
+by_words words (Ok (Some request)) Engine Rests w status known ran = record {
+  runs = λ asked pi given is.
+      let same : asked_by request ≡ asked = one_asked (known.ok ∙ given.ask) in
+      inr (subst (λ (a : Requested). Engine a.task (tuned pi a.dwell)) same (ran.runs pi (subst (λ (a : Requested). IsPi a.pi pi) (sym same) is)));
+  fault_pi = λ asked given none.
+      let same : asked_by request ≡ asked = one_asked (known.ok ∙ given.ask) in
+      let (refused, rests) = ran.fault_pi (subst (λ (a : Requested). (pi : ℕ) → IsPi a.pi pi → ⊥) (sym same) none) in
+      (inr (subst (λ (a : Requested). RefusesPi a.task w status) same refused), rests);
+  nothing_asked = λ takes none. absurd (let bad : Some (asked_by request) ≡ None = known.ok ∙ none in cc);
+  help = λ asks. absurd (none_answered is_shown words known.kinds asks);
+  refused = λ refused. absurd (none_answered _ words known.kinds refused);
+  not_taken = λ untaken. absurd (untaken known.taken);
+}
+by_words words (Ok None) Engine Rests w status known ran = record {
+  runs = λ asked pi given is. absurd (let bad : None ≡ Some asked = known.ok ∙ given.ask in cc);
+  fault_pi = λ asked given none. absurd (let bad : None ≡ Some asked = known.ok ∙ given.ask in cc);
+  nothing_asked = λ takes none. (inr (ran.0, ran.1), ran.2);
+  help = λ asks. absurd (none_answered is_shown words known.kinds asks);
+  refused = λ refused. absurd (none_answered _ words known.kinds refused);
+  not_taken = λ untaken. absurd (untaken known.taken);
+}
+by_words words (Err error) Engine Rests w status known ran = record {
+  runs = λ asked pi given is. inl (no_memory (kind_of error) w status ran.0 (known.err given.taken), ran.1);
+  fault_pi = λ asked given none. (inl (no_memory (kind_of error) w status ran.0 (known.err given.taken)), ran.1);
+  nothing_asked = λ takes none. (inl (no_memory (kind_of error) w status ran.0 (known.err takes)), ran.1);
+  help = λ asks. (
+    elim (known.help asks) [
+      | inl memory ↦ inl (no_memory (kind_of error) w status ran.0 memory)
+      | inr shown ↦ inr (ran.0.status_is ∙ shown_status (kind_of error) shown)
+    ],
+    ran.1,
+  );
+  refused = λ refused. (
+    elim (known.refused refused) [
+      | inl memory ↦ inl (no_memory (kind_of error) w status ran.0 memory)
+      | inr unshown ↦ refused_status (kind_of error) w status ran.0 unshown
+    ],
+    ran.1,
+  );
+  not_taken = λ untaken. (either_status (kind_of error) w status ran.0, ran.1);
+}
+
+-- ---- the status alone
+
+pub ends_by : (words : List (List ℕ)) (read : Result (Option Request) Error) (Rests : Type 0) (status : ℕ)
+    → ReadAs words read → EndsRead read Rests status → EndsBy words status
+ends_by words (Ok (Some request)) Rests status known ends = record {
+  runs = λ asked pi given is.
+      let same : asked_by request ≡ asked = one_asked (known.ok ∙ given.ask) in
+      ends.0 pi (subst (λ (a : Requested). IsPi a.pi pi) (sym same) is);
+  fault_pi = λ asked given none.
+      let same : asked_by request ≡ asked = one_asked (known.ok ∙ given.ask) in
+      inr (ends.1 (subst (λ (a : Requested). (pi : ℕ) → IsPi a.pi pi → ⊥) (sym same) none)).0;
+  nothing_asked = λ takes none. absurd (let bad : Some (asked_by request) ≡ None = known.ok ∙ none in cc);
+  help = λ asks. absurd (none_answered is_shown words known.kinds asks);
+  refused = λ refused. absurd (none_answered _ words known.kinds refused);
+  not_taken = λ untaken. absurd (untaken known.taken);
+}
+ends_by words (Ok None) Rests status known ends = record {
+  runs = λ asked pi given is. absurd (let bad : None ≡ Some asked = known.ok ∙ given.ask in cc);
+  fault_pi = λ asked given none. absurd (let bad : None ≡ Some asked = known.ok ∙ given.ask in cc);
+  nothing_asked = λ takes none. inr ends.0;
+  help = λ asks. absurd (none_answered is_shown words known.kinds asks);
+  refused = λ refused. absurd (none_answered _ words known.kinds refused);
+  not_taken = λ untaken. absurd (untaken known.taken);
+}
+ends_by words (Err error) Rests status known ends = record {
+  runs = λ asked pi given is. omega (arith, ends.0 ∙ ap status_of (known.err given.taken));
+  fault_pi = λ asked given none. inl (ends.0 ∙ ap status_of (known.err given.taken));
+  nothing_asked = λ takes none. inl (ends.0 ∙ ap status_of (known.err takes));
+  help = λ asks. elim (known.help asks) [
+    | inl memory ↦ inl (ends.0 ∙ ap status_of memory)
+    | inr shown ↦ inr (ends.0 ∙ shown_status (kind_of error) shown)
+  ];
+  refused = λ refused. elim (known.refused refused) [
+    | inl memory ↦ inl (ends.0 ∙ ap status_of memory)
+    | inr unshown ↦ elim (not_shown (kind_of error) unshown) [
+      | inl one ↦ inl (ends.0 ∙ one)
+      | inr two ↦ inr (ends.0 ∙ two)
+    ]
+  ];
+  not_taken = λ untaken. let small = few (kind_of error) in omega (arith, ends.0);
+}

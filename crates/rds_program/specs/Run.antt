@@ -1,0 +1,206 @@
+-- What the whole program does with its arguments. This is the project's own command line. r is the traffic of a call
+-- with the reader, w its traffic with the writer.
+use Rattle.std.specs.Prelude.{◌≡◌, ◌⊎◌, ◌+◌, ◌^◌, ◌≤◌, ◌++◌, []}
+use Rattle.std.specs.Prelude.{ℕ, Bool, List, codes, decimal, None, Some, Option, Ok, Err, Result, if◌then◌else◌}
+use Rattle.clap.specs.Words.{kind_of}
+use Rattle.clap.specs.declared.error.Error.{Error}
+use Rattle.clap.specs.declared.error.kind.ErrorKind.{ErrorKind}
+use Rattle.clap.specs.declared.error.kind.ErrorKind.TheVariants.{OutOfMemory}
+use Rattle.rds_charset.specs.Puts.{Puts}
+use Rattle.rds_charset.specs.Told.{HasFailed, PutsNothing, Traffic}
+use Rattle.rds_charset.specs.declared.told.WriteFault.{WriteFault}
+use Rattle.rds_receiver.specs.Receipts.{Tuning}
+use Rattle.rds_world.specs.declared.world.Config.{Config}
+use Rattle.rds_log.specs.Audit.{Audits}
+use Rattle.rds_log.specs.Decode.{Decodes}
+use Rattle.rds_log.specs.LogWrites.{tuned}
+use Rattle.rds_view_lines.specs.ReadFailed.{SomeReadFailed}
+use Rattle.rds_script.specs.Play.{Plays, Reading}
+use Rattle.rds_view_lines.specs.declared.fault.LogFault.{LogFault}
+use Rattle.rds_view_lines.specs.declared.fault.LogFault.TheVariants.{BadLine, BadRow, Read, Write, TooLong, Memory}
+use Rattle.rds_script.specs.declared.form.Form.TheVariants.{Log, Simulation}
+use Rattle.rds_witness.specs.Witness.{Witnesses}
+use Rattle.rds_cli.specs.Asks.{asked_by}
+use Rattle.rds_cli.specs.CommandLine.{AreRefused, AskFor, AskForHelp, Requested, IsPi, TakesWords, asked_in, is_shown}
+use Rattle.rds_cli.specs.declared.request.Programme.{Programme}
+use Rattle.rds_cli.specs.declared.request.Request.{Request}
+use Rattle.rds_cli.specs.declared.request.Task.{Task}
+use Rattle.rds_cli.specs.declared.request.Task.TheVariants.{Audit, Decode, Encode, Simulate, Witness}
+
+-- the traffic of a call begins with these bytes and this number of failures
+pub record StartsFrom (t : Traffic) (bytes : Option (List ℕ)) (failures : ℕ) : Type 0 where
+  pub bytes_are : t.before ≡ bytes
+  pub failures_are : t.failures_before ≡ failures
+
+-- between two states of a reader, its remaining bytes and its counts of failures and of reads are unchanged
+pub record IsUntouched {X : Type 0} (remaining : X → Option (List ℕ)) (failures reads : X → ℕ)
+    (old new : X) : Type 0 where
+  pub bytes_are : remaining new ≡ remaining old
+  pub failures_are : failures new ≡ failures old
+  pub reads_are : reads new ≡ reads old
+
+-- ---- faults
+
+-- the line was written, or some first part of it if the writer failed
+abbrev pub PutsLine : List ℕ → Traffic → Type 0
+PutsLine line w = (r : Result (Unit {0}) WriteFault) × Puts w line r
+
+-- the mark before the line of a fault: in the log that `encode` writes, the line is a comment
+abbrev pub mark_of : Task → List ℕ
+mark_of Decode = []
+mark_of (Encode programme late) = codes "# "
+mark_of (Simulate programme late) = []
+mark_of (Audit late) = []
+mark_of Witness = []
+
+abbrev pub TellsFault : Task → List ℕ → Traffic → Type 0
+TellsFault task text w = PutsLine (mark_of task ++ text ++ codes "\n") w
+
+-- after a fault, its line is written; after a failed write, nothing
+abbrev pub PutsAfter : Task → LogFault → Traffic → Type 0
+PutsAfter task (BadLine n) w = TellsFault task (codes "fault line " ++ decimal n) w
+PutsAfter task (BadRow n) w = TellsFault task (codes "fault row " ++ decimal n) w
+PutsAfter task Read w = TellsFault task (codes "fault read") w
+PutsAfter task Write w = PutsNothing w
+PutsAfter task TooLong w = TellsFault task (codes "fault too long") w
+PutsAfter task Memory w = TellsFault task (codes "fault memory") w
+
+-- ---- engines
+
+-- the status of the answer of an engine; 1 after a fault, and the line of the fault is written
+abbrev pub EndsWith : {X : Type 0} → (X → ℕ) → Task → Result X LogFault → Traffic → ℕ → Type 0
+EndsWith status_of task (Ok answer) w status = (status ≡ status_of answer) × PutsNothing w
+EndsWith status_of task (Err fault) w status = (status ≡ 1) × PutsAfter task fault w
+
+-- the status of an engine without an answer
+abbrev pub done : Unit {0} → ℕ
+done _ = 0
+
+-- the status of a yes and of a no
+abbrev pub verdict_status : Bool → ℕ
+verdict_status passed = if passed then 0 else 1
+
+-- the status if a witness was found, and if not
+abbrev pub witness_status : Bool → ℕ
+witness_status found = if found then 1 else 0
+
+-- an engine ran, and its outcome gave the status; `mid` and `failures` are the writer's between the two
+pub record Runs {X : Type 0} (Engine : Traffic → Result X LogFault → Type 0) (status_of : X → ℕ) (task : Task)
+    (w : Traffic) (status : ℕ) : Type 0 where
+  pub outcome : Result X LogFault
+  pub mid : Option (List ℕ)
+  pub failures : ℕ
+  pub ran : Engine (record w { after = mid; failures_after = failures }) outcome
+  pub ended : EndsWith status_of task outcome (record w { before = mid; failures_before = failures }) status
+
+-- the station for receivers that are tuned so, for a programme and at most this lateness
+abbrev pub station_of : Tuning → Programme → ℕ → Config
+station_of t programme late = record {
+  head = record { pi = t.programme; tp = programme.tp; pty = programme.pty };
+  dwell = t.dwell;
+  late = late;
+}
+
+-- the traffic with the reader of a script, and the fact that one of its reads failed
+abbrev pub script_in : Traffic → Type 0 → Reading
+script_in r ReadFailed = record { known = r.before; Failed = ReadFailed }
+
+-- ---- the whole program
+
+-- the engine of the task ran, with receivers that are tuned so; ReadFailed says that a read of the reader failed
+abbrev pub TaskRuns : Task → Tuning → Traffic → Type 0 → Traffic → ℕ → Type 0
+TaskRuns Decode t r ReadFailed w status = Runs (Decodes t (2 ^ 32) r) done Decode w status
+TaskRuns (Encode programme late) t r ReadFailed w status =
+    Runs (Plays Log (station_of t programme late) (2 ^ 32) (script_in r ReadFailed)) done
+    (Encode programme late) w status
+TaskRuns (Simulate programme late) t r ReadFailed w status =
+    Runs (Plays Simulation (station_of t programme late) (2 ^ 32) (script_in r ReadFailed)) done
+    (Simulate programme late) w status
+TaskRuns (Audit late) t r ReadFailed w status =
+    Runs (Audits t.programme (t.dwell + late) (2 ^ 32) r) verdict_status (Audit late) w status
+TaskRuns Witness t r ReadFailed w status = Runs (Witnesses t r) witness_status Witness w status
+
+-- the programme identification is refused
+pub record RefusesPi (task : Task) (w : Traffic) (status : ℕ) : Type 0 where
+  pub status_is : status ≡ 2
+  pub told : TellsFault task (codes "fault pi") w
+
+-- the program was out of memory for its arguments
+pub record NoMemory (w : Traffic) (status : ℕ) : Type 0 where
+  pub status_is : status ≡ 1
+  pub told : PutsLine (codes "fault memory\n") w
+
+-- a reader before a call: its remaining bytes, its count of failures, and the fact that one of its reads failed
+pub record ReaderBefore : Type 1 where
+  pub bytes : Option (List ℕ)
+  pub failures : ℕ
+  pub ReadFailed : Type 0
+
+abbrev pub reader_before : {R : Type 0} → (R → Option (List ℕ)) → (R → ℕ) → R → ReaderBefore
+reader_before remaining failures reader =
+    record { bytes = remaining reader; failures = failures reader; ReadFailed = SomeReadFailed failures }
+
+-- the engine of a task ran over a reader that was in this state, and it found a failed read only if one of its reads
+-- failed
+pub record RunsFrom (reader : ReaderBefore) (w : Traffic) (status : ℕ) (task : Task) (t : Tuning) : Type 0 where
+  pub r : Traffic
+  pub starts : StartsFrom r reader.bytes reader.failures
+  pub fails : HasFailed r → reader.ReadFailed
+  pub ran : TaskRuns task t r reader.ReadFailed w status
+
+-- the status of an answer of `clap`: 1 if the program is out of memory, 0 for help and the version, and 2 for a refusal
+abbrev pub status_of : ErrorKind → ℕ
+status_of OutOfMemory = 1
+status_of kind = if is_shown kind then 0 else 2
+
+-- an answer of `clap` was written, or the fault line of a program that is out of memory
+pub record TellsError (kind : ErrorKind) (w : Traffic) (status : ℕ) : Type 0 where
+  pub status_is : status ≡ status_of kind
+  pub no_memory : kind ≡ OutOfMemory → PutsLine (codes "fault memory\n") w
+
+-- the engine of a request ran, unless its programme identification is refused
+pub record AnswersRequest (asked : Requested) (Engine : Task → Tuning → Type 0) (Rests : Type 0) (w : Traffic)
+    (status : ℕ) : Type 0 where
+  pub runs : (pi : ℕ) → IsPi asked.pi pi → Engine asked.task (tuned pi asked.dwell)
+  pub fault_pi : ((pi : ℕ) → IsPi asked.pi pi → ⊥) → RefusesPi asked.task w status × Rests
+
+-- what the program does, given the result of reading its arguments: it writes the answer of `clap`, or it does nothing,
+-- or it runs a request. Rests holds if no engine ran
+abbrev pub RunsRead : Result (Option Request) Error → (Task → Tuning → Type 0) → Type 0 → Traffic → ℕ → Type 0
+RunsRead (Err error) Engine Rests w status = TellsError (kind_of error) w status × Rests
+RunsRead (Ok None) Engine Rests w status = (status ≡ 2) × PutsNothing w × Rests
+RunsRead (Ok (Some request)) Engine Rests w status = AnswersRequest (asked_by request) Engine Rests w status
+
+-- what the program does over these arguments: it runs the engine of their task, or it refuses their programme
+-- identification. The other fields give its status if the arguments name no task, ask for help, are refused or are not
+-- taken. In each case the program may be out of memory instead. Rests holds if no engine ran
+pub record RunsWords (words : List (List ℕ)) (Engine : Task → Tuning → Type 0) (Rests : Type 0) (w : Traffic)
+    (status : ℕ) : Type 0 where
+  pub runs : (asked : Requested) (pi : ℕ) → AskFor words asked → IsPi asked.pi pi
+      → (NoMemory w status × Rests) ⊎ Engine asked.task (tuned pi asked.dwell)
+  pub fault_pi : (asked : Requested) → AskFor words asked → ((pi : ℕ) → IsPi asked.pi pi → ⊥)
+      → (NoMemory w status ⊎ RefusesPi asked.task w status) × Rests
+  pub nothing_asked : TakesWords words → asked_in words ≡ None
+      → (NoMemory w status ⊎ ((status ≡ 2) × PutsNothing w)) × Rests
+  pub help : AskForHelp words → (NoMemory w status ⊎ (status ≡ 0)) × Rests
+  pub refused : AreRefused words → (NoMemory w status ⊎ (status ≡ 2)) × Rests
+  pub not_taken : (TakesWords words → ⊥) → (NoMemory w status ⊎ ((status ≡ 0) ⊎ (status ≡ 2))) × Rests
+
+-- ---- the status alone: the output goes through a cell that no clause can describe
+
+-- the status of a run, given the result of reading its arguments. Rests holds if no engine ran
+abbrev pub EndsRead : Result (Option Request) Error → Type 0 → ℕ → Type 0
+EndsRead (Err error) Rests status = (status ≡ status_of (kind_of error)) × Rests
+EndsRead (Ok None) Rests status = (status ≡ 2) × Rests
+EndsRead (Ok (Some request)) Rests status = ((pi : ℕ) → IsPi request.pi.now pi → status ≤ 1)
+    × (((pi : ℕ) → IsPi request.pi.now pi → ⊥) → (status ≡ 2) × Rests)
+
+-- the status of a run over these arguments, which is also 1 if the program is out of memory
+pub record EndsBy (words : List (List ℕ)) (status : ℕ) : Type 0 where
+  pub runs : (asked : Requested) (pi : ℕ) → AskFor words asked → IsPi asked.pi pi → status ≤ 1
+  pub fault_pi : (asked : Requested) → AskFor words asked → ((pi : ℕ) → IsPi asked.pi pi → ⊥)
+      → (status ≡ 1) ⊎ (status ≡ 2)
+  pub nothing_asked : TakesWords words → asked_in words ≡ None → (status ≡ 1) ⊎ (status ≡ 2)
+  pub help : AskForHelp words → (status ≡ 1) ⊎ (status ≡ 0)
+  pub refused : AreRefused words → (status ≡ 1) ⊎ (status ≡ 2)
+  pub not_taken : (TakesWords words → ⊥) → status ≤ 2

@@ -1,0 +1,18 @@
+//! The whole program as a library: it takes its arguments, a reader and a writer, and returns its exit status. The
+//! contract of `run` says which output each input has.
+#![tactic(auto)]
+
+mod notes;
+mod program;
+mod status;
+mod tell;
+mod terminal;
+mod words;
+
+pub use program::{run, run_with, run_with_notes};
+pub use status::{FAULT, REFUSED, no_words, write_no_memory};
+pub use terminal::{Screen, run_buffered};
+pub use words::{texts, words_of};
+
+#[cfg(test)]
+mod tests;

@@ -1,0 +1,335 @@
+//! The whole program over its arguments.
+ghost use Rattle.std.specs.Prelude.{◌≡◌, ◌⊎◌, ◌≤◌, ◌+◌, ◌++◌, ℕ};
+ghost use Rattle.std.specs.Prelude.{None, codes, decimal, false, true, if◌then◌else◌, length, map};
+ghost use Rattle.rds_charset.specs.Told.{PutsNothing, Traffic, traffic};
+ghost use Rattle.rds_log.specs.LogWrites.{tuned};
+ghost use Rattle.rds_view_lines.specs.ReadFailed.{SomeReadFailed};
+ghost use Rattle.clap.specs.Words.{kind_of};
+ghost use Rattle.rds_cli.specs.CommandLine.{IsPi};
+ghost use Rattle.rds_program.specs.Run as specs;
+ghost use Rattle.rds_program.specs.Run.{EndsWith, IsUntouched, PutsAfter, PutsLine, RefusesPi, RunsFrom, RunsRead, RunsWords};
+ghost use Rattle.rds_program.specs.Run.{TaskRuns, TellsFault, done, mark_of, reader_before, status_of};
+
+use crate::notes::{End, Options, RunNotes};
+use crate::status::{FAULT, NO, OK, REFUSED, write_no_memory};
+use crate::tell::tell_run;
+use clap::Error;
+use clap::error::ErrorKind;
+use rds_charset::{Lines, TellingRead, TellingWrite, put};
+use rds_cli::{Programme, Request, Task, identification_of, read_words};
+use rds_fields::{Dwell, Head, Late};
+use rds_log::{audit_with_notes, decode_with_notes};
+use rds_script::{encode_with_notes, simulate_with_notes};
+use rds_view_lines::LogFault;
+use rds_witness::witness_with_notes;
+use rds_world::Config;
+use std::alloc::Global;
+use std::cell::RefCell;
+use std::io::Write;
+
+/// The most bytes of a fault line.
+const FAULT_LINE: usize = 64;
+
+/// Runs the whole program over its arguments, the program's own name first. Returns its exit status (this project's own
+/// command line).
+///
+/// `decode` reads a log and writes the view of a receiver. `encode` reads a script and writes the log of a station.
+/// `sim` reads a script and writes the station's groups and the views of its receivers. `audit` reads a log and writes
+/// whether it passes. `witness` reads a log and writes which slots a receiver must lose to show a mix. The line of a
+/// fault is the last line of the output.
+///
+/// If the arguments are refused or ask for help, `run` writes the text of `clap` and reads nothing: the contract of
+/// `run_with` says so of its reader. `clap`'s contract does not promise that a number is in its range: for a number
+/// outside it, `nothing_asked` holds. Nor does it say whether `help` followed by an argument gives help or is refused:
+/// `not_taken` bounds the status.
+pub fn run<R: TellingRead + Drop, W: TellingWrite>(
+    alloc: Global,
+    words: &[&str],
+    mut reader: R,
+    writer: &mut W,
+) -> u8
+    ensures { RunsWords (map (λ w. w.now) words.entry.now)
+        (RunsFrom (reader_before R.remaining R.failures reader)
+        (traffic W.contents W.failures writer.old writer.new) result) (Unit {0})
+        (traffic W.contents W.failures writer.old writer.new) result }
+{
+    run_with(alloc, words, &mut reader, writer)
+}
+
+/// Does what [`run`] does over a borrowed reader. The contract then says the reader's state after the call: if no
+/// command ran, its bytes and its counts of reads and failures are unchanged.
+pub fn run_with<R: TellingRead, W: TellingWrite>(
+    alloc: Global,
+    words: &[&str],
+    reader: &mut R,
+    writer: &mut W,
+) -> u8
+    ensures { RunsWords (map (λ w. w.now) words.entry.now)
+        (λ task t. TaskRuns task t (traffic R.remaining R.failures reader.old reader.new)
+        (SomeReadFailed R.failures) (traffic W.contents W.failures writer.old writer.new) result)
+        (IsUntouched R.remaining R.failures R.reads reader.old reader.new)
+        (traffic W.contents W.failures writer.old writer.new) result }
+{
+    run_read(
+        alloc,
+        read_words(alloc, words),
+        reader,
+        writer,
+        &mut RunNotes::new(),
+    )
+}
+
+/// Does what [`run_with`] does, and writes notes for a person to `screen`. The output and the status are the same.
+pub fn run_with_notes<R: TellingRead, W: TellingWrite, N: TellingWrite>(
+    alloc: Global,
+    words: &[&str],
+    reader: &mut R,
+    writer: &mut W,
+    screen: &mut N,
+) -> u8
+    ensures { RunsWords (map (λ w. w.now) words.entry.now)
+        (λ task t. TaskRuns task t (traffic R.remaining R.failures reader.old reader.new)
+        (SomeReadFailed R.failures) (traffic W.contents W.failures writer.old writer.new) result)
+        (IsUntouched R.remaining R.failures R.reads reader.old reader.new)
+        (traffic W.contents W.failures writer.old writer.new) result }
+{
+    let mut notes = RunNotes::new();
+    let status = run_read(alloc, read_words(alloc, words), reader, writer, &mut notes);
+    tell_run(&notes, &RefCell::new(None), screen);
+    status
+}
+
+/// Runs the command of the arguments, given the result of reading them, and collects notes for a person.
+pub(crate) fn run_read<R: TellingRead, W: TellingWrite>(
+    alloc: Global,
+    read: Result<Option<Request<'_>>, Error>,
+    reader: &mut R,
+    writer: &mut W,
+    notes: &mut RunNotes,
+) -> u8
+    ensures { RunsRead read.entry
+        (λ task t. TaskRuns task t (traffic R.remaining R.failures reader.old reader.new)
+        (SomeReadFailed R.failures) (traffic W.contents W.failures writer.old writer.new) result)
+        (IsUntouched R.remaining R.failures R.reads reader.old reader.new)
+        (traffic W.contents W.failures writer.old writer.new) result }
+{
+    match read {
+        Ok(Some(request)) => answer(alloc, request, reader, writer, notes),
+        Ok(None) => REFUSED,
+        Err(error) => tell_error(&error, writer, notes),
+    }
+}
+
+/// Writes the text of `clap`, help or the reason of a refusal, as far as the writer takes it. Writes the fault line if
+/// the program is out of memory.
+fn tell_error<W: TellingWrite>(error: &Error, writer: &mut W, notes: &mut RunNotes) -> u8
+    ensures status { result ≡ status_of (kind_of error.now) }
+    ensures memory { kind_of error.now ≡ ErrorKind.OutOfMemory
+        → PutsLine (codes "fault memory\n") (traffic W.contents W.failures writer.old writer.new) }
+{
+    if error.kind() == ErrorKind::OutOfMemory {
+        let _ = notes.refused.write(b"rdsrt: fault memory: out of memory\n");
+        write_no_memory(writer);
+        return FAULT;
+    }
+    let _ = write!(writer, "{error}");
+    if !error.use_stderr() {
+        return OK;
+    }
+    let _ = write!(notes.refused, "{error}");
+    REFUSED
+}
+
+/// Runs the command of a request.
+fn answer<R: TellingRead, W: TellingWrite>(
+    alloc: Global,
+    request: Request<'_>,
+    reader: &mut R,
+    writer: &mut W,
+    notes: &mut RunNotes,
+) -> u8
+    ensures runs { (pi : ℕ) → IsPi request.entry.pi.now pi
+        → TaskRuns request.entry.task (tuned pi request.entry.dwell)
+        (traffic R.remaining R.failures reader.old reader.new) (SomeReadFailed R.failures)
+        (traffic W.contents W.failures writer.old writer.new) result }
+    ensures fault_pi { ((pi : ℕ) → IsPi request.entry.pi.now pi → ⊥)
+        → RefusesPi request.entry.task (traffic W.contents W.failures writer.old writer.new) result
+        × IsUntouched R.remaining R.failures R.reads reader.old reader.new }
+{
+    notes.options = Some(Options {
+        task: request.task,
+        dwell: request.dwell,
+        quiet: request.quiet,
+    });
+    let _ = notes.pi.write(request.pi.as_bytes());
+    let Some(pi) = identification_of(request.pi) else {
+        notes.end = End::BadPi;
+        tell_fault_text(request.task, b"fault pi", writer);
+        return REFUSED;
+    };
+    run_task(
+        alloc,
+        request.task,
+        pi,
+        request.dwell,
+        reader,
+        writer,
+        notes,
+    )
+}
+
+/// Runs the engine of a command for its programme, and writes the line of its fault.
+fn run_task<R: TellingRead, W: TellingWrite>(
+    alloc: Global,
+    task: Task,
+    pi: u16,
+    dwell: Dwell,
+    reader: &mut R,
+    writer: &mut W,
+    notes: &mut RunNotes,
+) -> u8
+    ensures { TaskRuns task (tuned pi dwell) (traffic R.remaining R.failures reader.old reader.new)
+        (SomeReadFailed R.failures) (traffic W.contents W.failures writer.old writer.new) result }
+{
+    // Prover: a matched value is copied by a new name before its second use (docs/PROVER.md, "Workarounds").
+    let asked = task;
+    match task {
+        Task::Decode => {
+            let decoded = decode_with_notes(reader, writer, pi, dwell, &mut notes.log);
+            end_with(asked, decoded, writer, &mut notes.end)
+        }
+        Task::Encode(programme, late) => {
+            let station = station_of(pi, dwell, programme, late);
+            let notes_on = &mut notes.script;
+            let encoded = encode_with_notes(alloc, &mut *reader, writer, station, notes_on);
+            end_with(asked, encoded, writer, &mut notes.end)
+        }
+        Task::Simulate(programme, late) => {
+            let station = station_of(pi, dwell, programme, late);
+            let notes_on = &mut notes.script;
+            let simulated = simulate_with_notes(alloc, &mut *reader, writer, station, notes_on);
+            end_with(asked, simulated, writer, &mut notes.end)
+        }
+        Task::Audit(late) => {
+            match audit_with_notes(reader, writer, pi, dwell, late, &mut notes.log) {
+                Ok(passed) => answer_by(passed, OK, NO, &mut notes.end),
+                Err(fault) => fail_with(asked, fault, writer, &mut notes.end),
+            }
+        }
+        Task::Witness => {
+            match witness_with_notes(alloc, reader, writer, pi, dwell, &mut notes.log) {
+                Ok(found) => answer_by(found, NO, OK, &mut notes.end),
+                Err(fault) => fail_with(asked, fault, writer, &mut notes.end),
+            }
+        }
+    }
+}
+
+/// Returns the station of these options.
+fn station_of(pi: u16, dwell: Dwell, programme: Programme, late: Late) -> Config
+    ensures { result ≡ specs.station_of (tuned pi dwell) programme late }
+{
+    Config {
+        head: Head {
+            pi,
+            tp: programme.tp,
+            pty: programme.pty,
+        },
+        dwell,
+        late,
+    }
+}
+
+/// Returns the status of a command that answered yes or no.
+fn answer_by(yes: bool, if_yes: u8, if_no: u8, end: &mut End) -> u8
+    ensures { result ≡ if yes then if_yes else if_no }
+{
+    *end = End::Done;
+    if yes { if_yes } else { if_no }
+}
+
+/// Returns the status of a command without an answer, or of its fault, and writes the line of the fault.
+fn end_with<W: TellingWrite>(
+    task: Task,
+    outcome: Result<(), LogFault>,
+    writer: &mut W,
+    end: &mut End,
+) -> u8
+    ensures { EndsWith done task outcome (traffic W.contents W.failures writer.old writer.new) result }
+{
+    match outcome {
+        Ok(()) => {
+            *end = End::Done;
+            OK
+        }
+        Err(fault) => fail_with(task, fault, writer, end),
+    }
+}
+
+/// Returns the status of a fault, and writes its line.
+fn fail_with<W: TellingWrite>(task: Task, fault: LogFault, writer: &mut W, end: &mut End) -> u8
+    ensures status { result ≡ 1 }
+    ensures told { PutsAfter task fault (traffic W.contents W.failures writer.old writer.new) }
+{
+    *end = End::Fault(fault);
+    tell_fault(task, fault, writer);
+    FAULT
+}
+
+/// Writes the line of the fault as far as the writer takes it. Writes nothing after a failed write.
+fn tell_fault<W: TellingWrite>(task: Task, fault: LogFault, writer: &mut W)
+    ensures { PutsAfter task fault (traffic W.contents W.failures writer.old writer.new) }
+{
+    match fault {
+        LogFault::BadLine(number) => tell_numbered(task, b"fault line ", number, writer),
+        LogFault::BadRow(number) => tell_numbered(task, b"fault row ", number, writer),
+        LogFault::Read => tell_fault_text(task, b"fault read", writer),
+        LogFault::Write => {}
+        LogFault::TooLong => tell_fault_text(task, b"fault too long", writer),
+        LogFault::Memory => tell_fault_text(task, b"fault memory", writer),
+    }
+}
+
+/// Writes the line of a fault at a numbered line or row.
+fn tell_numbered<W: TellingWrite>(task: Task, text: &[u8], number: u64, writer: &mut W)
+    requires { length text.now ≤ 32 }
+    ensures { TellsFault task (text.now ++ decimal number)
+        (traffic W.contents W.failures writer.old writer.new) }
+{
+    let mut line = Lines::<FAULT_LINE>::new();
+    line.push(mark(task));
+    line.push(text);
+    line.push_number(number);
+    line.push(b"\n");
+    tell(line.bytes(), writer);
+}
+
+/// Writes the line of a fault.
+fn tell_fault_text<W: TellingWrite>(task: Task, text: &[u8], writer: &mut W)
+    requires { length text.now ≤ 32 }
+    ensures { TellsFault task text.now (traffic W.contents W.failures writer.old writer.new) }
+{
+    let mut line = Lines::<FAULT_LINE>::new();
+    line.push(mark(task));
+    line.push(text);
+    line.push(b"\n");
+    tell(line.bytes(), writer);
+}
+
+/// Returns the mark before the line of a fault: in the log that `encode` writes, the line is a comment.
+fn mark(task: Task) -> &'static [u8]
+    ensures mark { result.now ≡ mark_of task }
+    ensures short { length result.now ≤ 2 }
+{
+    match task {
+        Task::Encode(..) => b"# ",
+        Task::Decode | Task::Simulate(..) | Task::Audit(_) | Task::Witness => b"",
+    }
+}
+
+/// Writes a line as far as the writer takes it.
+fn tell<W: TellingWrite>(line: &[u8], writer: &mut W)
+    ensures { PutsLine line.now (traffic W.contents W.failures writer.old writer.new) }
+{
+    let _ = put(line, writer);
+}

@@ -1,0 +1,52 @@
+//! The exit statuses, and the ends of a run without an engine.
+ghost use Rattle.std.specs.Prelude.{◌≡◌, codes, false, true};
+ghost use Rattle.rds_charset.specs.Told.{traffic};
+ghost use Rattle.rds_program.specs.Run.{PutsLine};
+
+use rds_charset::{TellingWrite, Told, put};
+use std::io::Write;
+
+/// The status if all was done, if the audit answers yes, or if help was asked for.
+pub(crate) const OK: u8 = 0;
+
+/// The status if the audit answers no, or if a witness was found.
+pub(crate) const NO: u8 = 1;
+
+/// The status after a fault of the log, the script, the reader or the writer, or out of memory.
+pub const FAULT: u8 = 1;
+
+/// The status if the arguments are refused.
+pub const REFUSED: u8 = 2;
+
+/// Returns the status at the end of a run, given the status of its command. If input was read and not all of the output
+/// was written, that is a fault. Help, and the reason for refused arguments, need not be written.
+pub(crate) fn status_at_end(status: u8, was_read: bool, all_out: bool) -> u8
+    ensures out { all_out ≡ true → result ≡ status }
+    ensures words_alone { was_read ≡ false → result ≡ status }
+    ensures fault { was_read ≡ true → all_out ≡ false → result ≡ 1 }
+{
+    if was_read && !all_out { FAULT } else { status }
+}
+
+/// Ends a run whose arguments could not be read, because the program is out of memory or for another cause. Writes the
+/// fault line for the first, as far as the writer takes it, and a note for both. Returns the status.
+pub fn no_words<W: Write + Drop, N: Write + Drop>(memory: bool, writer: W, notes: N) -> u8
+    ensures memory { memory ≡ true → result ≡ 1 }
+    ensures other { memory ≡ false → result ≡ 2 }
+{
+    let mut notes = Told::new(notes);
+    if !memory {
+        let _ = put(b"rdsrt: an argument is not UTF-8\n", &mut notes);
+        return REFUSED;
+    }
+    write_no_memory(&mut Told::new(writer));
+    let _ = put(b"rdsrt: fault memory: out of memory\n", &mut notes);
+    FAULT
+}
+
+/// Writes the fault line of a run that is out of memory before its command is known, as far as the writer takes it.
+pub fn write_no_memory<W: TellingWrite>(writer: &mut W)
+    ensures { PutsLine (codes "fault memory\n") (traffic W.contents W.failures writer.old writer.new) }
+{
+    let _ = put(b"fault memory\n", writer);
+}

@@ -1,0 +1,283 @@
+//! Notes of a run as lines on standard error. Each begins with `rdsrt: ` and goes out in one write.
+
+use crate::notes::{End, RunNotes};
+use arrayvec::ArrayVec;
+use rds_audit::AuditFault;
+use rds_charset::{TellingWrite, put};
+use rds_cli::Task;
+use rds_encoder::Refusal;
+use rds_io::Reason;
+use rds_log::{BadStart, NoNote};
+use rds_script::Thing;
+use rds_view_lines::LogFault;
+use std::io::{ErrorKind, Write};
+
+/// The most bytes of a note. All notes are shorter.
+const ROOM: usize = 1024;
+
+/// The bytes of an unfinished note.
+type Note = ArrayVec<u8, ROOM>;
+
+/// Prints why the arguments were refused, as `clap` says it.
+pub(crate) fn tell_refused<N: TellingWrite>(notes: &RunNotes, screen: &mut N) {
+    let _ = put(notes.refused.as_slice(), screen);
+}
+
+/// Prints the notes of a run: its warnings and its fault.
+pub(crate) fn tell_run<N: TellingWrite>(notes: &RunNotes, reason: &Reason, screen: &mut N) {
+    let Some(options) = notes.options else {
+        return;
+    };
+    if !options.quiet {
+        tell_warnings(options.task, notes, screen);
+    }
+    match notes.end {
+        End::NotRun | End::Done => {}
+        End::BadPi => tell_pi(notes.pi.as_slice(), screen),
+        End::Fault(fault) => tell_fault(options.task, fault, notes, reason, screen),
+    }
+}
+
+/// Prints the warnings of a run.
+fn tell_warnings<N: TellingWrite>(task: Task, notes: &RunNotes, screen: &mut N) {
+    tell_wait(notes, screen);
+    tell_no(notes, screen);
+    // Prover: a value is copied by a new name before its second use (docs/PROVER.md, "Workarounds").
+    let asked = task;
+    if notes.end == End::Done && notes.log.no.is_none() && !reads_script(asked) {
+        tell_no_group(task, notes, screen);
+    }
+}
+
+/// Prints that something was set too early, and from when it is accepted.
+fn tell_wait<N: TellingWrite>(notes: &RunNotes, screen: &mut N) {
+    let Some(wait) = notes.script.wait else {
+        return;
+    };
+    let thing = match wait.thing {
+        Thing::Text => "text",
+        Thing::Name => "name",
+        Thing::Tags => "tags",
+    };
+    let (why, slots) = match wait.refusal {
+        Refusal::Silent(slots) => ("the station is silent after a restart", slots),
+        Refusal::Held(slots) => ("the one before is still held", slots),
+        Refusal::NoText | Refusal::OutOfText(_) => return,
+    };
+    let slot = wait.slot;
+    let from = slot.saturating_add(u64::from(slots));
+    let mut note = begun();
+    let _ = write!(
+        note,
+        "slot {slot}: {thing} refused, {why} for {slots} slots more"
+    );
+    let _ = write!(note, "; accepted from slot {from} on");
+    print(note, screen);
+}
+
+/// Prints that the log has no group of the wanted programme, and which programmes it has.
+fn tell_no_group<N: TellingWrite>(task: Task, notes: &RunNotes, screen: &mut N) {
+    let heard = notes.log.heard;
+    if heard.wanted {
+        return;
+    }
+    let slots = notes.log.slots;
+    let mut note = begun();
+    let _ = write!(note, "no group of ");
+    push(notes.pi.as_slice(), &mut note);
+    let _ = write!(note, " in {slots} slots");
+    let count = heard.of_first;
+    let others = heard.groups.saturating_sub(count);
+    if let Some(first) = heard.first {
+        let _ = write!(note, " ({first:04X}: {count}");
+        if others > 0 {
+            let _ = write!(note, ", others: {others}");
+        }
+        let _ = write!(note, ")");
+    }
+    if let Task::Audit(_) = task {
+        let _ = write!(note, ". The yes says nothing");
+    }
+    print(note, screen);
+}
+
+/// Prints which rule the log breaks first, and what to try next.
+fn tell_no<N: TellingWrite>(notes: &RunNotes, screen: &mut N) {
+    let Some(no) = notes.log.no else {
+        return;
+    };
+    let slot = no.slot;
+    let line = no.line;
+    let mut note = begun();
+    let _ = write!(note, "slot {slot} (line {line}): ");
+    push_rule(no, &mut note);
+    let _ = write!(
+        note,
+        ". To look for lost slots that make a mix: rdsrt witness --pi "
+    );
+    push(notes.pi.as_slice(), &mut note);
+    if let Some(options) = notes.options {
+        let slots = options.dwell.get();
+        let _ = write!(note, " --m {slots}");
+    }
+    print(note, screen);
+}
+
+/// Appends the broken rule, in a sentence.
+fn push_rule(no: NoNote, note: &mut Note) {
+    let thing = if no.of_name { "name (PTYN)" } else { "text" };
+    let spacing = no.spacing;
+    let _ = match no.fault {
+        AuditFault::Changed => write!(note, "a {thing} changed without a flip of the A/B flag"),
+        AuditFault::NotOneText => write!(note, "the segments fit no {thing}"),
+        AuditFault::EarlyFlag => write!(
+            note,
+            "a {thing} reused the A/B flag less than M + K = {spacing} slots after the last group of the {thing} before \
+             the previous one"
+        ),
+        AuditFault::EarlyTag if no.earlier.is_none() => write!(
+            note,
+            "RT+ tags came before any text"
+        ),
+        AuditFault::EarlyTag => write!(
+            note,
+            "RT+ tags came less than M + K = {spacing} slots after their text started"
+        ),
+        AuditFault::TagOutside => write!(note, "an RT+ tag ends past the end of its text"),
+    };
+    if let Some(slot) = no.earlier {
+        let _ = write!(note, ", in slot {slot}");
+    }
+}
+
+/// Prints why a PI code was refused.
+fn tell_pi<N: TellingWrite>(given: &[u8], screen: &mut N) {
+    let mut note = begun();
+    let _ = write!(note, "fault pi: --pi ");
+    push_shown(given, &mut note);
+    let _ = write!(
+        note,
+        ": a PI code has four hexadecimal digits and no 0x, for example C201"
+    );
+    print(note, screen);
+}
+
+/// Prints a fault of the log or script, of the input or of the output. Prints nothing if the reader of a pipe has gone,
+/// as in `| head`.
+fn tell_fault<N: TellingWrite>(
+    task: Task,
+    fault: LogFault,
+    notes: &RunNotes,
+    reason: &Reason,
+    screen: &mut N,
+) {
+    if is_gone(reason) {
+        return;
+    }
+    let mut note = begun();
+    match fault {
+        LogFault::BadLine(number) => push_bad_line(number, &notes.log.bad, &mut note),
+        LogFault::BadRow(number) => push_bad_row(number, notes, &mut note),
+        LogFault::Read => push_failed(
+            "fault read: reading standard input failed",
+            reason,
+            &mut note,
+        ),
+        LogFault::Write => push_failed("writing standard output failed", reason, &mut note),
+        LogFault::TooLong => push_too_long(task, &mut note),
+        LogFault::Memory => {
+            let _ = write!(note, "fault memory: out of memory");
+        }
+    }
+    print(note, screen);
+}
+
+/// Returns whether the reader of a pipe has gone.
+fn is_gone(reason: &Reason) -> bool {
+    let Ok(reason) = reason.try_borrow() else {
+        return false;
+    };
+    match reason.as_ref() {
+        Some(error) => error.kind() == ErrorKind::BrokenPipe,
+        None => false,
+    }
+}
+
+/// Appends a failure with the system's reason.
+fn push_failed(what: &str, reason: &Reason, note: &mut Note) {
+    let _ = write!(note, "{what}");
+    let Ok(reason) = reason.try_borrow() else {
+        return;
+    };
+    if let Some(error) = reason.as_ref() {
+        let _ = write!(note, ": {error}");
+    }
+}
+
+/// Appends that the input is too long.
+fn push_too_long(task: Task, note: &mut Note) {
+    let unit = if reads_script(task) { "rows" } else { "reads" };
+    let _ = write!(
+        note,
+        "fault too long: the input has 4294967296 {unit} or more"
+    );
+}
+
+/// Appends which line is bad, why, and what a line looks like.
+fn push_bad_line(number: u64, bad: &Option<BadStart>, note: &mut Note) {
+    let _ = write!(note, "fault line {number}: ");
+    if let Some(bad) = bad {
+        push_shown(bad.start.as_slice(), note);
+        if let Some(cause) = bad.cause {
+            let _ = write!(note, ": {cause}");
+        }
+    }
+    let _ = write!(note, "; a log line looks like C201 2140 4849 0D20");
+}
+
+/// Appends which row is bad, and why.
+fn push_bad_row(number: u64, notes: &RunNotes, note: &mut Note) {
+    let _ = write!(note, "fault row {number}");
+    if let Some(bad) = &notes.script.bad {
+        let _ = write!(note, " (line {}): {}", bad.line, bad.cause);
+    }
+}
+
+/// Appends bytes unchanged.
+fn push(bytes: &[u8], note: &mut Note) {
+    let _ = note.write(bytes);
+}
+
+/// Appends the first bytes of a text between quotation marks, with `\xHH` for a byte that is not printable ASCII.
+fn push_shown(bytes: &[u8], note: &mut Note) {
+    let _ = write!(note, "\"");
+    for &byte in bytes {
+        let _ = if byte.is_ascii_graphic() || byte == b' ' {
+            write!(note, "{}", char::from(byte))
+        } else {
+            write!(note, "\\x{byte:02X}")
+        };
+    }
+    let _ = write!(note, "\"");
+}
+
+/// Returns whether the command reads a script instead of a log.
+fn reads_script(task: Task) -> bool {
+    match task {
+        Task::Encode(..) | Task::Simulate(..) => true,
+        Task::Decode | Task::Audit(_) | Task::Witness => false,
+    }
+}
+
+/// Returns the beginning of a note.
+fn begun() -> Note {
+    let mut note = Note::new();
+    let _ = write!(note, "rdsrt: ");
+    note
+}
+
+/// Ends a note, and prints it as far as the writer takes it.
+fn print<N: TellingWrite>(mut note: Note, screen: &mut N) {
+    let _ = writeln!(note);
+    let _ = put(note.as_slice(), screen);
+}

@@ -1,4 +1,0 @@
-use Rattle.rds_run.proofs.program.tell.Goals as goal
-
-pub returns : goal.returns
-returns g c = (c.put.result, c.put.ensures)

@@ -1,0 +1,54 @@
+//! A reader that remembers whether a read of it failed.
+ghost use Rattle.std.specs.Prelude.{◌≡◌, true};
+ghost use Rattle.rds_view_lines.specs.ReadFailed.{SomeReadFailed};
+
+use rds_charset::TellingRead;
+use std::io::{self, ErrorKind, Read};
+
+/// Asks a reader by its counted reads, and remembers whether one of them failed.
+#[derive(Drop)]
+pub(crate) struct FailureFlag<R: TellingRead> {
+    inner: R,
+    failed: bool,
+    ghost told: { failed ≡ true → SomeReadFailed R.failures },
+}
+
+impl<R: TellingRead> FailureFlag<R> {
+    ghost use Rattle.std.specs.Prelude.{false};
+    ghost use Rattle.rds_script.specs.Inside.FailureFlag.{has_failed, flagged_reader};
+
+    /// A reader of which no read failed yet.
+    pub(crate) fn new(inner: R) -> FailureFlag<R>
+        ensures inner { flagged_reader result ≡ inner }
+        ensures calm { has_failed result ≡ false }
+    {
+        FailureFlag {
+            inner,
+            failed: false,
+        }
+    }
+
+    /// Whether a read failed.
+    pub(crate) fn failed(&self) -> bool
+        ensures is { result ≡ has_failed self.now }
+        ensures told { result ≡ true → SomeReadFailed R.failures }
+    {
+        self.failed
+    }
+}
+
+impl<R: TellingRead> Read for FailureFlag<R> {
+    ghost use Rattle.rds_script.specs.Inside.FailureFlag.{flagged_reader};
+
+    ghost remaining = { λ asked. R.remaining (flagged_reader asked) };
+
+    fn read(&mut self, buf: &mut [u8]) -> io::Result<usize> {
+        match self.inner.read_one(buf) {
+            Some(count) => Ok(count),
+            None => {
+                self.failed = true;
+                Err(io::Error::from(ErrorKind::Other))
+            }
+        }
+    }
+}

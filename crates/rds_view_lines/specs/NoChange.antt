@@ -1,0 +1,32 @@
+-- An unchanged view has no line, and before the first slot nothing is shown.
+use Rattle.std.proofs.Common.{◌≡◌, ℕ, Bool, true, false, List, [], Option, Some, None, refl}
+use Rattle.std.proofs.lemmas.Bool.{eq-eqb}
+use Rattle.std.proofs.lemmas.Slice.Eq.{bytes_eq-Decides}
+use Rattle.rds_assembly.specs.ServiceLaws.{no_name_of_none, no_text_of_none}
+use Rattle.rds_receiver.specs.Receipts.{Tuning}
+use Rattle.rds_receiver.specs.Shown.{IsView, ShownView}
+use Rattle.rds_view_lines.specs.Output.{change, is_same_item, is_same_tag, is_same_text, nothing_shown}
+
+-- an unchanged part has no line
+same_text : (o : Option (List ℕ)) → is_same_text o o ≡ true
+same_text None = refl
+same_text (Some x) = (bytes_eq-Decides x x).1 refl
+
+same_item : (o : Option (Bool × Bool)) → is_same_item o o ≡ true
+same_item None = refl
+same_item (Some (true, true)) = refl
+same_item (Some (true, false)) = refl
+same_item (Some (false, true)) = refl
+same_item (Some (false, false)) = refl
+
+same_tag : (o : Option (ℕ × List ℕ)) → is_same_tag o o ≡ true
+same_tag None = refl
+same_tag (Some (n, x)) = rw (eq-eqb n n refl, (bytes_eq-Decides x x).1 refl) refl
+
+pub no_change : (stamp : List ℕ) (v : ShownView) → change stamp v v ≡ []
+no_change stamp v = rw (same_text v.text, same_text v.name, same_item v.item, same_tag v.one, same_tag v.two) refl
+
+-- before the first slot nothing is shown
+pub view_of_none : (t : Tuning) → IsView t [] nothing_shown
+view_of_none t =
+    ([], tt, record { text = no_text_of_none; name = no_name_of_none; item = refl; one = refl; two = refl })

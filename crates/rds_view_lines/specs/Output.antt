@@ -1,0 +1,103 @@
+-- The output for a list of views: for each slot one line for each part of its view that differs from the slot before,
+-- in the order text, name, item bits, first tag, second tag. Before the first slot nothing is shown. This is the
+-- project's own format. A list of views has the newest first, so the slot of a view is the number of views behind it.
+use Rattle.std.specs.Prelude.{◌-◌, ◌==◌, ◌&&◌, ◌++◌, [], ◌∷◌}
+use Rattle.std.specs.Prelude.{ℕ, Bool, true, false, List, Option, Some, None}
+use Rattle.std.specs.Prelude.{codes, decimal, length, slice_get, if◌then◌else◌}
+use Rattle.std.specs.Option.{option_eq}
+use Rattle.std.specs.Str.{bytes_eq}
+use Rattle.rds_charset.specs.Printed.{printed}
+use Rattle.rds_receiver.specs.Run.{is_same}
+use Rattle.rds_receiver.specs.Shown.{ShownView}
+
+-- the names of the content types from 1 on (IEC 62106-6, content types of RadioText Plus)
+abbrev pub class_names : List (List ℕ)
+class_names =
+    codes "ITEM.TITLE" ∷ codes "ITEM.ALBUM" ∷ codes "ITEM.TRACKNUMBER"
+    ∷ codes "ITEM.ARTIST" ∷ codes "ITEM.COMPOSITION" ∷ codes "ITEM.MOVEMENT"
+    ∷ codes "ITEM.CONDUCTOR" ∷ codes "ITEM.COMPOSER" ∷ codes "ITEM.BAND"
+    ∷ codes "ITEM.COMMENT" ∷ codes "ITEM.GENRE" ∷ []
+
+abbrev pub class_name : ℕ → Option (List ℕ)
+class_name class = if class == 0 then None else slice_get class_names (class - 1)
+
+-- a content type by its name, or by its number if it has no name
+abbrev pub name_or_number : Option (List ℕ) → ℕ → List ℕ
+name_or_number None class = decimal class
+name_or_number (Some name) class = name
+
+-- a text between quotation marks
+abbrev pub quoted : List ℕ → List ℕ
+quoted x = codes " \"" ++ printed x ++ codes "\""
+
+-- the content of a part, which follows its name
+abbrev pub text_content : Option (List ℕ) → List ℕ
+text_content None = codes " none"
+text_content (Some x) = quoted x
+
+abbrev pub bit_content : Bool → List ℕ
+bit_content false = codes " 0"
+bit_content true = codes " 1"
+
+abbrev pub item_content : Option (Bool × Bool) → List ℕ
+item_content None = codes " none"
+item_content (Some bits) = bit_content bits.0 ++ bit_content bits.1
+
+abbrev pub tag_content : Option (ℕ × List ℕ) → List ℕ
+tag_content None = codes " none"
+tag_content (Some tag) = codes " " ++ name_or_number (class_name tag.0) tag.0 ++ quoted tag.1
+
+-- the beginning of a line: its slot and, if there are several receivers, the number of one of them, counted from 0
+abbrev pub slot_stamp : ℕ → List ℕ
+slot_stamp slot = decimal slot ++ codes " "
+
+abbrev pub receiver_stamp : ℕ → ℕ → List ℕ
+receiver_stamp slot i = decimal slot ++ codes " r" ++ decimal i ++ codes " "
+
+-- the line of a part
+abbrev pub line_of : List ℕ → List ℕ → List ℕ → List ℕ
+line_of stamp part content = stamp ++ part ++ content ++ codes "\n"
+
+-- whether two slots show the same
+abbrev pub is_same_text : Option (List ℕ) → Option (List ℕ) → Bool
+is_same_text before now = option_eq bytes_eq before now
+
+abbrev pub is_same_item : Option (Bool × Bool) → Option (Bool × Bool) → Bool
+is_same_item before now = option_eq (λ x y. is_same x.0 y.0 && is_same x.1 y.1) before now
+
+abbrev pub is_same_tag : Option (ℕ × List ℕ) → Option (ℕ × List ℕ) → Bool
+is_same_tag before now = option_eq (λ x y. x.0 == y.0 && bytes_eq x.1 y.1) before now
+
+-- the line of a part, if the part differs from the slot before
+abbrev pub unless_same : Bool → List ℕ → List ℕ
+unless_same true line = []
+unless_same false line = line
+
+abbrev pub text_change : List ℕ → List ℕ → Option (List ℕ) → Option (List ℕ) → List ℕ
+text_change stamp part before now = unless_same (is_same_text before now) (line_of stamp part (text_content now))
+
+abbrev pub item_change : List ℕ → List ℕ → Option (Bool × Bool) → Option (Bool × Bool) → List ℕ
+item_change stamp part before now = unless_same (is_same_item before now) (line_of stamp part (item_content now))
+
+abbrev pub tag_change : List ℕ → List ℕ → Option (ℕ × List ℕ) → Option (ℕ × List ℕ) → List ℕ
+tag_change stamp part before now = unless_same (is_same_tag before now) (line_of stamp part (tag_content now))
+
+-- the lines of a slot
+abbrev pub change : List ℕ → ShownView → ShownView → List ℕ
+change stamp before now =
+    text_change stamp (codes "text") before.text now.text ++ text_change stamp (codes "name") before.name now.name
+    ++ item_change stamp (codes "item") before.item now.item ++ tag_change stamp (codes "tag1") before.one now.one
+    ++ tag_change stamp (codes "tag2") before.two now.two
+
+abbrev pub nothing_shown : ShownView
+nothing_shown = record { text = None; name = None; item = None; one = None; two = None }
+
+-- the view at the end
+abbrev pub newest : List ShownView → ShownView
+newest [] = nothing_shown
+newest (view ∷ older) = view
+
+-- the lines of all changes, the oldest first
+abbrev pub changes_of : List ShownView → List ℕ
+changes_of [] = []
+changes_of (view ∷ older) = changes_of older ++ change (slot_stamp (length older)) (newest older) view

@@ -1,0 +1,44 @@
+-- The program's types for the beginning of an output line and for a part of a view, with the content of a part and its
+-- line.
+use Rattle.std.specs.Prelude.{◌≤◌, ℕ, Bool, false, List, length}
+use Rattle.std.specs.Option.{ForSome, option_copied}
+use Rattle.rds_receiver.specs.Borrowed.{borrowed_tag}
+use Rattle.rds_view_lines.specs.Output.{is_same_item, is_same_tag, is_same_text, item_content, line_of}
+use Rattle.rds_view_lines.specs.Output.{receiver_stamp, slot_stamp, tag_content, text_content, unless_same}
+use Rattle.rds_view_lines.specs.declared.change.Part.{Part}
+use Rattle.rds_view_lines.specs.declared.change.Part.TheVariants.{Text, Item, Tag}
+use Rattle.rds_view_lines.specs.declared.change.Stamp.{Stamp}
+use Rattle.rds_view_lines.specs.declared.change.Stamp.TheVariants.{Slot, Receiver}
+
+-- whether both parts show the same
+abbrev pub is_same_part : Part → Part → Bool
+is_same_part (Text before) (Text now) = is_same_text (option_copied before) (option_copied now)
+is_same_part (Text before) (Item now) = false
+is_same_part (Text before) (Tag now) = false
+is_same_part (Item before) (Text now) = false
+is_same_part (Item before) (Item now) = is_same_item before now
+is_same_part (Item before) (Tag now) = false
+is_same_part (Tag before) (Text now) = false
+is_same_part (Tag before) (Item now) = false
+is_same_part (Tag before) (Tag now) = is_same_tag (borrowed_tag before) (borrowed_tag now)
+
+-- the content of the part, which follows its name
+abbrev pub part_content : Part → List ℕ
+part_content (Text text) = text_content (option_copied text)
+part_content (Item item) = item_content item
+part_content (Tag tag) = tag_content (borrowed_tag tag)
+
+-- no text, name or piece has more than 64 bytes
+abbrev pub IsShortPart : Part → Type 0
+IsShortPart (Text text) = ForSome text (λ x. length x.now ≤ 64)
+IsShortPart (Item item) = Unit {0}
+IsShortPart (Tag tag) = ForSome tag (λ tag. length tag.1.now ≤ 64)
+
+-- the line of a part, if the part differs from the slot before
+abbrev pub part_change : List ℕ → List ℕ → Part → Part → List ℕ
+part_change stamp name before now = unless_same (is_same_part before now) (line_of stamp name (part_content now))
+
+-- the beginning of a line
+abbrev pub stamp_of : Stamp → List ℕ
+stamp_of (Slot slot) = slot_stamp slot
+stamp_of (Receiver slot i) = receiver_stamp slot i

@@ -1,0 +1,225 @@
+//! The output line of each part of a view that changed.
+ghost use Rattle.std.specs.Prelude.{◌≡◌, ◌≤◌, ◌+◌, ◌++◌, IfSome, codes, length};
+ghost use Rattle.std.specs.Option.{ForSome, option_copied};
+ghost use Rattle.rds_receiver.specs.Borrowed.{borrowed_tag};
+ghost use Rattle.rds_view_lines.specs.Output.{bit_content, change, class_name, item_content};
+ghost use Rattle.rds_view_lines.specs.Output.{name_or_number, quoted, tag_content, text_content};
+ghost use Rattle.rds_view_lines.specs.declared.change.TheConstants.{LINE_ROOM, SLOT_ROOM};
+
+use rds_charset::Lines;
+use rds_receiver::View;
+
+/// The most bytes of the line of a part: its name, the name of a content type, and a text of 64 bytes, each byte
+/// printed as at most four.
+pub const LINE_ROOM: usize = 344;
+
+/// The most bytes of the lines of a slot, one line for each of the five parts.
+pub const SLOT_ROOM: usize = 5 * LINE_ROOM;
+
+/// The beginning of an output line.
+#[derive(Clone, Copy)]
+pub enum Stamp {
+    /// The slot, if there is one receiver.
+    Slot(u64),
+    /// The slot, and the number of one of several receivers, counted from 0.
+    Receiver(u64, usize),
+}
+
+impl Stamp {
+    ghost use Rattle.rds_view_lines.specs.Part.{stamp_of};
+
+    /// Appends the stamp and a space.
+    pub fn push<const N: usize>(self, lines: &mut Lines<N>)
+        requires { length lines.old + 43 ≤ N }
+        ensures stamp { lines.new ≡ lines.old ++ stamp_of self }
+        ensures room { length lines.new ≤ length lines.old + 43 }
+    {
+        match self {
+            Stamp::Slot(slot) => lines.push_number(slot),
+            Stamp::Receiver(slot, receiver) => {
+                lines.push_number(slot);
+                lines.push(b" r");
+                lines.push_number(receiver as u64);
+            }
+        }
+        lines.push(b" ");
+    }
+}
+
+/// A part of a view.
+#[derive(Clone, Copy)]
+pub(crate) enum Part<'a> {
+    /// A text or a name.
+    Text(Option<&'a [u8]>),
+    /// The item bits.
+    Item(Option<(bool, bool)>),
+    /// A tag: its content type, and its piece of the text.
+    Tag(Option<(u8, &'a [u8])>),
+}
+
+impl Part<'_> {
+    ghost use Rattle.std.specs.Prelude.{ℕ, List};
+    ghost use Rattle.rds_view_lines.specs.Part.{IsShortPart, is_same_part, part_content};
+
+    /// Returns whether both parts show the same.
+    fn is_same(self, other: Part<'_>) -> bool
+        ensures { result ≡ is_same_part self.entry other.entry }
+    {
+        match (self, other) {
+            (Part::Text(before), Part::Text(now)) => before == now,
+            (Part::Item(before), Part::Item(now)) => before == now,
+            (Part::Tag(before), Part::Tag(now)) => before == now,
+            _ => false,
+        }
+    }
+
+    /// Appends the content of the part, which follows its name.
+    fn push<const N: usize>(self, lines: &mut Lines<N>)
+        requires short { IsShortPart self }
+        requires room { length lines.old + 290 ≤ N }
+        ensures content { lines.new ≡ lines.old ++ part_content self.entry }
+        ensures room { length lines.new ≤ length lines.old + 290 }
+    {
+        match self {
+            Part::Text(Some(text)) => push_quoted(text, lines),
+            Part::Item(Some((toggle, running))) => {
+                lines.push(bit_content(toggle));
+                lines.push(bit_content(running));
+            }
+            Part::Tag(Some((class, piece))) => {
+                push_class(class, lines);
+                push_quoted(piece, lines);
+            }
+            Part::Text(None) | Part::Item(None) | Part::Tag(None) => lines.push(b" none"),
+        }
+    }
+}
+
+fn bit_content(is_set: bool) -> &'static [u8]
+    ensures content { result.now ≡ bit_content is_set }
+    ensures two { length result.now ≡ 2 }
+{
+    if is_set { b" 1" } else { b" 0" }
+}
+
+/// Appends the name of a content type, or its number if it has no name.
+pub fn push_class<const N: usize>(class: u8, lines: &mut Lines<N>)
+    requires { length lines.old + 21 ≤ N }
+    ensures class { lines.new ≡ lines.old ++ codes " " ++ name_or_number (class_name class) class }
+    ensures room { length lines.new ≤ length lines.old + 21 }
+{
+    lines.push(b" ");
+    match class_name(class) {
+        Some(name) => lines.push(name),
+        None => lines.push_number(u64::from(class)),
+    }
+}
+
+/// Returns the name of a content type (IEC 62106-6, content types of RadioText Plus).
+fn class_name(class: u8) -> Option<&'static [u8]>
+    ensures name { option_copied result ≡ class_name class }
+    ensures short { IfSome result (λ name. length name.now ≤ 16) }
+{
+    match class {
+        1 => Some(b"ITEM.TITLE"),
+        2 => Some(b"ITEM.ALBUM"),
+        3 => Some(b"ITEM.TRACKNUMBER"),
+        4 => Some(b"ITEM.ARTIST"),
+        5 => Some(b"ITEM.COMPOSITION"),
+        6 => Some(b"ITEM.MOVEMENT"),
+        7 => Some(b"ITEM.CONDUCTOR"),
+        8 => Some(b"ITEM.COMPOSER"),
+        9 => Some(b"ITEM.BAND"),
+        10 => Some(b"ITEM.COMMENT"),
+        11 => Some(b"ITEM.GENRE"),
+        _ => None,
+    }
+}
+
+/// Appends a text between quotation marks.
+pub fn push_quoted<const N: usize>(text: &[u8], lines: &mut Lines<N>)
+    requires text { length text.now ≤ 64 }
+    requires room { length lines.old + 259 ≤ N }
+    ensures quoted { lines.new ≡ lines.old ++ quoted text.now }
+    ensures room { length lines.new ≤ length lines.old + 259 }
+{
+    lines.push(b" \"");
+    lines.push_text(text);
+    lines.push(b"\"");
+}
+
+ghost use Rattle.rds_view_lines.specs.Part.{IsShortPart, part_change, stamp_of};
+
+/// Appends the line of a part, if the part differs from the slot before.
+fn push_change<const N: usize>(
+    stamp: Stamp,
+    name: &[u8],
+    before: Part<'_>,
+    now: Part<'_>,
+    lines: &mut Lines<N>,
+)
+    requires name { length name.now ≡ 4 }
+    requires short { IsShortPart now }
+    requires room { length lines.old + LINE_ROOM ≤ N }
+    ensures change { lines.new ≡ lines.old ++ part_change (stamp_of stamp) name.now before.entry now.entry }
+    ensures room { length lines.new ≤ length lines.old + LINE_ROOM }
+{
+    if before.is_same(now) {
+        return;
+    }
+    stamp.push(lines);
+    lines.push(name);
+    now.push(lines);
+    lines.push(b"\n");
+}
+
+ghost use Rattle.rds_receiver.specs.Borrowed.{view_of};
+
+/// Appends the line of each part of a view that differs from the slot before.
+pub(crate) fn push_changes<const N: usize>(
+    stamp: Stamp,
+    before: View<'_>,
+    now: View<'_>,
+    lines: &mut Lines<N>,
+)
+    requires { length lines.old + SLOT_ROOM ≤ N }
+    ensures changes { lines.new ≡ lines.old ++ change (stamp_of stamp) (view_of before.entry)
+        (view_of now.entry) }
+    ensures room { length lines.new ≤ length lines.old + SLOT_ROOM }
+{
+    push_change(
+        stamp,
+        b"text",
+        Part::Text(before.text),
+        Part::Text(now.text),
+        lines,
+    );
+    push_change(
+        stamp,
+        b"name",
+        Part::Text(before.name),
+        Part::Text(now.name),
+        lines,
+    );
+    push_change(
+        stamp,
+        b"item",
+        Part::Item(before.item),
+        Part::Item(now.item),
+        lines,
+    );
+    push_change(
+        stamp,
+        b"tag1",
+        Part::Tag(before.one),
+        Part::Tag(now.one),
+        lines,
+    );
+    push_change(
+        stamp,
+        b"tag2",
+        Part::Tag(before.two),
+        Part::Tag(now.two),
+        lines,
+    );
+}

@@ -1,0 +1,40 @@
+-- What a page passes to the program, and what it gets back.
+use Rattle.std.specs.Prelude.{◌≡◌, ◌⊎◌, ◌==◌, ℕ, List, [], None, Some, length, take}
+use Rattle.std.specs.List.{slice_split}
+use Rattle.std.specs.Str.{IsUtf8}
+use Rattle.rds_charset.specs.Told.{PutsNothing, Traffic}
+use Rattle.rds_program.specs.Run.{RunsFrom, RunsWords}
+
+-- the arguments are the lines of a text
+abbrev pub words_in : List ℕ → List (List ℕ)
+words_in text = slice_split (λ byte. byte == 10) text
+
+-- these bytes were written to an empty output, and so many writes failed
+abbrev pub writing : List ℕ → ℕ → Traffic
+writing printed failures =
+    record { before = Some []; after = Some printed; failures_before = 0; failures_after = failures }
+
+-- the output of the program over these arguments and this input, and its status: as `run` promises for a reader that
+-- never fails
+abbrev pub Prints : List (List ℕ) → List ℕ → Traffic → ℕ → Type 0
+Prints words input w status =
+    RunsWords words (RunsFrom record { bytes = Some input; failures = 0; ReadFailed = ⊥ } w status) (Unit {0}) w status
+
+-- arguments that are not UTF-8 are refused, and nothing is printed
+abbrev pub Refuses : Traffic → ℕ → Type 0
+Refuses w status = (status ≡ 2) × PutsNothing w
+
+-- a buffer begins with the printed bytes, or with as many of them as there is room for
+pub record Begun (printed output : List ℕ) (number : ℕ) : Type 0 where
+  pub number_is : number ≡ length printed
+  pub shown : take number output ≡ take (length output) printed
+
+-- a run in a page. `lines` are its notes: the contract leaves them open, except after arguments that are not UTF-8
+pub record RunsInPage (words input output notes : List ℕ) (number failures noted status : ℕ) : Type 0 where
+  pub printed : List ℕ
+  pub begun : Begun printed output number
+  pub prints : IsUtf8 words → Prints (words_in words) input (writing printed failures) status
+  pub no_text : (IsUtf8 words → ⊥) → Refuses (writing printed failures) status
+  pub lines : List ℕ
+  pub notes_begun : Begun lines notes noted
+  pub unnoted : (IsUtf8 words → ⊥) → lines ≡ []

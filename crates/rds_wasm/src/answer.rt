@@ -1,0 +1,50 @@
+//! The program over arguments that are lines of one text.
+ghost use Rattle.std.specs.Prelude.{◌≡◌, IfOk, map};
+ghost use Rattle.std.specs.Str.{IsUtf8};
+ghost use Rattle.rds_charset.specs.Told.{PutsNothing, traffic};
+ghost use Rattle.rds_wasm.specs.Page.{Prints, Refuses, words_in};
+
+use crate::slice_reader::SliceReader;
+use rds_charset::TellingWrite;
+use rds_program::{FAULT, REFUSED, run_with_notes, write_no_memory};
+use std::alloc::{AllocError, Global};
+
+/// Runs the program over its arguments, one a line, and over the bytes of its input. Writes its notes to `screen`.
+pub fn answer<W: TellingWrite, N: TellingWrite>(
+    alloc: Global,
+    words: &[u8],
+    input: &[u8],
+    writer: &mut W,
+    screen: &mut N,
+) -> u8
+    ensures text { IsUtf8 words.now → Prints (words_in words.now) input.now
+        (traffic W.contents W.failures writer.old writer.new) result }
+    ensures no_text { (IsUtf8 words.now → ⊥)
+        → Refuses (traffic W.contents W.failures writer.old writer.new) result }
+    ensures unnoted { (IsUtf8 words.now → ⊥)
+        → PutsNothing (traffic N.contents N.failures screen.old screen.new) }
+{
+    let Ok(text) = str::from_utf8(words) else {
+        return REFUSED;
+    };
+    let Ok(words) = words_in(alloc, text) else {
+        write_no_memory(writer);
+        return FAULT;
+    };
+    let mut given = SliceReader::new(input);
+    run_with_notes(alloc, words.as_slice(), &mut given, writer, screen)
+}
+
+/// Returns the lines of a text.
+pub fn words_in(alloc: Global, text: &str) -> Result<Vec<&str>, AllocError>
+    ensures { IfOk result (λ words. map (λ w. w.now) words.items ≡ words_in text.now) }
+{
+    let mut words = Vec::new(alloc);
+    let mut rest = text;
+    while let Some((word, after)) = rest.split_once('\n') {
+        words.push(word)?;
+        rest = after;
+    }
+    words.push(rest)?;
+    Ok(words)
+}

@@ -1,0 +1,130 @@
+//! Whether a log shows a receiver that pays for a rule that it breaks.
+ghost use Rattle.std.specs.Prelude.{◌≡◌, ◌≤◌, ◌^◌, [], ℕ, Err, OnOk, length};
+ghost use Rattle.rds_block.specs.declared.group.Group.{Group};
+ghost use Rattle.rds_charset.specs.Puts.{Puts};
+ghost use Rattle.rds_charset.specs.Told.{traffic};
+ghost use Rattle.rds_log.specs.Heard.{HeardLog};
+ghost use Rattle.rds_log.specs.LogWrites.{tuned};
+ghost use Rattle.rds_log.specs.Notes.{NotesFault};
+ghost use Rattle.rds_log.specs.Reads.{MadeReads};
+ghost use Rattle.rds_view_lines.specs.declared.fault.LogFault.TheVariants as faults;
+ghost use Rattle.rds_witness.specs.Lines.{IsAnswer, no_witness_up_to};
+ghost use Rattle.rds_witness.specs.Search.{IsSure};
+ghost use Rattle.rds_witness.specs.Witness.{Answers, Witnesses};
+
+use crate::mix_lines::{ROOM, push_mixes};
+use crate::no_mixes::find_surely;
+use crate::place::Place;
+use crate::search::Found;
+use rds_block::Group;
+use rds_charset::{Lines, TellingRead, TellingWrite, WriteFault, put};
+use rds_fields::Dwell;
+use rds_log::{LogNotes, gather_with_notes};
+use rds_view_lines::LogFault;
+use std::alloc::Global;
+
+/// Reads a log of all groups that were sent, a slot a line, and looks for a burst of lost slots after which a receiver
+/// shows a mix. Writes the line of each mix of one slot, behind the slots that are lost: true. Or it writes that no
+/// witness was found: false. Then no burst makes a receiver show a mix of a text or a name, unless the line tells up to
+/// which slot none was found.
+///
+/// # Errors
+///
+/// The first fault: a bad line, a read or a write that failed, 2^32 reads without an end, or no memory.
+pub fn witness<R: TellingRead, W: TellingWrite>(
+    alloc: Global,
+    reader: &mut R,
+    writer: &mut W,
+    pi: u16,
+    dwell: Dwell,
+) -> Result<bool, LogFault>
+    ensures witnesses { Witnesses (tuned pi dwell) (traffic R.remaining R.failures reader.old reader.new)
+        (traffic W.contents W.failures writer.old writer.new) result }
+    ensures reads { MadeReads (2 ^ 32) (R.reads reader.old) (R.reads reader.new) result }
+{
+    witness_with_notes(alloc, reader, writer, pi, dwell, &mut LogNotes::new(pi))
+}
+
+/// [`witness`] with notes for a person: with them or without, it writes and returns the same.
+pub fn witness_with_notes<R: TellingRead, W: TellingWrite>(
+    alloc: Global,
+    reader: &mut R,
+    writer: &mut W,
+    pi: u16,
+    dwell: Dwell,
+    notes: &mut LogNotes,
+) -> Result<bool, LogFault>
+    ensures witnesses { Witnesses (tuned pi dwell) (traffic R.remaining R.failures reader.old reader.new)
+        (traffic W.contents W.failures writer.old writer.new) result }
+    ensures reads { MadeReads (2 ^ 32) (R.reads reader.old) (R.reads reader.new) result }
+    ensures heard { OnOk result
+        (HeardLog pi (traffic R.remaining R.failures reader.old reader.new) notes.new.heard) }
+    ensures bad { (n : ℕ) → result ≡ Err (faults.BadLine n)
+        → NotesFault (traffic R.remaining R.failures reader.old reader.new) (faults.BadLine n) notes.new.bad }
+{
+    let log = gather_with_notes(alloc, reader, pi, notes)?;
+    let Ok(found) = find_surely(alloc, log.as_slice(), pi, dwell) else {
+        return Err(LogFault::Memory);
+    };
+    let found = answer(log.as_slice(), pi, dwell, found, writer)?;
+    Ok(found)
+}
+
+/// Writes the answer to a log.
+fn answer<W: TellingWrite>(
+    log: &[Option<Group>],
+    pi: u16,
+    dwell: Dwell,
+    found: Found,
+    writer: &mut W,
+) -> Result<bool, WriteFault>
+    ensures { IsSure (tuned pi dwell) log.now found
+        → Answers (tuned pi dwell) log.now (traffic W.contents W.failures writer.old writer.new) result }
+{
+    let mut lines = Lines::new();
+    let is_found = push_answer(log, pi, dwell, found, &mut lines);
+    put(lines.bytes(), writer)?;
+    Ok(is_found)
+}
+
+/// Appends the answer to a log: the mixes of what was found, where it has some, or that no witness was found.
+fn push_answer(
+    log: &[Option<Group>],
+    pi: u16,
+    dwell: Dwell,
+    found: Found,
+    lines: &mut Lines<ROOM>,
+) -> bool
+    requires { lines.old ≡ [] }
+    ensures { IsSure (tuned pi dwell) log.now found → IsAnswer (tuned pi dwell) log.now result lines.new }
+{
+    match found {
+        Found::Candidate(found) => {
+            let place = Place {
+                log,
+                pi,
+                dwell,
+                burst: found.burst,
+                slot: found.slot,
+            };
+            push_mixes(&place, lines);
+            if !lines.bytes().is_empty() {
+                return true;
+            }
+            push_stopped(found.slot, lines);
+        }
+        Found::Nothing => lines.push(b"no witness found with one burst lost\n"),
+        Found::Stopped(slot) => push_stopped(slot, lines),
+    }
+    false
+}
+
+/// Appends that no witness was found up to this slot.
+fn push_stopped(slot: usize, lines: &mut Lines<ROOM>)
+    requires { lines.old ≡ [] }
+    ensures { lines.new ≡ no_witness_up_to slot }
+{
+    lines.push(b"no witness found with one burst lost up to slot ");
+    lines.push_number(slot as u64);
+    lines.push(b"\n");
+}
