@@ -1,5 +1,5 @@
 -- Codes: a receiver and its held segments are stored as their fields (this project's own form).
--- Prover: a `Result` can hold only a type with a code (docs/PROVER.md, "Stored types have a code").
+-- Prover: a `Result` can hold only a type with a code (docs/PROVER.md, "Workarounds").
 use Rattle.std.specs.Prelude.{ℕ, Bool, Option, refl}
 use Rattle.std.specs.Coded.{Coded, code_by, coded×, coded_ℕ, coded_bool, coded_list, coded_option}
 use Rattle.std.specs.FinMap.{code}

@@ -72,8 +72,7 @@ are_safe_late laws m k t plans log receivers law all =
     are_safe_by_slow_clocks laws m k t plans log receivers law (λ i o h. late_listens k m t log (slice_index_or receivers i o) (all i o h))
 
 -- if no receiver is late, plans that are lawful for m are enough
--- Prover: `m + 0` does not compute to `m` (docs/PROVER.md, "Each safety law has a clause for receivers that are on
--- time").
+-- Prover: a law of its own, since `m + 0` does not compute to `m` (docs/PROVER.md, "Workarounds").
 pub are_safe_on_time : PlanLaws → (m t : ℕ) (plans : Plans) (log : List (Option Message)) (receivers : List Listener)
     → AreLawful m plans log → All (ListensTo 0 m t log) receivers → AreSafe m m t plans log receivers
 are_safe_on_time laws m t plans log receivers law all =

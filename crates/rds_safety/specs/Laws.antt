@@ -48,8 +48,7 @@ LawfulPlansAreSafe =
     → AreLawful (m + k) plans log → All (ListensTo k m t log) receivers → AreSafe (m + k) m t plans log receivers
 
 -- if all receivers are on time, plans that are lawful for m make each slot safe
--- Prover: `m + 0` does not compute to `m` (docs/PROVER.md, "Each safety law has a clause for receivers that are on
--- time").
+-- Prover: a law of its own, since `m + 0` does not compute to `m` (docs/PROVER.md, "Workarounds").
 abbrev pub LawfulPlansAreSafeOnTime : Type 0
 LawfulPlansAreSafeOnTime =
     (m t : ℕ) (plans : Plans) (log : List (Option Message)) (receivers : List Listener)

@@ -25,8 +25,7 @@ use rds_fields::one_message;
 /// - plans lawful for M + K, if no group comes more than K slots late, or if each receiver's clock counts at most K
 ///   slots too few within M;
 /// - plans lawful for d, if fewer than M slots of each receiver's own clock are fewer than d slots of the station.
-// Prover: `on_time` is a clause of its own (docs/PROVER.md, "Each safety law has a clause for receivers that are on
-// time").
+// Prover: `on_time` is a clause of its own, since `M + 0` does not compute to `M` (docs/PROVER.md, "Workarounds").
 pub fn safe_by_plans()
     ensures own_clocks { LawfulPlansAreSafeByOwnClocks }
     ensures slow_clocks { LawfulPlansAreSafeForSlowClocks }

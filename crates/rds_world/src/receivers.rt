@@ -16,7 +16,7 @@ use rds_fields::Message;
 use rds_receiver::Receiver;
 
 /// Makes eight receivers that have heard nothing yet.
-// Prover: they are written out (docs/PROVER.md, "A world's eight receivers are written out").
+// Prover: all eight are written out, without `array::from_fn` (docs/PROVER.md, "Workarounds").
 pub(crate) fn eight_receivers(config: &Config) -> [Receiver; MOST_RECEIVERS]
     ensures { AllByRecursion (IsNew config.now) result }
 {

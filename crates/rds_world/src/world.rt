@@ -122,7 +122,7 @@ impl World {
         ensures safe { WhereItStands self.old (λ config events.
             OnOk result (OnlyWhatWasOnAirIsShown config (event.now ∷ events) self.new.receivers)) }
     {
-        // Prover: this law gives the clause `safe` (docs/PROVER.md, "A law is a public function with an empty body").
+        // Prover: a call of a law, which gives the clause `safe` (docs/PROVER.md, "Idioms").
         only_what_was_on_air_is_shown();
         let receptions = event.receptions.as_slice();
         if receptions.len() != self.count {
@@ -134,8 +134,7 @@ impl World {
         };
         let reply = obey(&mut self.encoder, &self.config, &event.command);
         let sent = self.encoder.tick(event.free);
-        // Prover: `sent` is used again below (docs/PROVER.md, "A `Copy` value is copied by a new name before its second
-        // use").
+        // Prover: a `Copy` value is copied by a new name before its second use (docs/PROVER.md, "Workarounds").
         let handed = sent;
         self.recent.push(heard(self.config.head.pi, handed));
         self.stays = hand_out(
