@@ -1,4 +1,4 @@
--- A buffer of zeros with a text written over its front.
+-- Lemmas: a buffer of zeros with a text written over its front.
 use Rattle.std.proofs.Common.{◌≡◌, ℕ, ◌+◌, ◌-◌, ◌≤◌, List, ◌++◌, length, take, drop, ap, subst, ◌∙◌, sym, arith, length-append}
 use Rattle.std.specs.Prelude.{replicate}
 use Rattle.std.proofs.lemmas.Simd.{length-replicate}

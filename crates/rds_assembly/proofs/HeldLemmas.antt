@@ -1,4 +1,4 @@
--- What the bytes and their mask hold.
+-- Lemmas: which cells the bytes and their mask hold.
 use Rattle.std.proofs.Common.{◌≡◌, ◌≢◌, ℕ, zero, suc, ◌+◌, ◌-◌, ◌*◌, ◌/◌, ◌%◌, ◌<◌, ◌≤◌, List, Bool, true, false, cond, nat_eq, length, slice_index, get_or, take, drop, Option, Some, None, refl, sym, ap, ◌∙◌, ◌⊎◌, inl, inr, arith, lit<}
 use Rattle.std.specs.Prelude.{◌==◌, is_some}
 use Rattle.std.specs.Int.{bit_at}
@@ -56,7 +56,7 @@ below (suc a) mask bytes q h =
       | inr l ↦ (let same : q ≡ a = omega arith in rw same (newest a mask bytes))
     ]
 
--- what the cells have at an address
+-- the cell that is held at an address
 pub get-held : (mask : ℕ) (bytes : List ℕ) (a : ℕ) → a < 16 → get (held_cells mask bytes) a ≡ cell_in mask bytes a
 unfolding held_cells
 get-held mask bytes a h = below 16 mask bytes a h
@@ -85,7 +85,7 @@ byte_in mask bytes i h on =
       byte = get_or-chunk (4 * (i / 4)) 4 bytes (i % 4) 0 (omega arith) ∙ ap (λ k. get_or bytes k 0) place;
     }
 
--- below place n all segments are held
+-- all segments below place n are held
 abbrev pub AreSetBelow : ℕ → ℕ → Type 0
 AreSetBelow mask n = (i : ℕ) → i < n → bit_at mask (i / 4) ≡ 1
 
@@ -94,7 +94,7 @@ spelled mask bytes n h long on =
     let cut : length (take n bytes) ≡ n = length-take-le n bytes (omega arith) in
     record { bytes = λ i l. let e : get_or (take n bytes) i 0 ≡ get_or bytes i 0 = get_or-take n bytes i 0 (omega arith) in rw e (byte_in mask bytes i (omega arith) (on i (omega arith))) }
 
--- no bit, no cell
+-- without a bit there is no cell
 none_set : (n : ℕ) (bytes : List ℕ) → cells_below n 0 bytes ≡ empty
 none_set zero bytes = refl
 none_set (suc a) bytes = (let off : (bit_at 0 a == 1) ≡ false = rw (bit_at-zero a) refl in rw off (none_set a bytes))
@@ -103,7 +103,7 @@ pub nothing_held : (bytes : List ℕ) → held_cells 0 bytes ≡ empty
 unfolding held_cells
 nothing_held bytes = none_set 16 bytes
 
--- no cell, no bit
+-- without a cell there is no bit
 pub no_bit : (mask : ℕ) (bytes : List ℕ) → mask < 65536 → held_cells mask bytes ≡ empty → mask ≡ 0
 no_bit mask bytes fits none = same_from_bits_below 16 mask 0 fits (lit< tt) (λ a h. by_bit a h (bit_at mask a) refl ∙ sym (bit_at-zero a))
   where
@@ -116,7 +116,7 @@ no_bit mask bytes fits none = same_from_bits_below 16 mask 0 fits (lit< tt) (λ 
         let nothing = get-empty {X = List ℕ} nat_cmp a in
         absurd (cc)
 
--- a segment that stands where its bit is set, and the others as they were
+-- a segment is put and its bit set, and the others do not change
 pub put_held : (mask after a : ℕ) (bytes written segment : List ℕ) → a < 16 → bit_at after a ≡ 1 → ((q : ℕ) → q ≢ a → bit_at after q ≡ bit_at mask q)
     → segment_of written a ≡ segment → ((q : ℕ) → q ≢ a → segment_of written q ≡ segment_of bytes q)
     → held_cells after written ≡ insert (held_cells mask bytes) a segment
@@ -137,7 +137,7 @@ put_held mask after a bytes written segment h set kept here others =
         let apart : q ≢ a = grind (arith, nat_tests) in
         rw e (other q apart (cases_lt q 16))
 
--- a write of four bytes leaves the other segments, and puts its own
+-- writing four bytes keeps the other segments and puts this one
 pub others_stay : (a k : ℕ) (bytes segment : List ℕ) → k ≡ 4 → length segment ≡ 4 → 4 * a + 4 ≤ length bytes → (q : ℕ) → q ≢ a →
     segment_of (put_mid (4 * a) k bytes segment) q ≡ segment_of bytes q
 others_stay a k bytes segment e long room q apart =
@@ -155,7 +155,7 @@ segment_stands a k bytes segment e long room =
     let n : 4 * a + 4 - 4 * a ≡ 4 = omega arith in
     rw n at (between-put_mid (4 * a) k bytes segment (4 * a + 4) (omega arith) (omega arith))
 
--- a bit, a cell
+-- a cell is held exactly if its bit is set
 pub contains-held : (mask : ℕ) (bytes : List ℕ) (a : ℕ) → a < 16 → contains_key (held_cells mask bytes) a ≡ (bit_at mask a == 1)
 contains-held mask bytes a h = ap is_some (get-held mask bytes a h) ∙ as_bit (bit_at mask a == 1)
   where
@@ -171,7 +171,7 @@ contained_set mask bytes a h there =
 pub byte_set : (mask : ℕ) (bytes : List ℕ) (i b : ℕ) → i < 64 → HasByte (held_cells mask bytes) i b → bit_at mask (i / 4) ≡ 1
 byte_set mask bytes i b h byte = contained_set mask bytes (i / 4) (omega arith) (ap is_some byte.held)
 
--- to hold again what is held changes nothing
+-- holding again a segment that is held changes nothing
 pub held_again : (mask a : ℕ) (bytes segment : List ℕ) → a < 16 → contains_key (held_cells mask bytes) a ≡ true → segment_of bytes a ≡ segment
     → held_cells mask bytes ≡ insert (held_cells mask bytes) a segment
 held_again mask a bytes segment h there here =

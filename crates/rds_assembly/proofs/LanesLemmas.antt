@@ -1,4 +1,4 @@
--- One bit of a mask of lanes, and of one that is spread over four places each.
+-- Lemmas about one bit of a mask of lanes, and of one that is spread over four places each.
 use Rattle.std.proofs.Common.{◌≡◌, ℕ, zero, suc, ◌+◌, ◌-◌, ◌*◌, ◌/◌, ◌%◌, ◌^◌, ◌<◌, ◌≤◌, List, Bool, true, false, cond, map, eqb, nat_eq, nat_lt, ◌&&◌, get_or, refl, sym, ap, ◌∙◌, inl, inr, bit_and, bit_or, arith}
 use Rattle.std.specs.Int.{bit_at, from_bool}
 use Rattle.std.proofs.Math.ListN.{get_or-map}
@@ -18,7 +18,7 @@ pub bit_at-mask : (bytes : List ℕ) (i : ℕ) → bit_at (mask_l (map (λ b. eq
 bit_at-mask bytes i =
     bit_mask_l (map (λ b. eqb b 13) bytes) i ∙ one_or_zero _ ∙ ap from_bool (get_or-map (λ b. eqb b 13) bytes i 0)
 
--- what the code does to a mask
+-- one step of the code on a mask
 abbrev twice : ℕ → ℕ → ℕ
 twice x s = bit_or x (x * 2 ^ s % 2 ^ 64)
 
@@ -43,7 +43,7 @@ filled x = twice (twice x 1) 2
 abbrev pub wide : ℕ → ℕ
 wide mask = filled (ones (twos (fours (eights mask))))
 
--- it does so to each bit by itself
+-- the step works on each bit alone
 shift_low : (x s i : ℕ) → i < s → bit_at (x * 2 ^ s) i ≡ 0
 shift_low x s i h = (let z : x * 2 ^ s ≡ x * 2 ^ s + 0 = omega arith in ap (λ n. bit_at n i) z ∙ bit_at_cat_low x s 0 i h ∙ bit_at-zero i)
 
@@ -86,14 +86,14 @@ wide-or a b =
     ∙ ap (λ x. twice x 2) (twice-or (ones (twos (fours (eights a)))) (ones (twos (fours (eights b)))) 1)
     ∙ twice-or (twice (ones (twos (fours (eights a)))) 1) (twice (ones (twos (fours (eights b)))) 1) 2
 
--- each bit of the mask stands four times
+-- each bit of the mask has four places
 abbrev IsWide : ℕ → Type 0
 IsWide mask = (i : ℕ) → bit_at (wide mask) i ≡ bit_at mask (i / 4)
 
 wide_both : (a b : ℕ) → IsWide a → IsWide b → IsWide (bit_or a b)
 wide_both a b p q i = ap (λ n. bit_at n i) (wide-or a b) ∙ bit_at_or (wide a) (wide b) i ∙ rw (p i, q i) (sym (bit_at_or a b (i / 4)))
 
--- masks of one bit, by trying each
+-- masks of one bit, tried one by one
 same_number : (a b : ℕ) → nat_eq a b ≡ true → a ≡ b
 same_number a b e = grind (arith, nat_tests)
 

@@ -1,4 +1,4 @@
--- Which text a search for carriage returns among the segments held finds.
+-- Lemmas: which text the search for carriage returns among the held segments finds.
 use Rattle.std.proofs.Common.{◌≡◌, ◌≢◌, ℕ, ◌+◌, ◌-◌, ◌/◌, ◌^◌, ◌<◌, ◌≤◌, List, length, slice_index, get_or, take, None, bit_and, refl, sym, subst, ◌∙◌, ◌⊎◌, inl, inr, arith, w64}
 use Rattle.std.specs.Prelude.{◌==◌}
 use Rattle.std.specs.Int.{bit_at, from_bool, trailing_ones, trailing_zeros}
@@ -16,7 +16,7 @@ use Rattle.rds_assembly.specs.Whole.{IsWholeText}
 use Rattle.rds_assembly.specs.ServiceLaws.{one_byte}
 use Rattle.rds_assembly.proofs.HeldLemmas.{byte_in, get-unset, spelled}
 
--- below n each byte is held and is no carriage return
+-- each byte below n is held and is not a carriage return
 abbrev Passed : Cells → ℕ → Type 0
 Passed m n = (k : ℕ) → k < n → (b : ℕ) × HasByte m k b × (b ≢ 13)
 
@@ -59,7 +59,7 @@ return_byte mask bytes held returns i lanes on =
     is_byte : (b : ℕ) → 1 ≤ from_bool (b == 13) → b ≡ 13
     is_byte b p = grind (arith, nat_tests)
 
--- the first bit that is set stands at place p, or none is and p is 64
+-- the first set bit is at place p, or no bit is set and p is 64
 record IsFirst (found p : ℕ) : Type 0 where
   at : (p ≡ 64) ⊎ ((p < 64) × (bit_at found p ≡ 1))
   below : (i : ℕ) → i < p → bit_at found i ≡ 0
@@ -71,7 +71,7 @@ first found fits =
       | inr none ↦ (let nothing : found ≡ 0 = omega arith in rw nothing (record { at = inl (trailing_of_zero 64); below = λ i h. bit_at-zero i }))
     ]
 
--- below place p all bytes are held, and the one there isn't, or p is 64
+-- all bytes below place p are held, and the one at p is not, or p is 64
 record IsGap (held p : ℕ) : Type 0 where
   at : (p ≡ 64) ⊎ ((p < 64) × (bit_at held p ≡ 0))
   below : (i : ℕ) → i < p → bit_at held i ≡ 1
@@ -107,7 +107,7 @@ beyond mask bytes held returns p t lanes a g h =
     (λ k l. (slice_index bytes k, byte_in mask bytes k (omega arith) (sym (lanes.bits k) ∙ g.below k l), other_byte mask bytes held returns k lanes (a.below k (omega arith)) (g.below k l)))
     (omega arith) (get-unset mask bytes (t / 4) (omega arith) (sym (lanes.bits t) ∙ off))
 
--- what the code compares
+-- the comparison in the code
 pub found_whole : (mask : ℕ) (bytes : List ℕ) (held returns : ℕ) → AreLanes mask bytes held returns → trailing_zeros w64 (bit_and returns held) ≤ trailing_ones w64 held
     → IsWholeText (held_cells mask bytes) (take (trailing_zeros w64 (bit_and returns held)) bytes)
 found_whole mask bytes held returns lanes h =

@@ -1,6 +1,5 @@
--- The segments that a value is sent in: its body, four bytes at a time. Segment a is the bytes at the places
--- 4 * a to 4 * a + 3 of the body (IEC 62106, RadioText and programme type name; the spaces are this project's
--- own rule).
+-- The segments of a value: its body, four bytes at a time. Segment a has the bytes at the places 4 * a to 4 * a + 3 of
+-- the body (IEC 62106, RadioText and programme type name; the spaces are this project's own rule).
 use Rattle.std.specs.Prelude.{◌≡◌, ◌-◌, ◌*◌, ◌<◌, ◌/◌, ◌%◌, ◌==◌, ◌∷◌, ◌++◌}
 use Rattle.std.specs.Prelude.{ℕ, List, Some, length, take, drop, replicate, if◌then◌else◌}
 use Rattle.std.specs.FinMap.{get}
@@ -10,16 +9,16 @@ use Rattle.rds_assembly.specs.Whole.{carriage_return}
 abbrev pub space : ℕ
 space = 32
 
--- a text of 64 bytes is its own body; after a shorter one come a carriage return, and spaces up to a multiple
--- of four
+-- the body of a text: a text of 64 bytes is its own body; after a shorter one come a carriage return, and spaces up to
+-- a multiple of four
 abbrev pub text_body : List ℕ → List ℕ
 text_body x = if length x == 64 then x else x ++ carriage_return ∷ replicate (3 - length x % 4) space
 
--- after a name come spaces up to eight bytes
+-- the body of a name: after the name come spaces up to eight bytes
 abbrev pub name_body : List ℕ → List ℕ
 name_body x = x ++ replicate (8 - length x) space
 
--- how many segments a body has
+-- the number of segments of a body
 abbrev pub segment_count : List ℕ → ℕ
 segment_count body = length body / 4
 

@@ -1,5 +1,5 @@
--- The cells: which segments are held, a finite map from an address to the four bytes that stand there.
--- Place i of a value is byte i % 4 of the cell at address i / 4 (IEC 62106, RadioText).
+-- The cells: the held segments, a finite map from an address to four bytes. Place i of a value is byte i % 4 of the
+-- cell at address i / 4 (IEC 62106, RadioText).
 use Rattle.std.specs.Prelude.{◌≡◌, ℕ, ◌<◌, ◌/◌, ◌%◌, List, Some, length, slice_index}
 use Rattle.std.specs.Ordering.{nat_cmp}
 use Rattle.std.specs.FinMap.{FinMap, get}
@@ -7,7 +7,7 @@ use Rattle.std.specs.FinMap.{FinMap, get}
 abbrev pub Cells : Type 0
 Cells = FinMap nat_cmp (List ℕ)
 
--- the byte at place i is held, and is b
+-- a byte is held at place i, and it is b
 pub record HasByte (cells : Cells) (i b : ℕ) : Type 0 where
   pub cell : List ℕ
   pub held : get cells (i / 4) ≡ Some cell

@@ -1,4 +1,4 @@
--- A text kept at the front of a buffer of 64 bytes, with zeros after it: so one text has one buffer.
+-- A text at the front of a buffer of 64 bytes, with zeros after it. So one text has one buffer.
 use Rattle.std.specs.Prelude.{◌≡◌, ℕ, ◌-◌, ◌≤◌, List, ◌++◌, length, take, drop, replicate}
 use Rattle.std.proofs.Common.{sym, ap, ◌∙◌, arith}
 use Rattle.std.proofs.lemmas.List.{take-append-drop, length-take-le}

@@ -3,10 +3,10 @@ use Rattle.std.specs.Prelude.{◌≡◌, ℕ, ◌/◌, ◌==◌, List, slice_ind
 use Rattle.std.specs.Int.{bit_at, from_bool}
 use Rattle.rds_assembly.specs.Whole.{carriage_return}
 
--- bit i is 1 exactly where byte i is a carriage return
+-- bit i is 1 exactly if byte i is a carriage return
 abbrev pub AreReturns : List ℕ → ℕ → Type 0
 AreReturns bytes returns = (i : ℕ) → bit_at returns i ≡ from_bool (slice_index bytes i == carriage_return)
 
--- bit i is the bit of the segment that byte i is of
+-- bit i is the bit of the segment that has byte i
 abbrev pub IsSpread : ℕ → ℕ → Type 0
 IsSpread mask wide = (i : ℕ) → bit_at wide i ≡ bit_at mask (i / 4)

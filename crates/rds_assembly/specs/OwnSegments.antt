@@ -1,5 +1,4 @@
--- What a value's own segments make whole: cells taken from its segments make it whole or nothing, and all of
--- its segments make it whole.
+-- Lemmas: cells from a value's segments make it whole or nothing, and all of its segments make it whole.
 use Rattle.std.proofs.Common.{◌≡◌, ◌≢◌, ◌+◌, ◌-◌, ◌*◌, ◌/◌, ◌%◌, ◌<◌, ◌≤◌, ◌∷◌, ◌++◌, ◌∙◌, ◌⊎◌}
 use Rattle.std.proofs.Common.{ℕ, List, Bool, true, false, nat_eq, length, get_or}
 use Rattle.std.proofs.Common.{slice_index, refl, sym, ap, inl, inr, arith, length-append}
@@ -20,13 +19,13 @@ segment_byte body i =
     let place : 4 * (i / 4) + i % 4 ≡ i = omega arith in
     get_or-chunk (4 * (i / 4)) 4 body (i % 4) 0 (omega arith) ∙ ap (λ k. get_or body k 0) place
 
--- a byte held is the byte of the body
+-- a byte that is held is the byte of the body
 byte_of : (body : List ℕ) (cells : Cells) (i b : ℕ) → AreSegmentsOf body cells → HasByte cells i b
     → b ≡ slice_index body i
 byte_of body cells i b own h =
     sym h.byte ∙ ap (λ cell. get_or cell (i % 4) 0) (own.taken (i / 4) h.cell h.held) ∙ segment_byte body i
 
--- where all segments are held, each byte of the body is
+-- if all segments are held, each byte of the body is
 byte_held : (body : List ℕ) (cells : Cells) (i : ℕ) → AreAllHeld body cells → i / 4 < segment_count body
     → HasByte cells i (slice_index body i)
 byte_held body cells i all h = record {
@@ -35,7 +34,7 @@ byte_held body cells i all h = record {
   byte = segment_byte body i;
 }
 
--- the bytes of a text stand in its body
+-- a text is the front of its body
 text_below : (x : List ℕ) (i : ℕ) → i < length x → slice_index (text_body x) i ≡ slice_index x i
 text_below x i h = by_length (nat_eq (length x) 64) refl
   where
@@ -43,7 +42,7 @@ text_below x i h = by_length (nat_eq (length x) 64) refl
     by_length true e = rw e refl
     by_length false e = rw e (get_or_append_left x _ 0 i h)
 
--- after a text of fewer than 64 bytes stands a carriage return
+-- after a text of fewer than 64 bytes comes a carriage return
 text_end : (x : List ℕ) → length x < 64 → slice_index (text_body x) (length x) ≡ 13
 text_end x h =
     let e : nat_eq (length x) 64 ≡ false = grind (arith, nat_tests) in
@@ -51,7 +50,7 @@ text_end x h =
     rw e (get_or-append_right x (13 ∷ replicate (3 - length x % 4) 32) (length x) (length x) 0 refl (omega arith)
     ∙ ap (λ k. get_or (13 ∷ replicate (3 - length x % 4) 32) k 0) z)
 
--- a text, and its end where it has one, stand in its segments
+-- a text, and its carriage return if it has one, lie in its segments
 text_within : (x : List ℕ) (i : ℕ) → length x ≤ 64 → i ≤ length x → i < 64 → i / 4 < segment_count (text_body x)
 text_within x i long h l = by_length (nat_eq (length x) 64) refl
   where

@@ -1,5 +1,5 @@
--- The laws of both services: an address has at most four bits, no value is whole of no cells, and at most one
--- value is whole.
+-- The laws of both services: an address has at most four bits, without cells no value is whole, and cells make at most
+-- one value whole.
 use Rattle.std.proofs.Common.{◌≡◌, ℕ, ◌<◌, ◌≤◌, ◌/◌, List, length, sym, ◌∙◌, inl, inr, arith}
 use Rattle.std.specs.FinMap.{empty, get-empty}
 use Rattle.std.specs.Ordering.{nat_cmp}
@@ -14,7 +14,7 @@ sixteen_are_few = omega arith
 pub two_are_few : 2 ≤ 16
 two_are_few = omega arith
 
--- one byte stands at a place
+-- a place has one byte
 pub one_byte : (cells : Cells) (i b c : ℕ) → HasByte cells i b → HasByte cells i c → b ≡ c
 one_byte cells i b c p q =
     let held_p = p.held in
@@ -23,7 +23,7 @@ one_byte cells i b c p q =
     let byte_q = q.byte in
     cc
 
--- values of one length that are spelled are one
+-- values of one length that are held are equal
 same_spelled : (cells : Cells) (x y : List ℕ) → IsSpelled cells x → IsSpelled cells y → length x ≡ length y → x ≡ y
 same_spelled cells x y p q e =
     same_number_lists x y e (λ k h. one_byte cells k _ _ (p.bytes k h) (q.bytes k (omega arith)))
@@ -45,7 +45,7 @@ one_text cells x y p q =
 pub one_name : (cells : Cells) (x y : List ℕ) → IsWholeName cells x → IsWholeName cells y → x ≡ y
 one_name cells x y p q = same_spelled cells x y p.spelled q.spelled (p.eight ∙ sym q.eight)
 
--- no byte is held in no cells
+-- without cells no byte is held
 nothing_held : (i b : ℕ) → HasByte empty i b → ⊥
 nothing_held i b h =
     let held = h.held in

@@ -1,4 +1,4 @@
-//! The segments held, and the value that they make whole.
+//! The held segments of a value, and the value that they make whole.
 ghost use Rattle.std.specs.Prelude.{◌≡◌, ℕ, ◌<◌, ◌≤◌, ◌↔◌, IsFalse, IsTrue, IfSome, IfNone, List, length};
 ghost use Rattle.std.specs.Ordering.{nat_cmp};
 ghost use Rattle.std.specs.FinMap as map;
@@ -8,14 +8,14 @@ use crate::Service;
 use crate::text::LONGEST_TEXT;
 use std::marker::{Model, PhantomData};
 
-/// The segments of one service that are held, each at its address. Callers see the map of cells.
+/// The held segments of one service, each at its address. Contracts see the map of cells.
 #[derive(Drop)]
 pub struct Assembly<S: Service> {
-    /// Segment a stands at the places 4 * a to 4 * a + 3.
+    /// Segment a has the places 4 * a to 4 * a + 3.
     bytes: [u8; LONGEST_TEXT],
-    /// Bit a says that segment a is held.
+    /// Bit a is 1 if segment a is held.
     mask: u16,
-    /// How many of the bytes are the whole value, where there is one.
+    /// The length of the whole value, which is at the front of the bytes. None if no value is whole.
     whole: Option<usize>,
     service: PhantomData<S>,
 }
@@ -40,7 +40,7 @@ impl<S: Service> Model for Assembly<S> {
 }
 
 impl<S: Service> Assembly<S> {
-    /// Holds no segment.
+    /// Makes an assembly without segments.
     pub fn new() -> Self
         ensures { result ≡ map.empty }
     {
@@ -52,8 +52,8 @@ impl<S: Service> Assembly<S> {
         }
     }
 
-    /// Holds these segments: segment a stands at the places 4 * a to 4 * a + 3 of the bytes, and is
-    /// held where bit a of the mask is 1.
+    /// Makes an assembly of these segments. Segment a has the bytes at the places 4 * a to 4 * a + 3, and is held if
+    /// bit a of the mask is 1.
     pub fn restore(bytes: [u8; LONGEST_TEXT], mask: u16) -> Self
         ensures { result ≡ held_cells mask bytes }
     {
@@ -66,14 +66,14 @@ impl<S: Service> Assembly<S> {
         }
     }
 
-    /// The segments held, as `restore` takes them.
+    /// Returns the held segments, as `restore` takes them.
     pub fn store(&self) -> ([u8; LONGEST_TEXT], u16)
         ensures { held_cells result.1 result.0 ≡ self.now }
     {
         (self.bytes, self.mask)
     }
 
-    /// Gives up all segments.
+    /// Drops all segments.
     pub fn clear(&mut self)
         ensures { self.new ≡ map.empty }
     {
@@ -81,8 +81,8 @@ impl<S: Service> Assembly<S> {
         self.whole = None;
     }
 
-    /// Holds the segment at its address, in place of one that was held there. False where that one
-    /// has the same bytes: then nothing changes.
+    /// Holds the segment at its address, in place of the one that was held there. Returns false if that one has the
+    /// same bytes; then nothing changes.
     pub fn put(&mut self, address: u8, bytes: [u8; 4]) -> bool
         requires { address < S.SEGMENTS }
         ensures put { self.new ≡ map.insert self.old address bytes }
@@ -100,7 +100,7 @@ impl<S: Service> Assembly<S> {
         true
     }
 
-    /// Whether the segment at the address is held.
+    /// Returns whether a segment is held at the address.
     pub fn has(&self, address: u8) -> bool
         requires { address < S.SEGMENTS }
         ensures { result ≡ map.contains_key self.now address }
@@ -108,14 +108,14 @@ impl<S: Service> Assembly<S> {
         self.mask >> address & 1 == 1
     }
 
-    /// Whether no segment is held.
+    /// Returns whether no segment is held.
     pub fn is_empty(&self) -> bool
         ensures { IsTrue result ↔ (self.now ≡ map.empty) }
     {
         self.mask == 0
     }
 
-    /// The value that the segments held make whole, lent; `None` where they make none whole.
+    /// Returns the value that the held segments make whole, borrowed from the assembly. None if they make none whole.
     pub fn whole(&self) -> Option<&[u8]>
         ensures some { IfSome result (λ x. S.is_whole self.now x.now) }
         ensures only { IfSome result (λ x. (y : List ℕ) → S.is_whole self.now y → y ≡ x.now) }
@@ -126,7 +126,7 @@ impl<S: Service> Assembly<S> {
     }
 }
 
-/// Whether the four bytes are these, compared as one word.
+/// Returns whether the four bytes are equal, compared as one word.
 fn is_same(segment: &[u8], bytes: &[u8; 4]) -> bool
     requires { length segment.now ≡ 4 }
     ensures { IsTrue result ↔ (segment.now ≡ bytes.now) }

@@ -1,10 +1,10 @@
-//! What is asked of all 64 bytes at once: bit i of an answer is for byte i.
+//! Questions about all 64 bytes at once: bit i of an answer is for byte i.
 ghost use Rattle.rds_assembly.specs.Lanes.{AreReturns, IsSpread};
 
 use crate::radio_text::CARRIAGE_RETURN;
 use std::simd::prelude::*;
 
-/// Which bytes are carriage returns.
+/// Returns which bytes are carriage returns.
 pub(crate) fn returns_in(bytes: &[u8; 64]) -> u64
     ensures { AreReturns bytes.now result }
 {
@@ -13,12 +13,12 @@ pub(crate) fn returns_in(bytes: &[u8; 64]) -> u64
         .to_bitmask()
 }
 
-/// Which bytes are of segments whose bit is set: each bit of the mask, four times.
+/// Returns which bytes are of segments whose bit is set: each bit of the mask, four times.
 pub(crate) fn spread(mask: u16) -> u64
     ensures { IsSpread mask result }
 {
-    // Named by how many of the mask's bits stand side by side: such pieces begin at every fourth
-    // multiple of their length, until each bit alone has four places.
+    // Each name gives the number of mask bits side by side. Such pieces begin at multiples of four times their length,
+    // until each bit alone has four places.
     let sixteen = u64::from(mask);
     let eights = (sixteen | sixteen << 24) & 0x0000_00FF_0000_00FF;
     let fours = (eights | eights << 12) & 0x000F_000F_000F_000F;

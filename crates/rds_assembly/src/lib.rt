@@ -1,16 +1,14 @@
-//! Texts and programme type names, the segments that they are sent in, and the segments held.
+//! Texts and programme type names (PTYN), their segments, and the segments that a receiver holds.
 //!
-//! A `Text` or a `Name` has bytes that may be sent, and gives the segment at each of its
-//! addresses. An `Assembly` holds segments: its one model is a finite map of cells, from an
-//! address to four bytes. `put` and `clear` are those of the map, `put` says whether something
-//! changed, and `whole` lends the one value that the cells make whole (`IsWholeText`,
-//! `IsWholeName`), exactly where there is one. Cells taken from one value's segments make that
-//! value whole or none, and all of its segments do (`own` and `all` of `Service`). Nothing is
-//! shown over a gap, and the crate takes no memory. It knows no flags and no time: those are a
-//! receiver's.
+//! A `Text` or a `Name` has valid bytes, and returns the segment at each of its addresses. An `Assembly` holds
+//! segments. Its model is a finite map of cells, from an address to four bytes. `put` and `clear` are those of the map,
+//! and `put` returns false only if nothing changed. `whole` returns the one value that the cells make whole
+//! (`IsWholeText`, `IsWholeName`), and None exactly if there is none. Cells from the segments of one value make that
+//! value whole, or none; all of its segments make it whole (`own` and `all` of `Service`). So nothing is shown over a
+//! gap. The crate allocates no memory. It has no flags and no time: a receiver has them.
 //!
-//! The segments stand side by side in 64 bytes, and a mask has a bit for each (`held_cells`), so
-//! that the end of a text is looked for in all bytes at once (`lanes`).
+//! The segments lie side by side in 64 bytes, and a mask has a bit for each (`held_cells`). So the code looks for the
+//! end of a text in all bytes at once (`lanes`).
 //!
 //! ```text
 //! let sent = Text::new(b"HI")?;

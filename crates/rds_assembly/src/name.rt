@@ -1,4 +1,4 @@
-//! A programme type name, and the segments that it is sent in.
+//! A programme type name and its segments.
 ghost use Rattle.std.specs.Prelude.{◌≡◌, ℕ, ◌<◌, ◌≤◌, ◌↔◌, List, length, IsOk, IfOk, IfErr};
 ghost use Rattle.rds_assembly.specs.Body.{segment_count, segment_of, name_body};
 ghost use Rattle.rds_assembly.specs.Value.{IsGivenName, IsName, IsRefusedFor, is_name_byte};
@@ -7,7 +7,7 @@ use crate::text::TextRefused;
 use crate::type_name::NAME_LENGTH;
 use std::marker::Model;
 
-/// A programme type name: eight bytes (IEC 62106, programme type name). Callers see them.
+/// A programme type name: eight bytes (IEC 62106, programme type name). Contracts see the bytes.
 #[derive(Clone, Copy, Debug, PartialEq, Eq)]
 pub struct Name {
     bytes: [u8; 8],
@@ -27,8 +27,8 @@ impl Model for Name {
 }
 
 impl Name {
-    /// The name of these bytes, with spaces up to eight, or why they are none. A number over eight
-    /// is told before a bad byte.
+    /// Makes the name of these bytes, with spaces up to eight bytes. Error if there are more than eight bytes, or else
+    /// for the first byte that is not allowed.
     pub fn new(bytes: &[u8]) -> Result<Name, TextRefused>
         ensures accepted { IsOk result ↔ IsGivenName bytes.now }
         ensures value { IfOk result (λ name. name ≡ name_body bytes.now) }
@@ -45,7 +45,7 @@ impl Name {
         Ok(Name { bytes: padded })
     }
 
-    /// The eight bytes.
+    /// Returns the eight bytes, borrowed from the name.
     pub fn bytes(&self) -> &[u8]
         ensures value { result.now ≡ self.now }
         ensures name { IsName self.now }
@@ -53,7 +53,7 @@ impl Name {
         &self.bytes
     }
 
-    /// How many segments the name is sent in.
+    /// Returns the number of segments, which is 2.
     pub fn count(&self) -> u8
         ensures value { result ≡ segment_count (name_body self.now) }
         ensures two { result ≡ 2 }
@@ -61,7 +61,7 @@ impl Name {
         (self.bytes().len() / 4) as u8
     }
 
-    /// The segment at the address.
+    /// Returns the segment at the address.
     pub fn segment(&self, address: u8) -> [u8; 4]
         requires { address < segment_count (name_body self.now) }
         ensures { result ≡ segment_of (name_body self.now) address }

@@ -1,4 +1,4 @@
-//! RadioText: up to 64 bytes in sixteen segments, ended by a carriage return where it is shorter.
+//! RadioText: up to 64 bytes in sixteen segments. A carriage return ends a shorter text.
 ghost use Rattle.std.specs.Prelude.{◌≡◌, ℕ, ◌≤◌, IfSome, IfNone, List, take};
 ghost use Rattle.std.specs.FinMap as map;
 ghost use Rattle.rds_assembly.specs.Cells.{Cells};
@@ -11,7 +11,7 @@ use crate::text::LONGEST_TEXT;
 /// The byte that ends a text of fewer than 64 bytes (IEC 62106, RadioText).
 pub const CARRIAGE_RETURN: u8 = 0x0D;
 
-/// The text of group 2A (IEC 62106, RadioText).
+/// The service of texts, in groups 2A (IEC 62106, RadioText).
 #[derive(Clone, Copy, Debug, PartialEq, Eq)]
 pub struct RadioText;
 
@@ -42,10 +42,11 @@ impl Service for RadioText {
 
     ghost all = { all_text };
 
-    /// The bytes before the first carriage return held, or all 64, where all of them are held.
+    /// Returns the number of bytes before the first held carriage return, or 64 if no carriage return is held. None if
+    /// one of these bytes is not held.
     fn length(bytes: &[u8; LONGEST_TEXT], mask: u16) -> Option<usize> {
         let held = spread(mask);
-        // The first carriage return held, or 64, the end of a full text.
+        // The place of the first held carriage return, or 64, the end of a full text.
         let place = (returns_in(bytes) & held).trailing_zeros();
         if place <= held.trailing_ones() {
             Some(place as usize)

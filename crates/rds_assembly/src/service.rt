@@ -1,4 +1,4 @@
-//! What a text service says of its segments.
+//! The text services: their values, segments and laws.
 ghost use Rattle.std.specs.Prelude.{◌≡◌, ℕ, ◌≤◌, IfSome, IfNone, List, take};
 ghost use Rattle.std.specs.FinMap as map;
 ghost use Rattle.rds_assembly.specs.Cells.{Cells};
@@ -7,11 +7,11 @@ ghost use Rattle.rds_assembly.specs.Body.{AreAllHeld, AreSegmentsOf};
 
 use crate::text::LONGEST_TEXT;
 
-/// A service whose values go out in segments of four bytes, each at an address.
+/// A service whose values are sent in segments of four bytes, each at an address.
 pub trait Service {
     ghost SEGMENTS: { ℕ };
 
-    /// How many addresses there are.
+    /// The number of addresses.
     const SEGMENTS: u8;
 
     /// The cells make the value whole.
@@ -20,12 +20,12 @@ pub trait Service {
     /// The bytes are a value that may be sent.
     ghost is_value: { List ℕ → Type 0 };
 
-    /// What is sent of a value, four bytes a segment.
+    /// The body that is sent for a value, four bytes in a segment.
     ghost body_of: { List ℕ → List ℕ };
 
-    /// How many bytes the whole value has, where the segments held make one whole: its bytes are
-    /// the first of these. Segment a stands at the places 4 * a to 4 * a + 3, and is held where
-    /// bit a of the mask is 1.
+    /// Returns the length of the value that the held segments make whole. Its bytes are the first of these. None if
+    /// they make none whole. Segment a has the bytes at the places 4 * a to 4 * a + 3, and is held if bit a of the mask
+    /// is 1.
     fn length(bytes: &[u8; LONGEST_TEXT], mask: u16) -> Option<usize>
         ensures within { IfSome result (λ n. n ≤ 64) }
         ensures whole { IfSome result (λ n. is_whole (held_cells mask bytes.now)
@@ -34,15 +34,17 @@ pub trait Service {
             → is_whole (held_cells mask bytes.now) x → ⊥) };
 
     /// An address has at most four bits.
+    // Prover: without this law `put` could index beyond the cells (docs/PROVER.md, "Workarounds").
     ghost few: { SEGMENTS ≤ 16 };
 
-    /// No cells, no value.
+    /// Without cells no value is whole.
+    // Prover: without this law `new` could show a value (docs/PROVER.md, "Workarounds").
     ghost none: { (x : List ℕ) → is_whole map.empty x → ⊥ };
 
-    /// At most one value is whole.
+    /// Cells make at most one value whole.
     ghost one: { (cells : Cells) (x y : List ℕ) → is_whole cells x → is_whole cells y → x ≡ y };
 
-    /// Cells taken from the segments of one value make that value whole, or none.
+    /// Cells from the segments of one value make that value whole, or none.
     ghost own: { (cells : Cells) (x y : List ℕ) → is_value x → AreSegmentsOf (body_of x) cells
         → is_whole cells y → y ≡ x };
 

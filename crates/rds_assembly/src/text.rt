@@ -1,4 +1,4 @@
-//! A text, and the segments that it is sent in.
+//! A text and its segments.
 ghost use Rattle.std.specs.Prelude.{◌≡◌, ℕ, ◌<◌, ◌≤◌, ◌↔◌, List, length, slice_index, IsOk, IfOk, IfErr};
 ghost use Rattle.rds_assembly.specs.Body.{segment_count, segment_of, text_body};
 ghost use Rattle.rds_assembly.specs.Value.{IsRefusedFor, IsText, is_text_byte};
@@ -7,13 +7,13 @@ use crate::radio_text::CARRIAGE_RETURN;
 use std::marker::Model;
 use thiserror::Error;
 
-/// Why bytes are no text, or no name.
+/// Why bytes are not a valid text or name.
 #[derive(Clone, Copy, Debug, PartialEq, Eq, Error)]
 pub enum TextRefused {
-    /// There are over 64 bytes, of a name over eight.
+    /// There are more than 64 bytes, or more than eight for a name.
     #[error("there are too many bytes")]
     TooLong,
-    /// The byte at this place, counted from 0, is the first that may not stand there.
+    /// The byte at this place, counted from 0, is the first one that is not allowed.
     #[error("the byte at place {0} may not stand there")]
     BadByte(usize),
 }
@@ -21,7 +21,8 @@ pub enum TextRefused {
 /// The most bytes of a text (IEC 62106, RadioText).
 pub const LONGEST_TEXT: usize = 64;
 
-/// A RadioText of at most 64 bytes (IEC 62106, RadioText). Callers see its bytes.
+/// A RadioText of at most 64 bytes (IEC 62106, RadioText). Contracts see its bytes.
+// Prover: zeros follow the text, so that each list of bytes has exactly one buffer (docs/PROVER.md, "Workarounds").
 #[derive(Clone, Copy, Debug, PartialEq, Eq)]
 pub struct Text {
     buffer: [u8; LONGEST_TEXT],
@@ -47,7 +48,8 @@ impl Model for Text {
 }
 
 impl Text {
-    /// The text of these bytes, or why they are none. A number over 64 is told before a bad byte.
+    /// Makes the text of these bytes. Error if there are more than 64 bytes, or else for the first byte that is not
+    /// allowed.
     pub fn new(bytes: &[u8]) -> Result<Text, TextRefused>
         ensures accepted { IsOk result ↔ IsText bytes.now }
         ensures value { IfOk result (λ text. text ≡ bytes.now) }
@@ -67,7 +69,7 @@ impl Text {
         })
     }
 
-    /// The bytes.
+    /// Returns the bytes, borrowed from the text.
     pub fn bytes(&self) -> &[u8]
         ensures value { result.now ≡ self.now }
         ensures text { IsText self.now }
@@ -75,7 +77,7 @@ impl Text {
         &self.buffer[..self.end as usize]
     }
 
-    /// How many segments the text is sent in.
+    /// Returns the number of segments, 1 to 16.
     pub fn count(&self) -> u8
         ensures value { result ≡ segment_count (text_body self.now) }
         ensures some { 0 < result }
@@ -88,7 +90,7 @@ impl Text {
         }
     }
 
-    /// The segment at the address.
+    /// Returns the segment at the address.
     pub fn segment(&self, address: u8) -> [u8; 4]
         requires { address < segment_count (text_body self.now) }
         ensures { result ≡ segment_of (text_body self.now) address }
@@ -102,7 +104,7 @@ impl Text {
         ]
     }
 
-    /// The byte at this place of what is sent: after the text come a carriage return and spaces.
+    /// Returns the byte at this place of the body: after the text come a carriage return and spaces.
     fn sent(&self, place: usize) -> u8
         requires { place < length (text_body self.now) }
         ensures { result ≡ slice_index (text_body self.now) place }
@@ -118,8 +120,8 @@ impl Text {
     }
 }
 
-/// Whether the byte may stand in a text: it is no control character but three, of which none is the carriage return
-/// (IEC 62106, RadioText).
+/// Returns whether a text may have this byte: 0x20 or above, the line feed (0x0A), the end of a headline (0x0B) or the
+/// soft hyphen (0x1F) (IEC 62106, RadioText; refusing other control characters is this project's own rule).
 pub fn is_text_byte(byte: u8) -> bool
     ensures { result ≡ is_text_byte byte }
 {

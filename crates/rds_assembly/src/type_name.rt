@@ -7,10 +7,10 @@ ghost use Rattle.rds_assembly.specs.Held.{held_cells};
 use crate::Service;
 use crate::text::LONGEST_TEXT;
 
-/// The bytes of a name (IEC 62106, programme type name).
+/// The number of bytes of a name (IEC 62106, programme type name).
 pub const NAME_LENGTH: usize = 8;
 
-/// The name of group 10A (IEC 62106, programme type name).
+/// The service of programme type names, in groups 10A (IEC 62106, programme type name).
 #[derive(Clone, Copy, Debug, PartialEq, Eq)]
 pub struct TypeName;
 
@@ -41,7 +41,7 @@ impl Service for TypeName {
 
     ghost all = { all_name };
 
-    /// All eight bytes, where both segments are held.
+    /// Returns 8 if both segments are held. None otherwise.
     fn length(_bytes: &[u8; LONGEST_TEXT], mask: u16) -> Option<usize> {
         if mask & 0b11 == 0b11 {
             Some(NAME_LENGTH)

@@ -1,4 +1,4 @@
--- The ages as reigns go on.
+-- Lemmas: how the ages change with the reigns.
 use Rattle.std.proofs.Common.{◌≡◌, ◌≢◌, ◌⊎◌, ◌+◌, ◌-◌, ◌<◌, ◌≤◌, max, min, not, ◌&&◌, ◌↔◌, ℕ, Bool, IsTrue, true, false, List, [], ◌∷◌, refl, sym, ◌∙◌, inl, inr, arith}
 use Rattle.std.specs.List.{AllByRecursion}
 use Rattle.std.proofs.lemmas.Bool.{cases_lt, cond_both}
@@ -47,7 +47,7 @@ early_late d now flag (r ∷ q ∷ older) a h g =
     let other : is_same r.flag flag ≡ false = is_other_flag r.flag flag (λ e. g.0 (sym e ∙ sym h.current.1)) in
     rw other (omega (arith, h.second, g.1))
 
--- and one that is not starts in time
+-- and a reign that is not opened too early starts in time
 pub not_early : (d now : ℕ) (flag : Bool) (rs : List Reign) (a : Ages) → 0 < d → AreOver now rs → HoldsAges d now rs a → (Joins d flag a → ⊥) → (IsEarly d flag a → ⊥) → start_after d flag rs ≤ now
 not_early d now flag [] a pos over h apart early = omega arith
 not_early d now flag (r ∷ older) a pos over h apart early = by_flag (same_or_other r.flag flag)
@@ -65,7 +65,7 @@ not_early d now flag (r ∷ older) a pos over h apart early = by_flag (same_or_o
         past [] late e = omega arith
         past (q ∷ rest) late e = omega arith
 
--- tags may be sent exactly where the text has lasted
+-- tags may be sent exactly if the reign has lasted
 pub lasted_long : (d now : ℕ) (r : Reign) (older : List Reign) (a : Ages) → 0 < d → HoldsAges d now (r ∷ older) a → HasLasted d a → r.start + d ≤ now
 lasted_long d now r older a pos h lasted = omega (arith, lasted.1, h.current.2)
 
@@ -93,7 +93,7 @@ opened_start d now flag (r ∷ older) a pos over h = by_flag (same_or_other r.fl
         past [] over e = omega (arith, h.newest, over.0.1)
         past (q ∷ rest) over e = omega (arith, h.newest, over.0.1, over.1.0.1)
 
--- the flag turned to a reign that is opened exactly where it is the first, or has another flag than the newest
+-- the flag turned to a reign that is opened exactly if it is the first one, or has another flag than the newest
 and_not : (x y : Bool) → ((x && not y) ≡ true) ↔ ((x ≡ true) × (y ≡ false))
 and_not true true = ((λ e. absurd (let bad : false ≡ true = e in cc)), (λ p. absurd (let bad : true ≡ false = p.1 in cc)))
 and_not true false = ((λ e. (refl, refl)), (λ p. refl))

@@ -1,4 +1,4 @@
--- Which lengths a fragment of a text allows.
+-- Lemmas: which lengths a fragment of a text allows.
 use Rattle.std.proofs.Common.{◌≡◌, ◌⊎◌, ◌+◌, ◌<◌, ◌≤◌, ℕ, zero, suc, Bool, true, false, nat_eq, List, [], ◌∷◌, length, slice_index, Option, Some, None, cond, refl, sym, ap, ◌∙◌, subst, inl, inr, arith}
 use Rattle.std.proofs.lemmas.Bool.{and_parts, cases_lt, eqb-true}
 use Rattle.rds_assembly.specs.Body.{text_body}
@@ -7,7 +7,7 @@ use Rattle.rds_audit.specs.declared.audited.Lengths.{Lengths}
 use Rattle.rds_audit.specs.Lengths.{are_spaces, lengths_from}
 use Rattle.rds_audit.proofs.Bodies.{text_below, text_end, text_full, text_past}
 
--- these bytes stand in the body from place i on
+-- the body has these bytes from place i on
 pub record Stands (body : List ℕ) (i : ℕ) (bs : List ℕ) : Type 0 where
   pub within : i + length bs ≤ length body
   pub bytes : (j : ℕ) → j < length bs → slice_index bs j ≡ slice_index body (i + j)
@@ -59,7 +59,7 @@ body_allows x i (b ∷ bs) t h s = by (cases_lt i (length x)) (λ less. body_all
         let is : nat_eq b 13 ≡ true = rw e refl in
         rw (is, body_spaces x (i + 1) bs short (omega arith) (later (text_body x) i b bs s)) (omega arith, omega arith)
 
--- what a byte at place i says of a text of n bytes
+-- what a byte at place i means for a text of n bytes
 pub record Agrees (n i b : ℕ) : Type 0 where
   pub below : i < n → is_text_byte b ≡ true
   pub end : i ≡ n → b ≡ 13
@@ -72,7 +72,7 @@ spaces_agree n i (b ∷ bs) h t zero l =
 spaces_agree n i (b ∷ bs) h t (suc j) l =
     subst (λ k. Agrees n k (slice_index bs j)) (omega arith) (spaces_agree n (i + 1) bs (omega arith) (and_parts (nat_eq b 32) (are_spaces bs) t).1 j (omega arith))
 
--- where a length is allowed, each byte agrees with it
+-- if a length is allowed, each byte agrees with it
 pub allowed_agree : (n i : ℕ) (bs : List ℕ) → Allows n (lengths_from i bs) → (i ≤ n) × ((j : ℕ) → j < length bs → Agrees n (i + j) (slice_index bs j))
 allowed_agree n i [] a = (a.0, λ j l. absurd (omega arith))
 allowed_agree n i (b ∷ bs) a = by_return (nat_eq b 13) refl a (allowed_agree n (i + 1) bs)

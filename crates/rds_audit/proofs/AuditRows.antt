@@ -1,4 +1,4 @@
--- Short logs worked by hand at a dwell of 4: the rule that each breaks. Lists have the newest first.
+-- Short logs calculated by hand, with a spacing of 4: the rule that each one breaks. Lists have the newest first.
 use Rattle.std.proofs.Common.{◌≡◌, ◌<◌, ◌≤◌, ℕ, zero, suc, true, false, List, [], ◌∷◌, slice_index, Option, Some, None, refl, ap, inl, inr, arith}
 use Rattle.rds_fields.specs.declared.message.Message.{Message}
 use Rattle.rds_fields.specs.declared.message.Message.TheVariants.{Text, Tags}
@@ -70,7 +70,7 @@ untagged x sent none h t pair (inr s) = after_later x sent t (h t pair s)
 empty_passes : LogPasses 4 []
 empty_passes = record { text = record { reigns = tt; tagged = λ t pair s. absurd s }; name = record { reigns = tt; tagged = λ t pair s. absurd s } }
 
--- nothing changes nothing
+-- a slot with nothing in it breaks no rule
 quiet_passes : (log : Log) → LogPasses 4 log → LogPasses 4 (None ∷ log)
 quiet_passes log p = record {
   text = record { reigns = p.text.reigns; tagged = untagged Nothing _ (λ pair e. (cc)) p.text.tagged };
@@ -105,7 +105,7 @@ again_passes = record {
 changed : IsFaultOf 4 (Some (Text false 0 yo_bytes) ∷ hi ∷ []) Changed
 changed = inl (hi_passes, inl (omega arith, (λ u. let first : 72 ≡ 89 = ap (λ (x : List ℕ). slice_index x 0) (u.0.0 refl) in omega arith)))
 
--- a letter stands after the carriage return
+-- a letter comes after the carriage return
 not_one_text : IsFaultOf 4 (Some (Text false 0 (0x0D ∷ 0x41 ∷ 0x20 ∷ 0x20 ∷ [])) ∷ []) NotOneText
 not_one_text = inl (empty_passes, inl (omega arith, (tt, tt), (λ one. let none : false ≡ true = (text_gauge_is_exact.measured _ _ one).each.0 in absurd (cc))))
 
@@ -113,17 +113,17 @@ not_one_text = inl (empty_passes, inl (omega arith, (tt, tt), (λ one. let none 
 early_flag : IsFaultOf 4 (hi ∷ yo ∷ hi ∷ []) EarlyFlag
 early_flag = inl (yo_passes, inl (let w : 2 < 4 = omega arith in w))
 
--- tags in slot 1 for a text that can have begun in slot 0
+-- tags in slot 1, for a text that can have started in slot 0
 early_tag : IsFaultOf 4 (Some (Tags long_tags) ∷ hi ∷ []) EarlyTag
 early_tag = inl (hi_passes, inl (let w : 1 < 4 = omega arith in w))
 
--- in slot 4 they come late enough, and end at 15 in a text of two characters
+-- in slot 4 they do not come too early, and end at 15 in a text of two characters
 tag_outside : IsFaultOf 4 (Some (Tags long_tags) ∷ hi_and_silence) TagOutside
 tag_outside = inl (
   silence_passes,
   inl ((λ early. let w : 4 < 4 = early in omega arith), (λ one. let w : 15 ≤ 2 = (text_gauge_is_exact.measured _ _ one).ends in omega arith)),
 )
 
--- a second text can have begun in slot 4, so that a tag in slot 5 is not the first one's
+-- a second text can have started in slot 4, so a tag in slot 5 comes too early
 early_tag_again : IsFaultOf 4 (Some (Tags short_tag) ∷ hi ∷ hi_and_silence) EarlyTag
 early_tag_again = inl (again_passes, inl (let w : 5 < 8 = omega arith in w))

@@ -1,4 +1,4 @@
--- How an audit goes on from log to log.
+-- Lemmas: how the state of an audit changes with the log.
 use Rattle.std.proofs.Common.{◌≡◌, ◌∷◌, ℕ, List, Option, Some, None, Ok, Err, refl, sym, ◌∙◌, subst, inl, inr}
 use Rattle.std.specs.Prelude.{IfErr, IfOk, MatchOption, Result}
 use Rattle.rds_block.specs.declared.group.Group.{Group}
@@ -17,7 +17,7 @@ use Rattle.rds_audit.proofs.ReignSteps.{slot_ended}
 pub log_passes : (d : ℕ) (heard : List (Option Message)) (a : AuditState) → HoldsLog d heard a → LogPasses d heard
 log_passes d heard a h = record { text = h.text.passes; name = h.name.passes }
 
--- what is held with a fault, or with none
+-- the state with a fault, or without one
 abbrev pub IsJudged : ℕ → List (Option Message) → AuditState → Option AuditFault → Type 0
 IsJudged d heard a fault = MatchOption fault (HoldsLog d heard a) (λ f. IsFaultOf d heard f)
 
@@ -31,7 +31,7 @@ module _ (pi d : ℕ) (a : AuditState) (log : List (Option Group)) (s : AuditSta
   clean_here : a.fault ≡ None → HoldsLog a.distance s.heard a
   clean_here e = subst (λ n. HoldsLog n s.heard a) (sym s.distance) (clean_holds e)
 
-  -- one more slot, after which this is held
+  -- one more slot, after which the state follows from the log
   goes_on : (after : AuditState) (slot : Option Group) (message : Option Message) → Hears a.programme slot message → after.programme ≡ a.programme → after.distance ≡ a.distance
       → IsJudged d (message ∷ s.heard) after after.fault → AuditStandsAt pi d after (slot ∷ log)
   goes_on after slot message h programme distance judged = record {
@@ -63,7 +63,7 @@ module _ (pi d : ℕ) (a : AuditState) (log : List (Option Group)) (s : AuditSta
       let here : HoldsLog d (message ∷ s.heard) after = subst (λ n. HoldsLog n (message ∷ s.heard) after) s.distance (holds s.heard (clean_here clean)) in
       goes_on after slot message h programme distance (subst (IsJudged d (message ∷ s.heard) after) (sym e) here)
 
--- the end of a slot
+-- at the end of a slot
 pub ended : (d : ℕ) (heard : List (Option Message)) (message : Option Message) (a after : AuditState)
     → after.text ≡ record a.text { ages = aged d a.text.ages } → after.name ≡ record a.name { ages = aged d a.name.ages } → HoldsSlot d message heard a → HoldsLog d (message ∷ heard) after
 ended d heard message a after e f h = record {
@@ -71,7 +71,7 @@ ended d heard message a after e f h = record {
   name = subst (λ (st : ReignsState). HoldsMarks name_gauge d (marks name_mark (message ∷ heard)) st) (sym f) (slot_ended name_gauge d (name_mark message) (marks name_mark heard) a.name h.name);
 }
 
--- nothing of a service was sent in a slot
+-- a slot in which nothing of the service was sent
 nothing_sent : (g : Gauge) (d : ℕ) (sent : List Mark) (st : ReignsState) → HoldsMarks g d sent st → HoldsNewest g d Nothing sent st
 nothing_sent g d sent st h = record {
   ages = h.ages;
@@ -85,12 +85,12 @@ nothing_sent g d sent st h = record {
         let a = h.passes.tagged t pair s in
         record { slot = a.slot; fragment = a.fragment; is_sent = inr a.is_sent; before = a.before }
 
--- what the reigns of a service answer to a mark
+-- what the reigns of a service return for a mark
 pub record Answers (g : Gauge) (d : ℕ) (mark : Mark) (before after : ReignsState) (result : Result (Unit {0}) AuditFault) : Type 0 where
   pub holds : (sent : List Mark) → HoldsMarks g d sent before → IfOk result (λ _. HoldsNewest g d mark sent after)
   pub breaks : (sent : List Mark) → HoldsMarks g d sent before → IfErr result (λ fault. IsBrokenBy d g.kind mark sent fault)
 
--- a message of the texts alone, and one of the names alone
+-- a message of texts alone, and one of names alone
 pub texts_judge : (r : Result (Unit {0}) AuditFault) (a after : AuditState) (message : Option Message) → name_mark message ≡ Nothing → after.name ≡ a.name
     → Answers text_gauge a.distance (text_mark message) a.text after.text r → Judges a after message r
 texts_judge (Ok done) a after message silent same answers = record {

@@ -1,4 +1,4 @@
--- The bytes of a text's body.
+-- Lemmas: the bytes of a text's body.
 use Rattle.std.proofs.Common.{◌≡◌, ◌+◌, ◌-◌, ◌*◌, ◌/◌, ◌%◌, ◌<◌, ◌≤◌, ℕ, zero, suc, Bool, true, false, nat_eq, List, ◌∷◌, length, get_or, slice_index, refl, ap, ◌∙◌, arith, length-append}
 use Rattle.std.specs.Prelude.{replicate, drop, min}
 use Rattle.std.proofs.lemmas.Bool.Decides.{nat_tests}
@@ -38,12 +38,12 @@ text_full x h =
     let e : nat_eq (length x) 64 ≡ true = grind (arith, nat_tests) in
     rw e refl
 
--- after a carriage return at the front of bytes stand spaces
+-- after a carriage return at the front come spaces
 past_return : (n k : ℕ) → 0 < k → k ≤ n → slice_index (13 ∷ replicate n 32) k ≡ 32
 past_return n zero pos h = absurd (omega arith)
 past_return n (suc k) pos h = get_or-replicate n k 32 0 (omega arith)
 
--- after the carriage return of a body stand spaces
+-- after the carriage return of a body come spaces
 pub text_past : (x : List ℕ) (i : ℕ) → length x < 64 → length x < i → i < length (text_body x) → slice_index (text_body x) i ≡ 32
 text_past x i h past within =
     let e : nat_eq (length x) 64 ≡ false = grind (arith, nat_tests) in

@@ -1,4 +1,4 @@
--- What is held of a reign as fragments and tags are sent.
+-- Lemmas: the content of a reign as fragments and tags are sent.
 use Rattle.std.proofs.Common.{◌≡◌, ◌≢◌, ◌⊎◌, ◌<◌, ◌≤◌, max, ℕ, Bool, true, false, nat_eq, List, [], ◌∷◌, get_or, set, Option, Some, None, cond, refl, sym, ap, ◌∙◌, subst, arith}
 use Rattle.std.proofs.lemmas.Bool.{eqb-true}
 use Rattle.std.proofs.lemmas.Bool.Decides.{nat_tests}
@@ -15,7 +15,7 @@ use Rattle.rds_audit.specs.Reigns.{Reign, SentTags}
 use Rattle.rds_audit.specs.Rules.{AreUnchanged, HaveOneValue, IsBrokenByFragment}
 use Rattle.rds_audit.proofs.SentCells.{holds_unchanged, unchanged_by}
 
--- nothing of a reign
+-- the content without fragments and tags
 pub empty_content : (g : Gauge) → HoldsContent g [] [] (no_content g.longest)
 empty_content g = record { long = refl; cells = λ a h. get_or-replicate {A = Option (List ℕ)} 16 a None None h; lengths = refl; ends = refl }
 
@@ -66,13 +66,13 @@ module _ (g : Gauge) (exact : IsExact g) (few : g.segments ≤ 16) (p : Fragment
         ends = subst (λ (l : Lengths). tags_end more ≤ (narrowed allowed l).most) h.lengths ends;
       }
 
-  -- a fragment that can be taken leaves one value
+  -- after a fragment that can be taken there is one value
   pub taken_one : HaveOneValue g.kind fragments tags → CanTake allowed p.address p.bytes c → HaveOneValue g.kind (p ∷ fragments) tags
   taken_one one can =
       exact.one (p ∷ fragments) tags (formed, exact.formed fragments tags one)
       (measured one can.unchanged can.lengths tags (subst (λ n. n ≤ (narrowed allowed c.lengths).most) h.ends can.ends))
 
-  -- and one that can't breaks the rule that is told
+  -- and one that cannot be taken breaks the rule of the fault
   pub broken : HaveOneValue g.kind fragments tags → (start opened last : ℕ) (flag : Bool) (older : List Reign) → start ≤ opened → (fault : AuditFault) → CannotTake allowed p.address p.bytes c fault
       → IsBrokenByFragment g.kind (record { start = start; opened = opened; last = last; flag = flag; fragments = p ∷ fragments; tags = tags } ∷ older) fault
   broken one start opened last flag older begun Changed cannot = (begun, (λ u. cannot (holds_no_other u)))
@@ -104,6 +104,6 @@ module _ (g : Gauge) (exact : IsExact g) (now : ℕ) (pair : PairFields) (fragme
       let before = exact.measured fragments tags one in
       exact.one fragments (newest ∷ tags) (exact.formed fragments tags one) record { unchanged = before.unchanged; each = before.each; room = before.room; ends = omega (arith, before.ends, ends, most) }
 
-  -- and those that end in none
+  -- and tags that end in no such value
   pub tagged_none : c.lengths.most < pair_end pair → HaveOneValue g.kind fragments (newest ∷ tags) → ⊥
   tagged_none past one = omega (arith, (exact.measured fragments (newest ∷ tags) one).ends, past, most)

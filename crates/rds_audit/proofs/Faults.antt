@@ -1,4 +1,4 @@
--- The fault of a log: one that has a fault does not pass, and it has one.
+-- Lemmas: a log with a fault does not pass, and it has only one fault.
 use Rattle.std.proofs.Common.{◌≡◌, ◌<◌, ℕ, List, [], ◌∷◌, length, Option, Some, None, refl, inl, inr, arith}
 use Rattle.std.specs.List.{AllByRecursion}
 use Rattle.rds_fields.specs.declared.message.Message.{Message}
@@ -46,7 +46,7 @@ slot_fails : (d : ℕ) (newest : Option Message) (before : List (Option Message)
 slot_fails d newest before fault passes (inl b) = mark_fails d texts (text_mark newest) (marks text_mark before) fault passes.text b
 slot_fails d newest before fault passes (inr b) = mark_fails d names (name_mark newest) (marks name_mark before) fault passes.name b
 
--- what has a fault does not pass
+-- a log with a fault does not pass
 pub faulty : PassesExactlyByPlans → (d : ℕ) (log : List (Option Message)) (fault : AuditFault) → 0 < d → IsFaultOf d log fault → LogPasses d log → ⊥
 faulty law d [] fault pos f passes = f
 faulty law d (newest ∷ before) fault pos (inl f) passes = slot_fails d newest before fault passes f.1

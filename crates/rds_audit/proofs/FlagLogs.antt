@@ -1,5 +1,5 @@
--- A log that passes, and of which the flag turns from each reign to the next one, is safe for receivers with the flag bit
--- alone that hear a segment of each reign.
+-- Lemmas: a log that passes, and whose flag turns from each reign to the next one, is safe for receivers with the flag
+-- bit alone that hear a segment of each reign.
 use Rattle.std.proofs.Common.{◌≡◌, ◌≢◌, ◌⊎◌, ◌+◌, ◌<◌, ◌≤◌, ◌&&◌, ℕ, Bool, true, false, nat_lt, List, [], ◌∷◌, length, Option, refl, sym, ◌∙◌, subst, inl, inr, arith}
 use Rattle.std.specs.List.{AllByRecursion}
 use Rattle.std.proofs.lemmas.Bool.{cond_both, lt-ltb}
@@ -21,11 +21,11 @@ use Rattle.rds_audit.specs.Reigns.{AlternateFlags, IsOfEachTwo, Reign, after_fra
 use Rattle.rds_audit.specs.Rules.{CanBeBroadcast, LogPasses}
 use Rattle.rds_audit.proofs.Planning.{has_plan_of_reigns, plan_from}
 
--- the broadcast that a reign is taken for
+-- the broadcast made of a reign
 abbrev broadcast_of : Reign → List ℕ → Broadcast
 broadcast_of r value = record { start = r.start; end = r.last; flag = r.flag; bytes = value }
 
--- what is so of each two reigns is so of each two broadcasts of their plan
+-- a property of each two reigns is one of each two broadcasts of their plan
 of_each_two : (P : Broadcast → Broadcast → Type 0) → ANumberIsBelowTheLength → (d : ℕ) (kind : Kind) (rs : List Reign) (a : AllByRecursion (CanBeBroadcast d kind) rs)
     → IsOfEachTwo (λ r next. (x y : List ℕ) → P (broadcast_of r x) (broadcast_of next y)) rs
     → (k : ℕ) (b c : Broadcast) → HasNumber (plan_from d kind rs a) k b → HasNumber (plan_from d kind rs a) (k + 1) c → P b c
@@ -40,7 +40,7 @@ of_each_two P below d kind (r ∷ e ∷ older) a all k b c (inr (inr p)) (inl q)
 of_each_two P below d kind (r ∷ e ∷ older) a all k b c (inr (inl p)) (inl q) =
     subst (λ (x : Broadcast). P x c) (sym p.1) (subst (P (broadcast_of e a.1.0.one.value)) (sym q.1) (all.0 a.1.0.one.value a.0.one.value))
 
--- one follows from another
+-- one property follows from another
 of_each_two_too : (P Q : Reign → Reign → Type 0) → ((r next : Reign) → P r next → Q r next) → (rs : List Reign) → IsOfEachTwo P rs → IsOfEachTwo Q rs
 of_each_two_too P Q so [] all = tt
 of_each_two_too P Q so (r ∷ []) all = tt
@@ -85,7 +85,7 @@ safe_by_flag laws safe_texts safe_names safe_tags d log some passes =
 
 -- ---- without a pause the flag turns from each reign to the next one
 
--- two tests of which one fails, and the other does not
+-- two tests of which one fails and the other does not
 first_fails : (a b : Bool) → (a && b) ≡ false → b ≡ true → a ≡ false
 first_fails true b both holds = absurd (cc)
 first_fails false b both holds = refl

@@ -1,4 +1,4 @@
--- The gauges of texts and of names are exact.
+-- Lemmas: the gauges of texts and of names are exact.
 use Rattle.std.proofs.Common.{◌≡◌, ◌+◌, ◌*◌, ◌<◌, ◌≤◌, ℕ, List, [], ◌∷◌, length, slice_index, sym, ap, ◌∙◌, subst, inl, inr, arith}
 use Rattle.std.specs.List.{AllByRecursion}
 use Rattle.std.proofs.lemmas.Bool.{cases_lt, cases_order}
@@ -11,7 +11,7 @@ use Rattle.rds_audit.specs.Lengths.{IsExact, IsFormed, name_gauge, text_gauge}
 use Rattle.rds_audit.proofs.Bodies.{segment_byte, segment_long, text_below, text_end, text_full, text_long, text_past}
 use Rattle.rds_audit.proofs.OneValue.{name_alone, name_fragments, one_name, one_text, text_fragments}
 
--- the bytes of a segment fit
+-- the bytes of a segment are below 256
 segment_fits : (body : List ℕ) (a k : ℕ) → a < segment_count body → ((i : ℕ) → i < length body → slice_index body i < 256) → slice_index (segment_of body a) k < 256
 segment_fits body a k h fits =
     elim (cases_lt k 4) [

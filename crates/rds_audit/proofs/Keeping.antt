@@ -1,4 +1,4 @@
--- What the reigns of a log keep from slot to slot.
+-- Lemmas: what the reigns of a log keep from slot to slot.
 use Rattle.std.proofs.Common.{◌≡◌, ◌+◌, ◌<◌, ◌≤◌, ℕ, nat_lt, List, [], ◌∷◌, length, refl, inl, inr, arith}
 use Rattle.std.proofs.lemmas.Bool.{and_parts, cond_both, ltb-true}
 use Rattle.rds_fields.specs.Tag.{PairFields}
@@ -9,12 +9,12 @@ use Rattle.rds_safety.specs.Marks.{IsMarkIn, Mark, Nothing, Sends, Tagged}
 use Rattle.rds_audit.specs.Reigns.{Reign, after_fragment, after_tags, joins, opened_by, reigns, with_fragment}
 use Rattle.rds_audit.proofs.Sending.{bridged_later, early, marked_before, marked_early, marked_later, fragment_is_marked, sent_before}
 
--- the slot is not after the newest of these reigns; where there is none, no fragment was sent in it
+-- the slot is not after the newest of these reigns; without a reign, no fragment was sent in it
 abbrev pub IsBehind : List Mark → List Reign → ℕ → Type 0
 IsBehind sent [] u = (p : Fragment) → IsMarkIn sent u (Sends p) → ⊥
 IsBehind sent (r ∷ older) u = u ≤ r.last
 
--- a fragment opened the reign, something was sent in its last slot, and its fragments stand as in a dense plan
+-- a fragment opened the reign, something was sent in its last slot, and its fragments are as in a dense plan
 pub record IsKept (d : ℕ) (sent : List Mark) (r : Reign) : Type 0 where
   pub first : Fragment
   pub opened : IsMarkIn sent r.opened (Sends first)
@@ -25,7 +25,7 @@ pub record IsKept (d : ℕ) (sent : List Mark) (r : Reign) : Type 0 where
 abbrev pub AllBehind : List Mark → List Reign → Type 0
 AllBehind sent rs = (u : ℕ) → IsMarked sent u → IsBehind sent rs u
 
--- each reign is kept, and what was sent before it opened is behind those before it
+-- each reign is kept, and all that was sent before it opened belongs to those before it
 abbrev pub AreKept : ℕ → List Mark → List Reign → Type 0
 AreKept d sent [] = Unit {0}
 AreKept d sent (r ∷ older) = IsKept d sent r × ((u : ℕ) → IsMarked sent u → u < r.opened → IsBehind sent older u) × AreKept d sent older
@@ -55,7 +55,7 @@ are_kept_later d x sent (r ∷ older) k =
       are_kept_later d x sent older k.2,
     )
 
--- nothing of the service
+-- a slot with nothing of the service
 nothing_behind : (sent : List Mark) (rs : List Reign) → AllBehind sent rs → AllBehind (Nothing ∷ sent) rs
 nothing_behind sent rs h u m = by m.mark m.some m.is_sent
   where
@@ -139,7 +139,7 @@ joined_kept d sent p r older near h k =
         let now = early sent t (Sends g) st in
         bridged_later d (Sends p) sent u t (k.0.dense u t q g (sent_before (Sends p) sent u (Sends q) (omega arith) su) st from lt (h t (fragment_is_marked sent t g st)))
 
--- all of it for a list of reigns
+-- both for a list of reigns
 abbrev pub Keeps : ℕ → List Mark → List Reign → Type 0
 Keeps d sent rs = AreKept d sent rs × AllBehind sent rs
 

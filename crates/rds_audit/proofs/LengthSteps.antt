@@ -1,4 +1,4 @@
--- The lengths that a fragment allows, byte by byte.
+-- Lemmas: the lengths that a fragment allows, byte by byte.
 use Rattle.std.proofs.Common.{◌≡◌, ◌≢◌, ◌+◌, ◌<◌, ◌≤◌, ◌↔◌, ℕ, zero, suc, Bool, true, false, nat_eq, List, [], ◌∷◌, length, drop, drop-cons, slice_index, Some, None, cond, refl, sym, ap, ◌∙◌, arith}
 use Rattle.std.specs.Prelude.{EachIndex, IsTrue}
 use Rattle.std.specs.Bool.{then_some}

@@ -1,4 +1,4 @@
--- The reigns of a log are of broadcasts of any lawful and dense plan, in order.
+-- Lemmas: the reigns of a log are of broadcasts of any lawful and dense plan, in order.
 use Rattle.std.proofs.Common.{◌≡◌, ◌+◌, ◌<◌, ◌≤◌, max, ℕ, Bool, true, nat_lt, List, [], ◌∷◌, length, refl, sym, ◌∙◌, subst, inl, inr, arith}
 use Rattle.std.specs.List.{AllByRecursion}
 use Rattle.std.proofs.lemmas.Bool.{and_parts, cases_order, cond_both, lt-ltb, ltb-true}
@@ -29,7 +29,7 @@ module _ (laws : PlanLaws) (d : ℕ) (kind : Kind) (plan : List Broadcast) (spac
   past_newest_before k l b [] q lt a = omega arith
   past_newest_before k l b (r ∷ rs) q lt a = omega (arith, laws.far d plan a.0 l a.1 b spaced a.3 q (omega arith), a.4.to)
 
-  -- a reign that is opened in a later broadcast starts no later than that
+  -- a reign that is opened in a later broadcast starts no later than this broadcast
   start_before : (k l : ℕ) (c b : Broadcast) (flag : Bool) (r : Reign) (older : List Reign)
       → HasNumber plan k c → HasNumber plan l b → k < l → flag ≡ b.flag → IsReignOf d kind c r → AreReignsOf d kind plan k older → start_after d flag (r ∷ older) ≤ b.start
   start_before k l c b flag r older p q lt e of a =
@@ -45,7 +45,7 @@ module _ (laws : PlanLaws) (d : ℕ) (kind : Kind) (plan : List Broadcast) (spac
       let both : after_fragment d now p (r ∷ older) ≡ with_fragment now p r ∷ older = rw (same, lt-ltb now (r.last + d) near) refl in
       subst (λ (rs : List Reign). AreReignsOf d kind plan n rs) (sym both) (k, b, lt, q, joined_of d now kind b p r has of, a)
 
-  -- one that is sent in a later broadcast opens one
+  -- a fragment that is sent in a later broadcast opens a reign
   fragment_opens : (now n k l : ℕ) (c b : Broadcast) (p : Fragment) (r : Reign) (older : List Reign)
       → HasNumber plan k c → HasNumber plan l b → k < l → l < n → HasFragment kind now p b → IsReignOf d kind c r → AreReignsOf d kind plan k older → AreReignsOf d kind plan n (after_fragment d now p (r ∷ older))
   fragment_opens now n k l c b p r older pc pb lt ln has of a =
@@ -54,7 +54,7 @@ module _ (laws : PlanLaws) (d : ℕ) (kind : Kind) (plan : List Broadcast) (spac
       absurd (omega (arith, ltb-true _ _ parts.1, laws.one_flag d plan k l c b spaced pc pb lt (sym of.flag ∙ same_flag _ _ parts.0 ∙ has.flag), of.to, has.covers.from)))
       (λ _. (l, b, ln, pb, opened_of d now kind b p (r ∷ older) (start_before k l c b p.flag r older pc pb lt has.flag of a) has, (k, c, lt, pc, of, a)))
 
-  -- broadcasts of one number are one
+  -- broadcasts with one number are equal
   same_broadcast : (k l : ℕ) (a b : Broadcast) → HasNumber plan k a → HasNumber plan l b → k ≡ l → a ≡ b
   same_broadcast k l a b p q e = laws.one plan l a b (subst (λ (n : ℕ). HasNumber plan n a) {x = k} e p) q
 
@@ -135,7 +135,7 @@ can_be_broadcasts d n kind plan (r ∷ older) values a =
       can_be_broadcasts d a.0 kind plan older values a.5,
     )
 
--- so where there is such a plan, the log passes
+-- so a log with such a plan passes
 pub passes : PlanLaws → (d : ℕ) (kind : Kind) (sent : List Mark) → HasPlan d kind sent → Passes d kind sent
 passes laws d kind sent h = record {
   reigns = can_be_broadcasts d (length h.plan) kind h.plan (reigns d sent) h.lawful.values (are_reigns_of laws d kind h.plan sent h.lawful h.dense);

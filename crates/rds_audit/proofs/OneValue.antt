@@ -1,5 +1,5 @@
--- Some value has fragments and tags exactly where no address changed, each fragment allows a length, and one length is
--- allowed by all and reaches the ends of the tags.
+-- Lemmas: some value has fragments and tags exactly if no address changed, each fragment allows a length, and one
+-- length is allowed by all and reaches the ends of the tags.
 use Rattle.std.proofs.Common.{◌≡◌, ◌⊎◌, ◌+◌, ◌-◌, ◌*◌, ◌/◌, ◌%◌, ◌<◌, ◌≤◌, ◌++◌, max, ℕ, zero, suc, Bool, true, false, nat_eq, nat_le, List, [], ◌∷◌, length, slice_index, Option, Some, None, cond, refl, sym, ap, ◌∙◌, subst, inl, inr, arith}
 use Rattle.std.specs.Prelude.{◌||◌, is_some, replicate}
 use Rattle.std.specs.List.{AllByRecursion}
@@ -68,7 +68,7 @@ fill_byte fragments i (suc n) (suc k) h = fill_byte fragments (i + 1) n k (omega
 filled_byte : (fragments : List Fragment) (n k : ℕ) → k < n → slice_index (fill fragments 0 n) k ≡ byte_at fragments k
 filled_byte fragments n k h = fill_byte fragments 0 n k h ∙ ap (byte_at fragments) (omega arith)
 
--- what is so of each fragment's byte at a place, and of a space, is so of the bytes filled in
+-- a property of each fragment's byte at a place, and of a space, is one of the bytes filled in
 byte_is : (P : ℕ → Type 0) (fragments : List Fragment) (i : ℕ) → P 32 → ((p : Fragment) → IsIn p fragments → p.address ≡ i / 4 → P (slice_index p.bytes (i % 4))) → P (byte_at fragments i)
 byte_is P fragments i space each = by (sent_last (i / 4) fragments) refl
   where

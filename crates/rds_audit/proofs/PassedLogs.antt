@@ -1,4 +1,4 @@
--- A log passes exactly where it has plans, and then it is safe.
+-- Lemmas: a log passes exactly if it has plans, and then it is safe.
 use Rattle.std.proofs.Common.{◌+◌, ◌<◌, ◌∷◌, ℕ, List, Option, arith}
 use Rattle.rds_fields.specs.declared.message.Message.{Message}
 use Rattle.rds_audit.specs.AuditLaws.{IsSafeLog, IsSafeOnTime, PassesExactlyByPlans}
@@ -31,7 +31,7 @@ module _ (laws : PlanLaws) (d : ℕ) (log : List (Option Message)) where
 pub passes_by_plans : PlanLaws → PassesExactlyByPlans
 passes_by_plans laws d log pos = (log_has_plans laws d log pos, plans_pass laws d log)
 
--- what passes passed before its newest slot: its plans are plans of what came before
+-- a log that passes also passed before its newest slot: its plans are plans of the earlier slots
 pub passed_before : PassesExactlyByPlans → (d : ℕ) (newest : Option Message) (before : List (Option Message)) → 0 < d → LogPasses d (newest ∷ before) → LogPasses d before
 passed_before law d newest before pos h =
     let w = (law d (newest ∷ before) pos).0 h in

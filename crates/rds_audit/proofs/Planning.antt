@@ -1,4 +1,4 @@
--- The reigns of a log that passes are a lawful and dense plan.
+-- Lemmas: the reigns of a log that passes are a lawful and dense plan.
 use Rattle.std.proofs.Common.{◌≡◌, ◌≢◌, ◌⊎◌, ◌+◌, ◌<◌, ◌≤◌, max, ℕ, Bool, nat_lt, List, [], ◌∷◌, length, refl, sym, ap, ◌∙◌, subst, inl, inr, arith}
 use Rattle.std.specs.List.{AllByRecursion}
 use Rattle.std.proofs.lemmas.Bool.{and_parts, cases_lt, cases_order, cond_both}
@@ -18,7 +18,7 @@ use Rattle.rds_safety.specs.Flags.{other_flag, same_flag}
 use Rattle.rds_audit.proofs.Keeping.{AreKept, IsBehind, Keeps, keeps}
 use Rattle.rds_audit.proofs.Sending.{TagsAreAfter, early, one_mark, fragment_is_marked, sent_before, tags_are_marked}
 
--- each reign starts where one can after those before it
+-- each reign starts where one can start after those before it
 abbrev pub IsChained : ℕ → List Reign → Type 0
 IsChained d [] = Unit {0}
 IsChained d (r ∷ older) = (r.start ≡ start_after d r.flag older) × IsChained d older
@@ -37,7 +37,7 @@ chained d (Nothing ∷ sent) = chained d sent
 chained d (Sends p ∷ sent) = chained_fragment d (length sent) p (reigns d sent) (chained d sent)
 chained d (Tagged pair ∷ sent) = chained_tags d (length sent) pair (reigns d sent) (chained d sent)
 
--- the fragment, or the tags, sent in slot t are the reign's
+-- the fragment, or the tags, of slot t belong to the reign
 pub record HoldsFragment (t : ℕ) (p : Fragment) (r : Reign) : Type 0 where
   pub from : r.opened ≤ t
   pub to : t ≤ r.last
@@ -48,7 +48,7 @@ pub record HoldsTags (t : ℕ) (pair : PairFields) (r : Reign) : Type 0 where
   pub to : t ≤ r.last
   pub listed : IsIn record { slot = t; pair = pair } r.tags
 
--- one more slot leaves what was held
+-- one more slot keeps what the reigns hold
 fragment_stays : (d now t : ℕ) (p q : Fragment) (rs : List Reign) → t ≤ now → SomeReign (HoldsFragment t p) rs → SomeReign (HoldsFragment t p) (after_fragment d now q rs)
 fragment_stays d now t p q [] le h = absurd h
 fragment_stays d now t p q (r ∷ older) le h =
@@ -77,7 +77,7 @@ tags_stay_tagged now t pair other [] le h = absurd h
 tags_stay_tagged now t pair other (r ∷ older) le (inl i) = inl record { to = le; listed = inr i.listed }
 tags_stay_tagged now t pair other (r ∷ older) le (inr i) = inr i
 
--- a new one is held by the newest reign
+-- the newest reign holds a new fragment
 new_fragment : (d now : ℕ) (p : Fragment) (sent : List Mark) (rs : List Reign) → now ≡ length sent → Keeps d sent rs → SomeReign (HoldsFragment now p) (after_fragment d now p rs)
 new_fragment d now p sent [] e k = inl record { from = omega arith; to = omega arith; flag = refl; listed = inl refl }
 new_fragment d now p sent (r ∷ older) e k =
@@ -220,7 +220,7 @@ tags_planned d kind t pair (r ∷ older) a (inl h) = record {
   };
 }
 
--- what is sent in a reign's broadcast is sent since the reign was opened
+-- what was sent in a reign's broadcast was sent after the reign was opened
 since_opened : (d : ℕ) (sent : List Mark) (r : Reign) (older : List Reign) (u : ℕ) → 0 < d → r.start ≡ start_after d r.flag older → r.start ≤ u → IsBehind sent older u → (q : Fragment) → IsMarkIn sent u (Sends q) → ⊥
 since_opened d sent r [] u pos c from b q s = b q s
 since_opened d sent r (e ∷ older) u pos c from b q s = omega (arith, starts_after d r.flag e older pos)
@@ -238,7 +238,7 @@ dense_fragments d kind sent (r ∷ older) a pos c keep k b u t q p (inl n) cu ct
       | inr from ↦ keep.0.dense u t q p su st from lt (omega (arith, ct.to))
     ]
 
--- tags that are sent in a reign's broadcast come after the reign's first fragment
+-- tags sent in a reign's broadcast come after the reign's first fragment
 opened_before : (d : ℕ) (sent : List Mark) (r : Reign) (older : List Reign) (t : ℕ) (pair : PairFields) → 0 < d → TagsAreAfter sent → r.start ≡ start_after d r.flag older → r.start ≤ t
     → ((u : ℕ) → IsMarked sent u → u < r.opened → IsBehind sent older u) → IsMarkIn sent t (Tagged pair) → t < r.opened → ⊥
 opened_before d sent r [] t pair pos h c from gap s lt = (let w = h t pair s in gap w.slot (fragment_is_marked sent w.slot w.fragment w.is_sent) (omega (arith, w.before)) w.fragment w.is_sent)
@@ -266,7 +266,7 @@ dense_tags d kind sent (r ∷ older) a pos h c keep k b t pair (inl n) ct st =
       ];
     }
 
--- what passes has the plan of its reigns
+-- a service that passes has the plan of its reigns
 pub has_plan_of_reigns : ANumberIsBelowTheLength → (d : ℕ) (kind : Kind) (sent : List Mark) → 0 < d → (h : Passes d kind sent)
     → (w : HasPlan d kind sent) × (w.plan ≡ plan_from d kind (reigns d sent) h.reigns)
 has_plan_of_reigns below d kind sent pos h = (

@@ -1,4 +1,4 @@
--- What is held of a service as it goes on from slot to slot.
+-- Lemmas: the state of a service from slot to slot.
 use Rattle.std.proofs.Common.{◌≡◌, ◌+◌, ◌<◌, ◌≤◌, ℕ, true, false, nat_lt, List, [], ◌∷◌, length, refl, sym, ap, ◌∙◌, subst, inl, inr, arith}
 use Rattle.std.specs.Prelude.{IfOk, Result, Ok, Err}
 use Rattle.std.specs.List.{AllByRecursion}
@@ -23,7 +23,7 @@ use Rattle.rds_safety.specs.Flags.{is_same_flag, same_flag}
 use Rattle.rds_audit.proofs.Keeping.{AreKept, Keeps, keeps}
 use Rattle.rds_audit.proofs.Sending.{TagsAreAfter, after_later, early, marked_early}
 
--- what is held of some reigns, each of which can be a broadcast
+-- the state that follows from these reigns, each of which can be a broadcast
 pub record Holds (g : Gauge) (d now : ℕ) (rs : List Reign) (st : ReignsState) : Type 0 where
   pub ages : HoldsAges d now rs st.ages
   pub content : HoldsContent g (fragments_of rs) (tags_of rs) st.content
@@ -40,7 +40,7 @@ joined Q d now p r older a h on q =
     let same : is_same r.flag p.flag ≡ true = is_same_flag r.flag p.flag near.0 in
     cond_both (joins d now p.flag r) _ _ Q (λ _. q) (λ f. let both : joins d now p.flag r ≡ true = rw (same, lt-ltb now (r.last + d) near.1) refl in absurd (cc))
 
--- and one that does not opens one
+-- and a fragment that does not join opens one
 opens : (Q : List Reign → Type 0) (d now : ℕ) (p : Fragment) (rs : List Reign) (a : Ages) → 0 < d → HoldsAges d now rs a → (Joins d p.flag a → ⊥) → Q (opened_by d now p rs ∷ rs) → Q (after_fragment d now p rs)
 opens Q d now p [] a pos h apart q = q
 opens Q d now p (r ∷ older) a pos h apart q =
@@ -151,7 +151,7 @@ module _ (g : Gauge) (exact : IsExact g) (few : g.segments ≤ 16) (d : ℕ) (po
       → CannotTake (g.allowed p.address p.bytes) p.address p.bytes (no_content g.longest) fault → IsBrokenBy d g.kind (Sends p) sent fault
   sent_opening_broken p st fault formed h apart late cannot = opened_broken p (reigns d sent) st fault formed kept (held st h) apart late cannot
 
-  -- where there is a reign, a fragment was sent
+  -- if there is a reign, a fragment was sent
   after_open : (rs : List Reign) (st : ReignsState) → AreKept d sent rs → Holds g d now rs st → st.ages.is_open ≡ true → IsAfterFragment sent now
   after_open [] st k h e = (let shut : st.ages.is_open ≡ false = h.ages.current in absurd (cc))
   after_open (r ∷ older) st k h e = record { slot = r.opened; fragment = k.0.first; is_sent = k.0.opened; before = early sent r.opened (Sends k.0.first) k.0.opened }
@@ -165,7 +165,7 @@ module _ (g : Gauge) (exact : IsExact g) (few : g.segments ≤ 16) (d : ℕ) (po
       let next = tags_join pair (reigns d sent) st (held st h) lasted ends in
       record { ages = next.ages; content = next.content; passes = record { reigns = next.all; tagged = one_more pair (after_open (reigns d sent) st kept.0 (held st h) lasted.0) h.passes.tagged } }
 
--- the end of a slot
+-- at the end of a slot
 pub slot_ended : (g : Gauge) (d : ℕ) (x : Mark) (sent : List Mark) (st : ReignsState) → HoldsNewest g d x sent st → HoldsMarks g d (x ∷ sent) record st { ages = aged d st.ages }
 slot_ended g d x sent st h =
     let one : length (x ∷ sent) ≡ length sent + 1 = omega arith in
@@ -183,7 +183,7 @@ state_is after ages content e f = ap (λ (x : Ages). both x after.content) e ∙
     both : Ages → ContentState → ReignsState
     both x y = record { ages = x; content = y }
 
--- what follows from two facts of an answer
+-- a fact that follows from two facts about a result
 pub ok_by_both : {X Y : Type 0} (r : Result X Y) (P Q R : X → Type 0) → ((x : X) → P x → Q x → R x) → IfOk r P → IfOk r Q → IfOk r R
 ok_by_both (Ok x) P Q R f p q = f x p q
 ok_by_both (Err y) P Q R f p q = tt

@@ -1,4 +1,4 @@
--- What was sent before and after one more slot.
+-- Lemmas: what was sent before and after one more slot.
 use Rattle.std.proofs.Common.{◌≡◌, ◌<◌, ℕ, List, [], ◌∷◌, length, sym, ◌∙◌, inl, inr, arith}
 use Rattle.rds_fields.specs.Tag.{PairFields}
 use Rattle.rds_receiver.specs.Receipts.{Fragment}
@@ -23,7 +23,7 @@ one_mark (x ∷ before) t m n (inl p) (inr q) = absurd (omega (arith, early befo
 one_mark (x ∷ before) t m n (inr p) (inl q) = absurd (omega (arith, early before t m p))
 one_mark (x ∷ before) t m n (inr p) (inr q) = one_mark before t m n p q
 
--- what was sent in an earlier slot than the newest
+-- a mark of an earlier slot than the newest
 pub sent_before : (x : Mark) (before : List Mark) (t : ℕ) (m : Mark) → t < length before → IsMarkIn (x ∷ before) t m → IsMarkIn before t m
 sent_before x before t m h (inl s) = absurd (omega arith)
 sent_before x before t m h (inr s) = s
@@ -50,7 +50,7 @@ TagsAreAfter sent = (t : ℕ) (pair : PairFields) → IsMarkIn sent t (Tagged pa
 pub after_later : (x : Mark) (sent : List Mark) (t : ℕ) → IsAfterFragment sent t → IsAfterFragment (x ∷ sent) t
 after_later x sent t w = record { slot = w.slot; fragment = w.fragment; is_sent = inr w.is_sent; before = w.before }
 
--- what is lawful and dense for a log is so for what came before its newest slot
+-- a plan that is lawful and dense for a log is so for its earlier slots
 pub lawful_before : (d : ℕ) (kind : Kind) (plan : List Broadcast) (x : Mark) (before : List Mark) → IsLawful d kind plan (x ∷ before) → IsLawful d kind plan before
 lawful_before d kind plan x before h = record {
   spaced = h.spaced;

@@ -1,4 +1,4 @@
--- The bytes that fragments have at an address, and the lengths that they allow together.
+-- Lemmas: the bytes that fragments have at an address, and the lengths that they allow together.
 use Rattle.std.proofs.Common.{◌≡◌, ◌⊎◌, ◌≤◌, ℕ, Bool, true, false, nat_eq, List, [], ◌∷◌, Option, Some, None, cond, refl, sym, ap, ◌∙◌, inl, inr, arith}
 use Rattle.std.specs.Prelude.{is_some}
 use Rattle.std.specs.List.{AllByRecursion}
@@ -15,7 +15,7 @@ use Rattle.rds_audit.proofs.Members.{IsIn, all_in}
 same_number : (n : ℕ) → nat_eq n n ≡ true
 same_number n = grind arith
 
--- what is at an address is of one of the fragments
+-- the bytes at an address are those of one of the fragments
 pub cell_from : (fragments : List Fragment) (a : ℕ) (s : List ℕ) → sent_last a fragments ≡ Some s → (p : Fragment) × IsIn p fragments × (p.address ≡ a) × (p.bytes ≡ s)
 cell_from [] a s e = absurd (cc)
 cell_from (q ∷ older) a s e = by (nat_eq a q.address) refl e (cell_from older a s)
@@ -26,7 +26,7 @@ cell_from (q ∷ older) a s e = by (nat_eq a q.address) refl e (cell_from older 
     by true t e rest = (q, inl refl, sym (eqb-true a q.address t), (cc))
     by false t e rest = (let w = rest e in (w.0, inr w.1, w.2, w.3))
 
--- where the addresses are unchanged, each fragment is at its address
+-- if no address changed, each fragment is at its address
 pub cell_of : (fragments : List Fragment) (p : Fragment) → AreUnchanged fragments → IsIn p fragments → sent_last p.address fragments ≡ Some p.bytes
 cell_of [] p u i = absurd i
 cell_of (q ∷ older) p u (inl e) =

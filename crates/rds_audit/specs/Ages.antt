@@ -1,5 +1,5 @@
--- The ages of reigns, in slots (this project's own rule), as they go on. An age says how long ago a reign
--- started or had its last slot; it stops at a limit.
+-- The ages of reigns, in slots (this project's own rule), and how they change. An age says how long ago a reign started
+-- or had its last slot. It stops at a limit.
 use Rattle.std.specs.Prelude.{◌≡◌, ◌≢◌, ◌≤◌, ◌+◌, ◌-◌, ◌*◌, ◌<◌, ◌&&◌, ◌↔◌, [], ◌∷◌}
 use Rattle.std.specs.Prelude.{ℕ, Bool, true, false, IsTrue, List, min, not, if◌then◌else◌}
 use Rattle.rds_receiver.specs.Run.{is_same}
@@ -10,15 +10,15 @@ use Rattle.rds_audit.specs.Reigns.{AlternateFlags, Reign}
 abbrev pub Joins : ℕ → Bool → Ages → Type 0
 Joins d flag a = (flag ≡ a.flag) × (a.since_last < d)
 
--- a fragment with this flag that opens a reign comes too early
+-- a fragment with this flag opens a reign too early
 abbrev pub IsEarly : ℕ → Bool → Ages → Type 0
 IsEarly d flag a = (flag ≢ a.flag) × (a.since_before < d)
 
--- there is a reign, and its text has lasted so long that tags may be sent
+-- there is a reign, and it started at least d slots ago, so tags may be sent
 abbrev pub HasLasted : ℕ → Ages → Type 0
 HasLasted d a = (a.is_open ≡ true) × (d ≤ a.since_start)
 
--- the ages once a reign of this flag was opened
+-- the ages after a reign with this flag was opened
 abbrev pub opened_ages : ℕ → Bool → Ages → Ages
 opened_ages d flag a = record {
   is_open = true;
@@ -40,23 +40,23 @@ aged d a = record {
   turns = a.turns;
 }
 
--- how many slots before this one the newest reign had its last, up to 2 * d; where there is none, the log
--- counts as d slots older than it is
+-- how many slots before this one the newest reign had its last slot, at most 2 * d; without a reign, the log counts as
+-- d slots older than it is
 abbrev pub age_of_newest : ℕ → ℕ → List Reign → ℕ
 age_of_newest d slot [] = min (slot + d) (2 * d)
 age_of_newest d slot (r ∷ older) = min (slot - r.last) (2 * d)
 
--- the same of the reign before the newest
+-- the same for the reign before the newest one
 abbrev pub age_of_second : ℕ → ℕ → List Reign → ℕ
 age_of_second d slot [] = min (slot + d) (2 * d)
 age_of_second d slot (r ∷ older) = age_of_newest d slot older
 
--- the flag and the start of the newest reign, where there is one
+-- the flag and the start of the newest reign, if there is one
 abbrev pub HasCurrent : ℕ → ℕ → List Reign → Ages → Type 0
 HasCurrent d slot [] a = a.is_open ≡ false
 HasCurrent d slot (r ∷ older) a = (a.is_open ≡ true) × (a.flag ≡ r.flag) × (a.since_start ≡ min (slot - r.start) d)
 
--- these are the ages of the reigns, in this slot, and whether the flag turned from each of them to the next
+-- these are the ages of the reigns in this slot, and whether the flag turned from each of them to the next one
 pub record HoldsAges (d slot : ℕ) (rs : List Reign) (a : Ages) : Type 0 where
   pub newest : a.since_last ≡ age_of_newest d slot rs
   pub second : a.since_before ≡ age_of_second d slot rs

@@ -1,4 +1,4 @@
--- What holds of all logs that are audited. Lists have the newest first.
+-- The laws about all logs that are audited. Lists have the newest first.
 use Rattle.std.specs.Prelude.{◌≡◌, ◌+◌, ◌<◌, ◌≤◌, ◌⊎◌, ◌↔◌, ℕ, List, [], ◌∷◌, Option, length}
 use Rattle.std.specs.List.{All, AllByRecursion}
 use Rattle.rds_fields.specs.declared.message.Message.{Message}
@@ -15,16 +15,17 @@ use Rattle.rds_audit.specs.Reigns.{Reign, SentTags, reigns}
 use Rattle.rds_audit.specs.Rules.{IsFaultOf, LogPasses}
 use Rattle.rds_safety.specs.Safe.{AreSafe, Listener, ListensTo}
 
--- a log passes exactly where it has plans that are lawful and dense
+-- a log passes exactly if it has plans that are lawful and dense
 abbrev pub PassesExactlyByPlans : Type 0
 PassesExactlyByPlans = (d : ℕ) (log : List (Option Message)) → 0 < d → LogPasses d log ↔ HasPlans d log
 
--- the tags can be those of the broadcast
+-- the tags can be those of the broadcast: it started at least d slots before them, and they end in its text
 pub record AreTagsOf (d : ℕ) (b : Broadcast) (s : SentTags) : Type 0 where
   pub lasted : b.start + d ≤ s.slot
   pub ends : BothEndIn (length b.bytes) s.pair
 
--- the reign is of the broadcast, which starts no earlier than the reign and ends no earlier than its last slot
+-- the reign is of this broadcast, which starts no earlier than the reign and no later than its first fragment, ends no
+-- earlier than its last slot, and has its flag, fragments and tags
 pub record IsReignOf (d : ℕ) (kind : Kind) (b : Broadcast) (r : Reign) : Type 0 where
   pub start : r.start ≤ b.start
   pub from : b.start ≤ r.opened
@@ -33,25 +34,26 @@ pub record IsReignOf (d : ℕ) (kind : Kind) (b : Broadcast) (r : Reign) : Type 
   pub fragments : AllByRecursion (IsFragmentOf (kind.body b.bytes)) r.fragments
   pub tags : AllByRecursion (AreTagsOf d b) r.tags
 
--- the reigns are of broadcasts of the plan, in order: their numbers are below n and fall
+-- the reigns are of broadcasts of the plan, in order: the numbers of these are below n and fall
 abbrev pub AreReignsOf : ℕ → Kind → List Broadcast → ℕ → List Reign → Type 0
 AreReignsOf d kind plan n [] = Unit {0}
 AreReignsOf d kind plan n (r ∷ older) =
     (k : ℕ) × (b : Broadcast) × (k < n) × HasNumber plan k b × IsReignOf d kind b r × AreReignsOf d kind plan k older
 
--- one of the reigns is so
+-- one of the reigns has this property
 abbrev pub SomeReign : (Reign → Type 0) → List Reign → Type 0
 SomeReign Is [] = ⊥
 SomeReign Is (r ∷ older) = Is r ⊎ SomeReign Is older
 
--- the reigns are the broadcasts of which a fragment was sent, in order: each reign is of one, and each has a reign
+-- the reigns are the broadcasts of which a fragment was sent, in order: each reign is of one broadcast, and each of
+-- these broadcasts has a reign
 pub record AreTheReigns (d : ℕ) (kind : Kind) (plan : List Broadcast) (sent : List Mark) : Type 0 where
   pub each : AreReignsOf d kind plan (length plan) (reigns d sent)
   pub all : (k : ℕ) (b : Broadcast) (slot : ℕ) (p : Fragment) → HasNumber plan k b → HasFragment kind slot p b
       → IsMarkIn sent slot (Sends p)
       → SomeReign (IsReignOf d kind b) (reigns d sent)
 
--- so it is for every plan that is lawful and dense
+-- this holds for each plan that is lawful and dense
 abbrev pub BroadcastsAreTheReigns : Kind → Type 0
 BroadcastsAreTheReigns kind = (d : ℕ) (plan : List Broadcast) (sent : List Mark) → IsLawful d kind plan sent
     → IsDense d plan sent → AreTheReigns d kind plan sent
@@ -61,14 +63,14 @@ abbrev pub WhatHasAFaultDoesNotPass : Type 0
 WhatHasAFaultDoesNotPass =
     (d : ℕ) (log : List (Option Message)) (fault : AuditFault) → 0 < d → IsFaultOf d log fault → LogPasses d log → ⊥
 
--- and it has one fault
+-- and it has only one fault
 abbrev pub ALogHasOneFault : Type 0
 ALogHasOneFault = (d : ℕ) (log : List (Option Message)) (f g : AuditFault) → 0 < d → IsFaultOf d log f
     → IsFaultOf d log g → f ≡ g
 
--- some plans of the log are lawful and dense, and make every slot safe for any number of receivers of dwell m: of those
--- that are at most k slots late, and of those with clocks of their own by which less than m slots are less than m + k
--- of the station's
+-- some plans of the log are lawful and dense, and make each slot safe for any number of receivers of dwell m: for those
+-- at most k slots late, and for those with clocks of their own by which fewer than m slots are fewer than m + k of the
+-- station
 pub record IsSafeLog (m k : ℕ) (log : List (Option Message)) : Type 0 where
   pub plans : Plans
   pub lawful : AreLawful (m + k) plans log
@@ -78,12 +80,12 @@ pub record IsSafeLog (m k : ℕ) (log : List (Option Message)) : Type 0 where
   pub own_clocks : (now : ℕ) (receivers : List Listener) → All (ListensByOwnClock (m + k) m now log) receivers
       → AreSafe (m + k) m now plans log receivers
 
--- a log that passes with the dwell and the lateness is safe
+-- a log that passes with d = m + k is safe
 abbrev pub WhatPassesIsSafe : Type 0
 WhatPassesIsSafe = (m k : ℕ) (log : List (Option Message)) → 0 < m → LogPasses (m + k) log → IsSafeLog m k log
 
--- some plans of the log are lawful and dense, and make every slot safe for any number of receivers of dwell m,
--- whatever they lose and whenever they restart
+-- some plans of the log are lawful and dense, and make each slot safe for any number of receivers of dwell m that are
+-- on time, whatever they lose and whenever they restart
 pub record IsSafeOnTime (m : ℕ) (log : List (Option Message)) : Type 0 where
   pub plans : Plans
   pub lawful : AreLawful m plans log
@@ -91,6 +93,7 @@ pub record IsSafeOnTime (m : ℕ) (log : List (Option Message)) : Type 0 where
   pub safe : (t : ℕ) (receivers : List Listener) → All (ListensTo 0 m t log) receivers
       → AreSafe m m t plans log receivers
 
--- so is a log that passes with the dwell, where all receivers are on time
+-- a log that passes with d = m is safe if all receivers are on time
+-- Prover: a law of its own, since `m + 0` does not compute to `m` (docs/PROVER.md, "Workarounds").
 abbrev pub WhatPassesIsSafeOnTime : Type 0
 WhatPassesIsSafeOnTime = (m : ℕ) (log : List (Option Message)) → 0 < m → LogPasses m log → IsSafeOnTime m log

@@ -1,4 +1,4 @@
--- What an audit holds after a log. Lists have the newest first.
+-- The state of an audit after a log. Lists have the newest first.
 use Rattle.std.specs.Prelude.{◌≡◌, ◌<◌, ℕ, List, [], ◌∷◌, Option, Result, IfErr, IfOk, MatchOption, length}
 use Rattle.rds_block.specs.declared.group.Group.{Group}
 use Rattle.rds_fields.specs.declared.message.Message.{Message}
@@ -16,44 +16,44 @@ abbrev pub fragments_of : List Reign → List Fragment
 fragments_of [] = []
 fragments_of (r ∷ older) = r.fragments
 
--- its tags
+-- the tags of the newest reign
 abbrev pub tags_of : List Reign → List SentTags
 tags_of [] = []
 tags_of (r ∷ older) = r.tags
 
--- this is held of these fragments and tags
+-- the content follows from these fragments and tags
 pub record HoldsContent (g : Gauge) (fragments : List Fragment) (tags : List SentTags) (c : ContentState) : Type 0 where
   pub long : length c.cells ≡ 16
   pub cells : (a : ℕ) → a < 16 → cell_at a c ≡ sent_last a fragments
   pub lengths : c.lengths ≡ lengths_of g.allowed g.longest fragments
   pub ends : c.tags_end ≡ tags_end tags
 
--- in this slot this is held of a service that was sent these marks, which pass
+-- in this slot, the state of a service follows from these marks, which pass
 pub record HoldsReigns (g : Gauge) (d slot : ℕ) (sent : List Mark) (st : ReignsState) : Type 0 where
   pub ages : HoldsAges d slot (reigns d sent) st.ages
   pub content : HoldsContent g (fragments_of (reigns d sent)) (tags_of (reigns d sent)) st.content
   pub passes : Passes d g.kind sent
 
--- after the last of these slots
+-- the same in the slot after these marks
 abbrev pub HoldsMarks : Gauge → ℕ → List Mark → ReignsState → Type 0
 HoldsMarks g d sent st = HoldsReigns g d (length sent) sent st
 
--- in the slot of the newest mark
+-- the same in the slot of the newest mark
 abbrev pub HoldsNewest : Gauge → ℕ → Mark → List Mark → ReignsState → Type 0
 HoldsNewest g d newest before st = HoldsReigns g d (length before) (newest ∷ before) st
 
--- this is held of a log that passes, after its last slot
+-- the state of both services follows from this log, which passes, in the slot after it
 pub record HoldsLog (d : ℕ) (heard : List (Option Message)) (a : AuditState) : Type 0 where
   pub text : HoldsMarks text_gauge d (marks text_mark heard) a.text
   pub name : HoldsMarks name_gauge d (marks name_mark heard) a.name
 
--- and this in its newest slot
+-- the same in its newest slot
 pub record HoldsSlot (d : ℕ) (newest : Option Message) (before : List (Option Message)) (a : AuditState) : Type 0 where
   pub text : HoldsNewest text_gauge d (text_mark newest) (marks text_mark before) a.text
   pub name : HoldsNewest name_gauge d (name_mark newest) (marks name_mark before) a.name
 
--- the audit of programme pi and of d slots stands at the log: without a fault it holds what passes, and one that
--- it has is the fault of the log
+-- the audit has this PI and a spacing of d slots; without a fault its state follows from the log, which passes; a fault
+-- that it has is the fault of the log
 pub record AuditStandsAt (pi d : ℕ) (a : AuditState) (log : List (Option Group)) : Type 0 where
   pub programme : a.programme ≡ pi
   pub distance : a.distance ≡ d
@@ -62,11 +62,12 @@ pub record AuditStandsAt (pi d : ℕ) (a : AuditState) (log : List (Option Group
   pub are : AreHeard pi log heard
   pub holds : MatchOption a.fault (HoldsLog d heard a) (λ fault. IsFaultOf d heard fault)
 
--- wherever the audit stands, this holds of its number of slots and of what was heard
+-- this holds of the spacing and the messages of each log that the audit stands at
 abbrev pub WhereTheAuditStands : AuditState → (ℕ → List (Option Message) → Type 0) → Type 0
 WhereTheAuditStands a Holds = (pi d : ℕ) (log : List (Option Group)) (s : AuditStandsAt pi d a log) → Holds d s.heard
 
--- an audit that held a log took this in its next slot: it holds that slot, or the slot breaks the rule of the fault
+-- the audit took this message in the next slot of a log: without an error its state follows from the log with that
+-- slot; with one, the slot breaks the rule of the fault first
 pub record Judges (a after : AuditState) (message : Option Message) (result : Result (Unit {0}) AuditFault) : Type 0 where
   pub holds : (heard : List (Option Message)) → HoldsLog a.distance heard a
       → IfOk result (λ _. HoldsSlot a.distance message heard after)

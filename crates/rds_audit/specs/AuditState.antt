@@ -1,4 +1,4 @@
--- What an audit holds.
+-- The state of an audit.
 use Rattle.std.specs.Prelude.{◌≡◌, ◌≤◌, ◌<◌, ◌⊎◌, ◌==◌}
 use Rattle.std.specs.Prelude.{ℕ, Bool, true, List, Option, Some, None, is_some, max}
 use Rattle.std.specs.Prelude.{refl, replicate, slice_index_or, slice_set, if◌then◌else◌}
@@ -12,19 +12,19 @@ use Rattle.rds_audit.specs.declared.audited.Lengths.{Lengths}
 use Rattle.rds_audit.specs.Ages.{opened_ages}
 use Rattle.rds_audit.specs.Lengths.{narrowed, pair_end}
 
--- of a reign: the bytes at each address, the lengths that its fragments allow, and the greatest end of its tags
+-- the content of a reign: the bytes at each address, the lengths that its fragments allow, and the greatest end of its
+-- tags
 pub record ContentState : Type 0 where
   pub cells : List (Option (List ℕ))
   pub lengths : Lengths
   pub tags_end : ℕ
 
--- of a service: the ages of its reigns, and the content of the current one
+-- a service: the ages of its reigns, and the content of the current one
 pub record ReignsState : Type 0 where
   pub ages : Ages
   pub content : ContentState
 
--- of a log: its programme, the dwell and the lateness together in slots, both services, and the fault, where there is
--- one
+-- an audit: its programme (PI), the spacing d in slots, both services, and the fault, if there is one
 pub record AuditState : Type 0 where
   pub programme : ℕ
   pub distance : ℕ
@@ -32,11 +32,11 @@ pub record AuditState : Type 0 where
   pub name : ReignsState
   pub fault : Option AuditFault
 
--- nothing of a reign
+-- the content without fragments and tags
 abbrev pub no_content : ℕ → ContentState
 no_content longest = record { cells = replicate 16 None; lengths = record { least = 0; most = longest }; tags_end = 0 }
 
--- what is held at an address
+-- the bytes held at an address
 abbrev pub cell_at : ℕ → ContentState → Option (List ℕ)
 cell_at a c = slice_index_or c.cells a None
 
@@ -49,13 +49,14 @@ pub record HasRoom (allowed : Option Lengths) (l : Lengths) : Type 0 where
   pub some : is_some allowed ≡ true
   pub room : (narrowed allowed l).least ≤ (narrowed allowed l).most
 
--- these bytes, which allow such lengths, can be sent at the address beside what is held
+-- these bytes, which allow these lengths, can be sent at the address together with what is held
 pub record CanTake (allowed : Option Lengths) (address : ℕ) (bytes : List ℕ) (c : ContentState) : Type 0 where
   pub unchanged : HoldsNoOther address bytes c
   pub lengths : HasRoom allowed c.lengths
   pub ends : c.tags_end ≤ (narrowed allowed c.lengths).most
 
--- why they can't: the address holds others; no length is left; or one is, and a tag ends past all that are
+-- why they cannot be sent: the address holds other bytes, or else no length is left, or else a tag ends past each
+-- length that is left
 abbrev pub CannotTake : Option Lengths → ℕ → List ℕ → ContentState → AuditFault → Type 0
 CannotTake allowed address bytes c Changed = HoldsNoOther address bytes c → ⊥
 CannotTake allowed address bytes c NotOneText = HoldsNoOther address bytes c × (HasRoom allowed c.lengths → ⊥)
@@ -64,7 +65,7 @@ CannotTake allowed address bytes c TagOutside =
 CannotTake allowed address bytes c EarlyFlag = ⊥
 CannotTake allowed address bytes c EarlyTag = ⊥
 
--- the content with four more bytes at an address
+-- the content with these bytes at an address
 abbrev pub taken : Option Lengths → ℕ → List ℕ → ContentState → ContentState
 taken allowed address bytes c =
     record {
@@ -77,16 +78,16 @@ taken allowed address bytes c =
 abbrev pub tagged : PairFields → ContentState → ContentState
 tagged pair c = record { cells = c.cells; lengths = c.lengths; tags_end = max c.tags_end (pair_end pair) }
 
--- the state once a fragment joined the current reign
+-- the state after a fragment joined the current reign
 abbrev pub joined_state : Option Lengths → ℕ → List ℕ → ReignsState → ReignsState
 joined_state allowed address bytes st =
     record { ages = record st.ages { since_last = 0 }; content = taken allowed address bytes st.content }
 
--- the state in which a fragment opens a reign
+-- the state after a reign with this flag was opened, before its fragment is taken
 abbrev pub opened_state : ℕ → ℕ → Bool → ReignsState → ReignsState
 opened_state d longest flag st = record { ages = opened_ages d flag st.ages; content = no_content longest }
 
--- the state once tags were sent
+-- the state after tags were sent
 abbrev pub tagged_state : PairFields → ReignsState → ReignsState
 tagged_state pair st = record { ages = record st.ages { since_last = 0 }; content = tagged pair st.content }
 

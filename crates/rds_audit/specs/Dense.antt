@@ -1,5 +1,5 @@
--- When a plan is dense for what a service was sent (this project's own rule): within a broadcast no d slots
--- pass from what was sent to the next fragment, so that the fragments of one broadcast can be told from those of two.
+-- When a plan is dense for what a service sent (this project's own rule): within a broadcast, less than d slots pass
+-- from a fragment or tags to the next fragment. So the fragments of one broadcast can be separated from those of two.
 -- Lists have the newest first.
 use Rattle.std.specs.Prelude.{◌≢◌, ◌≤◌, ◌<◌, ◌+◌, ℕ, List, Option}
 use Rattle.rds_fields.specs.declared.message.Message.{Message}
@@ -16,7 +16,7 @@ pub record IsMarked (sent : List Mark) (slot : ℕ) : Type 0 where
   pub some : mark ≢ Nothing
   pub is_sent : IsMarkIn sent slot mark
 
--- after slot u, or in it, and less than d slots before slot t something was sent
+-- something was sent in slot u or later, before slot t and less than d slots before it
 pub record IsBridged (d : ℕ) (sent : List Mark) (u t : ℕ) : Type 0 where
   pub slot : ℕ
   pub marked : IsMarked sent slot
@@ -32,8 +32,8 @@ pub record HasFragmentBefore (sent : List Mark) (b : Broadcast) (t : ℕ) : Type
   pub covers : Covers b slot
   pub before : slot < t
 
--- in each broadcast every fragment but the first comes less than d slots after the fragment before it, or after tags
--- that were sent since; and tags come after a fragment
+-- in each broadcast, each fragment except the first comes less than d slots after the fragment before it, or after tags
+-- sent since; and tags come after a fragment
 pub record IsDense (d : ℕ) (plan : List Broadcast) (sent : List Mark) : Type 0 where
   pub fragments : (k : ℕ) (b : Broadcast) (u t : ℕ) (earlier later : Fragment) → HasNumber plan k b → Covers b u
       → Covers b t → IsMarkIn sent u (Sends earlier) → IsMarkIn sent t (Sends later) → u < t → IsBridged d sent u t
@@ -45,13 +45,13 @@ pub record AreDense (d : ℕ) (plans : Plans) (log : List (Option Message)) : Ty
   pub text : IsDense d plans.text (marks text_mark log)
   pub name : IsDense d plans.name (marks name_mark log)
 
--- a service that was sent this has a plan that is lawful and dense
+-- the service has a plan that is lawful and dense for what it sent
 pub record HasPlan (d : ℕ) (kind : Kind) (sent : List Mark) : Type 0 where
   pub plan : List Broadcast
   pub lawful : IsLawful d kind plan sent
   pub dense : IsDense d plan sent
 
--- there are plans of texts and of names that are lawful and dense for the log
+-- the log has plans of texts and of names that are lawful and dense
 pub record HasPlans (d : ℕ) (log : List (Option Message)) : Type 0 where
   pub plans : Plans
   pub lawful : AreLawful d plans log

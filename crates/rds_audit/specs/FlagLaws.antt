@@ -19,12 +19,12 @@ HearsEachReign pick now input rs =
     IsOfEachTwo (λ r next. (t s : ℕ) → IsHeardFrom pick input t s → s < r.start → next.start ≤ now
     → HearsOneBetween pick input r.start (r.last + 1)) rs
 
--- the slot is less than d slots after the last one of the newest reign
+-- the slot comes less than d slots after the last one of the newest reign
 abbrev pub IsSoonAfter : ℕ → ℕ → List Reign → Type 0
 IsSoonAfter d slot [] = Unit {0}
 IsSoonAfter d slot (newest ∷ older) = slot < newest.last + d
 
--- each segment but the first comes less than d slots after a segment or tags
+-- each segment except the first comes less than d slots after a segment or tags
 abbrev pub HasNoPause : ℕ → List Mark → Type 0
 HasNoPause d [] = Unit {0}
 HasNoPause d (Nothing ∷ before) = HasNoPause d before
@@ -35,8 +35,8 @@ HasNoPause d (Tagged pair ∷ before) = HasNoPause d before
 abbrev pub WithoutPauseFlagsAlternate : Type 0
 WithoutPauseFlagsAlternate = (d : ℕ) (sent : List Mark) → HasNoPause d sent → AlternateFlags (reigns d sent)
 
--- some plans of the log are lawful and dense, and if the flag turns from each reign to the next one, a receiver with the
--- flag bit alone that heard a segment of each reign shows what these plans have
+-- some plans of the log are lawful and dense; if the flag turns from each reign to the next one, a receiver with the
+-- flag bit alone that heard a segment of each reign shows only what these plans have
 pub record IsSafeByFlag (d : ℕ) (log : List (Option Message)) : Type 0 where
   pub plans : Plans
   pub lawful : AreLawful d plans log
@@ -52,7 +52,7 @@ pub record IsSafeByFlag (d : ℕ) (log : List (Option Message)) : Type 0 where
       → ShowsNoTags r.view ⊎ ShowsEmptyText r.view ⊎ ShowsTagsOfText d plans.text (marks text_mark log) r.view
 
 -- some plans of the log are lawful and dense, and a receiver with the flag bit alone that heard a segment of each reign
--- of texts shows the texts and tags of these plans
+-- of texts shows only texts and tags of these plans
 pub record TextsAreSafeByFlag (d : ℕ) (log : List (Option Message)) : Type 0 where
   pub plans : Plans
   pub lawful : AreLawful d plans log
@@ -64,7 +64,7 @@ pub record TextsAreSafeByFlag (d : ℕ) (log : List (Option Message)) : Type 0 w
       → HearsEachReign text_fragment now r.input (reigns d (marks text_mark log)) → HearsTextBeforeTags plans.text r.input
       → ShowsNoTags r.view ⊎ ShowsEmptyText r.view ⊎ ShowsTagsOfText d plans.text (marks text_mark log) r.view
 
--- the same of names
+-- the same for names
 pub record NamesAreSafeByFlag (d : ℕ) (log : List (Option Message)) : Type 0 where
   pub plans : Plans
   pub lawful : AreLawful d plans log
@@ -73,6 +73,6 @@ pub record NamesAreSafeByFlag (d : ℕ) (log : List (Option Message)) : Type 0 w
       → HearsEachReign name_fragment now r.input (reigns d (marks name_mark log))
       → IfSome r.view.name (IsOfItsSource plans.name r.input (run_by_flag name_fragment r.input))
 
--- this holds of each log that passes
+-- this holds for each log that passes
 abbrev pub WhatPassesIsSafeByTheFlag : Type 0
 WhatPassesIsSafeByTheFlag = (d : ℕ) (log : List (Option Message)) → 0 < d → LogPasses d log → IsSafeByFlag d log

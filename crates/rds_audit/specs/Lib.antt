@@ -1,5 +1,5 @@
--- The audit of a log of sent groups. Read in this order: what a log's rules are, then what the audit holds, then the
--- laws that tie a yes to safety.
+-- The audit of a log of sent groups. Read the files in this order: the rules of a log, then the state of the audit,
+-- then the laws that lead from a log that passes to safety.
 pub mod Dense
 pub mod Reigns
 pub mod Rules

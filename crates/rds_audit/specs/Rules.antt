@@ -1,6 +1,6 @@
--- The rules of the audit (this project's own): when a log passes, and which rule a slot breaks first. A log
--- passes where each of its reigns can be a broadcast, from its start to its last slot. Lists have the newest
--- first.
+-- The rules of the audit (this project's own): when a log passes, and which rule a slot breaks first. A log passes if
+-- each of its reigns can be a broadcast, from its start to its last slot, and tags come after a segment. Lists have the
+-- newest first.
 use Rattle.std.specs.Prelude.{◌≡◌, ◌≤◌, ◌<◌, ◌+◌, ◌⊎◌, ℕ, List, [], ◌∷◌, Option, length}
 use Rattle.std.specs.List.{AllByRecursion}
 use Rattle.rds_fields.specs.declared.message.Message.{Message}
@@ -13,15 +13,15 @@ use Rattle.rds_safety.specs.Lawful.{IsFragmentOf, Kind, names, texts}
 use Rattle.rds_safety.specs.Marks.{IsMarkIn, Mark, Nothing, Sends, Tagged, marks, name_mark, text_mark}
 use Rattle.rds_audit.specs.Reigns.{Reign, SentTags, reigns}
 
--- some value has all of the fragments, and all of the tags end in it
+-- some valid value has all of the fragments, and all of the tags end in it
 pub record HaveOneValue (kind : Kind) (fragments : List Fragment) (tags : List SentTags) : Type 0 where
   pub value : List ℕ
   pub valid : kind.IsValue value
   pub has : AllByRecursion (IsFragmentOf (kind.body value)) fragments
   pub ends : AllByRecursion (λ (s : SentTags). BothEndIn (length value) s.pair) tags
 
--- the reign can be a broadcast from its start to its last slot: it starts no later than its first fragment, its
--- tags come d slots after its start or later, and all of it is of one value
+-- the reign can be a broadcast from its start to its last slot: it starts no later than its first fragment, its tags
+-- come at least d slots after its start, and all of it is of one value
 pub record CanBeBroadcast (d : ℕ) (kind : Kind) (r : Reign) : Type 0 where
   pub begun : r.start ≤ r.opened
   pub lasted : AllByRecursion (λ (s : SentTags). r.start + d ≤ s.slot) r.tags
@@ -34,24 +34,24 @@ pub record IsAfterFragment (sent : List Mark) (t : ℕ) : Type 0 where
   pub is_sent : IsMarkIn sent slot (Sends fragment)
   pub before : slot < t
 
--- what a service was sent passes: each reign can be a broadcast, and tags come after a fragment
+-- a service passes: each reign can be a broadcast, and tags come after a fragment
 pub record Passes (d : ℕ) (kind : Kind) (sent : List Mark) : Type 0 where
   pub reigns : AllByRecursion (CanBeBroadcast d kind) (reigns d sent)
   pub tagged : (t : ℕ) (pair : PairFields) → IsMarkIn sent t (Tagged pair) → IsAfterFragment sent t
 
--- a log passes, for its texts and for its names
+-- a log passes: its texts pass, and its names pass
 pub record LogPasses (d : ℕ) (log : List (Option Message)) : Type 0 where
   pub text : Passes d texts (marks text_mark log)
   pub name : Passes d names (marks name_mark log)
 
--- each address was sent with the same bytes
+-- no address changed: each was sent with the same bytes only
 abbrev pub AreUnchanged : List Fragment → Type 0
 AreUnchanged [] = Unit {0}
 AreUnchanged (newest ∷ older) =
     AllByRecursion (λ (p : Fragment). p.address ≡ newest.address → p.bytes ≡ newest.bytes) older × AreUnchanged older
 
--- the rule that a fragment breaks first, by the reigns that it leaves. A reign that it opens starts too late; its
--- address was sent with other bytes; no value has the fragments of its reign; one has, and tags end past it
+-- the rule that a fragment breaks first, by the newest reign after it: the reign starts too late; or else an address
+-- was sent with other bytes; or else no value has its fragments; or else one has, and tags end past each such value
 abbrev pub IsBrokenByFragment : Kind → List Reign → AuditFault → Type 0
 IsBrokenByFragment kind [] fault = ⊥
 IsBrokenByFragment kind (r ∷ older) EarlyFlag = r.opened < r.start
@@ -62,17 +62,17 @@ IsBrokenByFragment kind (r ∷ older) TagOutside =
     (r.start ≤ r.opened) × HaveOneValue kind r.fragments [] × (HaveOneValue kind r.fragments r.tags → ⊥)
 IsBrokenByFragment kind (r ∷ older) EarlyTag = ⊥
 
--- tags come too early: there is no reign, or its text has not lasted for d slots
+-- tags come too early: there is no reign, or its start is less than d slots before
 abbrev pub ComeEarly : ℕ → ℕ → List Reign → Type 0
 ComeEarly d slot [] = Unit {0}
 ComeEarly d slot (r ∷ older) = slot < r.start + d
 
--- one of the reign's tags ends past each value that has its fragments
+-- no value has the fragments of the newest reign with all of its tags
 abbrev pub EndOutside : Kind → List Reign → Type 0
 EndOutside kind [] = ⊥
 EndOutside kind (r ∷ older) = HaveOneValue kind r.fragments r.tags → ⊥
 
--- the rule that tags break first, by the reigns that they leave
+-- the rule that tags break first, by the reigns after them
 abbrev pub IsBrokenByTags : ℕ → Kind → ℕ → List Reign → AuditFault → Type 0
 IsBrokenByTags d kind slot rs EarlyTag = ComeEarly d slot rs
 IsBrokenByTags d kind slot rs TagOutside = (ComeEarly d slot rs → ⊥) × EndOutside kind rs
@@ -87,13 +87,13 @@ IsBrokenBy d kind (Sends p) before fault = IsBrokenByFragment kind (reigns d (Se
 IsBrokenBy d kind (Tagged pair) before fault =
     IsBrokenByTags d kind (length before) (reigns d (Tagged pair ∷ before)) fault
 
--- the rule that the newest slot breaks first, of texts or of names
+-- the rule that the newest slot breaks first, for texts or for names
 abbrev pub BreaksFirst : ℕ → Option Message → List (Option Message) → AuditFault → Type 0
 BreaksFirst d newest before fault =
     IsBrokenBy d texts (text_mark newest) (marks text_mark before) fault
     ⊎ IsBrokenBy d names (name_mark newest) (marks name_mark before) fault
 
--- the fault of a log: that of the first slot up to which it does not pass
+-- the fault of a log: the rule that its first failing slot breaks first
 abbrev pub IsFaultOf : ℕ → List (Option Message) → AuditFault → Type 0
 IsFaultOf d [] fault = ⊥
 IsFaultOf d (newest ∷ before) fault =

@@ -1,4 +1,4 @@
--- An audit that is stored as plain numbers (this project's own).
+-- An audit stored as plain numbers (this project's own form).
 use Rattle.std.specs.Prelude.{ℕ, ◌<◌, ◌≤◌, ◌==◌, List, Option, Some, None, map, if◌then◌else◌}
 use Rattle.rds_fields.specs.Stored.{is_set}
 use Rattle.rds_audit.specs.AuditState.{AuditState, ContentState, ReignsState}
@@ -33,7 +33,7 @@ content_stored s = record {
 abbrev pub reigns_stored : StoredReigns → ReignsState
 reigns_stored s = record { ages = ages_stored s; content = content_stored s }
 
--- the number of a fault, and 0 where there is none
+-- the number of a fault, 0 if there is none
 abbrev pub number_of_fault : Option AuditFault → ℕ
 number_of_fault None = 0
 number_of_fault (Some Changed) = 1
@@ -42,7 +42,7 @@ number_of_fault (Some EarlyFlag) = 3
 number_of_fault (Some EarlyTag) = 4
 number_of_fault (Some TagOutside) = 5
 
--- the fault that a number stands for; each above 5 stands for the last one too
+-- the fault with this number; each number above 5 is the last one too
 abbrev pub fault_stored : ℕ → Option AuditFault
 fault_stored n =
     if n == 0 then None else if n == 1 then Some Changed else if n == 2 then Some NotOneText
@@ -57,7 +57,7 @@ audit_stored a = record {
   fault = fault_stored a.fault;
 }
 
--- the numbers are ones that an audit is stored as
+-- the numbers are valid
 pub record IsStored (a : StoredAudit) : Type 0 where
   pub some : 0 < a.distance
   pub distance : a.distance ≤ 66559

@@ -1,13 +1,13 @@
-//! How long ago the reigns of a service started and ended.
+//! The ages of a service's reigns: how many slots ago they started and ended. Each age stops at a limit.
 ghost use Rattle.std.specs.Prelude.{◌≡◌, ◌≢◌, ◌+◌, ◌*◌, ◌<◌, ◌≤◌, ◌↔◌, IsTrue, IsErr, IfErr, IfOk, min, true, false};
 ghost use Rattle.rds_audit.specs.Ages.{HasLasted, IsEarly, Joins, aged, opened_ages};
 
 use crate::AuditFault;
 use rds_encoder::Distance;
 
-/// The ages, in slots, of the current reign and of the one before it. They stop at a limit: those of last slots
-/// at twice the distance, that of the start at the distance. Before the first reign the log counts as older than it is
-/// by the distance.
+/// The ages, in slots, of the current reign and of the one before it. They stop at a limit: `since_last` and
+/// `since_before` at 2 (M + K), `since_start` at M + K. Before the first reign, the log counts as M + K slots older
+/// than it is.
 #[derive(Clone, Copy)]
 pub(crate) struct Ages {
     pub(crate) is_open: bool,
@@ -15,12 +15,12 @@ pub(crate) struct Ages {
     pub(crate) since_last: u32,
     pub(crate) since_before: u32,
     pub(crate) since_start: u32,
-    /// Whether the flag turned from each reign to the next.
+    /// Whether the flag turned from each reign to the next one.
     pub(crate) turns: bool,
 }
 
 impl Ages {
-    /// No reign yet.
+    /// Makes the ages before the first reign.
     pub(crate) fn new(distance: Distance) -> Ages
         ensures { result ≡ record {
           is_open = false;
@@ -41,15 +41,15 @@ impl Ages {
         }
     }
 
-    /// Whether a segment with this flag joins the current reign.
+    /// Returns whether a segment with this flag joins the current reign.
     pub(crate) fn joins(&self, distance: Distance, flag: bool) -> bool
         ensures { IsTrue result ↔ Joins distance flag self.now }
     {
         flag == self.flag && self.since_last < distance.get()
     }
 
-    /// Opens a reign in this slot. Its start is the first slot in which its text can have begun; `EarlyFlag`
-    /// where that is still to come.
+    /// Opens a reign in this slot. Its start is the first slot in which its text can have started. Error `EarlyFlag` if
+    /// that slot is still to come.
     pub(crate) fn open(&mut self, distance: Distance, flag: bool) -> Result<(), AuditFault>
         ensures early { IsErr result ↔ IsEarly distance flag self.old }
         ensures fault { IfErr result (λ fault. fault ≡ AuditFault.EarlyFlag) }
@@ -72,21 +72,21 @@ impl Ages {
         Ok(())
     }
 
-    /// This slot is the last of the current reign so far.
+    /// Makes this slot the last one of the current reign so far.
     pub(crate) fn renew(&mut self)
         ensures { self.new ≡ record self.old { since_last = 0 } }
     {
         self.since_last = 0;
     }
 
-    /// Whether the text of the current reign has been on air for so many slots, so that tags may be sent.
+    /// Returns whether the current reign started at least M + K slots ago, so that tags may be sent.
     pub(crate) fn has_lasted(&self, distance: Distance) -> bool
         ensures { IsTrue result ↔ HasLasted distance self.now }
     {
         self.is_open && self.since_start >= distance.get()
     }
 
-    /// One slot older.
+    /// Ages the reigns by one slot.
     pub(crate) fn grow_older(&mut self, distance: Distance)
         ensures { self.new ≡ aged distance self.old }
     {
@@ -97,7 +97,7 @@ impl Ages {
     }
 }
 
-/// One more, up to the limit.
+/// Returns the age one slot later, at most the limit.
 fn one_more(age: u32, limit: u32) -> u32
     requires { limit ≤ 2 * 66559 }
     ensures { result ≡ min (age + 1) limit }

@@ -1,4 +1,4 @@
-//! The audit of a log.
+//! The audit: it takes a log slot by slot, and finds the rule that the log breaks first.
 ghost use Rattle.std.specs.Prelude.{◌≡◌, ◌+◌, ◌<◌, ◌≤◌, ◌↔◌, [], ◌∷◌};
 ghost use Rattle.std.specs.Prelude.{ℕ, List, Option, Some, None, Ok, Err, IsErr, IsTrue, IfOk, IfErr, MatchResult};
 ghost use Rattle.rds_block.specs.declared.group.Group.{Group};
@@ -29,29 +29,29 @@ use thiserror::Error;
 /// The rule that a log breaks first (this project's own rules).
 #[derive(Clone, Copy, Debug, PartialEq, Eq, Error)]
 pub enum AuditFault {
-    /// A segment's address was sent with other bytes in this text or name.
+    /// An address of the text or name was sent before with other bytes.
     #[error("an address was sent with other bytes")]
     Changed,
-    /// No text, or no name, has the segment beside those sent before it.
+    /// No text, or no name, has this segment together with those sent before it.
     #[error("the segments are not of one text")]
     NotOneText,
-    /// The flag changed again too soon: the text or name before the last had not been gone for M + K slots.
+    /// A text or name reused the A/B flag less than M + K slots after the last group of the one before the previous
+    /// one.
     #[error("the flag changed too early")]
     EarlyFlag,
-    /// Tags came before any text, or before their text had been on air for M + K slots.
+    /// Tags came before any text, or less than M + K slots after the first slot in which their text can have started.
     #[error("tags came too early")]
     EarlyTag,
-    /// A tag ends past the end of its text.
+    /// A tag ends past each text that has the segments sent.
     #[error("a tag ends past its text")]
     TagOutside,
 }
 
-/// The audit of a log: what a station sent, slot by slot. It passes the log where some texts and names of a
-/// station that keeps them apart by the dwell and the lateness could have been sent so.
+/// Audits a log: what a station sent, slot by slot. A log passes exactly if it has plans of texts and of names that are
+/// lawful and dense, with a spacing of M + K slots.
 ///
-/// It holds ages that stop at a limit and no slot numbers, so it takes any number of slots. `AuditStandsAt` is
-/// the relation between an audit and its log: a new one stands at the empty log, and each `slot` goes on to the
-/// log with that slot.
+/// It holds ages that stop at a limit, and no slot numbers, so a log may have any number of slots. `AuditStandsAt`
+/// relates an audit to its log. A new audit stands at the empty log, and each `slot` adds its slot to the log.
 #[derive(Drop)]
 pub struct Audit {
     pi: u16,
@@ -81,8 +81,8 @@ impl Model for Audit {
 }
 
 impl Audit {
-    /// The audit of this programme before the first slot, for receivers of this dwell whose groups come no later
-    /// than so.
+    /// Makes the audit of this programme before the first slot, for receivers of this dwell whose groups come at most
+    /// so many slots late.
     pub fn new(pi: u16, dwell: Dwell, late: Late) -> Audit
         ensures stands { AuditStandsAt pi (dwell + late) result [] }
         ensures passed { result.fault ≡ None }
@@ -111,7 +111,7 @@ impl Audit {
         }
     }
 
-    /// The audit, to be stored.
+    /// Stores the audit as plain numbers.
     pub fn store(&self) -> StoredAudit
         ensures same { audit_stored result ≡ self.now }
         ensures good { IsStored result }
@@ -125,8 +125,8 @@ impl Audit {
         }
     }
 
-    /// Takes the next slot: the group that was sent in it, or nothing. A group of another programme counts as
-    /// nothing. After a fault every call answers that fault again and changes nothing.
+    /// Takes the next slot: the group that was sent in it, or nothing. A group of another programme counts as nothing.
+    /// Error if the slot breaks a rule. After a fault, each call returns that fault again and changes nothing.
     pub fn slot(&mut self, group: Option<Group>) -> Result<(), AuditFault>
         ensures stands { (pi d : ℕ) (log : List (Option Group))
             → AuditStandsAt pi d self.old log → AuditStandsAt pi d self.new (group ∷ log) }
@@ -143,8 +143,7 @@ impl Audit {
         }
     }
 
-    /// [`slot`](Self::slot) of a group by its blocks: what it says is taken where it is read, with no message put
-    /// together.
+    /// Does the same as [`slot`](Self::slot) for a group as its blocks. It builds no `Message`.
     #[inline(always)]
     pub fn slot_blocks(&mut self, group: Option<Blocks>) -> Result<(), AuditFault>
         ensures stands { (pi d : ℕ) (log : List (Option Group))
@@ -157,7 +156,8 @@ impl Audit {
             → (result ≡ Err fault) × (self.new ≡ self.old) }
     {
         if let Some(known) = self.fault {
-            // it names what is heard of the slot, which the log goes on with; nothing of it is kept
+            // Prover: this call names the message that the log gets in this slot; its result is not used
+            // (docs/PROVER.md, "Idioms").
             heard(self.pi, group_of(group));
             return Err(known);
         }
@@ -169,8 +169,8 @@ impl Audit {
         Ok(())
     }
 
-    /// Whether the log passes so far. What passes with a dwell and a lateness is safe for every receiver of that
-    /// dwell whose groups come no later than so.
+    /// Returns whether the log passes so far. A log that passes is safe for each receiver of dwell M whose groups come
+    /// at most K slots late.
     pub fn passed(&self) -> bool
         ensures fault { IsTrue result ↔ (self.now.fault ≡ None) }
         ensures passes { WhereTheAuditStands self.now (λ d heard. IsTrue result ↔ LogPasses d heard) }
@@ -178,7 +178,7 @@ impl Audit {
         ensures safe { WhereTheAuditStands self.now (λ d heard. (m k : ℕ) → 0 < m → m + k ≡ d
             → IsTrue result → IsSafeLog m k heard) }
     {
-        // the laws by which `plans` and `safe` hold
+        // Prover: calls of laws, which give the clauses `plans` and `safe` (docs/PROVER.md, "Idioms").
         one_fault();
         passes_by_plans();
         what_passes_is_safe();
@@ -193,7 +193,7 @@ impl Audit {
         ensures safe { WhereTheAuditStands self.now
             (λ d heard. IsTrue result → TextsAreSafeByFlag d heard) }
     {
-        // the law by which `safe` holds
+        // Prover: a call of a law, which gives the clause `safe` (docs/PROVER.md, "Idioms").
         what_passes_is_safe_by_the_flag();
         self.passed() && self.text.turns()
     }
@@ -206,12 +206,12 @@ impl Audit {
         ensures safe { WhereTheAuditStands self.now
             (λ d heard. IsTrue result → NamesAreSafeByFlag d heard) }
     {
-        // the law by which `safe` holds
+        // Prover: a call of a law, which gives the clause `safe` (docs/PROVER.md, "Idioms").
         what_passes_is_safe_by_the_flag();
         self.passed() && self.name.turns()
     }
 
-    /// Takes what was sent in this slot.
+    /// Takes what was sent in this slot. Error if it breaks a rule.
     #[inline(always)]
     fn take_slot(&mut self, group: Option<Blocks>) -> Result<(), AuditFault>
         ensures programme { self.new.programme ≡ self.old.programme }
@@ -229,7 +229,7 @@ impl Audit {
         self.hear(group)
     }
 
-    /// Takes a group of the programme that was sent in this slot.
+    /// Takes a group of the programme that was sent in this slot. Error if it breaks a rule.
     #[inline(always)]
     fn hear(&mut self, group: Blocks) -> Result<(), AuditFault>
         ensures programme { self.new.programme ≡ self.old.programme }
@@ -254,7 +254,7 @@ impl Audit {
         Ok(())
     }
 
-    /// The slot ends.
+    /// Ends the slot.
     fn end_slot(&mut self)
         ensures programme { self.new.programme ≡ self.old.programme }
         ensures distance { self.new.distance ≡ self.old.distance }
@@ -269,7 +269,7 @@ impl Audit {
     }
 }
 
-/// What came in a slot, by its fields.
+/// Returns the group of a slot as its fields.
 fn group_of(group: Option<Blocks>) -> Option<Group>
     ensures { result ≡ group }
 {

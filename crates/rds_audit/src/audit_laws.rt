@@ -1,4 +1,5 @@
-//! What holds of all logs that are audited.
+//! Laws about all logs that are audited: when a log passes, that it has one fault at most, and what is safe if it
+//! passes.
 ghost use Rattle.rds_audit.specs.AuditLaws.{ALogHasOneFault, BroadcastsAreTheReigns, PassesExactlyByPlans};
 ghost use Rattle.rds_audit.specs.AuditLaws.{WhatHasAFaultDoesNotPass, WhatPassesIsSafe, WhatPassesIsSafeOnTime};
 ghost use Rattle.rds_audit.specs.FlagLaws.{WhatPassesIsSafeByTheFlag, WithoutPauseFlagsAlternate};
@@ -6,14 +7,14 @@ ghost use Rattle.rds_safety.specs.Lawful.{names, texts};
 
 use rds_safety::{plan_laws, safe_by_plans, safe_by_the_flag};
 
-/// A log passes the audit exactly where it has plans of texts and of names that are lawful and dense.
+/// States that a log passes exactly if it has plans of texts and of names that are lawful and dense.
 pub fn passes_by_plans()
     ensures { PassesExactlyByPlans }
 {
     plan_laws();
 }
 
-/// The broadcasts of which a segment was sent, of any plan that is lawful and dense, are the reigns in order.
+/// States that for each lawful and dense plan, the broadcasts of which a segment was sent are the reigns, in order.
 pub fn broadcasts_are_the_reigns()
     ensures texts { BroadcastsAreTheReigns texts }
     ensures names { BroadcastsAreTheReigns names }
@@ -21,7 +22,7 @@ pub fn broadcasts_are_the_reigns()
     plan_laws();
 }
 
-/// No receiver of a log that passes breaks any part of the promise, whatever it loses and whenever it restarts.
+/// States that the views of all receivers of a log that passes are safe, whatever they lose and whenever they restart.
 pub fn what_passes_is_safe()
     ensures late { WhatPassesIsSafe }
     ensures on_time { WhatPassesIsSafeOnTime }
@@ -30,7 +31,7 @@ pub fn what_passes_is_safe()
     safe_by_plans();
 }
 
-/// A log that has a fault does not pass, and it has one.
+/// States that a log with a fault does not pass, and that it has only one fault.
 pub fn one_fault()
     ensures fails { WhatHasAFaultDoesNotPass }
     ensures one { ALogHasOneFault }
@@ -38,8 +39,9 @@ pub fn one_fault()
     passes_by_plans();
 }
 
-/// If a log passes and its flag turns from each reign to the next, a receiver with the flag bit alone that hears a segment
-/// of each reign shows only what the plans have. The flag always turns so if no d slots pass without a segment or tags.
+/// States what a log that passes promises to receivers with the flag bit alone: if its flag turns from each reign to
+/// the next, and they hear a segment of each reign, they show only what the plans have. The flag always turns so if
+/// each segment except the first comes less than d slots after a segment or tags.
 pub fn what_passes_is_safe_by_the_flag()
     ensures safe { WhatPassesIsSafeByTheFlag }
     ensures without_pause { WithoutPauseFlagsAlternate }

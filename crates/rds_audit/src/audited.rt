@@ -1,17 +1,17 @@
-//! What the audit asks of a service: which lengths a segment allows its value.
+//! The services that are audited: which lengths of a value a segment allows.
 ghost use Rattle.std.specs.Prelude.{◌≡◌, ℕ, ◌<◌, ◌≤◌, ◌↔◌, IsTrue, EachIndex, slice_index};
 ghost use Rattle.rds_audit.specs.Lengths.{Gauge, IsExact};
 
 use rds_assembly::{CARRIAGE_RETURN, is_text_byte};
 
-/// The lengths from `least` to `most`, in bytes; none where `least` is over `most`.
+/// The lengths from `least` to `most`, in bytes. There is none if `least` is above `most`.
 #[derive(Clone, Copy)]
 pub(crate) struct Lengths {
     pub(crate) least: u8,
     pub(crate) most: u8,
 }
 
-/// A service that is audited, of texts or of names.
+/// A service that is audited: texts or names.
 pub(crate) trait Audited {
     ghost gauge: { Gauge };
 
@@ -20,13 +20,13 @@ pub(crate) trait Audited {
     /// The greatest length of a value, in bytes.
     const LONGEST: u8;
 
-    /// The lengths of a value that has the segment; `None` where no value has it.
+    /// Returns the lengths of a value that has the segment. None if no value has it.
     fn lengths(address: u8, bytes: [u8; 4]) -> Option<Lengths>
         requires { address < gauge.segments }
         ensures { result ≡ gauge.allowed address bytes };
 
-    /// Segments and tags are of one value exactly where some length is allowed by all of them. It does nothing
-    /// when it runs.
+    /// States that segments and tags are of one value exactly if no address changed, and some length is allowed by all
+    /// of them. It does nothing when it runs.
     fn exact()
         ensures { IsExact gauge };
 
@@ -36,7 +36,7 @@ pub(crate) trait Audited {
     ghost few: { gauge.segments ≤ 16 };
 }
 
-/// The texts of group 2A.
+/// The texts, in groups 2A.
 pub(crate) struct Texts;
 
 impl Audited for Texts {
@@ -77,7 +77,7 @@ impl Audited for Texts {
     fn exact() {}
 }
 
-/// The programme type names of group 10A.
+/// The programme type names, in groups 10A.
 pub(crate) struct Names;
 
 impl Audited for Names {
@@ -106,14 +106,14 @@ impl Audited for Names {
     fn exact() {}
 }
 
-/// Whether all bytes are spaces.
+/// Returns whether all bytes are spaces.
 fn are_spaces(bytes: &[u8]) -> bool
     ensures { IsTrue result ↔ EachIndex bytes.now (λ k. slice_index bytes.now k ≡ 32) }
 {
     bytes.iter().all(|byte| *byte == b' ')
 }
 
-/// Whether all bytes may stand in a name.
+/// Returns whether a name may have each of these bytes.
 fn are_name_bytes(bytes: &[u8]) -> bool
     ensures { IsTrue result ↔ EachIndex bytes.now (λ k. 32 ≤ slice_index bytes.now k) }
 {

@@ -1,4 +1,4 @@
-//! What a reign was sent.
+//! The content of a reign: its segments and tags.
 ghost use Rattle.std.specs.Prelude.{◌≡◌, ◌+◌, ◌<◌, ◌≤◌, ◌↔◌, ℕ, IsOk, IsErr, IfOk, IfErr};
 ghost use Rattle.rds_audit.specs.AuditState.{CanTake, CannotTake, HasRoom, HoldsNoOther, no_content, tagged, taken};
 ghost use Rattle.rds_audit.specs.Lengths.{narrowed, pair_end, tag_end};
@@ -11,7 +11,7 @@ use crate::stored::{StoredReigns, cells_restored, cells_stored};
 use rds_fields::{Tag, TagPair};
 use std::marker::{Model, PhantomData};
 
-/// The segments and the tags of a reign: the bytes at each address, the lengths that all of them allow, and the
+/// The segments and the tags of a reign: the bytes at each address, the lengths that all segments allow, and the
 /// greatest end of a tag.
 #[derive(Drop)]
 pub(crate) struct Content<S: Audited> {
@@ -39,7 +39,7 @@ impl<S: Audited> Model for Content<S> {
 }
 
 impl<S: Audited> Content<S> {
-    /// No segment and no tags.
+    /// Makes a content without segments and tags.
     pub(crate) fn new() -> Self
         ensures { result ≡ no_content S.LONGEST }
     {
@@ -54,7 +54,7 @@ impl<S: Audited> Content<S> {
         }
     }
 
-    /// What was stored.
+    /// Rebuilds a stored content.
     pub(crate) fn restore(stored: &StoredReigns) -> Self
         ensures { result ≡ content_stored stored.now }
     {
@@ -69,7 +69,7 @@ impl<S: Audited> Content<S> {
         }
     }
 
-    /// All of it and these ages, to be stored.
+    /// Stores the content and these ages as plain numbers.
     pub(crate) fn store(&self, ages: &Ages) -> StoredReigns
         ensures content { content_stored result ≡ self.now }
         ensures ages { ages_stored result ≡ ages.now }
@@ -88,7 +88,8 @@ impl<S: Audited> Content<S> {
         }
     }
 
-    /// Takes a segment, where some value has it beside what was sent.
+    /// Takes a segment if some value has it together with what was sent. Otherwise error `Changed`, `NotOneText` or
+    /// `TagOutside`.
     pub(crate) fn take(&mut self, address: u8, bytes: [u8; 4]) -> Result<(), AuditFault>
         requires { address < S.gauge.segments }
         ensures can { IfOk result
@@ -108,7 +109,7 @@ impl<S: Audited> Content<S> {
         Ok(())
     }
 
-    /// Takes a pair of tags, where they end in some text that has the segments.
+    /// Takes a pair of tags if they end in some text that has the segments. Otherwise error `TagOutside`.
     pub(crate) fn take_tags(&mut self, pair: TagPair) -> Result<(), AuditFault>
         ensures can { IsErr result ↔ (self.old.lengths.most < pair_end pair) }
         ensures fault { IfErr result (λ fault. fault ≡ AuditFault.TagOutside) }
@@ -122,7 +123,7 @@ impl<S: Audited> Content<S> {
         Ok(())
     }
 
-    /// Refuses a segment whose address was sent with other bytes.
+    /// Refuses a segment whose address was sent with other bytes. Error `Changed`.
     fn check_unchanged(&self, address: u8, bytes: [u8; 4]) -> Result<(), AuditFault>
         requires { address < S.gauge.segments }
         ensures same { IsOk result ↔ HoldsNoOther address bytes self.now }
@@ -137,7 +138,7 @@ impl<S: Audited> Content<S> {
         Ok(())
     }
 
-    /// The lengths that are left once a segment allows these.
+    /// Returns the lengths that are left if a segment allows these. Error `NotOneText` if none is left.
     fn narrowed(&self, allowed: Option<Lengths>) -> Result<Lengths, AuditFault>
         ensures room { IsOk result ↔ HasRoom allowed self.now.lengths }
         ensures fault { IfErr result (λ fault. fault ≡ AuditFault.NotOneText) }
@@ -155,7 +156,7 @@ impl<S: Audited> Content<S> {
     }
 }
 
-/// The place behind a tag's piece; 0 for the dummy.
+/// Returns the place after the piece of a tag; 0 for the dummy.
 fn end_of_tag(tag: Tag) -> u8
     ensures { result ≡ tag_end tag }
 {

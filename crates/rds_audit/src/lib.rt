@@ -1,5 +1,5 @@
-//! The audit of a log: an `Audit` is told what some encoder sent, slot by slot. It passes a log exactly where plans of
-//! broadcasts exist that are lawful and dense, and then no receiver of that log ever shows a mix.
+//! The audit of a log: an `Audit` takes what some encoder sent, slot by slot. A log passes exactly if it has plans of
+//! broadcasts that are lawful and dense. Then no receiver of that log that keeps to M and K shows a mix.
 #![tactic(auto)]
 
 mod ages;

@@ -1,4 +1,4 @@
-//! The reigns of a service.
+//! The reigns of a service: the current one, and how long ago the one before it ended.
 ghost use Rattle.std.specs.Prelude.{◌≡◌, ◌+◌, ◌<◌, ◌≤◌, List, [], IfOk, IfErr};
 ghost use Rattle.rds_audit.specs.Ages.{IsEarly, aged};
 ghost use Rattle.rds_audit.specs.AuditStandsAt.{HoldsMarks, HoldsNewest};
@@ -34,7 +34,7 @@ impl<S: Audited> Model for Reigns<S> {
 }
 
 impl<S: Audited> Reigns<S> {
-    /// No reign yet.
+    /// Makes the state of a service before its first reign.
     pub(crate) fn new(distance: Distance) -> Self
         requires { 0 < distance }
         ensures { HoldsMarks S.gauge distance [] result }
@@ -45,7 +45,7 @@ impl<S: Audited> Reigns<S> {
         }
     }
 
-    /// What was stored.
+    /// Rebuilds stored reigns.
     pub(crate) fn restore(stored: &StoredReigns) -> Self
         ensures { result ≡ reigns_stored stored.now }
     {
@@ -62,14 +62,14 @@ impl<S: Audited> Reigns<S> {
         }
     }
 
-    /// All of it, to be stored.
+    /// Stores the reigns as plain numbers.
     pub(crate) fn store(&self) -> StoredReigns
         ensures { reigns_stored result ≡ self.now }
     {
         self.content.store(&self.ages)
     }
 
-    /// Takes a segment that is sent in this slot: it joins the current reign, or opens one.
+    /// Takes a segment that was sent in this slot: it joins the current reign, or opens one. Error if it breaks a rule.
     pub(crate) fn take(
         &mut self,
         distance: Distance,
@@ -86,7 +86,8 @@ impl<S: Audited> Reigns<S> {
             → IfErr result (λ fault. IsBrokenBy distance S.gauge.kind
             (Sends record { flag = flag; address = address; bytes = bytes }) sent fault) }
     {
-        // the law by which the lengths tell whether the segments are of one value
+        // Prover: a call of a law, so that the lengths decide whether the segments are of one value (docs/PROVER.md,
+        // "Idioms").
         S::exact();
         if self.ages.joins(distance, flag) {
             return self.join(address, bytes);
@@ -95,7 +96,7 @@ impl<S: Audited> Reigns<S> {
         self.join(address, bytes)
     }
 
-    /// Takes tags that are sent in this slot.
+    /// Takes tags that were sent in this slot. Error if they break a rule.
     pub(crate) fn take_tags(&mut self, distance: Distance, pair: TagPair) -> Result<(), AuditFault>
         requires { 0 < distance }
         ensures holds { (sent : List Mark) → HoldsMarks S.gauge distance sent self.old
@@ -103,7 +104,8 @@ impl<S: Audited> Reigns<S> {
         ensures fault { (sent : List Mark) → HoldsMarks S.gauge distance sent self.old
             → IfErr result (λ fault. IsBrokenBy distance S.gauge.kind (Tagged pair) sent fault) }
     {
-        // the law by which the lengths tell whether the tags end in one value
+        // Prover: a call of a law, so that the lengths decide whether the tags end in one value (docs/PROVER.md,
+        // "Idioms").
         S::exact();
         let ages = &mut self.ages;
         if !ages.has_lasted(distance) {
@@ -114,21 +116,21 @@ impl<S: Audited> Reigns<S> {
         Ok(())
     }
 
-    /// Whether the flag turned from each reign to the next.
+    /// Returns whether the flag turned from each reign to the next one.
     pub(crate) fn turns(&self) -> bool
         ensures { result ≡ self.now.ages.turns }
     {
         self.ages.turns
     }
 
-    /// One slot older.
+    /// Ages the reigns by one slot.
     pub(crate) fn grow_older(&mut self, distance: Distance)
         ensures { self.new ≡ record self.old { ages = aged distance self.old.ages } }
     {
         self.ages.grow_older(distance);
     }
 
-    /// Takes a segment of the current reign.
+    /// Takes a segment into the current reign. Error if no value has all of it.
     fn join(&mut self, address: u8, bytes: [u8; 4]) -> Result<(), AuditFault>
         requires { address < S.gauge.segments }
         ensures can { IfOk result
@@ -143,7 +145,7 @@ impl<S: Audited> Reigns<S> {
         Ok(())
     }
 
-    /// Opens a reign, with nothing sent yet.
+    /// Opens a reign without segments and tags. Error `EarlyFlag` if its start is still to come.
     fn open(&mut self, distance: Distance, flag: bool) -> Result<(), AuditFault>
         ensures late { IfOk result (λ _. IsEarly distance flag self.old.ages → ⊥) }
         ensures early { IfErr result

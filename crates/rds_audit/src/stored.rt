@@ -1,10 +1,10 @@
-//! All that an audit holds, as plain numbers, which another program can hold. A bit is 0, or any other number.
+//! An audit as plain numbers, for a program that stores it. A bit is 0 for no and any other number for yes.
 ghost use Rattle.std.specs.Prelude.{◌≡◌, map};
 ghost use Rattle.rds_audit.specs.Stored.{cell_stored, fault_stored, number_of_fault};
 
 use crate::AuditFault;
 
-/// The bytes that were sent at one address, where any were.
+/// The bytes that were sent at one address, if any.
 #[repr(C)]
 #[derive(Clone, Copy)]
 pub struct StoredCell {
@@ -22,12 +22,12 @@ pub struct StoredReigns {
     pub cells: [StoredCell; 16],
     pub is_open: u8,
     pub flag: u8,
-    /// The bounds of the number of bytes that its value can have.
+    /// The least and the greatest number of bytes that its value can have.
     pub least: u8,
     pub most: u8,
-    /// Where the last of its tags ends, in bytes.
+    /// The greatest end of a tag, in bytes.
     pub tags_end: u8,
-    /// Whether the flag turned from each reign to the next.
+    /// Whether the flag turned from each reign to the next one.
     pub turns: u8,
 }
 
@@ -35,17 +35,17 @@ pub struct StoredReigns {
 #[repr(C)]
 #[derive(Clone, Copy)]
 pub struct StoredAudit {
-    /// The dwell and the lateness together, in slots.
+    /// The spacing d in slots: the dwell plus the lateness.
     pub distance: u32,
     pub text: StoredReigns,
     pub name: StoredReigns,
     pub pi: u16,
-    /// The number of the fault that was found, and 0 where none was.
+    /// The number of the fault that was found, 0 if there is none.
     pub fault: u8,
 }
 
 impl AuditFault {
-    /// The number of the fault, and 0 where there is none.
+    /// Returns the number of the fault, 0 if there is none.
     pub(crate) fn number(fault: Option<AuditFault>) -> u8
         ensures value { result ≡ number_of_fault fault }
         ensures back { fault_stored result ≡ fault }
@@ -60,7 +60,7 @@ impl AuditFault {
         }
     }
 
-    /// The fault that a number stands for.
+    /// Returns the fault with this number. None for 0.
     pub(crate) fn numbered(number: u8) -> Option<AuditFault>
         ensures { result ≡ fault_stored number }
     {
@@ -75,7 +75,7 @@ impl AuditFault {
     }
 }
 
-/// What was sent at each address.
+/// Rebuilds the bytes that were sent at each address.
 pub(crate) fn cells_restored(stored: &[StoredCell; 16]) -> [Option<[u8; 4]>; 16]
     ensures { result ≡ map cell_stored stored.now }
 {
@@ -91,7 +91,7 @@ pub(crate) fn cells_restored(stored: &[StoredCell; 16]) -> [Option<[u8; 4]>; 16]
     cells
 }
 
-/// What was sent at each address, to be stored.
+/// Stores the bytes that were sent at each address.
 pub(crate) fn cells_stored(sent: &[Option<[u8; 4]>; 16]) -> [StoredCell; 16]
     ensures { map cell_stored result ≡ sent.now }
 {

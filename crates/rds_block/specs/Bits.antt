@@ -1,4 +1,4 @@
--- The four words of a group as one number of 64 bits, the first word in the highest.
+-- A group as one number of 64 bits: its four words, the first one in the highest bits.
 use Rattle.std.specs.Prelude.{◌≡◌, ℕ, ◌+◌, ◌*◌, ◌^◌, Bool}
 use Rattle.std.proofs.Common.{◌/◌, ◌%◌, ◌<◌, nat_eq, zero, suc, refl, arith}
 use Rattle.std.specs.Int.{from_bool}
@@ -9,11 +9,11 @@ use Rattle.rds_block.specs.Words.{second_word_of}
 abbrev pub bits_of : Group → ℕ
 bits_of g = 2 ^ 48 * g.pi + 2 ^ 32 * second_word_of g + 2 ^ 16 * g.c + g.d
 
--- whether bit k of the number is 1
+-- whether bit k of n is 1
 abbrev pub bit_at : ℕ → ℕ → Bool
 bit_at k n = nat_eq (n / 2 ^ k % 2) 1
 
--- the group of a number
+-- the group that a number holds
 abbrev pub group_in : ℕ → Group
 group_in n = record {
   pi = n / 2 ^ 48;
@@ -34,7 +34,7 @@ bit_is (suc (suc b)) h = absurd (omega arith)
 pub bit_at_is : (k n : ℕ) → from_bool (bit_at k n) ≡ n / 2 ^ k % 2
 bit_at_is k n = bit_is (n / 2 ^ k % 2) (omega arith)
 
--- the group of a number has that number
+-- the group that n holds has the number n
 pub bits_again : (n : ℕ) → bits_of (group_in n) ≡ n
 bits_again n =
     let version = bit_at_is 43 n in

@@ -1,4 +1,4 @@
--- Block 2: taken apart by shifts and masks, joined again, and no other fields with the same sum.
+-- Lemmas about block 2: it is read by shifts and masks, joined again, and no other fields have the same sum.
 use Rattle.std.proofs.Common.{[], ◌∷◌, ◌≡◌, ◌+◌, ◌*◌, ◌<◌, ◌/◌, ◌%◌, ◌^◌, ◌∙◌}
 use Rattle.std.proofs.Common.{List, length, get_or, ℕ, zero, suc, Bool, true}
 use Rattle.std.proofs.Common.{false, nat_eq, bit_and, bit_or, refl, sym, arith}
@@ -10,7 +10,7 @@ use mathlib.Core.Bool.{not}
 use Rattle.rds_block.specs.declared.group.Group.{Group}
 use Rattle.rds_block.specs.Words.{words_of, second_word_of, AreWordsOf}
 
--- whether a multiple of c below 2 * c is not 0
+-- for a bit b and c above 0: b * c is not 0 exactly if b is 1
 bit_above_zero : (b c : ℕ) → b < 2 → 0 < c → from_bool (not (nat_eq (b * c) 0)) ≡ b
 bit_above_zero zero c h p =
     let e : 0 * c ≡ 0 = omega arith in
@@ -21,7 +21,7 @@ bit_above_zero (suc zero) c h p =
     rw (e, no) refl
 bit_above_zero (suc (suc b)) c h p = absurd (omega arith)
 
--- a test for one bit gives that bit
+-- a test of bit k gives that bit
 bit_of_test : (n k : ℕ) → from_bool (not (nat_eq (bit_and n (2 ^ k)) 0)) ≡ n / 2 ^ k % 2
 bit_of_test n k = rw (and_pow n k) (bit_above_zero (n / 2 ^ k % 2) (2 ^ k) (omega arith) (pow_pos k))
 
@@ -30,18 +30,18 @@ sum_of_parts : (n : ℕ) → n < 65536 →
     4096 * (n / 4096) + 2048 * (n / 2048 % 2) + 1024 * (n / 1024 % 2) + 32 * (n / 32 % 32) + n % 32 ≡ n
 sum_of_parts n h = omega arith
 
--- block 2 read by shifts and masks
+-- block 2 is the sum of the fields that shifts and masks read
 pub second_word_read : (n : ℕ) → n < 65536 →
     n ≡ 4096 * (n / 4096) + 2048 * from_bool (not (nat_eq (bit_and n 2048) 0))
     + 1024 * from_bool (not (nat_eq (bit_and n 1024) 0)) + 32 * bit_and (n / 32) 31 + bit_and n 31
 second_word_read n h =
     sym (rw (bit_of_test n 11, bit_of_test n 10, and_mask (n / 32) 5, and_mask n 5) (sum_of_parts n h))
 
--- bits below those of a number are joined to it by a sum
+-- joining lower bits to a multiple of 2 ^ k adds them
 pub or_above : (k a b x : ℕ) → x ≡ a * 2 ^ k → b < 2 ^ k → bit_or x b ≡ x + b
 or_above k a b x e h = rw e (or_shifted a k b h)
 
--- block 2 written by shifts
+-- joining the shifted fields gives block 2
 pub second_word_joined : (n v t p l : ℕ) → n < 16 → v < 2 → t < 2 → p < 32 → l < 32 →
     bit_or (bit_or (bit_or (bit_or (n * 4096 % 65536) (v * 2048 % 65536)) (t * 1024 % 65536)) (p * 32 % 65536)) l
     ≡ 4096 * n + 2048 * v + 1024 * t + 32 * p + l
@@ -57,7 +57,7 @@ second_word_joined n v t p l hn hv ht hp hl =
     (omega arith) in
     rw (en, ev, et, ep, e1, e2, e3, e4) (omega arith)
 
--- a list of four is its four elements
+-- a list of length four is the list of its four elements
 pub four : (b : List ℕ) → length b ≡ 4 → b ≡ get_or b 0 0 ∷ get_or b 1 0 ∷ get_or b 2 0 ∷ get_or b 3 0 ∷ []
 four [] e = absurd (omega arith)
 four (w ∷ []) e = absurd (omega arith)
@@ -91,7 +91,7 @@ equal_fields g h pi number version tp pty low c d =
       d = d i;
     }
 
--- groups with the same words are one
+-- groups with the same words are equal
 pub same_group : (words : List ℕ) (g h : Group) → AreWordsOf words g → AreWordsOf words h → g ≡ h
 same_group words g h fg fh =
     let e : words_of g ≡ words_of h = sym fg.blocks ∙ fh.blocks in

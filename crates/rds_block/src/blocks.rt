@@ -1,13 +1,13 @@
-//! A group by its four blocks.
+//! A received group as one number that holds its four blocks.
 ghost use Rattle.std.specs.Prelude.{◌≡◌, ◌+◌, ◌*◌, ◌^◌, ◌<◌};
 ghost use Rattle.std.specs.Int.{from_bool};
 
 use crate::Group;
 use std::marker::Model;
 
-/// A group as it is received: its four blocks in one number, block 1 in the highest bits. Callers see the group.
+/// A received group: its four blocks in one number, block 1 in the highest bits. Contracts see it as a `Group`.
 ///
-/// What is asked of it is read by a shift where it is asked, so that no field is packed to hand the group on.
+/// Each method reads its field by a shift, so a group can be passed on without unpacking its fields.
 #[derive(Clone, Copy)]
 pub struct Blocks {
     bits: u64,
@@ -29,7 +29,7 @@ impl Model for Blocks {
 impl Blocks {
     ghost use Rattle.rds_block.specs.Words.{AreWordsOf};
 
-    /// The group that the four words carry.
+    /// Makes the group that has these four words.
     #[inline(always)]
     pub fn new(words: [u16; 4]) -> Blocks
         ensures words { AreWordsOf words result }
@@ -40,7 +40,7 @@ impl Blocks {
         }
     }
 
-    /// The group, by its fields.
+    /// Returns the group with its fields unpacked.
     pub fn group(self) -> Group
         ensures same { result ≡ self }
     {
@@ -48,7 +48,7 @@ impl Blocks {
         Group::from_blocks([self.pi(), second, self.c(), self.d()])
     }
 
-    /// The programme identification.
+    /// Returns the programme identification (PI).
     #[inline(always)]
     pub fn pi(self) -> u16
         ensures { result ≡ self.pi }
@@ -56,7 +56,7 @@ impl Blocks {
         (self.bits >> 48) as u16
     }
 
-    /// The group type: twice its number, and one more for version B.
+    /// Returns the group type code: twice the number, plus one for version B.
     #[inline(always)]
     pub fn kind(self) -> u8
         ensures { result ≡ 2 * self.number + from_bool self.version }
@@ -64,7 +64,7 @@ impl Blocks {
         (self.bits >> 43 & 0x1F) as u8
     }
 
-    /// The five low bits of block 2.
+    /// Returns the five low bits of block 2.
     #[inline(always)]
     pub fn low(self) -> u8
         ensures value { result ≡ self.low }
@@ -73,7 +73,7 @@ impl Blocks {
         (self.bits >> 32 & 0x1F) as u8
     }
 
-    /// Block 3.
+    /// Returns block 3.
     #[inline(always)]
     pub fn c(self) -> u16
         ensures { result ≡ self.c }
@@ -81,7 +81,7 @@ impl Blocks {
         (self.bits >> 16 & 0xFFFF) as u16
     }
 
-    /// Block 4.
+    /// Returns block 4.
     #[inline(always)]
     pub fn d(self) -> u16
         ensures { result ≡ self.d }
@@ -89,7 +89,7 @@ impl Blocks {
         (self.bits & 0xFFFF) as u16
     }
 
-    /// The five low bits of block 2 with the blocks 3 and 4 behind them.
+    /// Returns 37 bits: the five low bits of block 2, then block 3, then block 4.
     #[inline(always)]
     pub fn content(self) -> u64
         ensures value { result ≡ 2 ^ 32 * self.low + 2 ^ 16 * self.c + self.d }
@@ -101,7 +101,7 @@ impl Blocks {
 }
 
 impl Group {
-    /// The group by its blocks.
+    /// Returns the group packed into its four blocks.
     pub fn blocks(&self) -> Blocks
         ensures { result ≡ self.now }
     {

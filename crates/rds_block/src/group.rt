@@ -1,12 +1,12 @@
-//! A group by its fields, and its four words.
+//! A group as its fields, converted from and to four words.
 
 use crate::Place;
 
-/// A group, by its fields (IEC 62106, group structure). What `c`, `d` and `low` hold depends on the
-/// group's type, that is its number and version.
+/// A group as its fields (IEC 62106, group structure). The meaning of `low`, `c` and `d` depends on the group type,
+/// that is, on `number` and `version`.
 #[derive(Clone, Copy, Debug, PartialEq, Eq)]
 pub struct Group {
-    /// The programme identification of the station.
+    /// The programme identification (PI) of the station.
     pub pi: u16,
     /// The group type number.
     pub number: Place<16>,
@@ -27,7 +27,7 @@ pub struct Group {
 impl Group {
     ghost use Rattle.rds_block.specs.Words.{AreWordsOf};
 
-    /// The group that the four words carry: every four words carry one.
+    /// Returns the group that has these four words. Any four words make a group.
     pub fn from_blocks(blocks: [u16; 4]) -> Group
         ensures words { AreWordsOf blocks result }
     {
@@ -44,7 +44,7 @@ impl Group {
         }
     }
 
-    /// The four words that carry the group.
+    /// Returns the four words of the group.
     pub fn to_blocks(&self) -> [u16; 4]
         ensures words { AreWordsOf result self.now }
     {

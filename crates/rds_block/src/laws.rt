@@ -1,10 +1,10 @@
-//! What holds of all groups and words.
+//! A law about all groups and words.
 ghost use Rattle.std.specs.Prelude.{◌≡◌, ℕ, List};
 ghost use Rattle.rds_block.specs.declared.group.Group.{Group};
 ghost use Rattle.rds_block.specs.Words.{AreWordsOf};
 
-/// Words and fields are one to one: four words carry one group, and a group is carried by one list
-/// of words. So `from_blocks` and `to_blocks` undo each other, in both orders.
+/// States that words and fields are one to one: four words make one group, and a group has one list of words. So
+/// `from_blocks` and `to_blocks` are inverse to each other.
 pub fn words_are_one_to_one()
     ensures one_group { (words : List ℕ) (g h : Group) → AreWordsOf words g → AreWordsOf words h
         → g ≡ h }

@@ -1,9 +1,8 @@
-//! A group of the Radio Data System and the four words that carry it (IEC 62106, group structure).
+//! A group of the Radio Data System (RDS) and its four words (IEC 62106, group structure).
 //!
-//! A group is four blocks of 16 bits. The one model is the sum of the fields of block 2, each times its
-//! power of two; the code shifts and masks. `Group::from_blocks` and `Group::to_blocks` are total and
-//! undo each other, and `words_are_one_to_one` says so for every group and every four words.
-//! The crate knows nothing of what a group says: that is `rds_fields`.
+//! A group has four blocks of 16 bits. In the model, block 2 is the sum of its fields, each times a power of two. The
+//! code shifts and masks. `Group::from_blocks` and `Group::to_blocks` accept any input and are inverse to each other;
+//! the law `words_are_one_to_one` states this. The crate does not interpret a group: `rds_fields` does.
 //!
 //! ```text
 //! let group = Group::from_blocks([0xC201, 0x2140, 0x4849, 0x0D20]);

@@ -20,7 +20,7 @@ impl<const N: u8> Model for Place<N> {
 }
 
 impl<const N: u8> Place<N> {
-    /// The place with this number; `None` from `N` on.
+    /// Makes the place with this number. None if `number` is `N` or more.
     pub fn new(number: u8) -> Option<Self>
         ensures below { IsSome result ↔ (number < N) }
         ensures value { IfSome result (λ place. place ≡ number) }
@@ -32,7 +32,7 @@ impl<const N: u8> Place<N> {
         }
     }
 
-    /// The number.
+    /// Returns the number.
     pub fn get(self) -> u8
         ensures value { result ≡ self.entry }
         ensures below { result < N }

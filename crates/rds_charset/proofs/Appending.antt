@@ -1,4 +1,4 @@
--- Bytes of a slice that go out in parts.
+-- Lemmas: bytes of a slice that go out in parts.
 use Rattle.std.proofs.Common.{◌≡◌, ◌+◌, ◌-◌, ℕ, List, take, drop, length, length-drop, Option}
 use Rattle.std.proofs.KnownBytes.{Appends-trans}
 use Rattle.std.proofs.Math.Seq.{take-add, take-length}

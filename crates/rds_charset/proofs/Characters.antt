@@ -1,4 +1,4 @@
--- The rules of the table, computed over the whole of it, and what each says of one entry.
+-- Lemmas: the rules of the table, computed over all of it, and what each says of one entry.
 use Rattle.std.proofs.Common.{◌≡◌, ◌+◌, ◌-◌, ◌≤◌, ◌<◌, ◌==◌, ℕ, zero, suc, Bool, true, false, not, ◌&&◌, List, [], ◌∷◌, ◌++◌, length, get_or, drop, map, refl, sym, ap, ◌∙◌, nat_le, nat_lt, arith, Option, Some, None, slice_get, eqb-true, if◌then◌else◌}
 use Rattle.std.proofs.lemmas.Bool.Decides.{nat_tests}
 use Rattle.std.proofs.lemmas.List.{at_drop_more}
@@ -13,7 +13,7 @@ use Rattle.rds_charset.specs.declared.table.Stretch.{Stretch as HeldStretch}
 use Rattle.rds_charset.specs.Stretches.{stretch_of}
 use Rattle.rds_charset.specs.Table.{Stretch, table, character_in, character_at, character_of, byte_in, byte_at, byte_of, FitsInBytes}
 
--- the stretch at hand has the byte, or the ones after it are asked
+-- the stretch at hand has the byte, or the search goes on in the ones after it
 pub character_in-found : (stretches : List HeldStretch) (i : ℕ) (d : HeldStretch) (byte character : ℕ) → i < length stretches → character_at (stretch_of (get_or stretches i d)) byte ≡ Some character → character_in (map stretch_of (drop i stretches)) byte ≡ Some character
 character_in-found stretches i d byte character within here =
     at_drop_more (λ rest. character_in (map stretch_of rest) byte) stretches i d within ∙ ap (λ found. option_or found (character_in (map stretch_of (drop (i + 1) stretches)) byte)) here
@@ -22,7 +22,7 @@ pub character_in-passed : (stretches : List HeldStretch) (i : ℕ) (d : HeldStre
 character_in-passed stretches i d byte within here =
     at_drop_more (λ rest. character_in (map stretch_of rest) byte) stretches i d within ∙ ap (λ found. option_or found (character_in (map stretch_of (drop (i + 1) stretches)) byte)) here
 
--- likewise for a character
+-- the same for a character
 pub byte_in-found : (stretches : List HeldStretch) (i : ℕ) (d : HeldStretch) (character byte : ℕ) → i < length stretches → byte_at (stretch_of (get_or stretches i d)) character ≡ Some byte → byte_in (map stretch_of (drop i stretches)) character ≡ Some byte
 byte_in-found stretches i d character byte within here =
     at_drop_more (λ rest. byte_in (map stretch_of rest) character) stretches i d within ∙ ap (λ found. option_or found (byte_in (map stretch_of (drop (i + 1) stretches)) character)) here
@@ -31,7 +31,7 @@ pub byte_in-passed : (stretches : List HeldStretch) (i : ℕ) (d : HeldStretch) 
 byte_in-passed stretches i d character within here =
     at_drop_more (λ rest. byte_in (map stretch_of rest) character) stretches i d within ∙ ap (λ found. option_or found (byte_in (map stretch_of (drop (i + 1) stretches)) character)) here
 
--- whether a stretch's bytes are bytes
+-- whether the stretch has only bytes up to 255
 abbrev fits : Stretch → Bool
 fits stretch = nat_le (stretch.0 + length stretch.1) 256
 
@@ -46,12 +46,12 @@ pub held-FitsInBytes : (stretches : List HeldStretch) (i : ℕ) (d : HeldStretch
 held-FitsInBytes stretches i d are within = FitsInBytes-from_fits (stretch_of (get_or stretches i d)) (fits (stretch_of (get_or stretches i d))) refl
     (λ unfit. ap (list_all fits) (sym are) ∙ list_all-map fits stretch_of stretches ∙ list_all_at (λ stretch. fits (stretch_of stretch)) stretches i d within unfit)
 
--- every byte that has a character, with that character
+-- all bytes that have a character, with that character
 abbrev entries_in : List Stretch → List (ℕ × ℕ)
 entries_in [] = []
 entries_in (stretch ∷ stretches) = enumerate_from stretch.0 stretch.1 ++ entries_in stretches
 
--- what a test says of all entries, it says of one
+-- if a test holds for all entries, it holds for one
 holds_in_stretch : (test : ℕ → ℕ → Bool) (first : ℕ) (characters : List ℕ) (place character : ℕ) → list_all (λ e. test e.0 e.1) (enumerate_from first characters) ≡ true → slice_get characters place ≡ Some character → test (first + place) character ≡ true
 holds_in_stretch test first [] place character all here = absurd (cc)
 holds_in_stretch test first (known ∷ characters) zero character all here =
@@ -113,15 +113,15 @@ is_number-Some : (found : Option ℕ) (n : ℕ) → is_number found n ≡ true �
 is_number-Some None n is = absurd (cc)
 is_number-Some (Some m) n is = ap Some (eqb-true m n is)
 
--- the rules: an entry's byte is a byte, its character isn't a backslash and has at most three bytes and isn't
--- half of a pair, and neither stands in another entry
+-- the rules: the byte of an entry is below 256; its character is not a backslash, has at most three bytes and is not
+-- half of a pair; and neither is in another entry
 abbrev is_lawful : ℕ → ℕ → Bool
 is_lawful byte character = (nat_lt byte 256 && not (character == 0x5C)) && (nat_lt character 0xD800 && (is_number (character_in table byte) character && is_number (byte_in table character) byte))
 
 all_lawful : list_all (λ e. is_lawful e.0 e.1) (entries_in table) ≡ true
 all_lawful = refl
 
--- what they say of a byte and its character
+-- the rules for a byte and its character
 pub record IsLawful (byte character : ℕ) : Type 0 where
   pub in_range : byte < 256
   pub no_backslash : character ≡ 0x5C → ⊥

@@ -1,4 +1,5 @@
--- Digits that are read a byte a lane: a lane passes the tests where its byte is a digit, and then has the digit's value.
+-- Lemmas: digits are read one byte in a lane. A lane passes the tests only if its byte is a digit, and then has the
+-- digit's value.
 use Rattle.std.proofs.Common.{◌≡◌, ◌+◌, ◌*◌, ◌%◌, ◌^◌, ◌<◌, ◌∙◌, sym, Bool, ℕ, List, [], ◌∷◌, zero, suc, cond, ◌&&◌, true, false, arith, refl, subst, bit_or, nat_eq, nat_lt, slice_index, inl, inr, Fits, w8, get_or}
 use Rattle.std.specs.Char.{digit_value}
 use Rattle.std.proofs.lemmas.Bool.{cases_lt}
@@ -14,14 +15,14 @@ digit_lane b = (b + 208) % 256
 abbrev letter_lane : ℕ → ℕ
 letter_lane b = (bit_or b 32 + 159) % 256
 
--- what the code tests of a byte, and what it makes of it
+-- the test of a byte in the code, and the value that the code makes of it
 abbrev pub passes : ℕ → Bool
 passes b = top 7 (bit_or (cond (leb (digit_lane b) 9) 255 0) (cond (leb (letter_lane b) 5) 255 0))
 
 abbrev pub lane : ℕ → ℕ
 lane b = cond (top 7 (cond (leb (digit_lane b) 9) 255 0)) (digit_lane b) ((letter_lane b + 10) % 256)
 
--- every bit of a mask is set
+-- the mask with each bit set
 abbrev pub ones : List Bool → ℕ
 ones [] = 0
 ones (b ∷ bs) = 1 + 2 * ones bs
@@ -31,7 +32,7 @@ all_pass [] e = tt
 all_pass (true ∷ bs) e = (refl, all_pass bs (omega (arith, e)))
 all_pass (false ∷ bs) e = absurd (omega (arith, e))
 
--- by trying each byte
+-- whether the code agrees with the definition at a byte; tried for each byte
 abbrev agrees : ℕ → Bool
 agrees b = cond (passes b) (nat_lt (digit_value b) 16 && nat_eq (lane b) (digit_value b)) true
 

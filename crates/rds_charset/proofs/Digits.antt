@@ -1,11 +1,11 @@
--- What digits spell.
+-- Lemmas: the word that digits spell.
 use Rattle.std.proofs.Common.{◌≡◌, ◌⊎◌, ◌+◌, ◌*◌, ◌<◌, ◌≤◌, Bool, ℕ, List, arith, false, inl, inr, refl, slice_index, true}
 use Rattle.std.specs.Prelude.{nat_lt}
 use Rattle.std.specs.Char.{digit_value}
 use Rattle.std.proofs.lemmas.Bool.Decides.{nat_tests}
 use Rattle.rds_charset.specs.Digits.{HasWord, marked_value}
 
--- a value is that of a digit, or marked
+-- the value is that of a digit, or 65536
 abbrev Cases : ℕ → Type 0
 Cases byte = ((digit_value byte < 16) × (marked_value byte ≡ digit_value byte)) ⊎ ((16 ≤ digit_value byte) × (marked_value byte ≡ 65536))
 

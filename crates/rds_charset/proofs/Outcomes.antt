@@ -1,4 +1,4 @@
--- Reading a text ends in one way only: with its bytes, or with the one fault that the text has.
+-- Lemmas: reading a text ends in one way only, with its bytes or with its one fault.
 use Rattle.std.proofs.Common.{◌≡◌, ◌↔◌, ◌≤◌, ◌<◌, ℕ, List, length, slice_index, take, sym, ap, ◌∙◌, subst, arith, refl, Ok, Err}
 use Rattle.std.specs.Prelude.{Result}
 use Rattle.std.proofs.lemmas.List.{length-take}
@@ -8,7 +8,7 @@ use Rattle.rds_charset.specs.declared.reading.TextFault.TheVariants.{BadEscape, 
 use Rattle.rds_charset.specs.Faults.{StopsBy}
 use Rattle.rds_charset.specs.ReadAs.{IsReadAs, HasBadEscape, HasNoRoom, HasUnknownCharacter}
 
--- what a result says of the text
+-- what a result means for the text
 abbrev pub Outcome : List ℕ → ℕ → Result ℕ TextFault → Type 0
 Outcome text room (Ok count) = (bytes : List ℕ) × IsReadAs text bytes × (length bytes ≤ room) × (length bytes ≡ count)
 Outcome text room (Err (BadEscape place)) = HasBadEscape text place

@@ -1,4 +1,4 @@
--- The printed form of a text: how long it is, and that it is read as the text.
+-- Lemmas about the printed form of a text: its length, and that it is read as the text.
 use Rattle.std.proofs.KnownBytes.{Appends-trans}
 use Rattle.rds_charset.specs.Puts.{AppendsPrefix-append, AppendsPrefix-longer}
 use Rattle.std.specs.Io.KnownBytes.{Appends}
@@ -17,7 +17,7 @@ use Rattle.rds_charset.specs.Printed.{escaped, printed, printed_byte, shown_char
 use Rattle.rds_charset.specs.ReadAs.{IsSymbol, IsReadAs}
 use Rattle.rds_charset.specs.Table.{character_of}
 
--- four bytes hold what one byte is printed as
+-- the printed form of a byte has at most four bytes
 shown-length : (byte : ℕ) (shown : Option ℕ) → length (option_map_or encode_utf8 shown (escaped byte)) ≤ 4
 shown-length byte None = omega arith
 shown-length byte (Some character) = rw (length-encode character) (len_utf8_bounds character).1
@@ -116,10 +116,10 @@ AppendsPrefix-printed a b c bytes done symbol rest line whole is first part =
     ap printed whole ∙ printed-append (done ++ symbol) rest ∙ ap (λ l. l ++ printed rest) (printed-append done symbol) in
     subst (AppendsPrefix a c) (sym same) longer
 
--- what a fresh line holds once a symbol was pushed
+-- the contents of a fresh line after a symbol was pushed
 pub pushed-printed : (slice pushed fresh symbol : List ℕ) → slice ≡ pushed → pushed ≡ fresh ++ printed symbol → fresh ≡ [] → slice ≡ printed symbol
 pushed-printed slice pushed fresh symbol one two three = one ∙ two ∙ ap (λ items. items ++ printed symbol) three
 
--- a symbol taken from what is left of a text
+-- a symbol taken from the rest of a text
 pub append-chunk : (bytes done left symbol rest : List ℕ) → bytes ≡ done ++ left → left ≡ symbol ++ rest → bytes ≡ (done ++ symbol) ++ rest
 append-chunk bytes done left symbol rest one two = one ∙ ap (λ l. done ++ l) two ∙ sym (append_assoc done symbol rest)

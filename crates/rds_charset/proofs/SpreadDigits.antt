@@ -1,4 +1,4 @@
--- The digits of words that are spread out, a number below 16 in each byte of a lane.
+-- Lemmas: the digits of words that are spread out, with a number below 16 in each byte of a lane.
 use Rattle.std.proofs.Common.{◌≡◌, ◌+◌, ◌*◌, ◌/◌, ◌%◌, ◌<◌, ◌∙◌, ◌&&◌, Bool, ℕ, ap, arith, bit_and, cond, false, inl, inr, nat_eq, refl, suc, true, zero}
 use Rattle.std.proofs.lemmas.Bool.{cases_lt}
 use Rattle.std.proofs.lemmas.Bool.Decides.{nat_tests}
@@ -7,11 +7,11 @@ use lib.Dec.{ltb}
 use lib.Lanes.{top}
 use Rattle.rds_charset.specs.Printed.{upper_digit}
 
--- what the code makes of a byte
+-- the digit of a number, as the code makes it
 abbrev pub digit : ℕ → ℕ
 digit n = cond (top 7 (cond (ltb 9 n) 255 0)) (((n + 48) % 256 + 7) % 256) ((n + 48) % 256)
 
--- by trying each number below 16
+-- whether the code's digits are right for each number below this; tried for those below 16
 abbrev same_below : ℕ → Bool
 same_below zero = true
 same_below (suc n) = nat_eq (digit n) (upper_digit n) && same_below n
@@ -44,7 +44,7 @@ spread w =
 spread_is : (w : ℕ) → w < 65536 → spread w ≡ w / 4096 + 256 * (w / 256 % 16) + 65536 * (w / 16 % 16) + 16777216 * (w % 16)
 spread_is w h = rw (and_mask (w / 256) 4, and_mask (w / 16) 4, and_mask w 4) (omega arith)
 
--- of a number whose lowest lane has the word: the digits of its bytes, and the lanes above
+-- a number whose lowest lane has this word: the digits of its bytes, and the lanes above
 pub record Shows (n w above : ℕ) : Type 0 where
   pub first : digit (n % 256) ≡ upper_digit (w / 4096)
   pub second : digit (n / 256 % 256) ≡ upper_digit (w / 256 % 16)

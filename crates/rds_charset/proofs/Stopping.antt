@@ -1,4 +1,4 @@
--- How many characters come before the place where the reading of a text stops.
+-- Lemmas: how many characters come before the place at which reading a text stops.
 use Rattle.std.proofs.Common.{◌≡◌, ◌<◌, ◌≤◌, ◌+◌, ◌-◌, ◌∙◌, ◌++◌, ℕ, List, ap, arith, drop, length, length-append, subst, sym, take}
 use Rattle.std.proofs.lemmas.List.{take-append-drop}
 use Rattle.std.proofs.lemmas.Str.{IsCharBoundary-from_drop, IsUtf8-take, chars-append, chars_past_char, encodes-chars, length-le-encodes}
@@ -7,7 +7,7 @@ use Rattle.std.specs.Str.{IsUtf8, chars}
 use Rattle.rds_charset.proofs.Symbols.{IsReadUpTo-drop}
 use Rattle.rds_charset.specs.ReadAs.{IsReadUpTo}
 
--- those before and those from there on are all of them
+-- the characters before a place and those from there on are all of them
 pub before_and_after : (text bs rest : List ℕ) → IsUtf8 text → IsUtf8 rest → IsReadUpTo text bs rest
     → length (chars text) ≡ length (chars (take (length text - length rest) text)) + length (chars rest)
 before_and_after text bs rest whole left read =
@@ -20,10 +20,10 @@ before_and_after text bs rest whole left read =
     let all : chars text ≡ chars (take n text) ++ chars rest = ap chars (sym (take-append-drop n text)) ∙ parts ∙ ap (λ (x : List ℕ). chars (take n text) ++ chars x) there in
     ap length all ∙ length-append (chars (take n text)) (chars rest)
 
--- a text that begins with a character has one at least
+-- a text that begins with a character has at least one
 pub some_character : (rest after : List ℕ) (c : ℕ) → IsUtf8 rest → rest ≡ encode_utf8 c ++ after → 0 < length (chars rest)
 some_character rest after c utf8 begins = (let e = ap length (chars_past_char rest after c utf8 begins) in omega (arith, e))
 
--- and one byte
+-- and at least one byte
 pub some_bytes : (rest : List ℕ) → IsUtf8 rest → 0 < length (chars rest) → 0 < length rest
 some_bytes rest utf8 some = (let most = length-le-encodes (chars rest) in let all = ap length (encodes-chars rest utf8) in omega (arith, most, all))

@@ -1,5 +1,5 @@
--- A text is cut into symbols in one way only, so it is read as at most one list of bytes, and stops at one place
--- at most.
+-- Lemmas: a text has one list of symbols only, so it is read as at most one list of bytes, and stops at one place at
+-- most.
 use Rattle.std.proofs.Common.{◌≡◌, inl, inr, ◌+◌, ◌-◌, ◌*◌, ◌≤◌, ◌<◌, ℕ, List, [], ◌∷◌, ◌++◌, length, drop, refl, sym, ap, ◌∙◌, subst, arith, Some, None, encode_utf8, append_assoc, length-append, length-drop}
 use Rattle.std.proofs.lemmas.Bool.Decides.{nat_tests}
 use Rattle.std.proofs.lemmas.List.{drop_at}
@@ -76,7 +76,7 @@ pub record SameReading (bs cs : List ℕ) (r s : List ℕ) : Type 0 where
   pub bytes : bs ≡ cs
   pub rest : r ≡ s
 
--- a text is read as far as it can be in one way
+-- a text is read in one way as far as it can be read
 pub IsReadUpTo-same : (text bs cs r s : List ℕ) → IsReadUpTo text bs r → IsReadUpTo text cs s → BeginsNoSymbol r → BeginsNoSymbol s → SameReading bs cs r s
 IsReadUpTo-same text [] [] r s one two end_one end_two = record { bytes = refl; rest = sym one ∙ two }
 IsReadUpTo-same text [] (c ∷ cs) r s one (after, begins, two) end_one end_two = absurd (end_one c after (subst (λ t. Begins t c after) one begins))
@@ -86,20 +86,20 @@ IsReadUpTo-same text (b ∷ bs) (c ∷ cs) r s (first, begins, one) (second, als
     let later = IsReadUpTo-same second bs cs r s (subst (λ t. IsReadUpTo t bs r) start.rest one) two end_one end_two in
     record { bytes = ap (λ x. x ∷ bs) start.byte ∙ ap (λ xs. c ∷ xs) later.bytes; rest = later.rest }
 
--- a text is read as one list of bytes at most
+-- a text is read as at most one list of bytes
 pub IsReadAs-same : (text bs cs : List ℕ) → IsReadAs text bs → IsReadAs text cs → bs ≡ cs
 IsReadAs-same text bs cs one two = (IsReadUpTo-same text bs cs [] [] one two BeginsNoSymbol-nil BeginsNoSymbol-nil).bytes
 
--- one reading, and another of what follows
+-- one reading, and another of the rest
 pub IsReadUpTo-append : (text bs mid cs rest : List ℕ) → IsReadUpTo text bs mid → IsReadUpTo mid cs rest → IsReadUpTo text (bs ++ cs) rest
 IsReadUpTo-append text [] mid cs rest one two = subst (λ t. IsReadUpTo t cs rest) (sym one) two
 IsReadUpTo-append text (b ∷ bs) mid cs rest (after, begins, one) two = (after, begins, IsReadUpTo-append after bs mid cs rest one two)
 
--- and one symbol of what follows
+-- and one symbol of the rest
 pub IsReadUpTo-push : (text bs mid : List ℕ) (byte : ℕ) (rest : List ℕ) → IsReadUpTo text bs mid → Begins mid byte rest → IsReadUpTo text (bs ++ byte ∷ []) rest
 IsReadUpTo-push text bs mid byte rest one begins = IsReadUpTo-append text bs mid (byte ∷ []) rest one (rest, begins, refl)
 
--- what follows is the end of the text
+-- the rest is the end of the text
 pub IsReadUpTo-length : (text bs rest : List ℕ) → IsReadUpTo text bs rest → length bs + length rest ≤ length text
 IsReadUpTo-length text [] rest one = let same : length text ≡ length rest = ap length one in omega arith
 IsReadUpTo-length text (b ∷ bs) rest (after, begins, one) =
@@ -120,7 +120,7 @@ IsReadUpTo-drop text bs rest one =
     let place : length cut.0 ≡ length text - length rest = omega arith in
     ap (drop (length text - length rest)) cut.1 ∙ drop_at cut.0 rest (length text - length rest) place
 
--- where nothing begins what follows, and there is something, the text stops
+-- if the rest is not empty and begins with no symbol, the text stops there
 pub StopsAt-rest : (text bs rest : List ℕ) → IsReadUpTo text bs rest → BeginsNoSymbol rest → 0 < length rest → StopsAt text (length text - length rest)
 StopsAt-rest text bs rest one stuck some =
     let there : drop (length text - length rest) text ≡ rest = IsReadUpTo-drop text bs rest one in
@@ -147,7 +147,7 @@ StopsAt-unread text p bs one two =
     let left : p < length text = one.within in
     omega (arith, length-drop p text)
 
--- what code knows of the first character of a text, and the symbols that can begin there
+-- what the code knows of the first character of a text, and the symbols that can begin there
 digit_ascii : (digit : ℕ) → digit_value digit < 16 → digit < 128
 digit_ascii digit small = grind (arith, nat_tests)
 
@@ -202,7 +202,7 @@ Begins-character text first after byte is known = record {
   is_symbol = inl (record { character = first; in_table = (IsLawful-from_character byte first (sym known)).of_byte; spelled = refl });
 }
 
--- what follows a symbol of a text is a text
+-- the rest after a symbol of a text is a text
 pub Begins-IsUtf8 : (text : List ℕ) (byte : ℕ) (rest : List ℕ) → IsUtf8 text → Begins text byte rest → IsUtf8 rest
 Begins-IsUtf8 text byte rest is one = by_symbol one.is_symbol
   where
@@ -215,13 +215,13 @@ Begins-IsUtf8 text byte rest is one = by_symbol one.is_symbol
         let three_on = IsUtf8-past_char (escape.high ∷ escape.low ∷ rest) (escape.low ∷ rest) escape.high two_on (digit-first escape.high (escape.low ∷ rest) escape.high_digit) in
         IsUtf8-past_char (escape.low ∷ rest) rest escape.low three_on (digit-first escape.low rest escape.low_digit)
 
--- a text that is read, one symbol on
+-- reading a text after its first symbol
 pub IsReadAs-step : (text : List ℕ) (byte : ℕ) (rest bytes : List ℕ) → IsReadAs text bytes → Begins text byte rest → (later : List ℕ) × IsReadAs rest later × (length bytes ≡ 1 + length later)
 IsReadAs-step text byte rest [] one begins = absurd (BeginsNoSymbol-nil byte rest (subst (λ t. Begins t byte rest) one begins))
 IsReadAs-step text byte rest (b ∷ bytes) (after, also, one) begins =
     (bytes, subst (λ t. IsReadAs t bytes) (Begins-same text b byte after rest also begins).rest one, omega arith)
 
--- and where no symbol begins, its end
+-- if no symbol begins it, the text is at its end
 pub IsReadAs-end : (text bytes : List ℕ) → IsReadAs text bytes → BeginsNoSymbol text → text ≡ []
 IsReadAs-end text [] one stuck = one
 IsReadAs-end text (b ∷ bytes) (after, begins, one) stuck = absurd (stuck b after begins)

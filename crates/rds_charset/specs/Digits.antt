@@ -1,13 +1,13 @@
--- Hexadecimal digits of either case, and the word that four of them spell.
+-- Hexadecimal digits of either case, and the word of four digits.
 use Rattle.std.specs.Prelude.{◌≡◌, ◌<◌, ◌+◌, ◌*◌, ◌/◌, ◌%◌, ℕ, List, [], ◌∷◌, if◌then◌else◌, nat_lt, slice_index}
 use Rattle.std.specs.Char.{digit_value}
 use Rattle.rds_charset.specs.Printed.{upper_digit}
 
--- the value of a byte as a hexadecimal digit, and more than any word where it is none
+-- the value of a byte as a hexadecimal digit; 65536, which is more than any word, if it is not a digit
 abbrev pub marked_value : ℕ → ℕ
 marked_value byte = if nat_lt (digit_value byte) 16 then digit_value byte else 65536
 
--- four hexadecimal digits stand from the place on, and spell the word
+-- the text has four hexadecimal digits from this place on, and they are the word w
 pub record HasWord (text : List ℕ) (at w : ℕ) : Type 0 where
   pub first : digit_value (slice_index text at) < 16
   pub second : digit_value (slice_index text (at + 1)) < 16

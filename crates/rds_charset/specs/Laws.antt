@@ -1,14 +1,14 @@
--- The laws of the printed form, as the contracts of `laws` say them.
+-- The laws of the printed form, as the contracts in `laws` state them.
 use Rattle.std.specs.Prelude.{◌≡◌, ◌<◌, ◌≤◌, ◌*◌, ℕ, List, All, length}
 use Rattle.std.specs.Str.{IsUtf8}
 use Rattle.rds_charset.specs.Printed.{printed}
 use Rattle.rds_charset.specs.ReadAs.{IsReadAs}
 
--- what was printed is read as the bytes that it was printed from
+-- a printed text is read as the bytes from which it was printed
 abbrev pub PrintedIsReadBack : Type 0
 PrintedIsReadBack = (bytes : List ℕ) → All (λ byte. byte < 256) bytes → IsReadAs (printed bytes) bytes
 
--- a text is read as one list of bytes at most
+-- a text is read as at most one list of bytes
 abbrev pub TextIsReadOneWay : Type 0
 TextIsReadOneWay = (text bytes others : List ℕ) → IsReadAs text bytes → IsReadAs text others → bytes ≡ others
 

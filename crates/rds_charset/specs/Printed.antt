@@ -1,7 +1,7 @@
--- A text is printed as characters in UTF-8, and a byte that has none is printed by its number. This is the
--- project's own form.
--- A backslash isn't in the table, so it stands only at the head of such a number. A quotation mark is printed
--- by its number, so that a printed text can stand between two of them.
+-- The printed form of a text: characters in UTF-8, and an escape with its number for a byte that has no character. This
+-- is the project's own form.
+-- A backslash is not in the table, so it only begins an escape. A quotation mark is escaped, so that a printed text can
+-- be shown between two of them.
 use Rattle.std.specs.Prelude.{◌+◌, ◌++◌, ◌/◌, ◌%◌, ◌==◌, [], ◌∷◌}
 use Rattle.std.specs.Prelude.{ℕ, List, Option, None, codes, encode_utf8, flat_map, nat_lt, if◌then◌else◌}
 use Rattle.std.specs.Option.{option_map_or}
@@ -11,18 +11,18 @@ use Rattle.rds_charset.specs.Table.{character_of}
 abbrev pub upper_digit : ℕ → ℕ
 upper_digit n = if nat_lt n 10 then 0x30 + n else 0x37 + n
 
--- a byte by its number: a backslash, an x and two digits
+-- the escape of a byte: a backslash, an x and two digits
 abbrev pub escaped : ℕ → List ℕ
 escaped byte = codes "\\x" ++ upper_digit (byte / 16) ∷ upper_digit (byte % 16) ∷ []
 
--- the character that a byte is printed as, which the quotation mark isn't
+-- the character as which a byte is printed; none for the quotation mark
 abbrev pub shown_character : ℕ → Option ℕ
 shown_character byte = if byte == 0x22 then None else character_of byte
 
--- a byte as it is printed
+-- the printed form of a byte
 unfoldable pub printed_byte : ℕ → List ℕ
 printed_byte byte = option_map_or encode_utf8 (shown_character byte) (escaped byte)
 
--- a text as it is printed
+-- the printed form of a text
 abbrev pub printed : List ℕ → List ℕ
 printed bytes = flat_map printed_byte bytes

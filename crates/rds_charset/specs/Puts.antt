@@ -1,4 +1,4 @@
--- What a call that writes bytes did: all of them went out and nothing failed, or a first part of them went out and
+-- The result of a call that writes bytes: all of them went out and nothing failed, or a first part of them went out and
 -- the writer failed. This is the project's own rule.
 use Rattle.std.proofs.Common.{◌≡◌, ◌+◌, ℕ, List, ◌++◌, take, drop, length, Option, append_assoc, ap, sym, refl, ◌∙◌}
 use Rattle.std.proofs.KnownBytes.{Appends-trans}
@@ -19,7 +19,7 @@ pub Puts-failed : (t : Traffic) (bytes : List ℕ) (r : Result (Unit {0}) WriteF
 Puts-failed t bytes (Ok done) e part failed = cc
 Puts-failed t bytes (Err fault) e part failed = (part, failed)
 
--- one list whole, and then a first part of another
+-- a whole list and then a first part of another went out
 pub AppendsPrefix-append : (a b c : Option (List ℕ)) (xs ys : List ℕ) → Appends a b xs → AppendsPrefix b c ys
     → AppendsPrefix a c (xs ++ ys)
 AppendsPrefix-append a b c xs ys whole part =

@@ -1,7 +1,7 @@
--- A printed text is read symbol by symbol, each a character of the table or the number of a byte, and each symbol
--- gives one byte. This is the project's own form.
--- The quotation mark is read as a character too, though it isn't printed as one. The digits of a number can be
--- of either case.
+-- A printed text is read symbol by symbol. A symbol is a character of the table or an escape, and gives one byte. This
+-- is the project's own form.
+-- A quotation mark is read as a character too, although it is printed as an escape. The digits of an escape may be of
+-- either case.
 use Rattle.std.specs.Prelude.{◌≡◌, ◌≢◌, ◌⊎◌, ◌<◌, ◌+◌, ◌*◌, ◌++◌, [], ◌∷◌}
 use Rattle.std.specs.Prelude.{ℕ, List, Some, codes, encode_utf8, length, drop, slice_index}
 use Rattle.std.specs.Char.{digit_value}
@@ -13,7 +13,7 @@ pub record IsCharacter (symbol : List ℕ) (byte : ℕ) : Type 0 where
   pub in_table : character_of byte ≡ Some character
   pub spelled : symbol ≡ encode_utf8 character
 
--- a backslash, an x and two hexadecimal digits, and the byte that has that number
+-- a backslash, an x and two hexadecimal digits, and the byte with this number
 pub record IsEscape (symbol : List ℕ) (byte : ℕ) : Type 0 where
   pub high : ℕ
   pub low : ℕ
@@ -22,22 +22,22 @@ pub record IsEscape (symbol : List ℕ) (byte : ℕ) : Type 0 where
   pub spelled : symbol ≡ codes "\\x" ++ high ∷ low ∷ []
   pub value : byte ≡ 16 * digit_value high + digit_value low
 
--- a symbol of a printed text, and the byte that it is read as
+-- a symbol of a printed text, and the byte as which it is read
 abbrev pub IsSymbol : List ℕ → ℕ → Type 0
 IsSymbol symbol byte = IsCharacter symbol byte ⊎ IsEscape symbol byte
 
--- a text begins with a symbol, and the rest follows it
+-- the text begins with a symbol of this byte, and the rest follows
 pub record Begins (text : List ℕ) (byte : ℕ) (rest : List ℕ) : Type 0 where
   pub symbol : List ℕ
   pub cut : text ≡ symbol ++ rest
   pub is_symbol : IsSymbol symbol byte
 
--- the text begins with one symbol for each of the bytes, in order, and the rest follows them
+-- the text begins with one symbol for each of the bytes, in order, and the rest follows
 abbrev pub IsReadUpTo : List ℕ → List ℕ → List ℕ → Type 0
 IsReadUpTo text [] rest = text ≡ rest
 IsReadUpTo text (byte ∷ bytes) rest = (after : List ℕ) × Begins text byte after × IsReadUpTo after bytes rest
 
--- the text is read as the bytes: it is made of one symbol for each of them, in order, and of nothing else
+-- the text is read as the bytes: it has one symbol for each of them, in order, and nothing else
 abbrev pub IsReadAs : List ℕ → List ℕ → Type 0
 IsReadAs text bytes = IsReadUpTo text bytes []
 
@@ -45,26 +45,26 @@ IsReadAs text bytes = IsReadUpTo text bytes []
 abbrev pub BeginsNoSymbol : List ℕ → Type 0
 BeginsNoSymbol text = (byte : ℕ) (rest : List ℕ) → Begins text byte rest → ⊥
 
--- the text can be read up to the place, counted in bytes, and no further, and doesn't end there
+-- the text can be read up to this place, counted in bytes, and no further, and does not end there
 pub record StopsAt (text : List ℕ) (place : ℕ) : Type 0 where
   pub within : place < length text
   pub bytes : List ℕ
   pub read : IsReadUpTo text bytes (drop place text)
   pub stuck : BeginsNoSymbol (drop place text)
 
--- the first place that can't be read is a backslash
+-- the first place that cannot be read has a backslash
 abbrev pub HasBadEscape : List ℕ → ℕ → Type 0
 HasBadEscape text place = StopsAt text place × (slice_index text place ≡ 0x5C)
 
--- the first place that can't be read is another character
+-- the first place that cannot be read has another byte
 abbrev pub HasUnknownCharacter : List ℕ → ℕ → Type 0
 HasUnknownCharacter text place = StopsAt text place × (slice_index text place ≢ 0x5C)
 
--- the text can be read, and gives more bytes than there is room for
+-- the text can be read, and gives more bytes than there is room
 abbrev pub HasNoRoom : List ℕ → ℕ → Type 0
 HasNoRoom text room = (bytes : List ℕ) × IsReadAs text bytes × (room < length bytes)
 
--- the text begins with a hexadecimal digit of that value, and the rest follows it
+-- the text begins with a hexadecimal digit of this value, and the rest follows
 abbrev pub BeginsDigit : List ℕ → ℕ → List ℕ → Type 0
 BeginsDigit text value rest =
     (digit : ℕ) × (text ≡ digit ∷ rest) × (digit_value digit < 16) × (value ≡ digit_value digit)

@@ -1,4 +1,4 @@
--- A stretch of the table as the code holds it.
+-- A stretch of the table in the code.
 use Rattle.rds_charset.specs.declared.table.Stretch.{Stretch as HeldStretch}
 use Rattle.rds_charset.specs.Table.{Stretch}
 

@@ -1,15 +1,15 @@
--- A byte of a text stands for one character or for none. The table is this project's own, made after the basic
--- one of IEC 62106; nothing rests on the likeness.
+-- A byte of a text has one character or none. The table is this project's own. It follows the basic table of IEC 62106;
+-- nothing depends on the likeness.
 use Rattle.std.specs.Prelude.{◌+◌, ◌-◌, ◌==◌, ◌≤◌, [], ◌∷◌}
 use Rattle.std.specs.Prelude.{ℕ, List, length, slice_get, position, Option, None, option_map, nat_le, if◌then◌else◌}
 use Rattle.std.specs.List.{range_with_len}
 use Rattle.std.specs.Option.{option_or}
 
--- bytes that follow one another: the first of them, and their characters by code point
+-- bytes that follow each other: the first of them, and their characters as code points
 abbrev pub Stretch : Type 0
 Stretch = ℕ × List ℕ
 
--- every byte that has a character: those up to 0x7D have the one that they have in ASCII
+-- all bytes that have a character; those up to 0x7D have their ASCII character
 abbrev pub table : List Stretch
 table = (0x20, range_with_len 0x20 4)
     ∷ (0x25, range_with_len 0x25 55)
@@ -28,7 +28,7 @@ table = (0x20, range_with_len 0x20 4)
     ∷ (0xD0, 0xC2 ∷ 0xC4 ∷ 0xCA ∷ 0xCB ∷ 0xCE ∷ 0xCF ∷ 0xD4 ∷ 0xD6 ∷ 0xDB ∷ 0xDC ∷ [])
     ∷ []
 
--- the stretch's bytes are bytes
+-- the stretch has only bytes up to 255
 abbrev pub FitsInBytes : Stretch → Type 0
 FitsInBytes stretch = stretch.0 + length stretch.1 ≤ 256
 

@@ -1,6 +1,6 @@
--- A counted read or write either passes bytes and leaves the number of failures alone, or passes none and
--- raises it by one; each counted read raises the number of reads.
--- This is the project's own rule. At its greatest number the count can't rise: from there on each call fails.
+-- A counted read or write either passes bytes and keeps the count of failures, or passes none and raises it by one.
+-- Each counted read raises the count of reads.
+-- This is the project's own rule. A count cannot rise above 2^64 - 1: if the failures are there, each call fails.
 use Rattle.std.proofs.Common.{◌∙◌, Bool, add-one, ap, arith, refl, suc, sym, true, zero}
 use Rattle.std.proofs.lemmas.Bool.Decides.{nat_tests}
 use Rattle.std.specs.Prelude.{◌≡◌, ◌⊎◌, ◌<◌, ◌≤◌, ◌+◌, ◌^◌, ◌-◌}
@@ -8,25 +8,25 @@ use Rattle.std.specs.Prelude.{ℕ, List, take, length, Option, MatchOption, nat_
 use Rattle.std.specs.Io.KnownBytes.{Appends, Consumes, IsAtEnd, Keeps}
 use Rattle.rds_charset.specs.declared.told.Told.{Told}
 
--- the greatest number of reads and of failures that is counted
+-- the greatest count of reads and of failures
 abbrev pub most_counted : ℕ
 most_counted = 2 ^ 64 - 1
 
--- a count after one more: at its greatest it stays
+-- a count after one more; the greatest one stays
 abbrev pub next_count : ℕ → ℕ
 next_count n = if nat_lt n most_counted then n + 1 else n
 
--- and after n more
+-- a count after n more
 unfoldable pub count_after : ℕ → ℕ → ℕ
 count_after before zero = before
 count_after before (suc n) = next_count (count_after before n)
 
--- a call failed: the number rose by one in it, or stood at its greatest
+-- a call failed: the count of failures rose by one, or was at its greatest
 abbrev pub Failed : ℕ → ℕ → Type 0
 Failed before after = (after ≡ before + 1) ⊎ ((before ≡ most_counted) × (after ≡ before))
 
--- what a call did to a reader or a writer: the bytes that the reader had left, or that the writer had taken, and
--- the number of failures, each before the call and after it
+-- the effect of a call on a reader or a writer: the bytes that the reader had left, or that the writer had taken, and
+-- the count of failures, each before and after the call
 pub record Traffic : Type 0 where
   pub before : Option (List ℕ)
   pub after : Option (List ℕ)
@@ -41,12 +41,11 @@ traffic bytes failures old new =
 abbrev pub HasFailed : Traffic → Type 0
 HasFailed t = Failed t.failures_before t.failures_after
 
--- it did not
+-- the call did not fail: the count of failures is the same
 abbrev pub IsCalm : Traffic → Type 0
 IsCalm t = t.failures_after ≡ t.failures_before
 
--- one read: the bytes that it gave stand at the front of the buffer, and it gave none only at the end or where
--- there is no room
+-- one read: its bytes are at the front of the buffer, and it gave none only at the end or if the buffer is empty
 abbrev pub ReadsOne : Traffic → Option ℕ → List ℕ → Type 0
 ReadsOne t r buf = MatchOption r (HasFailed t × Keeps t.before t.after)
     (λ n. (t.failures_before < most_counted) × IsCalm t × (n ≤ length buf) × Consumes t.before t.after (take n buf)
@@ -67,11 +66,11 @@ pub record PutsNothing (t : Traffic) : Type 0 where
   pub bytes : t.after ≡ t.before
   pub calm : IsCalm t
 
--- what a `Told` wraps
+-- the reader or writer inside a `Told`
 abbrev pub inner_of : {T : Type 0} → Told T → T
 inner_of told = told.inner
 
--- how many of its counted reads and writes failed so far
+-- how many of the counted reads and writes failed
 abbrev pub failures_of : {T : Type 0} → Told T → ℕ
 failures_of told = told.failures
 
@@ -79,7 +78,7 @@ failures_of told = told.failures
 abbrev pub reads_of : {T : Type 0} → Told T → ℕ
 reads_of told = told.reads
 
--- none, and n and then one more
+-- a count after none more
 pub count_none : (before : ℕ) → before ≡ count_after before 0
 unfolding count_after
 count_none before = refl
@@ -89,7 +88,7 @@ pub count_next : (before n now after : ℕ) → now ≡ count_after before n →
 unfolding count_after
 count_next before n now after had more = more ∙ ap next_count had ∙ sym (ap (count_after before) (add-one n))
 
--- a count that doesn't reach its greatest tells the number
+-- a count that stays below its greatest is the number
 pub count_is : (before n : ℕ) → before + n ≤ most_counted → count_after before n ≡ before + n
 unfolding count_after
 count_is before zero room = omega arith

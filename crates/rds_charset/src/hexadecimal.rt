@@ -1,20 +1,20 @@
-//! Words of four hexadecimal digits.
+//! Words of four hexadecimal digits, read and written.
 ghost use Rattle.std.specs.Prelude.{◌≡◌, ◌<◌, ◌≤◌, ◌+◌, ◌++◌, ℕ, length, slice_index, IfSome, IfNone};
 ghost use Rattle.rds_charset.specs.Digits.{HasWord, marked_value, word_digits};
 
 use std::simd::prelude::*;
 
-/// More than any word: the value of a byte that is no hexadecimal digit.
+/// The value of a byte that is not a hexadecimal digit. It is larger than any word.
 const NONE: u32 = 65536;
 
-/// What the first two digits of a word count in its high byte.
+/// The weights of the first two digits of each word, for its high byte.
 const HIGH: [u8; 16] = [16, 1, 0, 0, 16, 1, 0, 0, 16, 1, 0, 0, 16, 1, 0, 0];
 
-/// What the last two digits of a word count in its low byte.
+/// The weights of the last two digits of each word, for its low byte.
 const LOW: [u8; 16] = [0, 0, 16, 1, 0, 0, 16, 1, 0, 0, 16, 1, 0, 0, 16, 1];
 
-/// The word of the four hexadecimal digits, of either case, from the place on; `None` where there are
-/// none.
+/// Returns the word of the four hexadecimal digits from `place` on, of either case. None if one of the four bytes is
+/// not a digit.
 #[inline(always)]
 pub fn word_at(text: &[u8], place: usize) -> Option<u16>
     requires { place + 4 ≤ length text.now }
@@ -25,8 +25,8 @@ pub fn word_at(text: &[u8], place: usize) -> Option<u16>
     if word < NONE { Some(word as u16) } else { None }
 }
 
-/// The words of the four blocks of a line, at the places 0, 5, 10 and 15, where all are digits. All sixteen are tested
-/// and read at once, each in a lane.
+/// Returns the words of the four blocks of a line, at the places 0, 5, 10 and 15. None if a byte is not a digit. All
+/// sixteen digits are tested and read at once, each in a lane.
 #[inline(always)]
 pub fn four_words(text: &[u8]) -> Option<[u16; 4]>
     requires { 19 ≤ length text.now }
@@ -59,7 +59,7 @@ pub fn four_words(text: &[u8]) -> Option<[u16; 4]>
     ])
 }
 
-/// What the four bytes from the place on spell: their word where all are digits, and else at least `NONE`.
+/// Returns the word of the four digits from `place` on, or `NONE` or more if one of them is not a digit.
 #[inline(always)]
 fn reading_at(text: &[u8], place: usize) -> u32
     requires { place + 4 ≤ length text.now }
@@ -73,7 +73,7 @@ fn reading_at(text: &[u8], place: usize) -> u32
     first * 4096 + second * 256 + third * 16 + fourth
 }
 
-/// The value of the byte as a digit of either case, or `NONE`.
+/// Returns the value of the byte as a hexadecimal digit of either case, or `NONE`.
 fn value_of(byte: u8) -> u32
     ensures value { result ≡ marked_value byte }
     ensures small { result ≤ 65536 }
@@ -81,8 +81,8 @@ fn value_of(byte: u8) -> u32
     char::from(byte).to_digit(16).unwrap_or(NONE)
 }
 
-/// The digits of four words, one word's after the other's, with A to F for 10 to 15. All sixteen are made at once, each
-/// in a lane.
+/// Returns the digits of four words, one word after the other, with A to F for 10 to 15. All sixteen digits are made at
+/// once, each in a lane.
 #[inline(always)]
 pub fn digits_of_four(words: [u16; 4]) -> [u8; 16]
     ensures { result ≡ word_digits (slice_index words 0) ++ word_digits (slice_index words 1)

@@ -1,24 +1,24 @@
-//! What holds of the printed form of every text. Each function here does nothing: its contract is
-//! the law, for callers whose own contracts rest on it.
+//! Laws about the printed form of all texts. Each function here does nothing: its contract is the law, for callers
+//! whose own contracts need it.
 
 ghost use Rattle.rds_charset.specs.Laws.{PrintedIsReadBack, PrintedIsText, PrintedTakesFour, TextIsReadOneWay};
 
-/// What was printed is read as the bytes that it was printed from, whatever bytes they are.
+/// States that a printed text is read as the bytes from which it was printed, whatever bytes they are.
 pub fn printed_is_read_back()
     ensures { PrintedIsReadBack }
 {}
 
-/// No text is read as two lists of bytes.
+/// States that a text is read as at most one list of bytes.
 pub fn text_is_read_one_way()
     ensures { TextIsReadOneWay }
 {}
 
-/// A text of n bytes is printed in at most 4n.
+/// States that a text of n bytes has a printed form of at most 4n bytes.
 pub fn printed_takes_four()
     ensures { PrintedTakesFour }
 {}
 
-/// What is printed is UTF-8, so that it can be read as a `&str`.
+/// States that the printed form is UTF-8, so it can be read as a `&str`.
 pub fn printed_is_text()
     ensures { PrintedIsText }
 {}

@@ -1,11 +1,10 @@
-//! Characters in and out: the bytes of a text as people read them, and readers and writers that
-//! tell whether they failed.
+//! Characters in and out: the bytes of a text as people read them, and readers and writers that count their failures.
 //!
-//! A text on the air is a list of bytes. Printed, it is UTF-8 in which each byte is a character of
-//! one fixed table or an escape such as `\x0D`; read, it is those bytes again. Nothing here takes
-//! memory, and a `Told` counts each of its `read_one` and `write_one` that failed.
+//! A text on air is a list of bytes. Its printed form is UTF-8, in which each byte is a character of one fixed table or
+//! an escape such as `\x0D`. Reading the printed form gives the bytes again. Nothing here allocates memory. A `Told`
+//! counts its calls of `read_one` and `write_one` that failed.
 //!
-//! `write_text` writes exactly the printed form, and where a write fails, a first part of it:
+//! `write_text` writes exactly the printed form. If a write fails, it has written a first part of it:
 //!
 //!     write_text(&[0x43, 0x61, 0x66, 0x82], &mut Told::new(writer))    // Café
 #![tactic(auto)]

@@ -1,4 +1,4 @@
-//! Output lines, put together in bounded room so that many go out in one write.
+//! Output lines, collected in a bounded buffer so that many go out in one write.
 ghost use Rattle.std.specs.Prelude.{◌≡◌, ◌≤◌, ◌+◌, ◌*◌, ◌++◌, ◌↔◌, [], ℕ, List, IsTrue, decimal, length};
 ghost use Rattle.rds_charset.specs.Printed.{printed};
 
@@ -7,7 +7,9 @@ use arrayvec::ArrayVec;
 use itoa::Buffer;
 use std::marker::Model;
 
-/// Lines of output, of `N` bytes at most. Callers see the bytes.
+/// Lines of output, at most `N` bytes. Contracts see the bytes.
+// Prover: an `ArrayVec`, since a part of an array whose length is a const parameter cannot be borrowed (docs/PROVER.md,
+// "Workarounds").
 #[derive(Drop)]
 pub struct Lines<const N: usize> {
     bytes: ArrayVec<u8, N>,
@@ -22,7 +24,7 @@ impl<const N: usize> Model for Lines<N> {
 }
 
 impl<const N: usize> Lines<N> {
-    /// No line.
+    /// Makes an empty buffer.
     pub fn new() -> Self
         ensures { result ≡ [] }
     {
@@ -31,21 +33,21 @@ impl<const N: usize> Lines<N> {
         }
     }
 
-    /// What the lines are so far.
+    /// Returns the bytes of the lines so far, borrowed from the buffer.
     pub fn bytes(&self) -> &[u8]
         ensures { result.now ≡ self.now }
     {
         self.bytes.as_slice()
     }
 
-    /// Gives up all lines.
+    /// Drops all lines.
     pub fn clear(&mut self)
         ensures { self.new ≡ [] }
     {
         self.bytes.clear();
     }
 
-    /// Whether there is room for so many bytes more.
+    /// Returns whether there is room for `count` more bytes.
     pub fn has_room(&self, count: usize) -> bool
         ensures { IsTrue result ↔ (length self.now + count ≤ N) }
     {
@@ -60,7 +62,7 @@ impl<const N: usize> Lines<N> {
         self.bytes.try_extend_from_slice(bytes).unwrap();
     }
 
-    /// Appends a number in decimal digits.
+    /// Appends a number in decimal digits, at most 20 bytes.
     pub fn push_number(&mut self, number: u64)
         requires { length self.old + 20 ≤ N }
         ensures decimal { self.new ≡ self.old ++ decimal number }
@@ -70,7 +72,7 @@ impl<const N: usize> Lines<N> {
         self.push(digits.format(number).as_bytes());
     }
 
-    /// Appends the printed form of a text, which has at most four bytes for each of the text's.
+    /// Appends the printed form of a text, at most four bytes for each byte of the text.
     pub fn push_text(&mut self, text: &[u8])
         requires { length self.old + 4 * length text.now ≤ N }
         ensures printed { self.new ≡ self.old ++ printed text.now }

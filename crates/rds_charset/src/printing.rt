@@ -1,4 +1,4 @@
-//! The printed form of a text.
+//! The printed form of a text, written and appended.
 
 ghost use Rattle.std.specs.Prelude.{◌≡◌, ◌≤◌, ◌<◌, ◌+◌, ◌*◌, ◌++◌, length};
 ghost use Rattle.rds_charset.specs.Printed.{printed, printed_byte, shown_character, upper_digit};
@@ -9,22 +9,22 @@ use crate::table::character_of;
 use crate::told::{TellingWrite, WriteFault, put};
 use arrayvec::ArrayVec;
 
-/// How many bytes of a text go out in one chunk.
+/// The most bytes of a text in one chunk.
 const CHUNK: usize = 64;
 
-/// How many bytes such a chunk has at most in its printed form.
+/// The most bytes of the printed form of one chunk.
 const ROOM: usize = 4 * CHUNK;
 
-/// A text can be shown between two of these, so it is never printed as itself.
+/// The quotation mark. It is always escaped, so that a text can be shown between two of them.
 const QUOTATION_MARK: u8 = b'"';
 
 const UPPER_DIGITS: [u8; 16] = *b"0123456789ABCDEF";
 
-/// Writes a text in its printed form, in chunks of 64 bytes of the text.
+/// Writes the printed form of a text, in chunks of 64 bytes of the text.
 ///
 /// # Errors
 ///
-/// [`WriteFault`] at the first write that fails. What was taken before it is out.
+/// [`WriteFault`] at the first write that fails. The bytes that were taken before it are out.
 pub fn write_text<W: TellingWrite>(bytes: &[u8], writer: &mut W) -> Result<(), WriteFault>
     ensures { Puts (traffic W.contents W.failures writer.old writer.new) (printed bytes.now) result }
 {
@@ -36,8 +36,8 @@ pub fn write_text<W: TellingWrite>(bytes: &[u8], writer: &mut W) -> Result<(), W
     Ok(())
 }
 
-/// Appends the printed form of a text to a line that has room for four bytes for each of the
-/// text's, so that a whole line can go out in one write.
+/// Appends the printed form of a text to a line that has room for four bytes for each byte of the text, so that a whole
+/// line can go out in one write.
 pub fn push_text<const N: usize>(text: &[u8], line: &mut ArrayVec<u8, N>)
     requires { length line.old.items + 4 * length text.now ≤ N }
     ensures printed { line.new.items ≡ line.old.items ++ printed text.now }
@@ -66,7 +66,7 @@ fn push_byte<const N: usize>(byte: u8, line: &mut ArrayVec<u8, N>)
     }
 }
 
-/// The character that a byte is printed as, if it isn't printed by its number.
+/// Returns the character as which a byte is printed. None if the byte is escaped.
 fn shown_character(byte: u8) -> Option<char>
     ensures { result ≡ shown_character byte }
 {
@@ -77,7 +77,7 @@ fn shown_character(byte: u8) -> Option<char>
     }
 }
 
-/// The hexadecimal digit of a number below 16, with A to F for 10 to 15.
+/// Returns the hexadecimal digit of a number below 16, with A to F for 10 to 15.
 pub(crate) fn upper_digit(number: u8) -> u8
     requires { number < 16 }
     ensures { result ≡ upper_digit number }

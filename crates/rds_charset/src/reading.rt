@@ -1,4 +1,4 @@
-//! The bytes of a text that is given in its printed form.
+//! The bytes of a text in its printed form.
 
 ghost use Rattle.std.specs.Prelude.{◌≡◌, ◌≤◌, ◌<◌, ◌+◌, ◌*◌, ◌++◌, ◌∷◌, ◌↔◌, [], ℕ, List};
 ghost use Rattle.std.specs.Prelude.{length, take, drop, encode_utf8};
@@ -13,14 +13,14 @@ ghost use Rattle.std.specs.Str.{chars};
 use crate::table::byte_of;
 use thiserror::Error;
 
-/// Why a text can't be read. Places are counted in bytes from the start of the text.
+/// Why a text cannot be read. Places are counted in bytes from the start of the text.
 #[derive(Clone, Copy, Debug, PartialEq, Eq, Error)]
 pub enum TextFault {
     /// The backslash at this place begins no escape.
     #[error("the backslash at byte {0} begins no escape")]
     BadEscape(usize),
 
-    /// The character that begins at this place isn't in the table.
+    /// The character that begins at this place is not in the table.
     #[error("the character at byte {0} is not in the table")]
     NoSuchCharacter(usize),
 
@@ -29,15 +29,14 @@ pub enum TextFault {
     NoRoom,
 }
 
-/// Reads the printed form of a text into the front of a slice, and gives the number of its bytes.
+/// Reads the printed form of a text into the front of a slice, and returns the number of its bytes.
 ///
-/// A text that was printed gives the bytes that it was printed from. The rest of the slice stays
-/// as it was.
+/// A printed text gives the bytes from which it was printed. The rest of the slice does not change.
 ///
 /// # Errors
 ///
-/// [`TextFault::BadEscape`] or [`TextFault::NoSuchCharacter`], whichever stands first in the text,
-/// and [`TextFault::NoRoom`] where the text can be read. The slice is then as it was.
+/// [`TextFault::BadEscape`] or [`TextFault::NoSuchCharacter`], whichever is first in the text, or [`TextFault::NoRoom`]
+/// if the text can be read. The slice does not change then.
 pub fn read_text(text: &str, into: &mut [u8]) -> Result<usize, TextFault>
     ensures read { (bytes : List ℕ) → IsReadAs text.now bytes → length bytes ≤ length into.old
         → result ≡ Ok (length bytes) }
@@ -59,20 +58,20 @@ pub fn read_text(text: &str, into: &mut [u8]) -> Result<usize, TextFault>
     Ok(fill(text, into))
 }
 
-/// The first character of a text that can't be read.
+/// The first character of a text that cannot be read.
 #[derive(Clone, Copy, Debug, PartialEq, Eq)]
 pub struct Stop {
     /// Its place, counted in characters from 1.
     pub place: usize,
-    /// The character: a backslash that does not begin an escape, or a character that the table does not have.
+    /// The character: a backslash that begins no escape, or a character that is not in the table.
     pub character: char,
 }
 
-/// Counts the bytes that a text is read as, however many they are.
+/// Counts the bytes as which a text is read, however many they are.
 ///
 /// # Errors
 ///
-/// The first character that can't be read, if there is one.
+/// The first character that cannot be read, if there is one.
 pub fn measure_text(text: &str) -> Result<usize, Stop>
     ensures ok { IfOk result
         (λ count. (bytes : List ℕ) × IsReadAs text.now bytes × (length bytes ≡ count)) }
@@ -98,7 +97,7 @@ fn count_characters(text: &str) -> usize
     text.chars().count()
 }
 
-/// How many bytes the text is read as.
+/// Counts the bytes as which a text is read. Error if it cannot be read.
 fn count_bytes(text: &str) -> Result<usize, TextFault>
     ensures ok { IfOk result
         (λ count. (bytes : List ℕ) × IsReadAs text.now bytes × (length bytes ≡ count)) }
@@ -116,7 +115,7 @@ fn count_bytes(text: &str) -> Result<usize, TextFault>
     Ok(count)
 }
 
-/// The fault of a text that stops at the place.
+/// Returns the fault of a text that cannot be read further at this place.
 fn fault_at(text: &str, place: usize) -> TextFault
     requires { StopsAt text.now place }
     ensures { StopsBy text.now result }
@@ -128,7 +127,7 @@ fn fault_at(text: &str, place: usize) -> TextFault
     }
 }
 
-/// Puts the bytes of a text into the front of a slice that has room for them.
+/// Puts the bytes of a text into the front of a slice that has room for them, and returns their number.
 fn fill(text: &str, into: &mut [u8]) -> usize
     requires { (bytes : List ℕ)
         × IsReadAs text.now bytes × (length bytes ≤ length into.old) }
@@ -146,7 +145,7 @@ fn fill(text: &str, into: &mut [u8]) -> usize
     count
 }
 
-/// The byte of the symbol that begins the text, and what follows the symbol.
+/// Returns the byte of the symbol that begins the text, and the rest after the symbol. None if no symbol begins it.
 fn first_symbol(text: &str) -> Option<(u8, &str)>
     ensures some { IfSome result (λ found. Begins text.now found.0 found.1.now) }
     ensures none { IfNone result (BeginsNoSymbol text.now) }
@@ -158,7 +157,7 @@ fn first_symbol(text: &str) -> Option<(u8, &str)>
     Some((byte_of(first)?, rest))
 }
 
-/// The byte of an escape that has lost its backslash, and what follows the escape.
+/// Returns the byte of an escape whose backslash was read, and the rest after the escape. None if it is not an escape.
 fn escaped_byte(text: &str) -> Option<(u8, &str)>
     ensures some { IfSome result (λ found. Begins (0x5C ∷ text.now) found.0 found.1.now) }
     ensures none { IfNone result (BeginsNoSymbol (0x5C ∷ text.now)) }
@@ -172,7 +171,7 @@ fn escaped_byte(text: &str) -> Option<(u8, &str)>
     Some((16 * high + low, rest))
 }
 
-/// The first character of a text, and what follows it.
+/// Returns the first character of a text and the rest after it. None if the text is empty.
 fn first_character(text: &str) -> Option<(char, &str)>
     ensures some { IfSome result (λ found. text.now ≡ encode_utf8 found.0 ++ found.1.now) }
     ensures none { IfNone result (text.now ≡ []) }
@@ -182,7 +181,7 @@ fn first_character(text: &str) -> Option<(char, &str)>
     Some((first, characters.as_str()))
 }
 
-/// The number of the hexadecimal digit that begins the text, and what follows it.
+/// Returns the value of the hexadecimal digit that begins the text, and the rest after it. None if no digit begins it.
 fn hex_digit(text: &str) -> Option<(u8, &str)>
     ensures some { IfSome result (λ found. BeginsDigit text.now found.0 found.1.now) }
     ensures none { IfNone result (BeginsNoDigit text.now) }

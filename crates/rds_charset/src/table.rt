@@ -1,11 +1,11 @@
-//! The characters that a text on the air can have, and the bytes that stand for them.
+//! The table: the characters that a text on air can have, and their bytes.
 
 ghost use Rattle.std.specs.Prelude.{◌≡◌, map};
 ghost use Rattle.rds_charset.specs.Stretches.{stretch_of};
 ghost use Rattle.rds_charset.specs.Table.{byte_at, byte_of, character_at, character_of};
 ghost use Rattle.rds_charset.specs.Table.{FitsInBytes, table};
 
-/// Bytes that follow one another, and the characters that they stand for.
+/// Bytes that follow each other, and their characters.
 #[derive(Clone, Copy)]
 struct Stretch {
     first: u8,
@@ -13,7 +13,7 @@ struct Stretch {
 }
 
 impl Stretch {
-    /// The character of the byte, if the byte is one of the stretch's.
+    /// Returns the character of the byte. None if the byte is not in this stretch.
     fn character_of(&self, byte: u8) -> Option<char>
         ensures { result ≡ character_at (stretch_of self.now) byte }
     {
@@ -21,7 +21,7 @@ impl Stretch {
         self.characters.get(usize::from(place)).copied()
     }
 
-    /// The byte of the character, if the character is one of the stretch's.
+    /// Returns the byte of the character. None if the character is not in this stretch.
     fn byte_of(&self, character: char) -> Option<u8>
         requires { FitsInBytes (stretch_of self.now) }
         ensures { result ≡ byte_at (stretch_of self.now) character }
@@ -34,10 +34,10 @@ impl Stretch {
     }
 }
 
-/// Every byte that has a character.
+/// All bytes that have a character.
 ///
-/// This is the project's own table. It follows the basic one of IEC 62106 where that one has a
-/// letter of Western Europe, and nothing rests on the likeness.
+/// This is the project's own table. It follows the basic table of IEC 62106 for letters of Western Europe. Nothing
+/// depends on the likeness.
 static TABLE: [Stretch; 10] = [
     Stretch {
         first: 0x20,
@@ -89,14 +89,14 @@ static TABLE: [Stretch; 10] = [
     },
 ];
 
-/// The table, stretch by stretch.
+/// Returns the table, stretch by stretch.
 fn table() -> &'static [Stretch]
     ensures { map stretch_of result.now ≡ table }
 {
     &TABLE
 }
 
-/// The character that the byte stands for.
+/// Returns the character of the byte. None if it has none.
 pub(crate) fn character_of(byte: u8) -> Option<char>
     ensures { result ≡ character_of byte }
 {
@@ -108,7 +108,7 @@ pub(crate) fn character_of(byte: u8) -> Option<char>
     None
 }
 
-/// The byte that stands for the character.
+/// Returns the byte of the character. None if it is not in the table.
 pub(crate) fn byte_of(character: char) -> Option<u8>
     ensures { result ≡ byte_of character }
 {

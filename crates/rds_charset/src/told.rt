@@ -1,4 +1,4 @@
-//! Readers and writers that count their failures, so that a program can tell them from an end.
+//! Readers and writers that count their failures, so that a program can distinguish a failure from an end.
 ghost use Rattle.std.specs.Prelude.{◌≡◌, ℕ};
 ghost use Rattle.rds_charset.specs.Told.{failures_of, inner_of, next_count, reads_of, traffic, ReadsOne, WritesOne};
 ghost use Rattle.rds_charset.specs.Puts.{Puts};
@@ -7,43 +7,42 @@ ghost use Rattle.rds_charset.specs.Told.{traffic};
 use std::io::{self, Read, Write};
 use thiserror::Error;
 
-/// A reader that counts the reads of it, and those that failed.
+/// A reader that counts its reads and those that failed.
 ///
-/// A caller that is told `None` knows that the count of failures rose, or that it stood at 2^64 - 1,
-/// and a caller of that caller can find the failure by the count alone. By the count of reads it can
-/// find how often it was asked.
+/// If a read returns `None`, the count of failures rose, or it was at 2^64 - 1. So a caller further up can find the
+/// failure by the count alone. By the count of reads it can find how often the reader was asked.
 pub trait TellingRead: Read {
     ghost failures: { Self → ℕ };
 
     ghost reads: { Self → ℕ };
 
-    /// Asks the reader once for bytes, and gives how many it put at the front of `buf`.
+    /// Asks the reader once for bytes, and returns how many it put at the front of `buf`.
     ///
-    /// `Some(0)` means the end, unless `buf` is empty. `None` means a failure: no byte was taken
-    /// from the reader, and what `buf` has is of no use. An interrupted read is a failure too. A
-    /// count that stands at 2^64 - 1 can't rise, so then nothing is asked of the reader.
+    /// `Some(0)` is the end, unless `buf` is empty. `None` is a failure: no byte was taken from the reader, and the
+    /// contents of `buf` have no meaning. An interrupted read is a failure too. If the count of failures is at 2^64 -
+    /// 1, it cannot rise, so the reader is not asked and the call fails.
     fn read_one(&mut self, buf: &mut [u8]) -> Option<usize>
         ensures one { ReadsOne (traffic Self.remaining failures self.old self.new) result buf.new }
         ensures counts { reads self.new ≡ next_count (reads self.old) };
 }
 
-/// A writer that counts the writes to it that failed.
+/// A writer that counts its writes that failed.
 pub trait TellingWrite: Write {
     ghost failures: { Self → ℕ };
 
-    /// Offers the bytes to the writer once, and gives how many of the first of them it took.
+    /// Offers the bytes to the writer once, and returns how many of the first of them it took.
     ///
-    /// `None` means a failure: no byte was taken. A writer that takes no byte of a buffer that has
-    /// some has failed, since it would be asked for ever. As for [`TellingRead::read_one`],
-    /// nothing is asked where the count stands at 2^64 - 1.
+    /// `None` is a failure: no byte was taken. A writer that takes no byte of a buffer that has some has failed, since
+    /// it would be asked for ever. As for [`TellingRead::read_one`], nothing is asked if the count of failures is at
+    /// 2^64 - 1.
     fn write_one(&mut self, buf: &[u8]) -> Option<usize>
         ensures { WritesOne (traffic Self.contents failures self.old self.new) result buf.now };
 }
 
-/// A reader or a writer with the number of its failures so far, and of a reader's counted reads.
+/// A reader or a writer with the count of its failures, and of a reader's counted reads.
 ///
-/// Its bytes are those of the reader or writer that it wraps. The plain `read`, `write` and
-/// `flush` pass through it and count nothing.
+/// Its bytes are those of the reader or writer inside. The plain `read`, `write` and `flush` pass through and count
+/// nothing.
 #[derive(Drop)]
 pub struct Told<T> {
     inner: T,
@@ -52,7 +51,7 @@ pub struct Told<T> {
 }
 
 impl<T> Told<T> {
-    /// Wraps a reader or a writer that hasn't failed yet.
+    /// Wraps a reader or a writer, with all counts 0.
     pub fn new(inner: T) -> Told<T>
         ensures wraps { inner_of result ≡ inner }
         ensures unfailed { failures_of result ≡ 0 }
@@ -65,14 +64,14 @@ impl<T> Told<T> {
         }
     }
 
-    /// Returns the reader or the writer.
+    /// Returns the reader or the writer, borrowed.
     pub fn inner(&self) -> &T
         ensures { result.now ≡ inner_of self.now }
     {
         &self.inner
     }
 
-    /// How many calls of `read_one` and `write_one` failed.
+    /// Returns how many calls of `read_one` and `write_one` failed.
     pub fn failures(&self) -> u64
         ensures { result ≡ failures_of self.now }
     {
@@ -80,7 +79,7 @@ impl<T> Told<T> {
         *failures
     }
 
-    /// How many calls of `read_one` there were. The count stays at 2^64 - 1 once it is there.
+    /// Returns how many calls of `read_one` there were. The count stays at 2^64 - 1.
     pub fn reads(&self) -> u64
         ensures { result ≡ reads_of self.now }
     {
@@ -146,7 +145,7 @@ impl<T: Write> TellingWrite for Told<T> {
     }
 }
 
-/// A reader that is lent tells its failures too.
+/// Counts the failures and reads of a borrowed reader in the reader itself.
 impl<R: TellingRead> TellingRead for &mut R {
     ghost failures = { λ reader. R.failures reader.now };
 
@@ -157,12 +156,12 @@ impl<R: TellingRead> TellingRead for &mut R {
     }
 }
 
-/// The writer failed before all of the bytes were out.
+/// The writer failed before it took all of the bytes.
 #[derive(Clone, Copy, Debug, PartialEq, Eq, Error)]
 #[error("the writer failed")]
 pub struct WriteFault;
 
-/// Writes all of the bytes, in as many writes as the writer asks for.
+/// Writes all of the bytes, in as many writes as the writer needs.
 ///
 /// # Errors
 ///

@@ -1,4 +1,4 @@
--- Which broadcast of a plan covers the slot that is reached.
+-- Lemmas: which broadcast of a plan covers the current slot.
 use Rattle.std.proofs.Common.{◌≡◌, ℕ, ◌-◌, ◌<◌, ◌≤◌, List, [], ◌∷◌, Bool, true, false, cond, Option, Some, None, refl, sym, ap, ◌⊎◌, inl, inr, length, arith, is_ok}
 use Rattle.rds_encoder.specs.Entries.{Move, Begin, Set, End, slot_of}
 use Rattle.rds_encoder.specs.Plan.{Broadcast, HasNumber, OnAir, ending_in, endless, next_flag, on_air, plan_of}
@@ -23,11 +23,11 @@ planned m end (Set x ∷ before) air e = by_reply (is_ok (reply_to m before)) re
     by_reply true r f rest = rw r (length (plan_of m (slot_of before - 1) before), inl (refl, ap (ending_in end) (sym (ap or_nothing f))))
     by_reply false r f rest = rw r (rest f)
 
--- a broadcast is on air yet, with the end that is given, or it ended before the slot that is reached
+-- a broadcast is still on air, with slot `end` as its end, or it ended before the current slot
 abbrev LastsOrEnded : ℕ → ℕ → List Move → Broadcast → Type 0
 LastsOrEnded m end moves b = ((on_air m moves ≡ Some (endless b)) × (b.end ≡ end)) ⊎ (b.end < slot_of moves)
 
--- where the next one begins, it has ended
+-- it has ended when the next one begins
 ended : (m : ℕ) (moves : List Move) (b : Broadcast) → 0 < m → LastsOrEnded m (slot_of moves - 1) moves b → b.end < slot_of moves
 ended m moves b lasts (inl lasting) = omega (arith, (air_since m moves (endless b) lasting.0).0, (air_since m moves (endless b) lasting.0).1, lasting.1)
 ended m moves b lasts (inr over) = over
@@ -56,7 +56,7 @@ lasts_or_ended m (Set x ∷ before) lasts end k b h =
     by_reply true r g closed lasting = rw r (by_number (rw r at g) closed)
     by_reply false r g closed lasting = rw r (lasting (rw r at g))
 
--- the one that covers the slot that is reached is on air
+-- the broadcast that covers the current slot is on air
 pub covers_now : (m : ℕ) (moves : List Move) (k : ℕ) (b : Broadcast) → 0 < m → HasNumber (plan_of m (slot_of moves) moves) k b → slot_of moves ≤ b.end → on_air m moves ≡ Some (endless b)
 covers_now m moves k b lasts h to = by_state (lasts_or_ended m moves lasts (slot_of moves) k b h)
   where

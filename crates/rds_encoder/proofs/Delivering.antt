@@ -1,4 +1,4 @@
--- A text that is on air is sent whole in twice as many free slots as it has segments, and a name in eight.
+-- Lemmas: a text on air is sent whole in twice as many free slots as it has segments, and a name in eight.
 use Rattle.std.proofs.Common.{◌≡◌, ◌⊎◌, ℕ, zero, suc, ◌+◌, ◌*◌, ◌/◌, ◌%◌, ◌<◌, ◌≤◌, List, [], ◌∷◌, ◌++◌, Bool, true, false, nat_le, Some, refl, ap, ◌∙◌, subst, inl, inr, arith}
 use Rattle.std.specs.Prelude.{◌==◌}
 use Rattle.std.proofs.lemmas.Bool.{cases_lt, eqb-false, eqb-true, le-leb}
@@ -17,7 +17,7 @@ use Rattle.rds_encoder.proofs.OnAir.{air_since}
 use Rattle.rds_encoder.proofs.Replies.{same_restart, same_slot}
 use Rattle.rds_encoder.proofs.Turns.{even_is_text}
 
--- of n numbers in a row one has the rest a
+-- one of n numbers in a row has the remainder a
 one_of_rest : (n first a : ℕ) → a < n → (j : ℕ) × (first ≤ j) × (j < first + n) × (j % n ≡ a)
 one_of_rest n first a h = by_rest (cases_lt a (first % n))
   where
@@ -38,7 +38,7 @@ is_on : (moves : List Entry → List Move) (m : ℕ) (air : OnAir) (later earlie
 is_on moves m air [] earlier t = t
 is_on moves m air (entry ∷ later) earlier t = t.0
 
--- where something is on air each free slot has a turn
+-- the silence is over, so each free slot has a turn
 abbrev IsLoud : ℕ → List Entry → Type 0
 IsLoud m entries = restart_before (text_moves entries) + m ≤ slot_of (text_moves entries)
 
@@ -54,7 +54,7 @@ has_turn m entries loud = le-leb (restart_before (text_moves entries) + m) (slot
 one_turn : (m : ℕ) (entries : List Entry) → IsLoud m entries → turn_of m (text_moves (Tick true ∷ entries)) ≡ 1 + turn_of m (text_moves entries)
 one_turn m entries loud = ap (λ (b : Bool). one_if b + turn_of m (text_moves entries)) (has_turn m entries loud)
 
--- what a slot with a turn sends
+-- the message of a slot with a turn
 sends : (m : ℕ) (entries : List Entry) (t : Turn) → IsLoud m entries → turn_in (turn_of m (text_moves entries) % 8) ≡ t → sent_in m true entries ≡ sent_at_turn m t entries
 sends m entries t loud is = rw (has_turn m entries loud, is) refl
 
@@ -80,7 +80,7 @@ one_text_turn m air entries since = by_test (turn_of m (text_moves entries) % 2 
     by_test true t = rw (t, began) refl
     by_test false f = rw f refl
 
--- turns and text turns go on with the free slots
+-- turns and text turns count the free slots
 record Counts (m : ℕ) (air : OnAir) (later earlier : List Entry) : Type 0 where
   turns : turn_of m (text_moves (later ++ earlier)) ≡ free_in later + turn_of m (text_moves earlier)
   texts : text_turns m air (later ++ earlier) + (turn_of m (text_moves earlier) + 1) / 2 ≡ text_turns m air earlier + (turn_of m (text_moves (later ++ earlier)) + 1) / 2

@@ -1,4 +1,4 @@
--- The group of a message that is sent.
+-- Lemmas: the group of a message that is sent.
 use Rattle.std.proofs.Common.{◌≡◌, Option, Some, None, refl, subst}
 use Rattle.std.specs.Prelude.{◌≢◌, ◌↔◌, IfSome, IsNone}
 use Rattle.rds_block.specs.declared.group.Group.{Group}

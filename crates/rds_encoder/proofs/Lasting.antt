@@ -1,4 +1,4 @@
--- What was on air stays planned, and was on air before.
+-- Lemmas: what was on air stays planned, and was on air before.
 use Rattle.std.proofs.Common.{◌≡◌, ℕ, ◌-◌, ◌<◌, ◌≤◌, List, [], ◌∷◌, ◌++◌, Bool, true, false, Option, Some, None, refl, sym, ap, inl, inr, ◌⊎◌, arith, is_ok, length}
 use Rattle.rds_encoder.specs.Entries.{Move, Begin, Set, End, slot_of}
 use Rattle.rds_encoder.specs.Reply.{reply_to}
@@ -56,7 +56,7 @@ pub was_on_air : (m : ℕ) (later earlier : List Move) (air : OnAir) → on_air 
 was_on_air m [] earlier air on since = on
 was_on_air m (move ∷ later) earlier air on since = was_on_air m later earlier air (back m move (later ++ earlier) air (omega (arith, slots_rise later earlier)) on) since
 
--- what is planned was accepted
+-- each planned broadcast was accepted
 pub was_accepted : (m end : ℕ) (moves : List Move) (k : ℕ) (b : Broadcast) → HasNumber (plan_of m end moves) k b → WasAccepted m b.start b.bytes moves
 was_accepted m end [] k b n = absurd n
 was_accepted m end (Begin ∷ before) k b n = was_accepted m (slot_of before - 1) before k b n

@@ -1,4 +1,4 @@
--- Broadcasts by their numbers.
+-- Lemmas: broadcasts by their numbers.
 use Rattle.std.proofs.Common.{◌≡◌, ◌+◌, ◌-◌, ◌<◌, ◌≤◌, ℕ, zero, suc, List, [], ◌∷◌, length, refl, sym, ◌∙◌, subst, inl, inr, arith}
 use Rattle.std.proofs.lemmas.Bool.{cases_lt}
 use Rattle.rds_encoder.specs.Plan.{Broadcast, HasNumber}

@@ -1,4 +1,4 @@
--- What is on air, beside the last accepted set and the flag of the next.
+-- Lemmas: what is on air, beside the last accepted set and the flag of the next one.
 use Rattle.std.proofs.Common.{◌≡◌, ℕ, zero, suc, ◌+◌, ◌-◌, ◌*◌, ◌%◌, ◌<◌, ◌≤◌, List, [], ◌∷◌, Bool, true, false, cond, nat_lt, nat_le, Option, Some, None, refl, sym, ap, ◌∙◌, arith, is_ok, option_map}
 use mathlib.Core.Bool.{not}
 use Rattle.std.specs.Prelude.{◌==◌, IfSome}
@@ -37,7 +37,7 @@ abbrev flag_or : Option OnAir → Bool
 flag_or None = false
 flag_or (Some air) = air.flag
 
--- what is on air has the flag that the next one has not
+-- what is on air has the flag that the next one does not have
 pub flag_on_air : (m : ℕ) (moves : List Move) (air : OnAir) → on_air m moves ≡ Some air → not (next_flag m moves) ≡ air.flag
 flag_on_air m [] air e = absurd (cc)
 flag_on_air m (Begin ∷ before) air e = absurd (cc)
@@ -50,7 +50,7 @@ flag_on_air m (Set x ∷ before) air e = by_reply (is_ok (reply_to m before)) re
     by_reply true r f rest = rw r (sym (other_parity (accepted m before)) ∙ ap flag_or f)
     by_reply false r f rest = rw r (rest f)
 
--- a set is accepted once the silence is over
+-- a set is accepted only after the silence
 pub since_silence : (m : ℕ) (moves : List Move) → IfSome (last_accepted m moves) (λ a. (restart_before moves + m ≤ a) × (a ≤ slot_of moves))
 since_silence m [] = tt
 since_silence m (Begin ∷ before) = tt
@@ -70,7 +70,7 @@ since_silence m (Set x ∷ before) = by_reply (is_ok (reply_to m before)) refl (
     by_reply true e rest = rw e (by_test (nat_lt (slot_of before) (restart_before before + m)) refl e, omega arith)
     by_reply false e rest = rw e rest
 
--- in silence nothing holds a set back
+-- nothing is held back in the silence
 pub not_held_in_silence : (m : ℕ) (moves : List Move) → slot_of moves < restart_before moves + m → last_accepted m moves ≡ None
 not_held_in_silence m moves h = by_last (last_accepted m moves) (since_silence m moves)
   where
@@ -78,7 +78,7 @@ not_held_in_silence m moves h = by_last (last_accepted m moves) (since_silence m
     by_last None s = refl
     by_last (Some a) s = absurd (omega (arith, s.0, s.1))
 
--- twice the dwell has at most the dwell left once the dwell has passed
+-- a hold of 2m slots has at most m slots left exactly if m slots have passed
 pub lasts_alike : (left m start now : ℕ) → left ≡ start + 2 * m - now → nat_le left m ≡ nat_le (start + m) now
 lasts_alike left m start now e = by_test (nat_le left m) refl
   where

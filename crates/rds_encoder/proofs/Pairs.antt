@@ -1,4 +1,4 @@
--- A pair is on air with a text only.
+-- Lemmas: a pair is on air only with a text.
 use Rattle.std.proofs.Common.{◌≡◌, ◌+◌, ℕ, List, [], ◌∷◌, length, Bool, true, false, nat_lt, nat_le, Option, Some, None, Ok, Err, refl, sym, is_ok, option_map}
 use Rattle.rds_fields.specs.declared.pair.Which.TheVariants.{One, Two}
 use Rattle.rds_encoder.specs.declared.reply.Refusal.TheVariants.{NoText, OutOfText}
@@ -10,7 +10,7 @@ use Rattle.rds_encoder.specs.Reply.{reply_to}
 use Rattle.rds_encoder.specs.Tags.{fitting_reply, pair_on_air, tags_reply}
 use Rattle.rds_encoder.specs.Sent.{tags_due}
 
--- nothing on air, no pair
+-- without a text on air there is no pair
 pub no_pair : (m : ℕ) (entries : List Entry) → on_air m (text_moves entries) ≡ None → pair_on_air m entries ≡ None
 no_pair m [] h = refl
 no_pair m (Restart ∷ before) h = refl
@@ -39,12 +39,12 @@ with_pair m entries pair h = by_air (on_air m (text_moves entries)) refl
     by_air None e = absurd (let gone = no_pair m entries e in cc)
     by_air (Some air) e = (air, e)
 
--- the tags are due once the text has been on air for the dwell
+-- tags are due if the text has been on air for m slots
 pub due : (m now : ℕ) (on_air : Option OnAir) (told : Option PairFields) (air : OnAir) (pair : PairFields) (lasted : Bool) → on_air ≡ Some air → told ≡ Some pair
     → lasted ≡ nat_le (air.start + m) now → lasted ≡ true → Some (Tags pair) ≡ tags_due m now on_air told
 due m now on_air told air pair lasted on has test done = rw (on, has, sym test, done) refl
 
--- the reply to a pair, where none is on air, or a text of these bytes
+-- the reply to a pair, if no text is on air, or a text of these bytes
 pub no_text : (pair : PairFields) (o : Option OnAir) → None ≡ option_map bytes_of o → Err NoText ≡ fitting_reply pair o
 no_text pair None e = refl
 no_text pair (Some air) e = absurd (cc)

@@ -1,4 +1,4 @@
--- Replies, part by part.
+-- Lemmas: replies, part by part.
 use Rattle.std.proofs.Common.{◌≡◌, ℕ, ◌+◌, ◌-◌, ◌*◌, ◌<◌, List, [], ◌∷◌, Bool, true, false, nat_lt, Option, Some, None, Ok, Err, refl, sym, ap, arith}
 use Rattle.std.proofs.lemmas.Bool.Decides.{nat_tests}
 use Rattle.rds_encoder.specs.declared.reply.Refusal.{Refusal}
@@ -9,7 +9,7 @@ use Rattle.rds_encoder.specs.StandsAt.{hold_left}
 use Rattle.std.specs.Result.{IsErrAnd}
 use Rattle.rds_encoder.proofs.OnAir.{not_held_in_silence}
 
--- a refusal for silence stands whatever the reply were without it
+-- a refusal as silent does not depend on the rest of the reply
 pub silent_first : (m now start : ℕ) (r : Refusal) (reply : Reply) → unless_silent m now start (Ok tt) ≡ Err r → unless_silent m now start reply ≡ Err r
 silent_first m now start r reply e = by_test (nat_lt now (start + m)) refl
   where
@@ -17,7 +17,7 @@ silent_first m now start r reply e = by_test (nat_lt now (start + m)) refl
     by_test true t = rw t (rw t at e)
     by_test false t = absurd (let bad : Ok tt ≡ Err r = rw t at e in cc)
 
--- where the silence is over, the reply is the one without it
+-- after the silence, the reply is the rest of it
 pub silence_over : (m now start : ℕ) (reply : Reply) → unless_silent m now start (Ok tt) ≡ Ok tt → unless_silent m now start reply ≡ reply
 silence_over m now start reply e = by_test (nat_lt now (start + m)) refl
   where
@@ -42,7 +42,7 @@ same_restart (SetName x ∷ before) = same_restart before
 same_restart (SetTags pair ∷ before) = same_restart before
 same_restart (Tick free ∷ before) = same_restart before
 
--- what is left of a hold is what the reply says
+-- the slots left of a hold are those of the reply
 pub left_of_hold : (m : ℕ) (moves : List Move) → held_for (reply_to m moves) ≡ hold_left m (slot_of moves) (last_accepted m moves)
 left_of_hold m moves = by_test (nat_lt (slot_of moves) (restart_before moves + m)) refl
   where

@@ -1,4 +1,4 @@
--- What is sent is of what is on air.
+-- Lemmas: what is sent is of what is on air.
 use Rattle.std.proofs.Common.{◌≡◌, ℕ, zero, suc, ◌+◌, ◌-◌, ◌%◌, ◌<◌, ◌≤◌, List, [], ◌∷◌, Bool, true, false, nat_eq, nat_le, Option, Some, None, refl, subst, arith, length, replicate, length-append, is_ok, nat_lt}
 use Rattle.std.proofs.lemmas.Bool.{cond_both, leb-true}
 use Rattle.std.proofs.lemmas.Bool.Decides.{nat_tests}
@@ -23,7 +23,7 @@ at_turn : (m : ℕ) (free : Bool) (before : List Entry) (message : Message) → 
 at_turn m free before message = cond_both (is_turn m free (text_moves before)) (sent_at_turn m (turn_in (turn_of m (text_moves before) % 8)) before) None
     (λ (o : Option Message). o ≡ Some message → sent_at_turn m (turn_in (turn_of m (text_moves before) % 8)) before ≡ Some message) (λ t e. e) (λ f e. absurd (cc))
 
--- a text has a segment, and a name two
+-- a text has at least one segment
 some_segment : (x : List ℕ) → 0 < segment_count (text_body x)
 some_segment x = by_length (nat_eq (length x) 64) refl
   where
@@ -34,7 +34,7 @@ some_segment x = by_length (nat_eq (length x) 64) refl
 two_segments : (x : List ℕ) → 2 ≤ segment_count (name_body x)
 two_segments x = omega (arith, length-append x (replicate (8 - length x) 32), length-replicate {A = ℕ} (8 - length x) 32)
 
--- each turn of the round is one
+-- each turn of the round is valid
 is_turn_in : (place : ℕ) → IsTurn (turn_in place)
 is_turn_in zero = tt
 is_turn_in (suc zero) = omega arith
@@ -100,7 +100,7 @@ name_sent m free before f a x e = by_turn (turn_in (turn_of m (text_moves before
     by_turn turn.Announcement is e = absurd (cc)
     by_turn turn.Tags is e = absurd (by_tags (on_air m (text_moves before)) (pair_on_air m before) e)
 
--- tags
+-- tags are of the text on air
 abbrev AreSentOf : ℕ → List Entry → PairFields → Type 0
 AreSentOf m before pair = (air : OnAir) × (on_air m (text_moves before) ≡ Some air) × (pair_on_air m before ≡ Some pair) × (air.start + m ≤ slot_of (text_moves before))
 

@@ -1,4 +1,4 @@
--- One more set: what the encoder goes on to hold stands at the longer list.
+-- Lemmas about one more set: the state of the encoder follows from the longer list.
 use Rattle.std.proofs.Common.{◌≡◌, ℕ, List, ◌∷◌, true, false, Some, None, Ok, Err, refl, sym, ap, arith, is_ok}
 use Rattle.std.specs.Prelude.{OnErr, OnOk}
 use Rattle.std.proofs.Math.Nat.{zero-mod}
@@ -27,7 +27,7 @@ text_accepted station m e track entries x st ok back on =
       pair = rw done refl;
     }
 
--- a name that is accepted, and one that is refused
+-- a name that is accepted, or refused
 pub name_accepted : (station : Head) (m : ℕ) (e : EncoderState) (track : TrackState (List ℕ)) (entries : List Entry) (x : List ℕ)
     → StandsAt station m e entries → reply_to m (name_moves entries) ≡ Ok tt → HoldsBack m track.hold (Set x ∷ name_moves entries) → track.on_air ≡ Some x
     → StandsAt station m record { head = e.head; distance = e.distance; silence = e.silence; round = e.round; text = e.text; name = track; pair = e.pair } (SetName x ∷ entries)
@@ -58,7 +58,7 @@ name_refused station m e entries x st absent = record {
   pair = st.pair;
 }
 
--- a name that is set, where the silence is over
+-- a name that is set after the silence
 pub name_set : (station : Head) (m : ℕ) (e : EncoderState) (track : TrackState (List ℕ)) (entries : List Entry) (x : List ℕ) (reply : Reply)
     → StandsAt station m e entries → reply ≡ reply_to m (name_moves entries) → OnErr reply (track ≡ e.name) → OnOk reply (track.on_air ≡ Some x)
     → OnOk reply ((moves : List Move) (y : List ℕ) → HoldsBack m e.name.hold moves → reply_to m moves ≡ Ok tt → HoldsBack m track.hold (Set y ∷ moves))

@@ -1,4 +1,4 @@
--- The broadcasts of a plan are spaced.
+-- Lemmas: the broadcasts of a plan are spaced.
 use Rattle.std.proofs.Common.{◌≡◌, ◌≢◌, ℕ, ◌+◌, ◌-◌, ◌*◌, ◌<◌, ◌≤◌, List, [], ◌∷◌, Bool, true, false, nat_lt, Option, Some, None, refl, sym, ap, ◌∙◌, subst, ◌⊎◌, inl, inr, length, arith, is_ok, option_map}
 use mathlib.Core.Bool.{not}
 use Rattle.std.specs.Prelude.{IfSome}
@@ -16,7 +16,7 @@ restart_by_now (Begin ∷ before) = omega arith
 restart_by_now (Set x ∷ before) = restart_by_now before
 restart_by_now (End free ∷ before) = omega (arith, restart_by_now before)
 
--- a set is accepted where the silence is over, and twice the dwell has passed since the one before
+-- a set is accepted only if the silence is over and 2m slots have passed since the one before
 not_held_back : (m now : ℕ) (last : Option ℕ) → is_ok (held_reply m now last) ≡ true → IfSome last (λ a. a + 2 * m ≤ now)
 not_held_back m now None h = tt
 not_held_back m now (Some a) h = cond_both (nat_lt now (a + 2 * m)) _ _ (λ (r : Reply). is_ok r ≡ true → a + 2 * m ≤ now) (λ t e. absurd (cc)) (λ f e. ltb-false _ _ f) h
@@ -26,7 +26,7 @@ when_accepted m now start last h =
     cond_both (nat_lt now (start + m)) _ _ (λ (r : Reply). is_ok r ≡ true → (start + m ≤ now) × IfSome last (λ a. a + 2 * m ≤ now))
     (λ t e. absurd (cc)) (λ f e. (ltb-false _ _ f, not_held_back m now last e)) h
 
--- so what is on air then began twice the dwell before
+-- so what was on air then began at least 2m slots before
 long_on_air : (m : ℕ) (moves : List Move) (air : OnAir) → is_ok (reply_to m moves) ≡ true → on_air m moves ≡ Some air → air.start + 2 * m ≤ slot_of moves
 long_on_air m moves air ok on =
     let last : last_accepted m moves ≡ Some air.start = sym (start_on_air m moves) ∙ ap (option_map start_of) on in
@@ -36,7 +36,7 @@ long_on_air m moves air ok on =
 abbrev IsOn : ℕ → ℕ → List Move → ℕ → Broadcast → Type 0
 IsOn m end moves k b = (on_air m moves ≡ Some (endless b)) × (b.end ≡ end) × (k + 1 ≡ length (plan_of m end moves))
 
--- it ended before the last restart, or before what is on air began
+-- the broadcast ended before the last restart, or before what is on air began
 abbrev IsOver : ℕ → List Move → Broadcast → Type 0
 IsOver m moves b = (b.end < restart_before moves) ⊎ ((air : OnAir) × (on_air m moves ≡ Some air) × (b.end < air.start))
 
@@ -68,7 +68,7 @@ on_or_over m (Set x ∷ before) lasts end k b n =
     by_reply true r g closed lasting = rw r (by_number (rw r at g) closed)
     by_reply false r g closed lasting = rw r (lasting (rw r at g))
 
--- where the broadcast a with number k lies before one that begins in this slot with this flag
+-- broadcast a, with number k, is far enough before one that begins in this slot with this flag
 abbrev IsBefore : ℕ → ℕ → Bool → List Broadcast → ℕ → Broadcast → Type 0
 IsBefore d slot flag older k a = (a.end < slot) × (((a.flag ≢ flag) × (k + 1 ≡ length older)) ⊎ (a.end + d ≤ slot))
 
@@ -91,7 +91,7 @@ before_next m moves k a lasts ok n = by_place (on_or_over m moves lasts (slot_of
         let long = long_on_air m moves over.0 ok over.1 in
         (omega (arith, long, over.2), inr (omega (arith, long, over.2)))
 
--- one more broadcast on a spaced plan
+-- one more broadcast in a spaced plan
 on_top : (d : ℕ) (b : Broadcast) (older : List Broadcast) → IsSpaced d older → b.start ≤ b.end
     → ((k : ℕ) (a : Broadcast) → HasNumber older k a → IsBefore d b.start b.flag older k a) → IsSpaced d (b ∷ older)
 on_top d b older s last next = record { lasts = lasts; order = order; apart = apart; far = far }

@@ -1,4 +1,4 @@
--- One more slot that ended: what the encoder goes on to hold stands at the longer list.
+-- Lemmas about one more slot that ended: the state of the encoder follows from the longer list.
 use Rattle.std.proofs.Common.{◌≡◌, ◌≢◌, ℕ, zero, suc, ◌+◌, ◌-◌, ◌%◌, ◌<◌, ◌≤◌, List, [], ◌∷◌, Bool, true, false, nat_le, Option, Some, None, refl, sym, ap, ◌∙◌, arith, option_map, ◌⊎◌, inl, inr}
 use Rattle.std.specs.Prelude.{◌&&◌, ◌↔◌}
 use Rattle.std.proofs.Math.Nat.{suc-mod}
@@ -16,7 +16,7 @@ use Rattle.rds_encoder.specs.StandsAt.{Follows, HoldsBack, StandsAt, silence_lef
 use Rattle.rds_encoder.specs.State.{EncoderState, TextState, TrackState, advanced}
 use Rattle.rds_encoder.specs.Tags.{pair_on_air}
 
--- no slot yet is as late as this one
+-- no slot so far is as late as slot a
 pub none_yet : (test : Bool → List Move → Bool) (a : ℕ) (moves : List Move) → slot_of moves ≤ a → count_from test a moves ≡ 0
 none_yet test a [] h = refl
 none_yet test a (Begin ∷ before) h = none_yet test a before h
@@ -26,7 +26,7 @@ none_yet test a (End free ∷ before) h =
     let rest = none_yet test a before (omega arith) in
     rw (and_right (test free before) (nat_le a (slot_of before)) later, rest) refl
 
--- whether the slot that is reached is one of the text that began in slot a
+-- whether the current slot has a turn of the text that began in slot a
 abbrev is_of_text : ℕ → Bool → List Move → ℕ → Bool
 is_of_text m free moves a = is_text_turn m free moves && nat_le a (slot_of moves)
 
@@ -45,7 +45,7 @@ address_next m free moves air taken =
     let next : suc (j % n) ≡ j % n + 1 = omega arith in
     rw (taken, more) (suc-mod j n ∙ ap (λ k. k % n) next)
 
--- the text keeps its next segment, or goes on to the one after it
+-- the text keeps its next segment, or moves to the one after it
 text_kept : (m : ℕ) (free : Bool) (moves : List Move) (o : Option OnAir) → ((air : OnAir) → o ≡ Some air → is_of_text m free moves air.start ≡ false)
     → option_map (with_next m moves) o ≡ option_map (with_next m (End free ∷ moves)) o
 text_kept m free moves None absent = refl
@@ -62,7 +62,7 @@ text_next m free moves (Some air) taken = ap (λ k. Some (state k)) (sym (addres
     state : ℕ → TextState
     state k = record { bytes = air.bytes; next = k }
 
--- in a slot with no turn, free or not, the text keeps its next segment
+-- in a slot without a turn, free or not, the text keeps its next segment
 pub text_waits : (m : ℕ) (free : Bool) (moves : List Move) (text : Option TextState) → text ≡ option_map (with_next m moves) (on_air m moves) → is_turn m free moves ≡ false
     → text ≡ option_map (with_next m (End free ∷ moves)) (on_air m moves)
 text_waits m free moves text at absent = at ∙ text_kept m free moves (on_air m moves) (λ air on. not_of_text free absent (air_since m moves air on))
@@ -71,7 +71,7 @@ text_waits m free moves text at absent = at ∙ text_kept m free moves (on_air m
     not_of_text false n since = refl
     not_of_text true n since = absurd (grind (arith, nat_tests, since.0, since.1, n))
 
--- in an even turn the text goes on to its next segment, in an odd one it does not
+-- in an even turn the text moves to its next segment, in an odd turn it does not
 pub text_goes_on : (m : ℕ) (moves : List Move) (text : Option TextState) → text ≡ option_map (with_next m moves) (on_air m moves) → turn_of m moves % 2 ≡ 0
     → option_map advanced text ≡ option_map (with_next m (End true ∷ moves)) (on_air m moves)
 text_goes_on m moves text at even = ap (option_map advanced) at ∙ text_next m true moves (on_air m moves) (λ air on. of_text even (air_since m moves air on))
@@ -85,7 +85,7 @@ pub text_stays : (m : ℕ) (moves : List Move) (text : Option TextState) → tex
     → text ≡ option_map (with_next m (End true ∷ moves)) (on_air m moves)
 text_stays m moves text at odd = at ∙ text_kept m true moves (on_air m moves) (λ air on. rw odd refl)
 
--- the turn that is next, in a slot that has none and in one that has
+-- the next turn, after a slot without a turn and after one with a turn
 pub round_waits : (m : ℕ) (free : Bool) (moves : List Move) (place : ℕ) → place ≡ turn_of m moves % 8 → is_turn m free moves ≡ false → place ≡ turn_of m (End free ∷ moves) % 8
 round_waits m free moves place at absent =
     let same : 0 + turn_of m moves ≡ turn_of m moves = omega arith in

@@ -1,4 +1,4 @@
--- Rows worked by hand, for the definitions. Lists have the newest first.
+-- Worked examples of the definitions, calculated by hand. Lists have the newest first.
 use Rattle.std.proofs.Common.{◌≡◌, ℕ, Bool, true, false, List, [], ◌∷◌, ◌++◌, Option, Some, None, Ok, Err, refl, replicate}
 use Rattle.rds_fields.specs.declared.message.Message.{Message}
 use Rattle.rds_fields.specs.declared.message.Message.TheVariants.{Text, Name, Tags}
@@ -12,7 +12,7 @@ use Rattle.rds_encoder.specs.Reply.{reply_to}
 use Rattle.rds_encoder.specs.Sent.{sent_in}
 use Rattle.rds_encoder.specs.Tags.{pair_on_air, tags_reply}
 
--- what each slot that ended sent
+-- what was sent in each slot that ended
 abbrev sent : ℕ → List Entry → List (Option Message)
 sent m [] = []
 sent m (Restart ∷ before) = sent m before
@@ -48,8 +48,7 @@ tag class start extra = record { class = class; start = start; extra = extra }
 abbrev pair : Bool → TagFields → TagFields → PairFields
 pair toggle one two = record { toggle = toggle; running = true; one = one; two = two }
 
--- silence, dwell and age: at a dwell of 4 a text set in the slots 0 and 3 is refused as silent, and accepted in
--- slot 4
+-- silence, dwell and age: with a spacing of 4, a text set in slots 0 and 3 is refused as silent, and accepted in slot 4
 silent_in_0 : reply_to 4 [] ≡ Err (Silent 4)
 silent_in_0 = refl
 
@@ -74,8 +73,7 @@ sent_to_8 = refl
 planned_to_8 : plan_of 4 8 (text_moves accepted_in_4) ≡ record { start = 4; end = 8; flag = false; bytes = hi } ∷ []
 planned_to_8 = refl
 
--- held back for twice the dwell: a text that was accepted in slot 4 holds the next one back to slot 11, at a
--- dwell of 4
+-- held for twice the spacing of 4: a text accepted in slot 4 holds the next one back up to slot 11
 abbrev reaches_11 : List Entry
 reaches_11 = other_slots 7 ++ SetText hi ∷ other_slots 4
 
@@ -94,7 +92,7 @@ sent_in_12 = refl
 no_text_in_4 : tags_reply 4 (pair true (tag 4 0 3) (tag 1 7 7)) (free_slots 4) ≡ Err NoText
 no_text_in_4 = refl
 
--- a restart in slot 5 ends the text, keeps silence to slot 8, and begins with flag 0 again
+-- a restart in slot 5 takes the text off air, is silent up to slot 8, and begins with flag 0 again
 abbrev restarted : List Entry
 restarted = free_slots 3 ++ Restart ∷ Tick true ∷ SetText hi ∷ free_slots 4
 
@@ -127,7 +125,7 @@ tags_to_11 : sent 4 (free_slots 7 ++ SetTags artist_and_title ∷ Tick true ∷ 
     ∷ Some (Text false 0 (0x41 ∷ 0x42 ∷ 0x42 ∷ 0x41 ∷ [])) ∷ nothing 4
 tags_to_11 = refl
 
--- the whole round, at a dwell of 1: text and name of slot 1, and the same text again in slot 3 with its tags
+-- the whole round, with a spacing of 1: text and name of slot 1, and the same text again in slot 3 with its tags
 abbrev jazz : List ℕ
 jazz = 0x4A ∷ 0x41 ∷ 0x5A ∷ 0x5A ∷ 0x20 ∷ 0x46 ∷ 0x4D ∷ 0x20 ∷ []
 
@@ -163,7 +161,7 @@ whole_round : sent 1 (free_slots 6 ++ to_slot_3)
     ∷ Some (Name false 0 (0x4A ∷ 0x41 ∷ 0x5A ∷ 0x5A ∷ [])) ∷ hi_segment false ∷ None ∷ []
 whole_round = refl
 
--- the first tags after a text of slot 16 are sent in slot 39, at a dwell of 16
+-- the first tags after a text of slot 16 are sent in slot 39, with a spacing of 16
 abbrev to_slot_39 : List Entry
 to_slot_39 = free_slots 22 ++ SetTags title ∷ Tick true ∷ SetText hi ∷ free_slots 16
 

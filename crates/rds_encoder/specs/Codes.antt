@@ -1,4 +1,5 @@
--- Codes: what an encoder holds is stored as its fields.
+-- Codes: an encoder and its parts are stored as their fields.
+-- Prover: a `Result` can hold only a type with a code (docs/PROVER.md, "Workarounds").
 use Rattle.std.specs.Prelude.{ℕ, Bool, List, Option, refl}
 use Rattle.std.specs.Coded.{Coded, code_by, coded×, coded_ℕ, coded_bool, coded_list, coded_option}
 use Rattle.rds_fields.specs.Codes.{head_code, pair_code}

@@ -1,5 +1,6 @@
--- What a station owes those who listen all the while (this project's own schedule): a text that is on air is sent
--- whole in twice as many free slots as it has segments, and a name in eight. Lists have the newest first.
+-- What a station promises to receivers that listen all the time (this project's own schedule): a text on air is sent
+-- whole in twice as many free slots as it has segments, and a name in eight. Here m is the spacing d. Lists have the
+-- newest first.
 use Rattle.std.specs.Prelude.{◌≡◌, ◌≤◌, ◌<◌, ◌⊎◌, ◌+◌, ◌*◌, ℕ, List, [], ◌∷◌, ◌++◌, Some}
 use Rattle.rds_fields.specs.declared.message.Message.{Message}
 use Rattle.rds_fields.specs.declared.message.Message.TheVariants.{Text, Name}
@@ -8,7 +9,7 @@ use Rattle.rds_encoder.specs.Entries.{Entry, Restart, SetText, SetName, SetTags,
 use Rattle.rds_encoder.specs.Plan.{OnAir, on_air}
 use Rattle.rds_encoder.specs.Sent.{one_if, sent_in}
 
--- how many free slots ended
+-- the number of free slots that ended
 abbrev pub free_in : List Entry → ℕ
 free_in [] = 0
 free_in (Restart ∷ before) = free_in before
@@ -33,14 +34,14 @@ IsSentAmong m (SetTags pair ∷ later) earlier message = IsSentAmong m later ear
 IsSentAmong m (Tick free ∷ later) earlier message =
     (sent_in m free (later ++ earlier) ≡ Some message) ⊎ IsSentAmong m later earlier message
 
--- each segment of a text is sent
+-- each segment of a text on air is sent in twice as many free slots as it has segments
 abbrev pub ATextIsSentWhole : Type 0
 ATextIsSentWhole = (m : ℕ) (later earlier : List Entry) (air : OnAir) → IsOnThroughout text_moves m air later earlier
     → 2 * segment_count (text_body air.bytes) ≤ free_in later
     → (a : ℕ) → a < segment_count (text_body air.bytes)
     → IsSentAmong m later earlier (Text air.flag a (segment_of (text_body air.bytes) a))
 
--- each segment of a name is sent
+-- each segment of a name on air is sent in eight free slots
 abbrev pub ANameIsSentWhole : Type 0
 ANameIsSentWhole = (m : ℕ) (later earlier : List Entry) (air : OnAir) → IsOnThroughout name_moves m air later earlier
     → 8 ≤ free_in later

@@ -1,9 +1,9 @@
--- What an encoder was told: it was restarted, a text, a name or a pair of tags was set, a slot ended. Lists
--- have the newest first, so what came before an entry is the list's tail.
+-- The entries of an encoder: restarts, sets of a text, a name or a pair of tags, and ends of slots. Lists have the
+-- newest first, so the tail of a list is what came before its first entry.
 use Rattle.std.specs.Prelude.{ℕ, ◌+◌, Bool, List, [], ◌∷◌}
 use Rattle.rds_fields.specs.Tag.{PairFields}
 
--- the end of a slot says whether the station lends the slot to the text services
+-- an entry; the end of a slot says whether the slot was free
 pub data Entry : Type 0 where
   Restart : Entry
   SetText : (bytes : List ℕ) → Entry
@@ -11,13 +11,13 @@ pub data Entry : Type 0 where
   SetTags : (pair : PairFields) → Entry
   Tick : (free : Bool) → Entry
 
--- what one service, texts or names, was told: it begins, a text or name is set, a slot ends
+-- a move: an entry as one service, texts or names, sees it
 pub data Move : Type 0 where
   Begin : Move
   Set : (bytes : List ℕ) → Move
   End : (free : Bool) → Move
 
--- what texts were told
+-- the moves of texts
 abbrev pub text_moves : List Entry → List Move
 text_moves [] = []
 text_moves (Restart ∷ before) = Begin ∷ text_moves before
@@ -26,7 +26,7 @@ text_moves (SetName x ∷ before) = text_moves before
 text_moves (SetTags pair ∷ before) = text_moves before
 text_moves (Tick free ∷ before) = End free ∷ text_moves before
 
--- what names were told
+-- the moves of names
 abbrev pub name_moves : List Entry → List Move
 name_moves [] = []
 name_moves (Restart ∷ before) = Begin ∷ name_moves before
@@ -35,7 +35,7 @@ name_moves (SetName x ∷ before) = Set x ∷ name_moves before
 name_moves (SetTags pair ∷ before) = name_moves before
 name_moves (Tick free ∷ before) = End free ∷ name_moves before
 
--- the slot that is reached: the number of slots that ended
+-- the current slot: the number of slots that ended
 abbrev pub slot_of : List Move → ℕ
 slot_of [] = 0
 slot_of (Begin ∷ before) = slot_of before

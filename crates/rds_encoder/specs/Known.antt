@@ -1,4 +1,4 @@
--- What an encoder sends is a text segment, a name segment, an announcement or tags, and no other message.
+-- An encoder sends text segments, name segments, announcements and tags, and no other messages.
 use Rattle.std.proofs.Common.{◌≢◌, ◌+◌, ◌%◌, ℕ, Bool, List, Option, Some, None, true, false}
 use Rattle.std.specs.Prelude.{if◌then◌else◌, nat_le}
 use Rattle.rds_fields.specs.declared.message.Message.{Message}

@@ -1,32 +1,30 @@
--- The reply to a set, by slot numbers alone: an encoder of dwell m is silent in the m slots from a restart on,
--- and a text or name that was accepted holds the next one back for 2 m slots (both this project's own rule).
--- Its dwell is that of its receivers, and the greatest lateness of their groups with it. Lists have the newest
--- first.
+-- The reply to a set, by slot numbers alone. An encoder is silent in the m slots from a restart on, and an accepted
+-- text or name holds the next one back for 2m slots (both this project's own rule). Here m is the spacing d: the dwell
+-- plus the lateness. Lists have the newest first.
 use Rattle.std.specs.Prelude.{◌+◌, ◌-◌, ◌*◌, [], ◌∷◌}
 use Rattle.std.specs.Prelude.{ℕ, List, Option, Some, None, Result, Ok, Err, is_ok, nat_lt, if◌then◌else◌}
 use Rattle.rds_encoder.specs.declared.reply.Refusal.{Refusal}
 use Rattle.rds_encoder.specs.declared.reply.Refusal.TheVariants.{Silent, Held, NoText, OutOfText}
 use Rattle.rds_encoder.specs.Entries.{Move, Begin, Set, End, slot_of, restart_before}
 
--- a set is done, or refused
+-- a set is accepted or refused
 abbrev pub Reply : Type 0
 Reply = Result (Unit {0}) Refusal
 
--- in slot `now`, where the last restart was in slot `start`: a refusal in the silence, and this reply after it
+-- in slot `now`, after a restart in slot `start`: refused as silent for m slots, and then this reply
 abbrev pub unless_silent : ℕ → ℕ → ℕ → Reply → Reply
 unless_silent m now start reply = if nat_lt now (start + m) then Err (Silent (start + m - now)) else reply
 
--- a refusal while the last set that was accepted since the restart holds the next one back; it was in slot
--- `last`
+-- refused as held for 2m slots after the last set accepted since the restart, which was in slot `last`
 abbrev pub held_reply : ℕ → ℕ → Option ℕ → Reply
 held_reply m now None = Ok tt
 held_reply m now (Some last) = if nat_lt now (last + 2 * m) then Err (Held (last + 2 * m - now)) else Ok tt
 
--- the two together
+-- the silence, and then the hold
 abbrev pub reply_in : ℕ → ℕ → ℕ → Option ℕ → Reply
 reply_in m now start last = unless_silent m now start (held_reply m now last)
 
--- the slot of the last set that was accepted since the last restart
+-- the slot of the last set accepted since the last restart
 abbrev pub last_accepted : ℕ → List Move → Option ℕ
 last_accepted m [] = None
 last_accepted m (Begin ∷ before) = None
@@ -40,7 +38,7 @@ last_accepted m (End free ∷ before) = last_accepted m before
 abbrev pub reply_to : ℕ → List Move → Reply
 reply_to m before = reply_in m (slot_of before) (restart_before before) (last_accepted m before)
 
--- what a set of a text or of a name can reply: done, silent or held back
+-- the reply to a text or a name: accepted, silent or held
 abbrev pub IsSetReply : Reply → Type 0
 IsSetReply (Ok done) = Unit {0}
 IsSetReply (Err (Silent k)) = Unit {0}
@@ -48,7 +46,7 @@ IsSetReply (Err (Held k)) = Unit {0}
 IsSetReply (Err NoText) = ⊥
 IsSetReply (Err (OutOfText which)) = ⊥
 
--- what a set of tags can reply: done, silent, no text, or out of the text
+-- the reply to tags: accepted, silent, no text, or out of the text
 abbrev pub IsTagsReply : Reply → Type 0
 IsTagsReply (Ok done) = Unit {0}
 IsTagsReply (Err (Silent k)) = Unit {0}
@@ -56,7 +54,7 @@ IsTagsReply (Err (Held k)) = ⊥
 IsTagsReply (Err NoText) = Unit {0}
 IsTagsReply (Err (OutOfText which)) = Unit {0}
 
--- for how many slots more a reply refuses as silent, and as held back: 0 where it does not
+-- for how many more slots a reply refuses, as silent and as held; 0 if it does not
 abbrev pub silent_for : Reply → ℕ
 silent_for (Ok done) = 0
 silent_for (Err (Silent k)) = k

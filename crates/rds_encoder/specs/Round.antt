@@ -1,4 +1,4 @@
--- The round: whose turn each free slot is (this project's own schedule).
+-- The round: what each free slot is used for (this project's own schedule).
 use Rattle.std.specs.Prelude.{ℕ, ◌<◌, List, [], ◌∷◌, slice_index_or}
 use Rattle.rds_encoder.specs.declared.round.Turn.{Turn}
 use Rattle.rds_encoder.specs.declared.round.Turn.TheVariants.{Text, Name, Announcement, Tags}
@@ -11,7 +11,7 @@ round = Text ∷ Name 0 ∷ Text ∷ Name 1 ∷ Text ∷ Announcement ∷ Text �
 abbrev pub turn_in : ℕ → Turn
 turn_in place = slice_index_or round place Text
 
--- a name has two segments
+-- the turn is valid: a name has two segments
 abbrev pub IsTurn : Turn → Type 0
 IsTurn Text = Unit {0}
 IsTurn (Name a) = a < 2

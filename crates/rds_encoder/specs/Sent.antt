@@ -1,5 +1,5 @@
--- What is sent in a slot (this project's own schedule). The free slots that are not silent have turns, counted
--- from 0, and eight turns make a round: the even ones are the text's. Lists have the newest first.
+-- What is sent in a slot (this project's own schedule). The free slots after the silence have turns, counted from 0.
+-- Eight turns make a round, and the even ones are the text's. Here m is the spacing d. Lists have the newest first.
 use Rattle.std.specs.Prelude.{◌+◌, ◌%◌, ◌==◌, ◌&&◌, ℕ, Bool, List, [], ◌∷◌, Option, Some, None, nat_le, if◌then◌else◌}
 use Rattle.rds_block.specs.declared.group.Group.{Group}
 use Rattle.rds_fields.specs.Canonical.{IsWritten}
@@ -19,8 +19,8 @@ use Rattle.rds_encoder.specs.Tags.{pair_on_air}
 abbrev pub one_if : Bool → ℕ
 one_if test = if test then 1 else 0
 
--- how many slots there were from slot a on that meet a test: of whether the slot was free, and of the moves
--- before its end
+-- the number of slots from slot a on that pass a test; the test gets whether the slot was free, and the moves before
+-- its end
 abbrev pub count_from : (Bool → List Move → Bool) → ℕ → List Move → ℕ
 count_from test a [] = 0
 count_from test a (Begin ∷ before) = count_from test a before
@@ -28,7 +28,7 @@ count_from test a (Set x ∷ before) = count_from test a before
 count_from test a (End free ∷ before) =
     one_if (test free before && nat_le a (slot_of before)) + count_from test a before
 
--- the slot that is reached, free or not, has a turn
+-- the current slot has a turn: it is free, and the silence is over
 abbrev pub is_turn : ℕ → Bool → List Move → Bool
 is_turn m free before = free && nat_le (restart_before before + m) (slot_of before)
 
@@ -36,7 +36,7 @@ is_turn m free before = free && nat_le (restart_before before + m) (slot_of befo
 abbrev pub is_free : Bool → List Move → Bool
 is_free free before = free
 
--- the turn of the slot that is reached: how many free slots there were since the silence
+-- the turn of the current slot: the number of free slots since the silence
 abbrev pub turn_of : ℕ → List Move → ℕ
 turn_of m before = count_from is_free (restart_before before + m) before
 
@@ -44,7 +44,7 @@ turn_of m before = count_from is_free (restart_before before + m) before
 abbrev pub is_text_turn : ℕ → Bool → List Move → Bool
 is_text_turn m free before = free && turn_of m before % 2 == 0
 
--- the segment of the text that is next: they go round, one each turn of the text since it went on air
+-- the address of the text's next segment: they go round, one for each turn of the text since it went on air
 abbrev pub next_address : ℕ → List Move → OnAir → ℕ
 next_address m before air = count_from (is_text_turn m) air.start before % segment_count (text_body air.bytes)
 
@@ -54,18 +54,18 @@ text_segment m before (Some air) =
     let a = next_address m before air in
     Some (Text air.flag a (segment_of (text_body air.bytes) a))
 
--- a segment of the name
+-- a segment of the name on air
 abbrev pub name_segment : ℕ → Option OnAir → Option Message
 name_segment a None = None
 name_segment a (Some air) = Some (Name air.flag a (segment_of (name_body air.bytes) a))
 
--- the pair of the text, once the text has been on air for the dwell
+-- the pair of the text, if the text has been on air for m slots
 abbrev pub tags_due : ℕ → ℕ → Option OnAir → Option PairFields → Option Message
 tags_due m now None pair = None
 tags_due m now (Some air) None = None
 tags_due m now (Some air) (Some pair) = if nat_le (air.start + m) now then Some (Tags pair) else None
 
--- what is sent in a slot with this turn
+-- what is sent in the current slot if it has this turn
 abbrev pub sent_at_turn : ℕ → Turn → List Entry → Option Message
 sent_at_turn m turn.Text before = text_segment m (text_moves before) (on_air m (text_moves before))
 sent_at_turn m (turn.Name a) before = name_segment a (on_air m (name_moves before))
@@ -73,14 +73,14 @@ sent_at_turn m turn.Announcement before = Some announcement
 sent_at_turn m turn.Tags before =
     tags_due m (slot_of (text_moves before)) (on_air m (text_moves before)) (pair_on_air m before)
 
--- what is sent in the slot that is reached
+-- what is sent in the current slot
 abbrev pub sent_in : ℕ → Bool → List Entry → Option Message
 sent_in m free before =
     if is_turn m free (text_moves before)
     then sent_at_turn m (turn_in (turn_of m (text_moves before) % 8)) before
     else None
 
--- the group that is sent: the one that is written for the message with the station's head
+-- the group that is sent: the one written for the message with the station's head, and none without a message
 abbrev pub IsSent : Head → Option Message → Option Group → Type 0
 IsSent head None None = Unit {0}
 IsSent head None (Some group) = ⊥

@@ -1,4 +1,4 @@
--- What an encoder holds after a list of entries. Lists have the newest first.
+-- The state of an encoder after a list of entries. Here m is the spacing d. Lists have the newest first.
 use Rattle.std.specs.Prelude.{◌≡◌, ◌+◌, ◌-◌, ◌*◌, ◌%◌, ℕ, List, ◌∷◌, Option, Some, None, option_map}
 use Rattle.rds_fields.specs.declared.head.Head.{Head}
 use Rattle.rds_encoder.specs.Entries.{Entry, Move, name_moves, restart_before, slot_of, text_moves}
@@ -8,30 +8,30 @@ use Rattle.rds_encoder.specs.Sent.{next_address, turn_of}
 use Rattle.rds_encoder.specs.State.{EncoderState, HoldState, TextState, TrackState}
 use Rattle.rds_encoder.specs.Tags.{pair_on_air}
 
--- the slots left of the silence
+-- the number of slots left of the silence
 abbrev pub silence_left : ℕ → List Move → ℕ
 silence_left m moves = restart_before moves + m - slot_of moves
 
--- the slots left of a hold
+-- the number of slots left of a hold
 abbrev pub hold_left : ℕ → ℕ → Option ℕ → ℕ
 hold_left m now None = 0
 hold_left m now (Some last) = last + 2 * m - now
 
--- this is the hold of a service after these moves
+-- the hold follows from these moves
 pub record HoldsBack (m : ℕ) (hold : HoldState) (moves : List Move) : Type 0 where
   pub left : hold.left ≡ hold_left m (slot_of moves) (last_accepted m moves)
   pub flag : hold.next_flag ≡ next_flag m moves
 
--- a service follows these moves, and keeps this of what is on air
+-- the state of a service follows from these moves, with `kept` for what is on air
 pub record Follows {V : Type 0} (m : ℕ) (kept : OnAir → V) (track : TrackState V) (moves : List Move) : Type 0 where
   pub hold : HoldsBack m track.hold moves
   pub on_air : track.on_air ≡ option_map kept (on_air m moves)
 
--- the text on air with its next segment
+-- the text on air, with the address of its next segment
 abbrev pub with_next : ℕ → List Move → OnAir → TextState
 with_next m moves air = record { bytes = air.bytes; next = next_address m moves air }
 
--- the encoder of this station and of dwell m stands at these entries
+-- the encoder has this head and a spacing of m slots, and its state follows from these entries
 pub record StandsAt (station : Head) (m : ℕ) (e : EncoderState) (entries : List Entry) : Type 0 where
   pub head : e.head ≡ station
   pub distance : e.distance ≡ m
@@ -41,10 +41,10 @@ pub record StandsAt (station : Head) (m : ℕ) (e : EncoderState) (entries : Lis
   pub name : Follows m bytes_of e.name (name_moves entries)
   pub pair : e.pair ≡ pair_on_air m entries
 
--- wherever the encoder stands, this holds of its station, of its dwell and of what it was told
+-- this holds of each head, spacing and list of entries that the encoder stands at
 abbrev pub WhereItStands : EncoderState → (Head → ℕ → List Entry → Type 0) → Type 0
 WhereItStands e P = (station : Head) (m : ℕ) (entries : List Entry) → StandsAt station m e entries → P station m entries
 
--- the encoder took the entry: it stands at what it was told before, and then the entry
+-- the encoder took the entry: it stands at its entries before with this one added
 abbrev pub Takes : EncoderState → EncoderState → Entry → Type 0
 Takes old new entry = WhereItStands old (λ station m entries. StandsAt station m new (entry ∷ entries))

@@ -1,15 +1,15 @@
--- What an encoder holds: counters that stop at their limits, one flag bit a service, and what is on air.
+-- The state of an encoder: counters that stop at their limits, one flag bit for each service, and what is on air.
 use Rattle.std.specs.Prelude.{◌+◌, ◌%◌, ◌<◌, ℕ, Bool, List, Option}
 use Rattle.rds_fields.specs.declared.head.Head.{Head}
 use Rattle.rds_fields.specs.Tag.{PairFields}
 use Rattle.rds_assembly.specs.Body.{segment_count, text_body}
 
--- of one service: for how many slots more a set is held back, and the flag of the next accepted one
+-- the hold of one service: for how many more slots a set is held back, and the flag of the next accepted one
 pub record HoldState : Type 0 where
   pub left : ℕ
   pub next_flag : Bool
 
--- one service: its hold, and what of it is on air
+-- one service: its hold, and the text or name on air
 pub record TrackState (V : Type 0) : Type 0 where
   pub hold : HoldState
   pub on_air : Option V
@@ -19,17 +19,16 @@ pub record TextState : Type 0 where
   pub bytes : List ℕ
   pub next : ℕ
 
--- the address is one of the text's
+-- the address is one of the text's segments
 pub record IsTextState (t : TextState) : Type 0 where
   pub own : t.next < segment_count (text_body t.bytes)
   pub few : t.next < 16
 
--- after the last segment comes the first
+-- the text moved to its next segment; after the last comes the first
 abbrev pub advanced : TextState → TextState
 advanced t = record { bytes = t.bytes; next = (t.next + 1) % segment_count (text_body t.bytes) }
 
--- the dwell is the one that the encoder keeps, its receivers' and their lateness together; the place in the
--- round is that of the next turn
+-- the distance is the spacing: the dwell plus the lateness; the round is the place of the next turn
 pub record EncoderState : Type 0 where
   pub head : Head
   pub distance : ℕ

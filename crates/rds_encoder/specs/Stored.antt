@@ -1,4 +1,4 @@
--- An encoder that is stored as plain numbers (this project's own).
+-- An encoder stored as plain numbers (this project's own form).
 use Rattle.std.specs.Prelude.{ℕ, ◌<◌, ◌≤◌, IsTrue, List, Option, Some, None, if◌then◌else◌, take}
 use Rattle.rds_fields.specs.declared.head.Head.{Head}
 use Rattle.rds_fields.specs.Stored.{IsStoredPair, is_set, pair_stored}
@@ -18,7 +18,7 @@ hold_stored h = record { left = h.left; next_flag = is_set h.next_flag }
 abbrev pub state_stored : StoredText → TextState
 state_stored t = record { bytes = take t.length t.bytes; next = t.next }
 
--- the text on air, where there is one
+-- the stored text on air, if there is one
 abbrev pub text_stored : StoredText → Option TextState
 text_stored t = if is_set t.is_on_air then Some (state_stored t) else None
 
@@ -36,13 +36,13 @@ encoder_stored e = record {
   pair = pair_stored e.pair;
 }
 
--- what is on air is a text, and its next segment one of it
+-- the stored text is valid, and its next segment is one of its segments
 pub record IsTextStored (t : StoredText) : Type 0 where
   pub fits : t.length ≤ 64
   pub text : IsText (take t.length t.bytes)
   pub state : IsTextState (state_stored t)
 
--- the numbers are ones that an encoder is stored as
+-- the numbers are valid
 pub record IsStored (e : StoredEncoder) : Type 0 where
   pub pty : e.pty < 32
   pub some : 0 < e.distance

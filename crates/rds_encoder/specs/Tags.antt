@@ -1,5 +1,5 @@
--- Pairs of tags: the reply to one that is set, and the one that is on air (this project's own rule: a pair
--- belongs to the text for which it was accepted, and goes off air with it). Lists have the newest first.
+-- Pairs of tags: the reply to a pair, and the pair on air (this project's own rule). A pair belongs to the text for
+-- which it was accepted, and goes off air with it. Lists have the newest first.
 use Rattle.std.specs.Prelude.{ℕ, List, [], ◌∷◌, Option, Some, None, Ok, Err, is_ok, length, if◌then◌else◌}
 use Rattle.rds_fields.specs.declared.pair.Which.TheVariants.{One, Two}
 use Rattle.rds_fields.specs.Tag.{PairFields, ends_in}
@@ -17,13 +17,13 @@ fitting_reply pair (Some air) =
     then (if ends_in (length air.bytes) pair.two then Ok tt else Err (OutOfText Two))
     else Err (OutOfText One)
 
--- the reply to a pair that is set after these entries
+-- the reply to a pair after these entries
 abbrev pub tags_reply : ℕ → PairFields → List Entry → Reply
 tags_reply m pair before =
     unless_silent m (slot_of (text_moves before)) (restart_before (text_moves before))
     (fitting_reply pair (on_air m (text_moves before)))
 
--- the last pair that was accepted for the text on air
+-- the pair on air: the last pair that was accepted for the text on air
 abbrev pub pair_on_air : ℕ → List Entry → Option PairFields
 pair_on_air m [] = None
 pair_on_air m (Restart ∷ before) = None

@@ -1,11 +1,11 @@
-//! How far broadcasts stand apart.
+//! The spacing d of a station: the dwell plus the lateness.
 ghost use Rattle.std.specs.Prelude.{◌≡◌, ◌+◌, ◌<◌, ◌≤◌};
 
 use rds_fields::{Dwell, Late};
 use std::marker::Model;
 
-/// The dwell and the lateness together, in slots: after so many no receiver joins a group to one that was sent
-/// before (this project's own rule).
+/// The spacing d of a station, in slots: the dwell M of its receivers plus the lateness K, 1 to 66559. No receiver
+/// joins a segment to the one before it if they were sent d slots or more apart (this project's own rule).
 #[derive(Clone, Copy)]
 pub struct Distance {
     slots: u32,
@@ -24,7 +24,7 @@ impl Model for Distance {
 }
 
 impl Distance {
-    /// The distance for receivers of this dwell, whose groups come no later than this.
+    /// Makes the distance for this dwell and this lateness.
     pub fn new(dwell: Dwell, late: Late) -> Distance
         ensures { result ≡ dwell + late }
     {
@@ -33,7 +33,7 @@ impl Distance {
         }
     }
 
-    /// The distance of this many slots; the least, 1, for none, and the greatest, 66559, where there are more.
+    /// Makes the distance of this many slots. Less than 1 gives 1, and more than 66559 gives 66559.
     pub fn restore(slots: u32) -> Distance
         ensures { 0 < slots → slots ≤ 66559 → result ≡ slots }
     {
@@ -42,7 +42,7 @@ impl Distance {
         }
     }
 
-    /// The number of slots.
+    /// Returns the number of slots.
     pub fn get(self) -> u32
         ensures value { result ≡ self }
         ensures some { 0 < result }

@@ -1,4 +1,4 @@
-//! An encoder, slot by slot.
+//! The encoder: it takes sets, and sends a group or nothing in each slot.
 ghost use Rattle.std.specs.Prelude.{◌≡◌, ◌≢◌, ◌+◌, ◌%◌, ◌<◌, List, [], ◌∷◌, IfSome, OnErr, option_map};
 ghost use Rattle.std.specs.Option.{option_copied};
 ghost use Rattle.rds_fields.specs.declared.message.Message.{Message};
@@ -27,12 +27,11 @@ use rds_block::{Group, Place};
 use rds_fields::{Dwell, Head, Late, Message, StoredPair, TagPair, Which, rtplus_announcement};
 use std::marker::Model;
 
-/// Sends the text, the name and the tags of one station. It keeps counters that stop at their limits, and no
-/// slot number.
+/// Sends the text, the name and the tags of one station. It keeps counters that stop at their limits, and no slot
+/// number.
 ///
-/// `StandsAt` is the relation between an encoder and the list of all that it was told: a new one stands at the
-/// empty list, and after any list that ends with a restart, and each call goes on to the list with that call's
-/// entry.
+/// `StandsAt` relates an encoder to the list of its entries: restarts, sets and ends of slots. A new encoder stands at
+/// the empty list, and at each list whose newest entry is a restart. Each call adds its entry to the list.
 #[derive(Drop)]
 pub struct Encoder {
     head: Head,
@@ -64,9 +63,9 @@ impl Model for Encoder {
 }
 
 impl Encoder {
-    /// An encoder at a restart, silent for the dwell and the lateness from this slot on. The head is that of
-    /// every group it sends; the dwell is that of its receivers, and no group reaches one later than the
-    /// lateness, both in slots (this project's own rule).
+    /// Makes an encoder at a restart, which is silent for M + K slots from this slot on. All its groups have this head.
+    /// The dwell is that of its receivers, and the lateness is how many slots late a group may reach them (this
+    /// project's own rule).
     pub fn new(head: Head, dwell: Dwell, late: Late) -> Encoder
         ensures first { StandsAt head (dwell + late) result [] }
         ensures again { (entries : List Entry)
@@ -84,8 +83,7 @@ impl Encoder {
         }
     }
 
-    /// The encoder that was stored, where these are numbers that one is stored as; some encoder where they are
-    /// not.
+    /// Rebuilds a stored encoder. Invalid numbers give an arbitrary valid encoder.
     pub fn restore(stored: &StoredEncoder) -> Encoder
         ensures { IsStored stored.now → result ≡ encoder_stored stored.now }
     {
@@ -110,7 +108,7 @@ impl Encoder {
         }
     }
 
-    /// The encoder, to be stored.
+    /// Stores the encoder as plain numbers.
     pub fn store(&self) -> StoredEncoder
         ensures same { encoder_stored result ≡ self.now }
         ensures good { IsStored result }
@@ -130,11 +128,11 @@ impl Encoder {
         }
     }
 
-    /// Puts the text on air from this slot on, in place of the one before and of its tags. It has the other
-    /// flag, also where its bytes are the same.
+    /// Puts the text on air from this slot on, in place of the text before and its tags. It has the other flag, even if
+    /// its bytes are the same.
     ///
-    /// `Silent` for the dwell and the lateness after a restart, then `Held` for twice as many slots after the
-    /// text before (this project's own rule), each with the slots that are left.
+    /// Error `Silent` for M + K slots from a restart on. Otherwise error `Held` for 2 (M + K) slots from the text
+    /// before on (this project's own rule). Both have the number of slots left. After an error nothing has changed.
     pub fn set_text(&mut self, text: Text) -> Result<(), Refusal>
         ensures reply { WhereItStands self.old
             (λ _ m entries. result ≡ reply_to m (text_moves entries)) }
@@ -149,11 +147,11 @@ impl Encoder {
         Ok(())
     }
 
-    /// Puts the name on air from this slot on, in place of the one before. It has the other flag, also where
-    /// its bytes are the same.
+    /// Puts the name on air from this slot on, in place of the name before. It has the other flag, even if its bytes
+    /// are the same.
     ///
-    /// `Silent` for the dwell and the lateness after a restart, then `Held` for twice as many slots after the
-    /// name before (this project's own rule), each with the slots that are left.
+    /// Error `Silent` for M + K slots from a restart on. Otherwise error `Held` for 2 (M + K) slots from the name
+    /// before on (this project's own rule). Both have the number of slots left. After an error nothing has changed.
     pub fn set_name(&mut self, name: Name) -> Result<(), Refusal>
         ensures reply { WhereItStands self.old
             (λ _ m entries. result ≡ reply_to m (name_moves entries)) }
@@ -166,12 +164,12 @@ impl Encoder {
         self.name.set(name, self.distance)
     }
 
-    /// Gives the text on air these tags, in place of those before. They go off air with it, and are first sent
-    /// when it has been on air for the dwell and the lateness (this project's own rule).
+    /// Gives the text on air these tags, in place of those before. They go off air with it. They are first sent when it
+    /// has been on air for M + K slots (this project's own rule).
     ///
-    /// `Silent` for as many slots after a restart, with the slots that are left; then `NoText` where none is on
-    /// air; then `OutOfText` for the first tag that does not end in the text. The dummy, of class 0, ends in
-    /// every text.
+    /// Error `Silent` for M + K slots from a restart on, with the slots left. Otherwise `NoText` if no text is on air,
+    /// and otherwise `OutOfText` for the first tag that does not end in the text. The dummy, of class 0, ends in each
+    /// text. After an error nothing has changed.
     pub fn set_tags(&mut self, pair: TagPair) -> Result<(), Refusal>
         ensures reply { WhereItStands self.old (λ _ m entries. result ≡ tags_reply m pair entries) }
         ensures kind { IsTagsReply result }
@@ -184,8 +182,8 @@ impl Encoder {
         Ok(())
     }
 
-    /// Ends the slot, and gives the group that is sent in it; `None` where nothing is sent. A slot that is not
-    /// free belongs to other services. Sets come before the `tick` of their slot.
+    /// Ends the slot and returns the group that is sent in it. None if nothing is sent. A slot that is not free belongs
+    /// to other services. The sets of a slot come before its `tick`.
     pub fn tick(&mut self, free: bool) -> Option<Group>
         ensures sent { WhereItStands self.old
             (λ station m entries. IsSent station (sent_in m free entries) result) }
@@ -196,7 +194,7 @@ impl Encoder {
         message?.group(self.head)
     }
 
-    /// The text on air, lent: up to 64 bytes; `None` where none is.
+    /// Returns the text on air, at most 64 bytes, borrowed from the encoder. None if no text is on air.
     pub fn text(&self) -> Option<&[u8]>
         ensures on_air { WhereItStands self.now
             (λ _ m entries. option_copied result
@@ -206,7 +204,8 @@ impl Encoder {
         Some(self.text.on_air.as_ref()?.bytes())
     }
 
-    /// The name on air, lent: eight bytes, padded with spaces; `None` where none is.
+    /// Returns the name on air, eight bytes with spaces at the end, borrowed from the encoder. None if no name is on
+    /// air.
     pub fn name(&self) -> Option<&[u8]>
         ensures on_air { WhereItStands self.now
             (λ _ m entries. option_copied result
@@ -216,14 +215,14 @@ impl Encoder {
         Some(self.name.on_air.as_ref()?.bytes())
     }
 
-    /// The tags of the text on air, whether or not they are sent yet; `None` where it has none.
+    /// Returns the tags of the text on air, even if they have not been sent yet. None if it has none.
     pub fn tags(&self) -> Option<TagPair>
         ensures { WhereItStands self.now (λ _ m entries. result ≡ pair_on_air m entries) }
     {
         self.pair
     }
 
-    /// For how many slots more a set would be refused, this one included.
+    /// Returns for how many more slots a set would be refused, this slot included.
     pub fn wait(&self) -> Wait
         ensures silent { WhereItStands self.now
             (λ _ m entries. result.silent ≡ silent_for (reply_to m (text_moves entries))) }
@@ -239,7 +238,7 @@ impl Encoder {
         }
     }
 
-    /// Refuses tags that do not end in the text on air.
+    /// Refuses tags if no text is on air, or if one does not end in the text on air.
     fn check_tags(&self, pair: TagPair) -> Result<(), Refusal>
         ensures kind { IsTagsReply result }
         ensures reply { WhereItStands self.now
@@ -257,7 +256,7 @@ impl Encoder {
         Ok(())
     }
 
-    /// Whether the slot has a turn.
+    /// Returns whether the slot has a turn: it is free, and the silence is over.
     fn has_turn(&self, free: bool) -> bool
         ensures { WhereItStands self.now
             (λ _ m entries. result ≡ is_turn m free (text_moves entries)) }
@@ -265,7 +264,7 @@ impl Encoder {
         free && self.silence.is_over()
     }
 
-    /// What is sent in this slot.
+    /// Returns the message that is due in this slot. None if nothing is sent.
     fn due(&self, free: bool) -> Option<Message>
         ensures sent { WhereItStands self.now (λ _ m entries. result ≡ sent_in m free entries) }
         ensures said { IfSome result (λ message. message ≢ Message.Other) }
@@ -281,7 +280,7 @@ impl Encoder {
         }
     }
 
-    /// The next segment of the text on air.
+    /// Returns the next segment of the text on air. None if no text is on air.
     fn text_segment(&self) -> Option<Message>
         ensures sent { WhereItStands self.now
             (λ _ m entries. result
@@ -291,7 +290,7 @@ impl Encoder {
         Some(self.text.on_air.as_ref()?.segment(self.text.hold.flag()))
     }
 
-    /// A segment of the name on air.
+    /// Returns a segment of the name on air. None if no name is on air.
     fn name_segment(&self, address: u8) -> Option<Message>
         requires { address < 2 }
         ensures sent { WhereItStands self.now
@@ -306,7 +305,7 @@ impl Encoder {
         })
     }
 
-    /// The tags, once their text has been on air for the dwell and the lateness.
+    /// Returns the tags of the text on air. None if it has none, or has been on air for less than M + K slots.
     fn tags_due(&self) -> Option<Message>
         ensures sent { WhereItStands self.now
             (λ _ m entries. result ≡ tags_due m (slot_of (text_moves entries))
@@ -320,7 +319,7 @@ impl Encoder {
         Some(Message::Tags(pair))
     }
 
-    /// One slot ended.
+    /// Ends a slot.
     fn end_slot(&mut self, free: bool)
         ensures { Takes self.old self.new (Tick free) }
     {
@@ -332,7 +331,7 @@ impl Encoder {
         self.name.end_slot();
     }
 
-    /// One turn ended.
+    /// Ends a turn.
     fn end_turn(&mut self)
         ensures text { turn_in self.old.round ≡ Turn.Text → self.new ≡ record self.old {
           round = (self.old.round + 1) % 8;

@@ -1,4 +1,4 @@
-//! When a service takes its next text or name, and with which flag.
+//! The hold of a service: when it takes its next text or name, and with which flag.
 ghost use Rattle.std.specs.Prelude.{◌≡◌, ◌+◌, ℕ, Bool, List, [], ◌∷◌, Option, Some, Ok, nat_le};
 ghost use Rattle.rds_encoder.specs.Entries.{Move, Begin, Set, End, slot_of};
 ghost use Rattle.rds_encoder.specs.Plan.{OnAir, on_air};
@@ -11,7 +11,7 @@ use crate::distance::Distance;
 use crate::stored::StoredHold;
 use std::marker::Model;
 
-/// For how many slots more one service holds its next text or name back, and the flag that it will have.
+/// For how many more slots one service holds its next text or name back, and the flag of that one.
 #[derive(Drop)]
 pub(crate) struct Hold {
     left: u32,
@@ -30,7 +30,7 @@ impl Model for Hold {
 }
 
 impl Hold {
-    /// Nothing is on air.
+    /// Makes the hold of a service with nothing on air.
     pub(crate) fn new() -> Hold
         ensures first { (m : ℕ) → HoldsBack m result [] }
         ensures again { (m : ℕ) (moves : List Move) → HoldsBack m result (Begin ∷ moves) }
@@ -41,7 +41,7 @@ impl Hold {
         }
     }
 
-    /// The hold that was stored.
+    /// Rebuilds a stored hold.
     pub(crate) fn restore(stored: &StoredHold) -> Hold
         ensures { result ≡ hold_stored stored.now }
     {
@@ -51,7 +51,7 @@ impl Hold {
         }
     }
 
-    /// The hold, to be stored.
+    /// Stores the hold as plain numbers.
     pub(crate) fn store(&self) -> StoredHold
         ensures { hold_stored result ≡ self.now }
     {
@@ -61,7 +61,7 @@ impl Hold {
         }
     }
 
-    /// Refuses a set that is held back.
+    /// Refuses a set that is held back. Error `Held` with the number of slots left.
     pub(crate) fn check(&self) -> Result<(), Refusal>
         ensures kind { IsSetReply result }
         ensures reply { (m : ℕ) (moves : List Move) → HoldsBack m self.now moves
@@ -73,14 +73,14 @@ impl Hold {
         }
     }
 
-    /// For how many slots more a set is held back; 0 where it is not.
+    /// Returns for how many more slots a set is held back; 0 if it is not.
     pub(crate) fn left(&self) -> u32
         ensures { result ≡ self.now.left }
     {
         self.left
     }
 
-    /// A set is accepted: it goes on air, with the other flag.
+    /// Accepts a set: it goes on air with the other flag, and holds the next one back for 2 (M + K) slots.
     pub(crate) fn accept(&mut self, distance: Distance)
         ensures { (moves : List Move) (x : List ℕ) → HoldsBack distance self.old moves
             → reply_to distance moves ≡ Ok tt → HoldsBack distance self.new (Set x ∷ moves) }
@@ -89,7 +89,7 @@ impl Hold {
         self.next_flag = !self.next_flag;
     }
 
-    /// One slot ended.
+    /// Ends a slot.
     pub(crate) fn end_slot(&mut self)
         ensures { (m : ℕ) (free : Bool) (moves : List Move) → HoldsBack m self.old moves
             → HoldsBack m self.new (End free ∷ moves) }
@@ -97,7 +97,7 @@ impl Hold {
         self.left = self.left.saturating_sub(1);
     }
 
-    /// The flag of what is on air.
+    /// Returns the flag of the text or name on air.
     pub(crate) fn flag(&self) -> bool
         ensures { (m : ℕ) (moves : List Move) (air : OnAir) → HoldsBack m self.now moves
             → on_air m moves ≡ Some air → result ≡ air.flag }
@@ -105,7 +105,7 @@ impl Hold {
         !self.next_flag
     }
 
-    /// Whether what is on air has been so for the dwell and the lateness.
+    /// Returns whether the text or name on air has been so for M + K slots.
     pub(crate) fn has_lasted(&self, distance: Distance) -> bool
         ensures { (moves : List Move) (air : OnAir) → HoldsBack distance self.now moves
             → on_air distance moves ≡ Some air → result ≡ nat_le (air.start + distance) (slot_of moves) }

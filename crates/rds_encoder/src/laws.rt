@@ -1,4 +1,4 @@
-//! What holds of all broadcasts, and of all that is sent.
+//! Laws about all broadcasts, and about all that is sent.
 ghost use Rattle.rds_encoder.specs.Delivery.{ANameIsSentWhole, ATextIsSentWhole};
 ghost use Rattle.rds_encoder.specs.Laws.{ANameSegmentIsOfTheNameOnAir, ANumberIsBelowTheLength};
 ghost use Rattle.rds_encoder.specs.Laws.{ANumberNamesOne, ATextSegmentIsOfTheTextOnAir, EachNumberNamesOne};
@@ -8,7 +8,7 @@ ghost use Rattle.rds_encoder.specs.Laws.{ThePairEndsInTheText, ThePlanIsSpaced, 
 ghost use Rattle.rds_encoder.specs.Laws.{WhatIsOnAirCoversTheSlot, WhatIsOnAirIsPlanned};
 ghost use Rattle.rds_encoder.specs.Laws.{WhatIsOnAirWasOnAir, WhatIsPlannedWasAccepted, WhatWasOnAirStaysPlanned};
 
-/// What is on air in the slot that is reached is the broadcast of the plan that covers the slot; where none
+/// States that the text or name on air in the current slot is the broadcast of the plan that covers the slot. If none
 /// covers it, nothing is on air.
 pub fn on_air_is_what_covers_the_slot()
     ensures planned { WhatIsOnAirIsPlanned }
@@ -16,19 +16,21 @@ pub fn on_air_is_what_covers_the_slot()
     ensures only { OnlyWhatIsOnAirCoversTheSlot }
 {}
 
-/// What is on air began after the silence, and was on air in each slot since.
+/// States that what is on air began after the silence, and was on air in each slot since.
 pub fn on_air_from_its_start_on()
     ensures began { WhatIsOnAirBegan }
     ensures was { WhatIsOnAirWasOnAir }
 {}
 
-/// What was on air as a slot ended is planned, whatever came later, and what is planned was accepted.
+/// States that what was on air when a slot ended stays planned, whatever came later, and that each planned broadcast
+/// was accepted.
 pub fn planned_is_what_was_on_air()
     ensures stays { WhatWasOnAirStaysPlanned }
     ensures accepted { WhatIsPlannedWasAccepted }
 {}
 
-/// Broadcasts do not overlap, and stand so far apart that the flag tells neighbours from each other.
+/// States that broadcasts do not overlap, and that neighbours have different flags or are at least d slots apart. So
+/// are any two with one flag, and any two with another one between them.
 pub fn broadcasts_are_spaced()
     ensures spaced { ThePlanIsSpaced }
     ensures order { SpacedAreInOrder }
@@ -36,14 +38,15 @@ pub fn broadcasts_are_spaced()
     ensures one_flag { SpacedOfOneFlagAreFarApart }
 {}
 
-/// The numbers below the length of a plan name one broadcast each.
+/// States that each number below the length of a plan names exactly one broadcast.
 pub fn numbers_name_broadcasts()
     ensures one { ANumberNamesOne }
     ensures below { ANumberIsBelowTheLength }
     ensures each { EachNumberNamesOne }
 {}
 
-/// What is sent is of what is on air, and tags that are sent end in their text.
+/// States that each segment and each pair of tags that is sent is of what is on air, and that the pair on air ends in
+/// its text.
 pub fn sent_is_of_what_is_on_air()
     ensures text { ATextSegmentIsOfTheTextOnAir }
     ensures name { ANameSegmentIsOfTheNameOnAir }
@@ -51,13 +54,13 @@ pub fn sent_is_of_what_is_on_air()
     ensures ends { ThePairEndsInTheText }
 {}
 
-/// The turns with an even number are the text's.
+/// States that the turns with an even number are the text's.
 pub fn even_turns_are_the_texts()
     ensures { EvenTurnsAreTheTexts }
 {}
 
-/// While a text is on air, twice as many free slots as it has segments send each of them; while a name is, eight
-/// free slots send both of its own.
+/// States that a text on air sends each of its segments in twice as many free slots as it has segments, and that a name
+/// on air sends both of its own in eight free slots.
 pub fn on_air_is_sent_whole()
     ensures text { ATextIsSentWhole }
     ensures name { ANameIsSentWhole }

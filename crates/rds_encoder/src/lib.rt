@@ -1,9 +1,9 @@
-//! An encoder of RadioText, programme type names and RadioText Plus, slot by slot.
+//! An encoder of RadioText (RT), programme type names (PTYN) and RadioText Plus (RT+), slot by slot.
 //!
-//! The one model is the list of all that it was told: restarts, sets, ends of slots. By slot numbers alone it
-//! gives the reply to each set (`reply_to`, `tags_reply`), what is on air (`on_air`) and what each slot sends
-//! (`sent_in`). The encoder keeps counters and `StandsAt` such a list, whichever it is. It keeps no history and
-//! takes no memory, and it never puts a text on air later than it accepts it.
+//! The model is the list of all its entries: restarts, sets and ends of slots. Definitions that use slot numbers alone
+//! give the reply to each set (`reply_to`, `tags_reply`), what is on air (`on_air`) and what each slot sends
+//! (`sent_in`). The encoder keeps counters, and `StandsAt` relates it to such a list. It keeps no history and allocates
+//! no memory. A text that it accepts is on air at once.
 //!
 //! ```text
 //! let mut encoder = Encoder::new(head, Dwell::new(4)?, Late::new(0)?);

@@ -3,16 +3,16 @@
 use rds_fields::Which;
 use thiserror::Error;
 
-/// Why a text, a name or a pair of tags is not taken now.
+/// Why a text, a name or a pair of tags is refused now.
 #[derive(Clone, Copy, Debug, PartialEq, Eq, Error)]
 pub enum Refusal {
-    /// The encoder is silent after a restart, for so many slots more.
+    /// The encoder is silent after a restart, for this many more slots.
     #[error("silent for {0} slots more")]
     Silent(u32),
-    /// The text or name before holds the next one back, for so many slots more.
+    /// The text or name before holds the next one back, for this many more slots.
     #[error("held back for {0} slots more")]
     Held(u32),
-    /// There is no text on air that the tags could be of.
+    /// No text is on air that the tags could belong to.
     #[error("no text is on air")]
     NoText,
     /// This tag does not end in the text on air.
@@ -20,10 +20,10 @@ pub enum Refusal {
     OutOfText(Which),
 }
 
-/// For how many slots more a set would be refused; 0 where it would not.
+/// For how many more slots a set would be refused; 0 if it would not be.
 #[derive(Clone, Copy, Debug, PartialEq, Eq)]
 pub struct Wait {
-    /// Every set, since the encoder is silent after a restart.
+    /// Each set, since the encoder is silent after a restart.
     pub silent: u32,
     /// A text, since the one before holds it back.
     pub text: u32,

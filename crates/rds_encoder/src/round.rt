@@ -1,10 +1,10 @@
-//! The round of eight turns.
+//! The round of eight turns: what each free slot is used for.
 ghost use Rattle.std.specs.Prelude.{◌≡◌, ◌+◌, ◌%◌, ◌<◌};
 ghost use Rattle.rds_encoder.specs.Round.{IsTurn, turn_in};
 
 use std::marker::Model;
 
-/// What a free slot is for.
+/// What a free slot is used for.
 #[derive(Clone, Copy, PartialEq)]
 pub(crate) enum Turn {
     /// The next segment of the text.
@@ -17,7 +17,7 @@ pub(crate) enum Turn {
     Tags,
 }
 
-/// The place in the round of the turn that is next.
+/// The place of the next turn in the round.
 #[derive(Drop)]
 pub(crate) struct Round {
     place: u8,
@@ -34,14 +34,14 @@ impl Model for Round {
 }
 
 impl Round {
-    /// A round begins.
+    /// Makes a round at its first turn.
     pub(crate) fn new() -> Round
         ensures { result ≡ 0 }
     {
         Round { place: 0 }
     }
 
-    /// The round that was stored, and a new one where that is none.
+    /// Rebuilds a stored round. An invalid place gives a new round.
     pub(crate) fn restore(place: u8) -> Round
         ensures { place < 8 → result ≡ place }
     {
@@ -52,7 +52,7 @@ impl Round {
         }
     }
 
-    /// The round, to be stored.
+    /// Stores the place of the next turn.
     pub(crate) fn store(&self) -> u8
         ensures same { result ≡ self.now }
         ensures below { result < 8 }
@@ -60,7 +60,7 @@ impl Round {
         self.place
     }
 
-    /// The turn that is next (this project's own schedule).
+    /// Returns the next turn (this project's own schedule).
     pub(crate) fn turn(&self) -> Turn
         ensures value { result ≡ turn_in self.now }
         ensures own { IsTurn result }
@@ -74,7 +74,7 @@ impl Round {
         }
     }
 
-    /// Goes on to the turn after it; after the last comes the first.
+    /// Moves to the turn after it. After the last turn comes the first.
     pub(crate) fn advance(&mut self)
         ensures { self.new ≡ (self.old + 1) % 8 }
     {

@@ -1,4 +1,4 @@
-//! The silence after a restart.
+//! The silence after a restart. No set is accepted in it.
 ghost use Rattle.std.specs.Prelude.{◌≡◌, ◌-◌, ◌↔◌, ℕ, List, Ok, IsTrue};
 ghost use Rattle.rds_encoder.specs.Entries.{Move, restart_before, slot_of};
 ghost use Rattle.rds_encoder.specs.Reply.{IsSetReply, IsTagsReply, unless_silent};
@@ -8,7 +8,7 @@ use crate::Refusal;
 use crate::distance::Distance;
 use std::marker::Model;
 
-/// For how many slots more an encoder is silent.
+/// For how many more slots an encoder is silent.
 #[derive(Drop)]
 pub(crate) struct Silence {
     left: u32,
@@ -23,7 +23,7 @@ impl Model for Silence {
 }
 
 impl Silence {
-    /// The silence after a restart, from this slot on.
+    /// Makes the silence after a restart, M + K slots from this slot on.
     pub(crate) fn new(distance: Distance) -> Silence
         ensures { result ≡ distance }
     {
@@ -32,14 +32,14 @@ impl Silence {
         }
     }
 
-    /// The silence that was stored.
+    /// Rebuilds a stored silence.
     pub(crate) fn restore(left: u32) -> Silence
         ensures { result ≡ left }
     {
         Silence { left }
     }
 
-    /// Refuses every set while it lasts.
+    /// Refuses each set in the silence. Error `Silent` with the number of slots left.
     pub(crate) fn check(&self) -> Result<(), Refusal>
         ensures of_a_set { IsSetReply result }
         ensures of_tags { IsTagsReply result }
@@ -52,21 +52,21 @@ impl Silence {
         }
     }
 
-    /// Whether it is over.
+    /// Returns whether the silence is over.
     pub(crate) fn is_over(&self) -> bool
         ensures { IsTrue result ↔ (self.now ≡ 0) }
     {
         self.left == 0
     }
 
-    /// For how many slots more it lasts; 0 where it is over.
+    /// Returns for how many more slots it lasts; 0 if it is over.
     pub(crate) fn left(&self) -> u32
         ensures { result ≡ self.now }
     {
         self.left
     }
 
-    /// One slot ended.
+    /// Ends a slot.
     pub(crate) fn end_slot(&mut self)
         ensures { self.new ≡ self.old - 1 }
     {

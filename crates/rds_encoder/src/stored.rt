@@ -1,4 +1,4 @@
-//! All that an encoder holds, as plain numbers, which another program can hold. A bit is 0, or any other number.
+//! An encoder as plain numbers, for a program that stores it. A bit is 0 for no and any other number for yes.
 ghost use Rattle.std.specs.Prelude.{◌≡◌, ◌≤◌, ◌<◌, IsTrue, Option, option_map};
 ghost use Rattle.rds_assembly.specs.Value.{IsName};
 ghost use Rattle.rds_fields.specs.Stored.{is_set};
@@ -7,7 +7,7 @@ ghost use Rattle.rds_encoder.specs.Stored.{name_stored};
 use rds_assembly::{LONGEST_TEXT, Name};
 use rds_fields::StoredPair;
 
-/// For how many slots more a service holds its next set back, and the flag that it will have.
+/// For how many more slots a service holds its next set back, and the flag of that set.
 #[repr(C)]
 #[derive(Clone, Copy)]
 pub struct StoredHold {
@@ -15,7 +15,7 @@ pub struct StoredHold {
     pub next_flag: u8,
 }
 
-/// The text on air, its first `length` bytes, and the address of its next segment.
+/// The text on air: its first `length` bytes, and the address of its next segment.
 #[repr(C)]
 #[derive(Clone, Copy)]
 pub struct StoredText {
@@ -37,9 +37,9 @@ pub struct StoredName {
 #[repr(C)]
 #[derive(Clone, Copy)]
 pub struct StoredEncoder {
-    /// The dwell and the lateness together, in slots.
+    /// The spacing d in slots: the dwell plus the lateness.
     pub distance: u32,
-    /// The slots that are left of the silence.
+    /// The number of slots left of the silence.
     pub silence: u32,
     pub text_hold: StoredHold,
     pub name_hold: StoredHold,
@@ -54,7 +54,7 @@ pub struct StoredEncoder {
 }
 
 impl StoredName {
-    /// The name, where there is one.
+    /// Stores the name, if there is one.
     pub(crate) fn of(name: &Option<Name>) -> StoredName
         ensures same { name_stored result ≡ name.now }
         ensures good { IsTrue (is_set result.is_on_air) → IsName result.bytes }
@@ -73,7 +73,7 @@ impl StoredName {
         }
     }
 
-    /// The name that was stored; `None` also where the numbers are none.
+    /// Returns the stored name. None if no name is on air, or if the numbers are not valid.
     pub(crate) fn name(&self) -> Option<Name>
         ensures { (IsTrue (is_set self.now.is_on_air) → IsName self.now.bytes) → result ≡ name_stored self.now }
     {

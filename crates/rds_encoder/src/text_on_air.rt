@@ -1,4 +1,4 @@
-//! The text on air, segment by segment.
+//! The text on air, sent segment by segment.
 ghost use Rattle.std.specs.Prelude.{◌≡◌, IsTrue, option_map};
 ghost use Rattle.rds_fields.specs.declared.message.Message.{Message};
 ghost use Rattle.rds_assembly.specs.Body.{segment_of, text_body};
@@ -14,7 +14,7 @@ use rds_block::Place;
 use rds_fields::Message;
 use std::marker::Model;
 
-/// The text on air, and the address of the segment that is next.
+/// The text on air, and the address of its next segment.
 #[derive(Drop)]
 pub(crate) struct TextOnAir {
     text: Text,
@@ -35,14 +35,14 @@ impl Model for TextOnAir {
 }
 
 impl TextOnAir {
-    /// The text goes on air: its first segment is next.
+    /// Puts the text on air, with its first segment as the next one.
     pub(crate) fn new(text: Text) -> TextOnAir
         ensures { result ≡ record { bytes = text; next = 0 } }
     {
         TextOnAir { text, next: 0 }
     }
 
-    /// The text that was stored; `None` where there is none, or the numbers are none.
+    /// Rebuilds a stored text. None if no text is on air, or if the numbers are not valid.
     pub(crate) fn restore(stored: &StoredText) -> Option<TextOnAir>
         ensures { (IsTrue (is_set stored.now.is_on_air) → IsTextStored stored.now)
             → result ≡ text_stored stored.now }
@@ -61,7 +61,7 @@ impl TextOnAir {
         })
     }
 
-    /// The text, where there is one, to be stored.
+    /// Stores the text, if there is one.
     pub(crate) fn store(on_air: &Option<TextOnAir>) -> StoredText
         ensures same { text_stored result ≡ on_air.now }
         ensures good { IsTrue (is_set result.is_on_air) → IsTextStored result }
@@ -85,7 +85,7 @@ impl TextOnAir {
         }
     }
 
-    /// The bytes of the text.
+    /// Returns the bytes of the text, borrowed.
     pub(crate) fn bytes(&self) -> &[u8]
         ensures value { result.now ≡ self.now.bytes }
         ensures text { IsText result.now }
@@ -93,7 +93,7 @@ impl TextOnAir {
         self.text.bytes()
     }
 
-    /// The segment that is next, with the flag of the text.
+    /// Returns the next segment, with the flag of the text.
     pub(crate) fn segment(&self, flag: bool) -> Message
         ensures { result ≡ Message.Text flag self.now.next
             (segment_of (text_body self.now.bytes) self.now.next) }
@@ -105,7 +105,7 @@ impl TextOnAir {
         }
     }
 
-    /// Goes on to the segment after it; after the last comes the first.
+    /// Moves to the segment after it. After the last segment comes the first.
     pub(crate) fn advance(&mut self)
         ensures { self.new ≡ advanced self.old }
     {
@@ -114,7 +114,7 @@ impl TextOnAir {
 }
 
 impl Track<TextOnAir> {
-    /// The text on air goes on to its next segment.
+    /// Moves the text on air to its next segment.
     pub(crate) fn advance(&mut self)
         ensures { self.new ≡ record self.old { on_air = option_map advanced self.old.on_air } }
     {

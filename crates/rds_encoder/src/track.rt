@@ -1,4 +1,4 @@
-//! One service, texts or names: what of it is on air, and when it takes the next.
+//! One service, texts or names: what is on air, and when it takes the next one.
 ghost use Rattle.std.specs.Prelude.{◌≡◌, ◌+◌, ℕ, Bool, List, [], ◌∷◌, Some, Ok, OnOk, OnErr};
 ghost use Rattle.rds_encoder.specs.Entries.{Move, Begin, Set, End, slot_of};
 ghost use Rattle.rds_encoder.specs.Plan.{OnAir};
@@ -10,7 +10,7 @@ use crate::distance::Distance;
 use crate::hold::Hold;
 use std::marker::Model;
 
-/// What of one service is on air, and for how long it holds the next back.
+/// The text or name on air of one service, and its hold.
 #[derive(Drop)]
 pub(crate) struct Track<V> {
     pub(crate) hold: Hold,
@@ -29,7 +29,7 @@ impl<V> Model for Track<V> {
 }
 
 impl<V: Drop> Track<V> {
-    /// Nothing is on air.
+    /// Makes the track of a service with nothing on air.
     pub(crate) fn new() -> Self
         ensures first { (m : ℕ) (kept : OnAir → V) → Follows m kept result [] }
         ensures again { (m : ℕ) (kept : OnAir → V) (moves : List Move)
@@ -41,7 +41,7 @@ impl<V: Drop> Track<V> {
         }
     }
 
-    /// Puts the value on air in place of the one before, unless that one holds it back.
+    /// Puts the value on air in place of the one before. Error if that one holds it back.
     pub(crate) fn set(&mut self, value: V, distance: Distance) -> Result<(), Refusal>
         ensures reply { (moves : List Move) → HoldsBack distance self.old.hold moves
             → result ≡ held_reply distance (slot_of moves) (last_accepted distance moves) }
@@ -58,7 +58,7 @@ impl<V: Drop> Track<V> {
         Ok(())
     }
 
-    /// One slot ended.
+    /// Ends a slot.
     pub(crate) fn end_slot(&mut self)
         ensures hold { (m : ℕ) (free : Bool) (moves : List Move) → HoldsBack m self.old.hold moves
             → HoldsBack m self.new.hold (End free ∷ moves) }

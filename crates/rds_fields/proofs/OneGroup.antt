@@ -1,4 +1,4 @@
--- One group is written for a message with a head.
+-- Lemmas: one group is written for a message with a head.
 use Rattle.std.proofs.Common.{◌≡◌, ◌≢◌, ℕ, zero, suc, ◌+◌, ◌*◌, ◌<◌, ◌^◌, refl, sym, ◌∙◌, arith}
 use Rattle.std.specs.Int.{from_bool}
 use Rattle.rds_block.specs.declared.group.Group.{Group}
@@ -11,7 +11,7 @@ use Rattle.rds_fields.specs.Bits.{Sent, bits_of, sent_of, SpellsPair}
 use Rattle.rds_fields.specs.Spells.{IsOf, bits_in}
 use Rattle.rds_fields.specs.Canonical.{IsPlain, HasHead, IsWritten}
 
--- groups of one type and one head are equal where the rest is
+-- groups of one type and head are equal if their low bits and blocks 3 and 4 are
 same_fields : (n : ℕ) (head : Head) (g h : Group) → IsOf g n → IsOf h n → HasHead head g → HasHead head h → g.low ≡ h.low → g.c ≡ h.c → g.d ≡ h.d → g ≡ h
 same_fields n head g h og oh hg hh low c d =
     let pi : g.pi ≡ h.pi = hg.pi ∙ sym hh.pi in
@@ -21,12 +21,12 @@ same_fields n head g h og oh hg hh low c d =
     let pty : g.pty ≡ h.pty = hg.pty ∙ sym hh.pty in
     equal_fields g h pi number version tp pty low c d
 
--- a field beside class k that is read as v, and is 0 where k is, is v
+-- if a field s is read as v beside a class above 0, and both are 0 beside class 0, then s is v
 field_of_plain : (k v s : ℕ) → (0 < k → v ≡ s) → (k ≡ 0 → v ≡ 0) → (k ≡ 0 → s ≡ 0) → s ≡ v
 field_of_plain zero v s p q r = r refl ∙ sym (q refl)
 field_of_plain (suc k) v s p q r = sym (p (omega arith))
 
--- plain fields are those that the pair is written as
+-- a number with plain fields is the number written for its pair
 plain_bits : (n : ℕ) (p : PairFields) (s : Sent) → SpellsPair p n s → IsPlain s → n ≡ bits_of (sent_of p)
 plain_bits n p s a b =
     let toggle : s.toggle ≡ from_bool p.toggle = sym a.toggle in
@@ -39,7 +39,7 @@ plain_bits n p s a b =
     let extra_two = field_of_plain s.class_two p.two.extra s.extra_two a.two.extra a.two.dummy_extra b.extra_two in
     omega (arith, a.bits)
 
--- the 37 bits are those of one group
+-- equal numbers of 37 bits have equal parts
 same_parts : (low c d low' c' d' : ℕ) → c < 2 ^ 16 → d < 2 ^ 16 → c' < 2 ^ 16 → d' < 2 ^ 16 →
     2 ^ 32 * low + 2 ^ 16 * c + d ≡ 2 ^ 32 * low' + 2 ^ 16 * c' + d' → (low ≡ low') × (c ≡ c') × (d ≡ d')
 same_parts low c d low' c' d' hc hd hc' hd' e = (omega arith, omega arith, omega arith)

@@ -1,4 +1,4 @@
--- What shifts and masks read and write.
+-- Lemmas about reading and writing by shifts and masks.
 use Rattle.std.proofs.Common.{◌≡◌, ℕ, zero, suc, ◌+◌, ◌*◌, ◌<◌, ◌/◌, ◌%◌, ◌^◌, nat_eq, bit_and, bit_or, refl, arith}
 use Rattle.std.specs.Int.{from_bool}
 use Rattle.std.proofs.lemmas.Nat.{and_mask}
@@ -6,7 +6,7 @@ use mathlib.Core.Bool.{not}
 use Rattle.rds_block.specs.SecondWord.{or_above}
 use Rattle.rds_fields.specs.Bits.{Sent, FitsBits, bits_of}
 
--- the three parts of the 37 bits joined
+-- joining the three parts of the 37 bits adds them
 pub parts_joined : (low c d : ℕ) → low < 32 → c < 65536 → d < 65536 →
     bit_or (bit_or (low * 2 ^ 32 % 2 ^ 64) (c * 2 ^ 16 % 2 ^ 64)) d ≡ 2 ^ 32 * low + 2 ^ 16 * c + d
 parts_joined low c d hl hc hd =
@@ -44,25 +44,25 @@ fields_of-fit n = record {
 pub bits_of-fields_of : (n : ℕ) → n < 2 ^ 37 → n ≡ bits_of (fields_of n)
 bits_of-fields_of n h = omega arith
 
--- whether a number below 2 is not 0
+-- for a bit b: whether b is not 0, as a number, is b
 from_bool-not_zero : (b : ℕ) → b < 2 → from_bool (not (nat_eq b 0)) ≡ b
 from_bool-not_zero zero h = refl
 from_bool-not_zero (suc zero) h = refl
 from_bool-not_zero (suc (suc b)) h = absurd (omega arith)
 
--- a test for the lowest bit gives that bit
+-- a test of the lowest bit gives that bit
 pub low_bit : (n : ℕ) → from_bool (not (nat_eq (bit_and n 1) 0)) ≡ n % 2
 low_bit n = rw (and_mask n 1) (from_bool-not_zero (n % 2) (omega arith))
 
--- the flag above four bits, and the address in them
+-- low bits of a group 2A: the flag above a four-bit address
 pub text_low : (low : ℕ) → low < 32 → low ≡ 16 * from_bool (not (nat_eq (low / 16) 0)) + bit_and low 15
 text_low low h = rw (and_mask low 4, from_bool-not_zero (low / 16) (omega arith)) (omega arith)
 
--- the flag, three bits that may hold anything, and the address
+-- low bits of a group 10A: the flag, three bits that may hold anything, and the address
 pub name_low : (low : ℕ) → low < 32 → low ≡ 16 * from_bool (not (nat_eq (low / 16) 0)) + 2 * (low / 2 % 8) + bit_and low 1
 name_low low h = rw (and_mask low 1, from_bool-not_zero (low / 16) (omega arith)) (omega arith)
 
--- the eight fields joined
+-- joining the eight fields gives their number
 pub fields_joined : (s : Sent) → FitsBits s →
     bit_or (bit_or (bit_or (bit_or (bit_or (bit_or (bit_or (s.toggle * 2 ^ 36 % 2 ^ 64) (s.running * 2 ^ 35 % 2 ^ 64)) (s.class_one * 2 ^ 29 % 2 ^ 64)) (s.start_one * 2 ^ 23 % 2 ^ 64)) (s.extra_one * 2 ^ 17 % 2 ^ 64)) (s.class_two * 2 ^ 11 % 2 ^ 64)) (s.start_two * 2 ^ 5 % 2 ^ 64)) s.extra_two
     ≡ bits_of s

@@ -1,4 +1,4 @@
--- The pair that is written spells itself.
+-- Lemmas: the number written for a pair is read as that pair.
 use Rattle.std.proofs.Common.{◌≡◌, ℕ, refl}
 use Rattle.rds_fields.specs.Tag.{TagFields, PairFields, IsTag, IsPair}
 use Rattle.rds_fields.specs.Bits.{FitsBits, bits_of, sent_of, IsRead, SpellsPair}

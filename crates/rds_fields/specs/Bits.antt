@@ -1,11 +1,10 @@
--- The 37 bits of a group of tags: item toggle, item running, then content type, start marker and
--- length marker of the first tag and of the second, each highest bit first (IEC 62106-6, RadioText
--- Plus).
+-- The 37 bits of a group of tags: item toggle, item running, then class (content type), start marker and length marker
+-- of the first tag, then of the second. Each field has its highest bit first (IEC 62106-6, RadioText Plus).
 use Rattle.std.specs.Prelude.{◌≡◌, ℕ, ◌+◌, ◌*◌, ◌^◌, ◌<◌}
 use Rattle.std.specs.Int.{from_bool}
 use Rattle.rds_fields.specs.Tag.{TagFields, PairFields}
 
--- the eight fields as they are sent, in order
+-- the eight fields as they are sent, in this order
 pub record Sent : Type 0 where
   pub toggle : ℕ
   pub running : ℕ
@@ -16,7 +15,7 @@ pub record Sent : Type 0 where
   pub start_two : ℕ
   pub extra_two : ℕ
 
--- each field has its number of bits
+-- each field fits into its number of bits
 pub record FitsBits (s : Sent) : Type 0 where
   pub toggle : s.toggle < 2
   pub running : s.running < 2
@@ -27,14 +26,14 @@ pub record FitsBits (s : Sent) : Type 0 where
   pub start_two : s.start_two < 64
   pub extra_two : s.extra_two < 32
 
--- the number that the eight fields are together
+-- the eight fields joined as one number
 abbrev pub bits_of : Sent → ℕ
 bits_of s =
     2 ^ 36 * s.toggle + 2 ^ 35 * s.running
     + 2 ^ 29 * s.class_one + 2 ^ 23 * s.start_one + 2 ^ 17 * s.extra_one
     + 2 ^ 11 * s.class_two + 2 ^ 5 * s.start_two + s.extra_two
 
--- the eight fields of a pair as it is written
+-- the eight fields that are sent for a pair
 abbrev pub sent_of : PairFields → Sent
 sent_of p = record {
   toggle = from_bool p.toggle;
@@ -47,8 +46,8 @@ sent_of p = record {
   extra_two = p.two.extra;
 }
 
--- the tag of a received class, start and length marker: of class 0 the tag of zeros, whatever the
--- other two hold (this project's own rule)
+-- class k, start s and length marker e are read as the tag t; class 0 is read as the tag of zeros, whatever s and e are
+-- (this project's own rule)
 pub record IsRead (k s e : ℕ) (t : TagFields) : Type 0 where
   pub class : t.class ≡ k
   pub start : 0 < k → t.start ≡ s
@@ -56,7 +55,7 @@ pub record IsRead (k s e : ℕ) (t : TagFields) : Type 0 where
   pub dummy_start : k ≡ 0 → t.start ≡ 0
   pub dummy_extra : k ≡ 0 → t.extra ≡ 0
 
--- the number n has these eight fields, and they are read as the pair
+-- n has the eight fields s, and they are read as the pair p
 pub record SpellsPair (p : PairFields) (n : ℕ) (s : Sent) : Type 0 where
   pub fits : FitsBits s
   pub bits : n ≡ bits_of s

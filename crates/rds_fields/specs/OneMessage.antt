@@ -1,4 +1,4 @@
--- A group spells one message.
+-- Lemmas: a group spells one message.
 use Rattle.std.proofs.Common.{◌≡◌, ℕ, zero, suc, List, get_or, refl, sym, ap, ◌∙◌, arith}
 use Rattle.rds_block.specs.declared.group.Group.{Group}
 use Rattle.rds_block.specs.SecondWord.{four, from_bool-lt, same_bool}
@@ -8,7 +8,7 @@ use Rattle.rds_fields.specs.Tag.{TagFields, PairFields}
 use Rattle.rds_fields.specs.Bits.{Sent, FitsBits, bits_of, IsRead, SpellsPair}
 use Rattle.rds_fields.specs.Spells.{Carries, Spells}
 
--- two words carry one list of bytes
+-- two words hold one list of bytes
 same_bytes : (c d : ℕ) (a b : List ℕ) → Carries c d a → Carries c d b → a ≡ b
 same_bytes c d a b p q =
     let fa = four a p.four in
@@ -62,7 +62,7 @@ same_sent s t p q e =
       extra_two = e8 i;
     }
 
--- a number spells one pair
+-- a number is read as one pair
 same_pair : (n : ℕ) (p q : PairFields) (s t : Sent) → SpellsPair p n s → SpellsPair q n t → p ≡ q
 same_pair n p q s t a b =
     let e : s ≡ t = same_sent s t a.fits b.fits (sym a.bits ∙ b.bits) in

@@ -1,11 +1,11 @@
--- Tags that are stored as plain numbers (this project's own).
+-- Tags stored as plain numbers (this project's own form).
 use Rattle.std.specs.Prelude.{ℕ, Bool, ◌==◌, IsTrue, Option, Some, None, if◌then◌else◌}
 use mathlib.Core.Bool.{not}
 use Rattle.rds_fields.specs.Tag.{IsPair, PairFields, TagFields}
 use Rattle.rds_fields.specs.declared.stored.StoredTag.{StoredTag}
 use Rattle.rds_fields.specs.declared.stored.StoredPair.{StoredPair}
 
--- a number that stands for a bit: 0, or any other
+-- whether a stored bit is set: 0 means no, any other number yes
 abbrev pub is_set : ℕ → Bool
 is_set n = not (n == 0)
 
@@ -20,10 +20,10 @@ fields_stored p = record {
   two = tag_stored p.two;
 }
 
--- the pair that is stored, where there is one
+-- the stored pair, if there is one
 abbrev pub pair_stored : StoredPair → Option PairFields
 pair_stored p = if is_set p.is_held then Some (fields_stored p) else None
 
--- what is stored as a pair is one
+-- if a pair is stored, its numbers are valid
 abbrev pub IsStoredPair : StoredPair → Type 0
 IsStoredPair p = IsTrue (is_set p.is_held) → IsPair (fields_stored p)

@@ -1,5 +1,5 @@
--- A tag names a piece of the text: its class, the place of its first character from 0, and a length
--- marker, the number of its characters less one (IEC 62106-6, RadioText Plus).
+-- A tag marks a piece of the text. It has a class, a start (the place of the first character, from 0) and a length
+-- marker (the number of characters less one) (IEC 62106-6, RadioText Plus).
 use Rattle.std.specs.Prelude.{◌≡◌, ◌+◌, ◌<◌, ◌==◌, ◌||◌, ◌&&◌}
 use Rattle.std.specs.Prelude.{ℕ, List, Bool, true, Option, Some, None, length}
 use Rattle.std.specs.Prelude.{take, drop, nat_le, nat_lt, if◌then◌else◌}
@@ -10,14 +10,14 @@ pub record TagFields : Type 0 where
   pub start : ℕ
   pub extra : ℕ
 
--- the two bits of an item and its two tags
+-- the two item bits and the two tags
 pub record PairFields : Type 0 where
   pub toggle : Bool
   pub running : Bool
   pub one : TagFields
   pub two : TagFields
 
--- each number has six bits, and a tag of class 0 is the dummy, with nothing but zeros
+-- each number has six bits, and a tag of class 0 (the dummy) is all zeros
 pub record IsTag (t : TagFields) : Type 0 where
   pub class : t.class < 64
   pub start : t.start < 64
@@ -25,17 +25,17 @@ pub record IsTag (t : TagFields) : Type 0 where
   pub dummy_start : t.class ≡ 0 → t.start ≡ 0
   pub dummy_extra : t.class ≡ 0 → t.extra ≡ 0
 
--- the second tag's length marker has five bits
+-- both tags are valid, and the length marker of the second one has five bits
 pub record IsPair (p : PairFields) : Type 0 where
   pub one : IsTag p.one
   pub two : IsTag p.two
   pub short : p.two.extra < 32
 
--- where the piece of a tag ends: the place behind its last character
+-- the place after the last character of the piece
 abbrev pub end_of : TagFields → ℕ
 end_of tag = tag.start + tag.extra + 1
 
--- the tag ends in a text of n characters; the dummy, which names no piece, ends in every text
+-- whether the tag ends in a text of n characters; the dummy ends in every text
 abbrev pub ends_in : ℕ → TagFields → Bool
 ends_in n tag = tag.class == 0 || nat_le (end_of tag) n
 
@@ -44,7 +44,7 @@ pub record BothEndIn (n : ℕ) (pair : PairFields) : Type 0 where
   pub one : ends_in n pair.one ≡ true
   pub two : ends_in n pair.two ≡ true
 
--- the piece that a tag names in a text: none where it is the dummy, or does not end in the text
+-- the piece of the text that a tag marks; none for the dummy, or if the tag does not end in the text
 abbrev pub piece_in : List ℕ → TagFields → Option (List ℕ)
 piece_in text tag =
     if nat_lt 0 tag.class && ends_in (length text) tag

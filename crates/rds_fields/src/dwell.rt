@@ -1,9 +1,9 @@
-//! How long a thing stays on air.
+//! The dwell of a text: how many slots a sender and a receiver count on.
 ghost use Rattle.std.specs.Prelude.{◌≡◌, ℕ, ◌<◌, ◌↔◌, IsNone, IfSome};
 
 use std::marker::Model;
 
-/// A number of slots, from 1 to 65535, that sender and receiver agree on (this project's own).
+/// A dwell: a number of slots, 1 to 65535, that sender and receiver agree on (this project's own rule).
 #[derive(Clone, Copy, Debug, PartialEq, Eq)]
 pub struct Dwell {
     slots: u16,
@@ -20,7 +20,7 @@ impl Model for Dwell {
 }
 
 impl Dwell {
-    /// The dwell of this many slots; `None` for no slot.
+    /// Makes the dwell of this many slots. None for 0 slots.
     pub fn new(slots: u16) -> Option<Self>
         ensures none { IsNone result ↔ (slots ≡ 0) }
         ensures value { IfSome result (λ dwell. dwell ≡ slots) }
@@ -31,7 +31,7 @@ impl Dwell {
         Some(Dwell { slots })
     }
 
-    /// Returns the dwell of this many slots, or of one slot for 0.
+    /// Makes the dwell of this many slots, or of one slot for 0.
     pub fn at_least_one(slots: u16) -> Self
         ensures same { 0 < slots → result ≡ slots }
         ensures one { slots ≡ 0 → result ≡ 1 }
@@ -41,7 +41,7 @@ impl Dwell {
         }
     }
 
-    /// The number of slots.
+    /// Returns the number of slots.
     pub fn get(self) -> u16
         ensures value { result ≡ self }
         ensures some { 0 < result }

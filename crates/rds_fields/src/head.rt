@@ -1,13 +1,12 @@
-//! What every group of a station begins with.
+//! The fields that all groups of a station share.
 ghost use Rattle.std.specs.Prelude.{◌≡◌, ◌<◌, false};
 
 use rds_block::{Group, Place};
 
-/// The fields of a group that belong to the station and not to a message (IEC 62106, group
-/// structure).
+/// The fields of a group that belong to the station and not to a message (IEC 62106, group structure).
 #[derive(Clone, Copy)]
 pub struct Head {
-    /// The programme identification.
+    /// The programme identification (PI).
     pub pi: u16,
     /// The traffic programme flag.
     pub tp: bool,
@@ -16,7 +15,7 @@ pub struct Head {
 }
 
 impl Head {
-    /// The group of version A with this head and this content.
+    /// Makes the group of version A with this head, number, low bits, block 3 and block 4.
     pub(crate) fn group_of(self, number: u8, low: u8, c: u16, d: u16) -> Group
         requires number { number < 16 }
         requires low { low < 32 }

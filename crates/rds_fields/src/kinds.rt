@@ -1,11 +1,11 @@
-//! What a group says, asked kind by kind.
+//! Reads one kind of message from a group.
 ghost use Rattle.std.specs.Prelude.{◌<◌, IfNone, IfSome};
 
 use crate::message::{ANNOUNCEMENT, RADIOTEXT, RADIOTEXT_PLUS, TYPE_NAME, bytes_of};
 use crate::{Message, TagPair};
 use rds_block::Blocks;
 
-/// Four characters of a text or of a name, from `4 * address` on, and the flag that changes with it.
+/// Four characters of a text or of a programme type name, from `4 * address` on, with the A/B flag.
 #[derive(Clone, Copy)]
 pub struct Characters {
     pub bytes: [u8; 4],
@@ -13,19 +13,18 @@ pub struct Characters {
     pub flag: bool,
 }
 
-/// An announcement without the bits of its application.
+/// An announcement without the bits of its application: the application identification and the group type code.
 #[derive(Clone, Copy)]
 pub struct Announced {
     pub aid: u16,
     pub code: u8,
 }
 
-/// What `Message::of` gives, for one kind of message at a time: where the answer is taken apart at once, no message is
-/// put together for it.
+/// Reads one kind of message at a time, without building a `Message`.
 impl Message {
     ghost use Rattle.rds_fields.specs.Spells.{IsOf, Spells};
 
-    /// The characters of a text in group 2A.
+    /// Returns the text segment of a group 2A. None for other groups.
     #[inline(always)]
     pub fn text_in(group: Blocks) -> Option<Characters>
         ensures spelled { IfSome result (λ it. Spells (Message.Text it.flag it.address it.bytes) group) }
@@ -43,7 +42,7 @@ impl Message {
         })
     }
 
-    /// The characters of a programme type name in group 10A.
+    /// Returns the segment of a programme type name of a group 10A. None for other groups.
     #[inline(always)]
     pub fn name_in(group: Blocks) -> Option<Characters>
         ensures spelled { IfSome result (λ it. Spells (Message.Name it.flag it.address it.bytes) group) }
@@ -61,7 +60,7 @@ impl Message {
         })
     }
 
-    /// The announcement in group 3A.
+    /// Returns the announcement of a group 3A. None for other groups.
     #[inline(always)]
     pub fn announced_in(group: Blocks) -> Option<Announced>
         ensures spelled { IfSome result (λ it. Spells (Message.Announce it.code group.c it.aid) group) }
@@ -76,7 +75,7 @@ impl Message {
         })
     }
 
-    /// The tags in group 11A.
+    /// Returns the tags of a group 11A. None for other groups.
     #[inline(always)]
     pub fn tags_in(group: Blocks) -> Option<TagPair>
         ensures spelled { IfSome result (λ pair. Spells (Message.Tags pair) group) }

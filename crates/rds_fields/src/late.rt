@@ -1,9 +1,9 @@
-//! How late groups may come.
+//! The lateness: how many slots late a group may arrive.
 ghost use Rattle.std.specs.Prelude.{◌≡◌, ◌<◌, ◌≤◌, ◌↔◌, IsNone, IfSome};
 
 use std::marker::Model;
 
-/// How many slots after its own a group may reach a receiver: 0 to 1024 (this project's own rule).
+/// The most slots by which a group may arrive late, 0 to 1024 (this project's own rule).
 #[derive(Clone, Copy, Debug, PartialEq, Eq)]
 pub struct Late {
     slots: u16,
@@ -22,7 +22,7 @@ impl Model for Late {
 }
 
 impl Late {
-    /// The lateness of this many slots; `None` above 1024.
+    /// Makes the lateness of this many slots. None above 1024.
     pub fn new(slots: u16) -> Option<Self>
         ensures none { IsNone result ↔ (1024 < slots) }
         ensures value { IfSome result (λ late. late ≡ slots) }
@@ -33,7 +33,7 @@ impl Late {
         Some(Late { slots })
     }
 
-    /// The number of slots.
+    /// Returns the number of slots.
     pub fn get(self) -> u16
         ensures value { result ≡ self }
         ensures most { result ≤ 1024 }

@@ -1,4 +1,4 @@
-//! What holds of all messages and groups.
+//! Laws about all messages and groups.
 ghost use Rattle.std.specs.Prelude.{◌≡◌, ◌≢◌};
 ghost use Rattle.rds_block.specs.declared.group.Group.{Group};
 ghost use Rattle.rds_fields.specs.declared.head.Head.{Head};
@@ -7,12 +7,12 @@ ghost use Rattle.rds_fields.specs.declared.message.Message.TheVariants.{Other};
 ghost use Rattle.rds_fields.specs.Spells.{Spells};
 ghost use Rattle.rds_fields.specs.Canonical.{IsWritten};
 
-/// A group spells one message: so what is written for a message is read as that message again.
+/// States that a group spells one message. So the group written for a message is read as that message again.
 pub fn one_message()
     ensures { (m n : Message) (g : Group) → Spells m g → Spells n g → m ≡ n }
 {}
 
-/// One group is written for a message with a head.
+/// States that one group is written for a message and a head.
 pub fn one_group()
     ensures { (m : Message) (head : Head) (g h : Group)
         → m ≢ Other → IsWritten m head g → IsWritten m head h → g ≡ h }

@@ -1,9 +1,9 @@
-//! What a group of the Radio Data System says: a segment of a text or of a name, an announcement,
-//! tags (IEC 62106, groups 2A, 10A and 3A; IEC 62106-6, RadioText Plus on 11A).
+//! The message of an RDS group: a segment of a text or name, an announcement or tags (IEC 62106, groups 2A, 10A and 3A;
+//! IEC 62106-6, RadioText Plus in group 11A).
 //!
-//! The one model is the relation `Spells` between messages and groups: sums of fields, by cases; the
-//! code shifts and masks. `Message::of` gives the one message that a group spells, `Message::group`
-//! the one canonical group of a message, which is read as that message again.
+//! The model is the relation `Spells` between messages and groups: sums of fields, by cases. The code shifts and masks.
+//! `Message::of` returns the one message that a group spells. `Message::group` returns the one canonical group of a
+//! message, which is read as that message again.
 //!
 //! ```text
 //! let message = Message::of(&Group::from_blocks([0xC201, 0x2150, 0x594F, 0x0D20]));

@@ -1,4 +1,4 @@
-//! What a group says.
+//! The message of a group, read and written.
 ghost use Rattle.std.specs.Prelude.{◌≡◌, ℕ, ◌+◌, ◌*◌, ◌<◌, ◌↔◌, IsNone, IfSome};
 ghost use Rattle.std.specs.Int.{from_bool};
 ghost use Rattle.rds_block.specs.declared.group.Group.{Group};
@@ -7,43 +7,44 @@ ghost use Rattle.rds_fields.specs.Spells.{Carries};
 use crate::{Head, TagPair};
 use rds_block::{Group, Place};
 
-/// The number of the groups that carry RadioText.
+/// The group number of RadioText.
 pub(crate) const RADIOTEXT: u8 = 2;
 
-/// The number of the groups that announce an application.
+/// The group number of announcements of an application.
 pub(crate) const ANNOUNCEMENT: u8 = 3;
 
-/// The number of the groups that carry the name of the programme type.
+/// The group number of the programme type name.
 pub(crate) const TYPE_NAME: u8 = 10;
 
-/// The number of the groups that carry tags of RadioText Plus.
+/// The group number of the tags of RadioText Plus.
 pub(crate) const RADIOTEXT_PLUS: u8 = 11;
 
-/// What a group says (IEC 62106, groups 2A, 3A and 10A; IEC 62106-6, RadioText Plus on 11A).
+/// The message of a group (IEC 62106, groups 2A, 3A and 10A; IEC 62106-6, RadioText Plus in group 11A).
 #[derive(Clone, Copy, Debug, PartialEq, Eq)]
 pub enum Message {
-    /// Four characters of a text, from `4 * address` on, and the flag that changes with the text.
+    /// A text segment: four characters from `4 * address` on, and the A/B flag, which changes with the text.
     Text {
         flag: bool,
         address: Place<16>,
         bytes: [u8; 4],
     },
-    /// Four characters of the programme type's name, and the flag that changes with it.
+    /// A segment of the programme type name: four characters from `4 * address` on, and the flag, which changes with
+    /// the name.
     Name {
         flag: bool,
         address: Place<2>,
         bytes: [u8; 4],
     },
-    /// The application with this identification stands in groups of the type `code`, twice the
-    /// group's number and one more for version B; `bits` are its own.
+    /// An announcement: the application `aid` uses groups of the type `code`, which is twice the group's number, plus
+    /// one for version B. `bits` belong to the application.
     Announce {
         code: Place<32>,
         bits: u16,
         aid: u16,
     },
-    /// Pieces of the text.
+    /// Two tags, which mark pieces of the text.
     Tags(TagPair),
-    /// Anything else.
+    /// Any other group.
     Other,
 }
 
@@ -53,8 +54,8 @@ impl Message {
     ghost use Rattle.rds_block.specs.Words.{AreWordsOf, words_of};
     ghost use Rattle.rds_fields.specs.Canonical.{IsWritten};
 
-    /// What the group says: every group says one thing. Bits 3 to 1 of a name's group may hold
-    /// anything, and so may the other fields of a tag of class 0.
+    /// Returns the one message that the group spells. Two things are not read: bits 3 to 1 of block 2 in a group 10A,
+    /// and the start and length marker of a tag of class 0.
     #[inline(always)]
     pub fn of(group: &Group) -> Message
         ensures spelled { Spells result group.now }
@@ -85,8 +86,7 @@ impl Message {
         }
     }
 
-    /// The group that is written for the message with this head; there is none for `Other`, which
-    /// many groups spell.
+    /// Returns the group that is written for the message with this head. None for `Other`, which many groups spell.
     pub fn group(&self, head: Head) -> Option<Group>
         ensures written { IfSome result (IsWritten self.now head) }
         ensures one { IfSome result (λ g. (h : Group) → IsWritten self.now head h → h ≡ g) }
@@ -123,7 +123,7 @@ impl Message {
     }
 }
 
-/// The five low bits of block 2 with a flag above an address.
+/// Returns the five low bits of block 2: the flag above a four-bit address.
 fn low_of(flag: bool, address: u8) -> u8
     requires { address < 16 }
     ensures { result ≡ 16 * from_bool flag + address }
@@ -131,7 +131,7 @@ fn low_of(flag: bool, address: u8) -> u8
     u8::from(flag) << 4 | address
 }
 
-/// The two words of four bytes, high byte first.
+/// Packs four bytes into two words, high byte first.
 fn blocks_of(bytes: [u8; 4]) -> (u16, u16)
     ensures { Carries result.0 result.1 bytes }
 {
@@ -142,7 +142,7 @@ fn blocks_of(bytes: [u8; 4]) -> (u16, u16)
     )
 }
 
-/// The four bytes of two words, high byte first.
+/// Unpacks two words into four bytes, high byte first.
 pub(crate) fn bytes_of(c: u16, d: u16) -> [u8; 4]
     ensures { Carries c d result }
 {

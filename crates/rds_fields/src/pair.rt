@@ -1,4 +1,4 @@
-//! The two tags of a group of RadioText Plus, and their 37 bits.
+//! The two tags of a RadioText Plus group, as fields and as 37 bits.
 ghost use Rattle.std.specs.Prelude.{◌≡◌, ℕ, ◌+◌, ◌*◌, ◌^◌, ◌<◌, ◌≤◌, ◌↔◌, IsOk, IfOk, IfErr};
 
 use crate::tag::{Tag, TagRefused};
@@ -12,7 +12,7 @@ pub enum Which {
     Two,
 }
 
-/// The word for its place in the pair.
+/// Writes the place of the tag in its pair: `first` or `second`.
 impl fmt::Display for Which {
     fn fmt<W: fmt::Write>(&self, f: &mut fmt::Formatter<W>) -> fmt::Result {
         f.write_str(match self {
@@ -22,7 +22,7 @@ impl fmt::Display for Which {
     }
 }
 
-/// Two tags, and the two bits of the item that they are of (IEC 62106-6, RadioText Plus).
+/// Two tags, and the two bits of the item that they belong to (IEC 62106-6, RadioText Plus).
 #[derive(Clone, Copy, Debug, PartialEq, Eq)]
 pub struct TagPair {
     toggle: bool,
@@ -46,8 +46,7 @@ impl Model for TagPair {
 impl TagPair {
     ghost use Rattle.rds_fields.specs.Bits.{Sent, SpellsPair, sent_of};
 
-    /// The pair; `Extra` where the second tag's piece is over 32 characters, its marker having only
-    /// five bits.
+    /// Makes a pair. `Extra` if the second tag has over 32 characters: its length marker has only five bits.
     pub fn new(toggle: bool, running: bool, one: Tag, two: Tag) -> Result<TagPair, TagRefused>
         ensures fits { IsOk result ↔ (two.extra ≤ 31) }
         ensures refused { IfErr result (λ refused. refused ≡ TagRefused.Extra) }
@@ -65,28 +64,28 @@ impl TagPair {
         })
     }
 
-    /// The item toggle bit, which changes with each item.
+    /// Returns the item toggle bit, which changes with each item.
     pub fn toggle(self) -> bool
         ensures { result ≡ self.toggle }
     {
         self.toggle
     }
 
-    /// The item running bit.
+    /// Returns the item running bit.
     pub fn running(self) -> bool
         ensures { result ≡ self.running }
     {
         self.running
     }
 
-    /// The first tag.
+    /// Returns the first tag.
     pub fn one(self) -> Tag
         ensures { result ≡ self.one }
     {
         self.one
     }
 
-    /// The second tag.
+    /// Returns the second tag.
     pub fn two(self) -> Tag
         ensures value { result ≡ self.two }
         ensures short { result.extra < 32 }
@@ -94,7 +93,7 @@ impl TagPair {
         self.two
     }
 
-    /// The pair in the five low bits of block 2 and in the blocks 3 and 4.
+    /// Reads the pair from the five low bits of block 2 and from blocks 3 and 4.
     pub(crate) fn from_blocks(low: u8, c: u16, d: u16) -> TagPair
         requires { low < 32 }
         ensures spelled { (s : Sent) × SpellsPair result (2 ^ 32 * low + 2 ^ 16 * c + d) s }
@@ -104,7 +103,7 @@ impl TagPair {
         TagPair::from_bits(u64::from(low) << 32 | u64::from(c) << 16 | u64::from(d))
     }
 
-    /// The five low bits of block 2 and the blocks 3 and 4 that the pair is written as.
+    /// Returns the five low bits of block 2 and blocks 3 and 4 that are written for the pair.
     pub(crate) fn to_blocks(self) -> (u8, u16, u16)
         ensures { SpellsPair self (2 ^ 32 * result.0 + 2 ^ 16 * result.1 + result.2)
             (sent_of self) }
@@ -117,7 +116,7 @@ impl TagPair {
         )
     }
 
-    /// The pair that 37 bits spell.
+    /// Reads the pair from its 37 bits.
     pub(crate) fn from_bits(bits: u64) -> TagPair
         requires { bits < 2 ^ 37 }
         ensures { (s : Sent) × SpellsPair result bits s }
@@ -138,7 +137,7 @@ impl TagPair {
         }
     }
 
-    /// The 37 bits that the pair is written as.
+    /// Returns the 37 bits that are written for the pair.
     fn to_bits(self) -> u64
         ensures { SpellsPair self result (sent_of self) }
     {

@@ -1,4 +1,4 @@
-//! How RadioText Plus is announced.
+//! The announcement of RadioText Plus.
 ghost use Rattle.std.specs.Prelude.{◌≡◌};
 ghost use Rattle.rds_fields.specs.RadioTextPlus.{announcement};
 
@@ -8,10 +8,10 @@ use rds_block::Place;
 /// The code of group type 11A, which carries the tags (IEC 62106, group 3A).
 pub const RTPLUS_CODE: u8 = 22;
 
-/// The application identification of RadioText Plus (IEC 62106-6).
+/// The application identification (AID) of RadioText Plus (IEC 62106-6).
 pub const RTPLUS_AID: u16 = 0x4BD7;
 
-/// The announcement that RadioText Plus stands in groups 11A; its own bits are 0.
+/// Makes the announcement that RadioText Plus uses groups 11A. Its own bits are 0.
 pub fn rtplus_announcement() -> Message
     ensures { result ≡ announcement }
 {

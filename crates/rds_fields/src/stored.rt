@@ -1,4 +1,4 @@
-//! Tags as plain numbers, which another program can hold.
+//! Tags as plain numbers, for a program that stores them.
 ghost use Rattle.std.specs.Prelude.{◌≡◌, Option};
 ghost use Rattle.rds_fields.specs.Stored.{IsStoredPair, fields_stored, pair_stored, tag_stored};
 ghost use Rattle.rds_fields.specs.Tag.{IsPair, IsTag};
@@ -6,18 +6,19 @@ ghost use Rattle.rds_fields.specs.Tag.{IsPair, IsTag};
 use crate::pair::TagPair;
 use crate::tag::Tag;
 
-/// A tag by its three numbers, as RadioText Plus (IEC 62106-6) has them.
+/// A tag as its three numbers (IEC 62106-6, RadioText Plus).
 #[repr(C)]
 #[derive(Clone, Copy)]
 pub struct StoredTag {
     pub class: u8,
-    /// The place of its first character, from 0 on.
+    /// The start: the place of the first character, from 0.
     pub start: u8,
-    /// How many characters follow the first.
+    /// The length marker: the number of characters less one.
     pub extra: u8,
 }
 
-/// A pair of tags, or none where `is_held` is 0. A bit is 0, or any other number.
+/// A pair of tags as plain numbers. If `is_held` is 0, there is no pair. A bit is 0 for no and any other number for
+/// yes.
 #[repr(C)]
 #[derive(Clone, Copy)]
 pub struct StoredPair {
@@ -29,7 +30,7 @@ pub struct StoredPair {
 }
 
 impl StoredPair {
-    /// No pair.
+    /// Makes a `StoredPair` without a pair.
     pub fn none() -> StoredPair
         ensures same { pair_stored result ≡ Option.None }
         ensures good { IsStoredPair result }
@@ -48,7 +49,7 @@ impl StoredPair {
         }
     }
 
-    /// The pair, where there is one.
+    /// Stores the pair, if there is one.
     pub fn of(pair: Option<TagPair>) -> StoredPair
         ensures same { pair_stored result ≡ pair }
         ensures good { IsStoredPair result }
@@ -65,7 +66,7 @@ impl StoredPair {
         }
     }
 
-    /// The pair that was stored; `None` also where the numbers are no pair.
+    /// Returns the stored pair. None if no pair is held, or if the numbers are not valid.
     pub fn pair(&self) -> Option<TagPair>
         ensures { IsStoredPair self.now → result ≡ pair_stored self.now }
     {
@@ -85,7 +86,7 @@ impl StoredPair {
     }
 }
 
-/// The tag by its three numbers.
+/// Stores the tag as its three numbers.
 fn stored_tag(tag: Tag) -> StoredTag
     ensures same { tag_stored result ≡ tag }
     ensures good { IsTag (tag_stored result) }

@@ -1,11 +1,11 @@
-//! One tag of RadioText Plus.
+//! A tag of RadioText Plus.
 ghost use Rattle.std.specs.Prelude.{◌≡◌, ℕ, ◌+◌, ◌<◌, ◌≤◌, ◌⊎◌, ◌↔◌, IfOk, IfSome, length};
 ghost use Rattle.std.specs.Option.{option_copied};
 
 use std::marker::Model;
 use thiserror::Error;
 
-/// Why a tag or a pair of tags is no such thing.
+/// Why a tag or a pair of tags is not valid.
 #[derive(Clone, Copy, Debug, PartialEq, Eq, Error)]
 pub enum TagRefused {
     /// The class is over 63.
@@ -14,16 +14,16 @@ pub enum TagRefused {
     /// The start is over 63.
     #[error("the start is over 63")]
     Start,
-    /// The length marker is over 63, or over 31 in the second tag of a pair.
+    /// The length marker is over 63, or over 31 for the second tag of a pair.
     #[error("the length marker is over its bits")]
     Extra,
-    /// The class is 0, and the start or the length marker is not.
+    /// The class is 0, and the start or the length marker is not 0.
     #[error("class 0 with a start or a length marker")]
     DummyNotZero,
 }
 
-/// A class, and the piece of the text that it names (IEC 62106-6, RadioText Plus). Class 0 is the
-/// dummy, which names no piece: its other fields are 0.
+/// A tag: a class, and the piece of the text that it marks (IEC 62106-6, RadioText Plus). Class 0 is the dummy, which
+/// marks no piece. Its other fields are 0.
 #[derive(Clone, Copy, Debug, PartialEq, Eq)]
 pub struct Tag {
     class: u8,
@@ -47,10 +47,10 @@ impl Tag {
     ghost use Rattle.rds_fields.specs.Bits.{IsRead};
     ghost use Rattle.rds_fields.specs.Tag.{end_of, ends_in, piece_in};
 
-    /// The tag of this class, from the character at `start` on (counted from 0), `extra` being the
-    /// number of its characters less one.
+    /// Makes the tag of this class. `start` is the place of its first character, from 0, and `extra` the number of its
+    /// characters less one.
     ///
-    /// The fields are tested in the order of the refusals below.
+    /// Error if a field is out of range. The checks have the order of the variants of `TagRefused`.
     pub fn new(class: u8, start: u8, extra: u8) -> Result<Tag, TagRefused>
         ensures class_over { (result ≡ Err TagRefused.Class) ↔ (63 < class) }
         ensures start_over { (result ≡ Err TagRefused.Start) ↔ ((class ≤ 63) × (63 < start)) }
@@ -80,7 +80,7 @@ impl Tag {
         })
     }
 
-    /// What the piece is, as the title or the artist; 0 for no piece.
+    /// Returns the class: the kind of piece, for example a title or an artist. 0 is the dummy.
     pub fn class(self) -> u8
         ensures value { result ≡ self.class }
         ensures below { result < 64 }
@@ -88,7 +88,7 @@ impl Tag {
         self.class
     }
 
-    /// The place of the piece's first character in the text, from 0.
+    /// Returns the place of the first character in the text, from 0.
     pub fn start(self) -> u8
         ensures value { result ≡ self.start }
         ensures below { result < 64 }
@@ -97,7 +97,7 @@ impl Tag {
         self.start
     }
 
-    /// The length marker: the number of the piece's characters less one.
+    /// Returns the length marker: the number of characters less one.
     pub fn extra(self) -> u8
         ensures value { result ≡ self.extra }
         ensures below { result < 64 }
@@ -106,15 +106,15 @@ impl Tag {
         self.extra
     }
 
-    /// Whether the tag ends in a text of so many characters. The dummy ends in every text.
+    /// Returns whether the tag ends in a text of `length` characters. The dummy ends in every text.
     pub fn ends_in(self, length: usize) -> bool
         ensures { result ≡ ends_in length self }
     {
         self.class == 0 || usize::from(self.end()) <= length
     }
 
-    /// The piece that the tag names in the text, lent; `None` for the dummy, and where the tag does
-    /// not end in the text.
+    /// Returns the piece of the text that the tag marks, borrowed from the text. None for the dummy, and if the tag
+    /// does not end in the text.
     pub fn piece_in(self, text: &[u8]) -> Option<&[u8]>
         ensures piece { option_copied result ≡ piece_in text.now self }
         ensures characters { IfSome result (λ piece. length piece.now ≡ self.extra + 1) }
@@ -126,15 +126,14 @@ impl Tag {
         text.get(usize::from(self.start)..usize::from(self.end()))
     }
 
-    /// Where the piece ends: the place behind its last character, at most 127. The dummy, which names no piece, ends
-    /// at 1.
+    /// Returns the place after the last character of the piece, at most 127. For the dummy this is 1.
     pub fn end(self) -> u8
         ensures { result ≡ end_of self }
     {
         self.start + self.extra + 1
     }
 
-    /// The tag that three received fields spell: of class 0 there is one, whatever the others hold.
+    /// Reads a tag from its three received fields. Class 0 gives the dummy, whatever the other fields hold.
     pub(crate) fn read(class: u8, start: u8, extra: u8) -> Tag
         requires class { class < 64 }
         requires start { start < 64 }

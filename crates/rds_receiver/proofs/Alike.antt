@@ -1,4 +1,4 @@
--- What a receiver shows stays where what the cells make whole and the pair stay.
+-- Lemmas: a receiver shows the same if its cells make the same values whole and it holds the same pair.
 use Rattle.std.proofs.Common.{◌≡◌, ◌⊎◌, ℕ, List, None, Option, Some, sym, ap, ◌∙◌, subst, refl, inl, inr}
 use Rattle.rds_block.specs.declared.group.Group.{Group}
 use Rattle.rds_fields.specs.declared.pair.Which.TheVariants.{One, Two}
@@ -12,7 +12,7 @@ use Rattle.rds_receiver.specs.State.{ReceiverState}
 use Rattle.rds_receiver.specs.Tags.{item_of, tag_of}
 use Rattle.rds_receiver.proofs.Shows.{name_cells, name_shown, pair_is, text_cells, text_shown}
 
--- cells make what they make
+-- cells make the same whole as themselves
 pub makes_itself : (IsWhole : Cells → List ℕ → Type 0) (cells : Cells) → MakeAlike IsWhole cells cells
 makes_itself IsWhole cells shown = (λ h. h, λ h. h)
 
@@ -26,7 +26,7 @@ alike_by a b c p q = record {
   ];
 }
 
--- with no text there are no item bits and no tags, whatever the pair is
+-- item bits and tags are the same if the pair is the same or no text is shown
 nothing_beside : (text : Option (List ℕ)) (cells : Cells) (p q : Option PairFields) → IsShown IsWholeText cells text → (q ≡ p) ⊎ IsShown IsWholeText cells None
     → (item_of text p ≡ item_of text q) × (tag_of One text p ≡ tag_of One text q) × (tag_of Two text p ≡ tag_of Two text q)
 nothing_beside text cells p q shown (inl same) = (ap (item_of text) (sym same), ap (tag_of One text) (sym same), ap (tag_of Two text) (sym same))

@@ -1,4 +1,4 @@
--- The run is the longest last part that is chained.
+-- Lemmas: the run is the longest last part that is chained.
 use Rattle.std.proofs.Common.{◌≡◌, ◌⊎◌, ◌+◌, ◌<◌, ◌≤◌, ◌&&◌, ◌++◌, ℕ, Bool, true, false, nat_lt, List, [], ◌∷◌, length, refl, sym, ap, subst, inl, inr, arith}
 use Rattle.std.specs.Prelude.{if◌then◌else◌}
 use Rattle.std.specs.List.{All}
@@ -9,7 +9,7 @@ use Rattle.rds_receiver.specs.Run.{is_same, run, run_before}
 use Rattle.rds_receiver.specs.Chained.{IsChained}
 use Rattle.rds_receiver.proofs.Runs.{run_over, run_recent, same_is, test_false, test_true}
 
--- these segments go on, from the newest on, what so far begins with flag f in slot s
+-- these segments, from the newest on, belong to the run of a segment with flag f that came in slot s
 abbrev GoOn : ℕ → Bool → ℕ → List Segment → Type 0
 GoOn m f s [] = Unit {0}
 GoOn m f s (g ∷ older) = (g.fragment.flag ≡ f) × (s < g.slot + m) × GoOn m f g.slot older
@@ -34,7 +34,7 @@ test_below a b e = by (cases_lt a b)
         let no : nat_lt a b ≡ false = test_false a b h in
         absurd (cc)
 
--- what a run so far begins goes on, where the tests hold
+-- a segment for which both tests hold belongs to the run
 go_on_if : (m s : ℕ) (f : Bool) (g : Segment) (rest : List Segment) (b : Bool) → (is_same f g.fragment.flag && nat_lt s (g.slot + m)) ≡ b → GoOn m f g.slot rest
     → GoOn m f s (if b then g ∷ rest else [])
 go_on_if m s f g rest true e go =
@@ -42,7 +42,7 @@ go_on_if m s f g rest true e go =
     (is_same-true f g.fragment.flag both.0, test_below s (g.slot + m) both.1, go)
 go_on_if m s f g rest false e go = tt
 
--- what stands before a segment of the run goes on
+-- the part of a run before a segment belongs to it
 before_goes_on : (m s : ℕ) (f : Bool) (segs : List Segment) → GoOn m f s (run_before m f s segs)
 before_goes_on m s f [] = tt
 before_goes_on m s f (g ∷ older) =
@@ -111,7 +111,7 @@ pub run_last : (m t : ℕ) (segs : List Segment) → (older : List Segment) × (
 run_last m t [] = ([], refl)
 run_last m t (g ∷ rest) = part_if (nat_lt t (g.slot + m)) g rest (run_before m g.fragment.flag g.slot rest) (before_last m g.slot g.fragment.flag rest)
 
--- the segments behind the newest of a chain go on
+-- the segments before the newest one of a chain belong to its run
 go_of : (m : ℕ) (f : Bool) (g : Segment) (rest : List Segment) → All (λ x. x.fragment.flag ≡ f) rest
     → ((newer older : List Segment) (a b : Segment) → g ∷ rest ≡ newer ++ a ∷ b ∷ older → a.slot < b.slot + m) → GoOn m f g.slot rest
 go_of m f g [] flags near = tt
@@ -129,7 +129,7 @@ before_longest m s f (g ∷ front) older go =
     let longer : length (g ∷ front) ≤ length (g ∷ run_before m f g.slot (front ++ older)) = omega arith in
     rw (same, test_true s (g.slot + m) go.1) longer
 
--- no longer last part is chained
+-- no chained last part is longer than the run
 pub run_longest : (m t : ℕ) (front older : List Segment) → IsChained m t front → length front ≤ length (run m t (front ++ older))
 run_longest m t [] older chain = omega arith
 run_longest m t (g ∷ front) older chain =

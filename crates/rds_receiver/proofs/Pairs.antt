@@ -1,4 +1,4 @@
--- How the pair held goes on from slot to slot.
+-- Lemmas: how the pair held changes from slot to slot.
 use Rattle.std.proofs.Common.{◌≡◌, ◌+◌, ◌<◌, ◌≤◌, ◌&&◌, ℕ, Bool, true, false, nat_lt, List, [], ◌∷◌, Option, Some, None, length, refl, sym, ap, ◌∙◌, arith}
 use Rattle.std.specs.Prelude.{if◌then◌else◌}
 use Rattle.rds_fields.specs.declared.message.Message.{Message}
@@ -11,7 +11,7 @@ use Rattle.rds_receiver.specs.State.{HeldSegments}
 use Rattle.rds_receiver.specs.Tags.{is_known, pair_from, pair_since, says_of_rtplus, unless_contrary}
 use Rattle.rds_receiver.proofs.Runs.{and_false, test_false, test_true}
 
--- segments that all came before slot n
+-- the segments all came before slot n
 abbrev pub AllBelow : ℕ → List Segment → Type 0
 AllBelow n [] = Unit {0}
 AllBelow n (g ∷ older) = (g.slot < n) × AllBelow n older
@@ -57,7 +57,7 @@ none_since first since (Some (Text f a b) ∷ before) h = none_since first since
 none_since first since (Some (Name f a b) ∷ before) h = none_since first since before (omega arith)
 none_since first since (Some Other ∷ before) h = none_since first since before (omega arith)
 
--- a text's segment that goes on the run leaves the pair
+-- a text segment that extends the run keeps the pair
 pub pair_goes_on : (first n : ℕ) (heard : List (Option Message)) (f : Bool) (a : ℕ) (b : List ℕ) (g : Segment) (older : List Segment) → n ≡ first + length heard → g.slot ≡ n
     → pair_from first (begins_in older) heard ≡ pair_from first (begins_in (g ∷ older)) (Some (Text f a b) ∷ heard)
 pair_goes_on first n heard f a b g [] at here = sym (none_since first g.slot heard (omega arith))
@@ -67,7 +67,7 @@ pair_goes_on first n heard f a b g (o ∷ older) at here = from (begins_in (o �
     from None = refl
     from (Some since) = refl
 
--- nothing that is neither a text nor tags nor an announcement changes the pair
+-- a slot without a text, tags or an announcement keeps the pair
 pub pair_of_none : (first : ℕ) (begins : Option ℕ) (heard : List (Option Message)) → pair_from first begins heard ≡ pair_from first begins (None ∷ heard)
 pair_of_none first None heard = refl
 pair_of_none first (Some since) heard = refl
@@ -80,7 +80,7 @@ pub pair_of_name : (first : ℕ) (begins : Option ℕ) (heard : List (Option Mes
 pair_of_name first None heard f a b = refl
 pair_of_name first (Some since) heard f a b = refl
 
--- and while it is known they are held, where a run is
+-- tags that come while RadioText Plus is known are held if there is a run
 tags_known : (first : ℕ) (g : Segment) (older : List Segment) (heard : List (Option Message)) (pair : PairFields) → AllBelow (first + length heard) (g ∷ older) → is_known heard ≡ true
     → Some pair ≡ pair_from first (begins_in (g ∷ older)) (Some (Tags pair) ∷ heard)
 tags_known first g [] heard pair all h = rw (h, test_true g.slot (first + length heard) all.0) refl

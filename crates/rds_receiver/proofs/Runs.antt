@@ -1,4 +1,4 @@
--- How the run and what is held of it go on from slot to slot.
+-- Lemmas: how the run and the held segments change from slot to slot.
 use Rattle.std.proofs.Common.{◌≡◌, ◌≢◌, ◌⊎◌, ◌+◌, ◌<◌, ◌≤◌, ◌&&◌, ℕ, Bool, true, false, nat_lt, List, [], ◌∷◌, Option, refl, sym, ap, ◌∙◌, subst, inl, inr, arith}
 use Rattle.std.specs.FinMap.{empty, insert}
 use Rattle.std.proofs.lemmas.Bool.{cases_lt}
@@ -35,20 +35,20 @@ equal_or_not false false = inl refl
 equal_or_not true false = inr (λ e. (cc))
 equal_or_not false true = inr (λ e. (cc))
 
--- the run of segments of which the newest is recent
+-- the run, if the newest segment came less than m slots ago
 pub run_recent : (m t : ℕ) (g : Segment) (older : List Segment) → t < g.slot + m → run m t (g ∷ older) ≡ g ∷ run_before m g.fragment.flag g.slot older
 run_recent m t g older h = rw (test_true t (g.slot + m) h) refl
 
--- the run of segments of which the newest is not
+-- the run, if it did not: empty
 pub run_over : (m t : ℕ) (g : Segment) (older : List Segment) → g.slot + m ≤ t → run m t (g ∷ older) ≡ []
 run_over m t g older h = rw (test_false t (g.slot + m) h) refl
 
--- the run at the newest slot
+-- the run in the newest slot
 pub run_at_newest : (pick : Message → Option Fragment) (m first : ℕ) (heard : List (Option Message)) → run m (newest_slot first heard) (segments pick first heard) ≡ run_at pick m first heard
 run_at_newest pick m first [] = refl
 run_at_newest pick m first (x ∷ before) = refl
 
--- before a segment with the flag of the run stands the run
+-- before a segment with the flag of the run comes the whole run
 pub before_same : (m n : ℕ) (f : Bool) (segs : List Segment) → HasFlag (run m n segs) f → run_before m f n segs ≡ run m n segs
 before_same m n f [] h = refl
 before_same m n f (g ∷ older) h = by_age (cases_lt n (g.slot + m))
@@ -63,7 +63,7 @@ before_same m n f (g ∷ older) h = by_age (cases_lt n (g.slot + m))
         let kept : run_before m f n (g ∷ older) ≡ [] = rw (test_false n (g.slot + m) l, and_false (is_same f g.fragment.flag)) refl in
         kept ∙ sym (run_over m n g older l)
 
--- and before one with the other flag nothing
+-- before a segment with the other flag comes nothing
 pub before_other : (m n : ℕ) (f f' : Bool) (segs : List Segment) → HasFlag (run m n segs) f' → f ≢ f' → run_before m f n segs ≡ []
 before_other m n f f' [] h ne = refl
 before_other m n f f' (g ∷ older) h ne = by_age (cases_lt n (g.slot + m))
@@ -74,7 +74,7 @@ before_other m n f f' (g ∷ older) h ne = by_age (cases_lt n (g.slot + m))
         rw (other_is f g.fragment.flag (λ e. ne (e ∙ sym flag))) refl
     by_age (inr l) = rw (test_false n (g.slot + m) l, and_false (is_same f g.fragment.flag)) refl
 
--- what is held once a segment was taken
+-- the held segments after one was taken
 pub held_taken : (m n : ℕ) (segs : List Segment) (p : Fragment) (h after : HeldSegments) → 0 < m
     → (p.flag ≡ h.flag → after.cells ≡ insert h.cells p.address p.bytes) → (p.flag ≢ h.flag → after.cells ≡ insert empty p.address p.bytes)
     → after.flag ≡ p.flag → after.age ≡ 0

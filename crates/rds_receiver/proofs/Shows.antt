@@ -1,4 +1,4 @@
--- What is shown of what is held.
+-- Lemmas: what is shown follows from what is held.
 use Rattle.std.proofs.Common.{◌≡◌, ℕ, List, Option, Some, None, refl, sym, ap, ◌∙◌, subst}
 use Rattle.rds_block.specs.declared.group.Group.{Group}
 use Rattle.rds_fields.specs.declared.message.Message.{Message}
@@ -16,7 +16,7 @@ use Rattle.rds_receiver.specs.Tags.{cut_by, item_of, pair_from, pair_held, tag_i
 use Rattle.rds_receiver.specs.OneView.{same_heard}
 use Rattle.rds_receiver.proofs.Runs.{run_at_newest}
 
--- the cells and the pair held are those of the definition, for whatever was heard
+-- the cells and the pair held are those of the definition, whatever was heard
 pub text_cells : (t : Tuning) (r : ReceiverState) (input : List (Option Group)) (heard : List (Option Message)) → StandsAt t r input → AreHeard t.programme input heard
     → r.text.cells ≡ cells_of (run_at text_fragment t.dwell t.first heard)
 text_cells t r input heard s are =
@@ -35,7 +35,7 @@ pair_is t r input heard s are =
     s.holds.pair ∙ ap (λ (xs : List Segment). pair_from t.first (begins_in xs) s.heard) (run_at_newest text_fragment t.dwell t.first s.heard)
     ∙ ap (λ (h : List (Option Message)). pair_held t.dwell t.first h) (same_heard t.programme input s.heard heard s.are are)
 
--- so what the cells make whole is shown
+-- so the value that the cells make whole is shown
 pub text_shown : (t : Tuning) (r : ReceiverState) (input : List (Option Group)) (heard : List (Option Message)) (shown : Option (List ℕ)) → StandsAt t r input → AreHeard t.programme input heard
     → IsShown IsWholeText r.text.cells shown → IsTextShown t.dwell t.first heard shown
 text_shown t r input heard shown s are is = subst (λ (cells : Cells). IsShown IsWholeText cells shown) (text_cells t r input heard s are) is
@@ -50,7 +50,7 @@ item_shown x text held pair e h = ap (item_of (Some x)) (sym h) ∙ ap (λ (o : 
 pub tag_shown : (which : Which) (x : List ℕ) (text : Option (List ℕ)) (held : Option PairFields) (pair : PairFields) → Some x ≡ text → held ≡ Some pair → cut_by (tag_in which pair) x ≡ tag_of which text held
 tag_shown which x text held pair e h = ap (tag_of which (Some x)) (sym h) ∙ ap (λ (o : Option (List ℕ)). tag_of which o held) e
 
--- where no pair is held there are no item bits and no tags
+-- if no pair is held, there are no item bits and no tags
 pub no_item : (text : Option (List ℕ)) (held : Option PairFields) → held ≡ None → None ≡ item_of text held
 no_item None held e = refl
 no_item (Some x) held e = ap (item_of (Some x)) (sym e)
@@ -59,7 +59,7 @@ pub no_tag : (which : Which) (text : Option (List ℕ)) (held : Option PairField
 no_tag which None held e = refl
 no_tag which (Some x) held e = ap (tag_of which (Some x)) (sym e)
 
--- the tag asked for
+-- the tag that was asked for
 pub first_tag : (which : Which) (pair : PairFields) (tag one : TagFields) → which ≡ One → tag ≡ one → one ≡ pair.one → tag ≡ tag_in which pair
 first_tag which pair tag one asked is of = is ∙ of ∙ ap (λ (w : Which). tag_in w pair) (sym asked)
 

@@ -1,4 +1,4 @@
--- What a receiver holds goes on as it handles a slot.
+-- Lemmas: the state of a receiver follows from its input after each slot.
 use Rattle.std.proofs.Common.{◌≡◌, ◌≢◌, ◌⊎◌, ◌+◌, ◌<◌, ℕ, Bool, true, false, List, ◌∷◌, Option, Some, None, length, refl, sym, ap, ◌∙◌, subst, inl, inr, arith}
 use Rattle.std.specs.FinMap.{empty, insert}
 use Rattle.rds_block.specs.declared.group.Group.{Group}
@@ -14,7 +14,7 @@ use Rattle.rds_receiver.specs.Tags.{or_before, pair_from, says_of_rtplus, unless
 use Rattle.rds_receiver.proofs.Runs.{before_other, before_same, equal_or_not, held_taken, run_recent}
 use Rattle.rds_receiver.proofs.Pairs.{none_since, pair_goes_on, pair_of_name, pair_of_none, pair_of_other, tags_taken}
 
--- nothing heard
+-- a slot in which nothing is heard
 pub nothing_heard : (m first : ℕ) (r : ReceiverState) (heard : List (Option Message)) → HoldsAt m (first + length heard) first r heard → HoldsAt m (first + length heard) first r (None ∷ heard)
 nothing_heard m first r heard st = record {
   dwell = st.dwell;
@@ -25,7 +25,7 @@ nothing_heard m first r heard st = record {
   known = st.known;
 }
 
--- nothing heard that is of a text, a name or tags
+-- a slot in which the message is neither a text, a name, tags nor an announcement
 pub other_heard : (m first : ℕ) (r : ReceiverState) (heard : List (Option Message)) → HoldsAt m (first + length heard) first r heard → HoldsAt m (first + length heard) first r (Some Other ∷ heard)
 other_heard m first r heard st = record {
   dwell = st.dwell;
@@ -36,14 +36,14 @@ other_heard m first r heard st = record {
   known = st.known;
 }
 
--- what held segments are once one was taken
+-- the held segments after one was taken
 pub record Takes (p : Fragment) (h after : HeldSegments) : Type 0 where
   pub same : p.flag ≡ h.flag → after.cells ≡ insert h.cells p.address p.bytes
   pub other : p.flag ≢ h.flag → after.cells ≡ insert empty p.address p.bytes
   pub flag : after.flag ≡ p.flag
   pub age : after.age ≡ 0
 
--- a text's segment
+-- a slot with a text segment
 pub text_heard : (m first : ℕ) (r after : ReceiverState) (heard : List (Option Message)) (f : Bool) (a : ℕ) (b : List ℕ)
     → after.dwell ≡ r.dwell → after.is_known ≡ r.is_known → after.name ≡ r.name → Takes record { flag = f; address = a; bytes = b } r.text after.text
     → (f ≡ r.text.flag → after.pair ≡ r.pair) → (f ≢ r.text.flag → after.pair ≡ None)
@@ -79,7 +79,7 @@ text_heard m first r after heard f a b dwell known name takes stays gone st = re
         gone ne ∙ sym (none_since first n heard (omega arith))
         ∙ ap (λ (x : List Segment). pair_from first (begins_in (g ∷ x)) (Some (Text f a b) ∷ heard)) (sym begins)
 
--- a name's segment
+-- a slot with a name segment
 pub name_heard : (m first : ℕ) (r after : ReceiverState) (heard : List (Option Message)) (f : Bool) (a : ℕ) (b : List ℕ)
     → after.dwell ≡ r.dwell → after.is_known ≡ r.is_known → after.text ≡ r.text → after.pair ≡ r.pair → Takes record { flag = f; address = a; bytes = b } r.name after.name
     → HoldsAt m (first + length heard) first r heard → HoldsAt m (first + length heard) first after (Some (Name f a b) ∷ heard)
@@ -92,7 +92,7 @@ name_heard m first r after heard f a b dwell known text pair takes st = record {
   known = known ∙ st.known;
 }
 
--- a segment that is held is taken once more, also after its age grew
+-- a segment that is held is taken again, also after the age grew
 pub takes_again : (f : Bool) (a : ℕ) (b : List ℕ) (h older after : HeldSegments) → HoldsAlready h f a b → older.flag ≡ h.flag → older.cells ≡ h.cells → after ≡ record older { age = 0 }
     → Takes record { flag = f; address = a; bytes = b } older after
 takes_again f a b h older after already flag cells is = record {
@@ -102,7 +102,7 @@ takes_again f a b h older after already flag cells is = record {
   age = ap (λ (x : HeldSegments). x.age) is;
 }
 
--- tags that are taken
+-- a slot with tags that are held
 pub tags_heard : (m first : ℕ) (r : ReceiverState) (heard : List (Option Message)) (pair : PairFields) → r.is_known ≡ true → r.text.age < m
     → HoldsAt m (first + length heard) first r heard → HoldsAt m (first + length heard) first record r { pair = Some pair } (Some (Tags pair) ∷ heard)
 tags_heard m first r heard pair known young st = record {
@@ -114,7 +114,7 @@ tags_heard m first r heard pair known young st = record {
   known = st.known;
 }
 
--- the whole slot
+-- a whole slot
 pub slot_stands : (t : Tuning) (r after : ReceiverState) (input : List (Option Group)) (slot : Option Group) (message : Option Message) (st : StandsAt t r input)
     → Hears t.programme slot message → after.programme ≡ r.programme → HoldsAt t.dwell (t.first + length st.heard) t.first after (message ∷ st.heard) → StandsAt t after (slot ∷ input)
 slot_stands t r after input slot message st hears programme holds = record {
@@ -124,7 +124,7 @@ slot_stands t r after input slot message st hears programme holds = record {
   holds = holds;
 }
 
--- a text's segment, after tags of the other flag were dropped
+-- a slot with a text segment, after the tags of the other flag were dropped
 pub text_heard_by : (m first : ℕ) (r between after : ReceiverState) (heard : List (Option Message)) (f : Bool) (a : ℕ) (b : List ℕ)
     → (f ≡ r.text.flag → between ≡ r) → (f ≢ r.text.flag → between ≡ record r { pair = None }) → Takes record { flag = f; address = a; bytes = b } between.text after.text
     → after ≡ record between { text = after.text }
@@ -143,14 +143,14 @@ text_heard_by m first r between after heard f a b same other takes is st = by (e
         text_heard m first r after heard f a b (ap (λ (x : ReceiverState). x.dwell) now) (ap (λ (x : ReceiverState). x.is_known) now) (ap (λ (x : ReceiverState). x.name) now)
         took (λ e. absurd (ne e)) (λ _. ap (λ (x : ReceiverState). x.pair) now) st
 
--- a slot with a group of the programme, which spells what was heard
+-- a slot with a group of the programme that spells what was heard
 pub group_goes_on : (t : Tuning) (r after : ReceiverState) (input : List (Option Group)) (g : Group) → StandsAt t r input
     → g.pi ≡ t.programme → after.programme ≡ r.programme → (message : Message) × Spells message g × GoesOn r after (Some message)
     → StandsAt t after (Some g ∷ input)
 group_goes_on t r after input g st own programme (message, spelled, on) =
     slot_stands t r after input (Some g) (Some message) st (inl (own, spelled)) programme (on t.dwell t.first st.heard st.holds)
 
--- an announcement that says what is known, or nothing
+-- a slot with an announcement that changes nothing: it says what is known, or nothing
 pub announcement_heard : (m first : ℕ) (r : ReceiverState) (heard : List (Option Message)) (code bits aid : ℕ)
     → (says_of_rtplus code aid ≡ Some false → ⊥) → (says_of_rtplus code aid ≡ Some true → r.is_known ≡ true)
     → HoldsAt m (first + length heard) first r heard → HoldsAt m (first + length heard) first r (Some (Announce code bits aid) ∷ heard)

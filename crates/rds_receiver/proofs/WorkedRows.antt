@@ -1,4 +1,5 @@
--- Rows worked by hand, for the definitions. Lists have the newest first; each name gives the slots that it covers.
+-- Worked examples of the definitions, calculated by hand. Lists have the newest first. Each name gives the slots that
+-- it covers.
 use Rattle.std.proofs.Common.{◌≡◌, ℕ, Bool, true, false, List, [], ◌∷◌, Option, Some, None, refl}
 use Rattle.std.specs.FinMap.{empty, insert}
 use Rattle.rds_fields.specs.declared.message.Message.{Message}
@@ -18,7 +19,7 @@ segment slot flag address bytes = record { slot = slot; fragment = record { flag
 abbrev hi : List ℕ
 hi = 72 ∷ 73 ∷ 13 ∷ 32 ∷ []
 
--- class 1 from character 0 on, two characters, of an item that runs; and the dummy
+-- class 1 from character 0 on, two characters, of a running item; and the dummy
 abbrev title : PairFields
 title = record {
   toggle = false;
@@ -27,21 +28,21 @@ title = record {
   two = record { class = 0; start = 0; extra = 0 };
 }
 
--- one segment is held at the ends of slots 0 to 3, and not at that of slot 4
+-- the segment is held at the end of slots 0 to 3, and not at the end of slot 4
 one_held : run_at text_fragment 4 0 (None ∷ None ∷ None ∷ Some (Text false 0 hi) ∷ []) ≡ segment 0 false 0 hi ∷ []
 one_held = refl
 
 one_over : run_at text_fragment 4 0 (None ∷ None ∷ None ∷ None ∷ Some (Text false 0 hi) ∷ []) ≡ []
 one_over = refl
 
--- silence, dwell and age: the only segment comes in slot 4, and is held to slot 7
+-- silence, dwell and age: the only segment comes in slot 4 and is held up to slot 7
 held_to_7 : run_at text_fragment 4 0 (None ∷ None ∷ None ∷ Some (Text false 0 hi) ∷ None ∷ None ∷ None ∷ None ∷ []) ≡ segment 4 false 0 hi ∷ []
 held_to_7 = refl
 
 over_in_8 : run_at text_fragment 4 0 (None ∷ None ∷ None ∷ None ∷ Some (Text false 0 hi) ∷ None ∷ None ∷ None ∷ None ∷ []) ≡ []
 over_in_8 = refl
 
--- a segment that comes in slot 4 is alone
+-- a segment that comes in slot 4 is alone in its run
 second_too_late : run_at text_fragment 4 0 (Some (Text false 1 hi) ∷ None ∷ None ∷ None ∷ Some (Text false 0 hi) ∷ []) ≡ segment 4 false 1 hi ∷ []
 second_too_late = refl
 
@@ -59,7 +60,7 @@ skipped_cells : cells_of (run_at text_fragment 4 0 skipped)
     ≡ insert (insert (insert empty 0 (84 ∷ 72 ∷ 73 ∷ 82 ∷ [])) 1 (68 ∷ 32 ∷ 83 ∷ 79 ∷ [])) 2 (78 ∷ 71 ∷ 13 ∷ 32 ∷ [])
 skipped_cells = refl
 
--- an announcement of another application on 11A takes the pair away
+-- an announcement of another application in groups 11A drops the pair
 abbrev announced : Heard
 announced = Some (Tags title) ∷ Some (Text false 0 hi) ∷ Some (Announce 22 0 0x4BD7) ∷ []
 
@@ -72,7 +73,7 @@ announced_tag = refl
 contrary_pair : pair_held 128 0 (Some (Announce 22 0 0xCD46) ∷ announced) ≡ None
 contrary_pair = refl
 
--- the encoder that keeps none of the rules, up to the slots 5, 6, 8, 9 and 12
+-- the encoder that keeps none of the rules, up to slots 5, 6, 8, 9 and 12
 abbrev foreign_5 : Heard
 foreign_5 =
     Some (Tags title) ∷ Some (Announce 22 0 0x4BD7) ∷ Some (Tags title) ∷ Some (Text false 0 hi) ∷ Some (Text false 1 (13 ∷ 32 ∷ 32 ∷ 32 ∷ [])) ∷ Some (Text false 0 (65 ∷ 66 ∷ 66 ∷ 65 ∷ [])) ∷ []

@@ -1,5 +1,5 @@
--- A chain of segments: all have one flag, neighbours are less than m slots apart, and the newest came less than
--- m slots before slot t or in it. Lists have the newest first.
+-- A chain of segments: all have one flag, neighbours are less than m slots apart, and the newest one came in slot t or
+-- less than m slots before. Lists have the newest first.
 use Rattle.std.specs.Prelude.{◌≡◌, ◌+◌, ◌<◌, ◌++◌, ℕ, Bool, List, ◌∷◌}
 use Rattle.std.specs.List.{All}
 use Rattle.rds_receiver.specs.Receipts.{Segment}

@@ -1,4 +1,5 @@
--- What a receiver holds is stored as its fields, so that a receiver can stand in a `Result` (this project's own).
+-- Codes: a receiver and its held segments are stored as their fields (this project's own form).
+-- Prover: a `Result` can hold only a type with a code (docs/PROVER.md, "Workarounds").
 use Rattle.std.specs.Prelude.{ℕ, Bool, Option, refl}
 use Rattle.std.specs.Coded.{Coded, code_by, coded×, coded_ℕ, coded_bool, coded_list, coded_option}
 use Rattle.std.specs.FinMap.{code}

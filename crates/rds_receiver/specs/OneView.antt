@@ -1,4 +1,4 @@
--- An input has one view.
+-- Lemmas: an input has one view.
 use Rattle.std.proofs.Common.{◌≡◌, ℕ, List, [], ◌∷◌, Option, Some, None, refl, sym, ap, ◌∙◌, inl, inr}
 use Rattle.rds_block.specs.declared.group.Group.{Group}
 use Rattle.rds_fields.specs.declared.message.Message.{Message}
@@ -11,7 +11,7 @@ use Rattle.rds_receiver.specs.Run.{cells_of, run_at}
 use Rattle.rds_receiver.specs.Shown.{IsNameShown, IsShown, IsTextShown, IsView, ShowsView, ShownView}
 use Rattle.rds_receiver.specs.Tags.{item_of, pair_held, tag_of}
 
--- one message is heard in a slot
+-- two messages heard in one slot are equal
 pub same_heard_in : (pi : ℕ) (slot : Option Group) (m n : Option Message) → Hears pi slot m → Hears pi slot n → m ≡ n
 same_heard_in pi None m n p q = p ∙ sym q
 same_heard_in pi (Some g) m n (inr (other, e)) (inr (other', f)) = e ∙ sym f
@@ -33,7 +33,7 @@ same_heard pi (slot ∷ before) (m ∷ heard) (n ∷ other) p q =
     let all : heard ≡ other = same_heard pi before heard other p.1 q.1 in
     (cc)
 
--- where at most one value is whole, one is shown
+-- if no cells make two different values whole, then cells show one value
 same_shown : (IsWhole : Cells → List ℕ → Type 0)
     → ((cells : Cells) (x y : List ℕ) → IsWhole cells x → IsWhole cells y → x ≡ y)
     → (cells : Cells) (shown other : Option (List ℕ)) → IsShown IsWhole cells shown → IsShown IsWhole cells other

@@ -1,7 +1,6 @@
--- What a receiver heard: the messages of the groups that it was handed and that have its programme
--- identification, and among them the segments of texts and of names, each with the slot it came in.
--- Every list has the newest first. The first entry of an input stands in slot `first`, so the slot of an entry is
--- `first` and as many more as there are entries before it.
+-- What a receiver heard: the messages of the groups that it got and that have its PI. Among them are the segments of
+-- texts and of names, each with the slot in which it came. Each list has the newest first. The slot of an entry is
+-- `first` plus the number of entries before it.
 use Rattle.std.specs.Prelude.{◌≡◌, ◌≢◌, ◌⊎◌, ◌+◌, ℕ, Bool, List, [], ◌∷◌, Option, Some, None, MatchOption, length}
 use Rattle.std.specs.List.{AllZip}
 use Rattle.rds_block.specs.declared.group.Group.{Group}
@@ -9,28 +8,29 @@ use Rattle.rds_fields.specs.declared.message.Message.{Message}
 use Rattle.rds_fields.specs.declared.message.Message.TheVariants.{Text, Name, Announce, Tags, Other}
 use Rattle.rds_fields.specs.Spells.{Spells}
 
--- what a receiver is tuned to: its programme, its dwell in slots, and the slot in which its input begins
+-- the tuning of a receiver: its programme (PI), its dwell in slots, and the slot in which its input begins
 pub record Tuning : Type 0 where
   pub programme : ℕ
   pub dwell : ℕ
   pub first : ℕ
 
--- what a receiver of this programme hears in a slot: nothing where no group came, or another programme's
+-- a receiver with this PI hears the message of a group with this PI; without a group, or with another PI, it hears
+-- nothing
 abbrev pub Hears : ℕ → Option Group → Option Message → Type 0
 Hears pi None heard = heard ≡ None
 Hears pi (Some g) heard = ((g.pi ≡ pi) × MatchOption heard ⊥ (λ m. Spells m g)) ⊎ ((g.pi ≢ pi) × (heard ≡ None))
 
--- what it hears in each slot of its input
+-- what a receiver with this PI hears in each slot of its input
 abbrev pub AreHeard : ℕ → List (Option Group) → List (Option Message) → Type 0
 AreHeard pi input heard = AllZip (Hears pi) input heard
 
--- four bytes of a text or a name at their address, with the A/B flag
+-- four bytes of a text or name, with their address and the A/B flag
 pub record Fragment : Type 0 where
   pub flag : Bool
   pub address : ℕ
   pub bytes : List ℕ
 
--- the fragment of a text that a message carries
+-- the fragment of a text in a message, if it has one
 abbrev pub text_fragment : Message → Option Fragment
 text_fragment (Text f a b) = Some record { flag = f; address = a; bytes = b }
 text_fragment (Name f a b) = None
@@ -38,7 +38,7 @@ text_fragment (Announce code bits aid) = None
 text_fragment (Tags pair) = None
 text_fragment Other = None
 
--- the fragment of a name that a message carries
+-- the fragment of a name in a message, if it has one
 abbrev pub name_fragment : Message → Option Fragment
 name_fragment (Text f a b) = None
 name_fragment (Name f a b) = Some record { flag = f; address = a; bytes = b }
@@ -46,12 +46,12 @@ name_fragment (Announce code bits aid) = None
 name_fragment (Tags pair) = None
 name_fragment Other = None
 
--- a segment that was received, with the slot it came in
+-- a received segment: a fragment and the slot in which it came
 pub record Segment : Type 0 where
   pub slot : ℕ
   pub fragment : Fragment
 
--- what is picked of what was heard in a slot
+-- the fragment picked from what was heard in a slot, if there is one
 abbrev pub picked : (Message → Option Fragment) → Option Message → Option Fragment
 picked pick None = None
 picked pick (Some m) = pick m

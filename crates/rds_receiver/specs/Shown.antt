@@ -12,24 +12,24 @@ use Rattle.rds_receiver.specs.Receipts.{AreHeard, Tuning, name_fragment, text_fr
 use Rattle.rds_receiver.specs.Run.{cells_of, run_at}
 use Rattle.rds_receiver.specs.Tags.{item_of, pair_held, tag_of}
 
--- the value that the cells make whole, and none where they make none whole
+-- the value that the cells make whole is shown; if they make none whole, nothing is shown
 abbrev pub IsShown : (Cells → List ℕ → Type 0) → Cells → Option (List ℕ) → Type 0
 IsShown IsWhole cells shown = MatchOption shown ((x : List ℕ) → IsWhole cells x → ⊥) (λ x. IsWhole cells x)
 
--- the text that the run of texts makes whole
+-- the text shown is the one that the run of texts makes whole
 abbrev pub IsTextShown : ℕ → ℕ → List (Option Message) → Option (List ℕ) → Type 0
 IsTextShown m first heard shown = IsShown IsWholeText (cells_of (run_at text_fragment m first heard)) shown
 
--- the name that the run of names makes whole
+-- the name shown is the one that the run of names makes whole
 abbrev pub IsNameShown : ℕ → ℕ → List (Option Message) → Option (List ℕ) → Type 0
 IsNameShown m first heard shown = IsShown IsWholeName (cells_of (run_at name_fragment m first heard)) shown
 
--- the item bits beside the text that is shown
+-- the item bits shown follow from the text shown and the pair held
 abbrev pub IsItemShown : ℕ → ℕ → List (Option Message) → Option (Bool × Bool) → Type 0
 IsItemShown m first heard item =
     (text : Option (List ℕ)) → IsTextShown m first heard text → item ≡ item_of text (pair_held m first heard)
 
--- one of the two tags, with its piece of the text that is shown
+-- each tag shown follows from the text shown and the pair held
 abbrev pub IsTagShown : ℕ → ℕ → List (Option Message) → Which → Option (ℕ × List ℕ) → Type 0
 IsTagShown m first heard which tag =
     (text : Option (List ℕ)) → IsTextShown m first heard text → tag ≡ tag_of which text (pair_held m first heard)
@@ -42,14 +42,14 @@ pub record ShownView : Type 0 where
   pub one : Option (ℕ × List ℕ)
   pub two : Option (ℕ × List ℕ)
 
--- no text, name or piece has more bytes than a text has
+-- no text, name or piece has more than 64 bytes
 pub record IsShort (text name : Option (Bor (List ℕ))) (one two : Option (ℕ × Bor (List ℕ))) : Type 0 where
   pub text_bytes : ForSome text (λ x. length x.now ≤ 64)
   pub name_bytes : ForSome name (λ x. length x.now ≤ 64)
   pub one_bytes : ForSome one (λ tag. length tag.1.now ≤ 64)
   pub two_bytes : ForSome two (λ tag. length tag.1.now ≤ 64)
 
--- the view of what was heard
+-- the view after what was heard
 pub record ShowsView (m first : ℕ) (heard : List (Option Message)) (view : ShownView) : Type 0 where
   pub text : IsTextShown m first heard view.text
   pub name : IsNameShown m first heard view.name

@@ -1,10 +1,10 @@
--- What a receiver holds: of texts and of names the segments of the run, with their flag and their age; the pair
--- of tags; and whether RadioText Plus is known.
+-- The state of a receiver: for texts and for names the segments of the run, with flag and age; the pair of tags; and
+-- whether RadioText Plus is known.
 use Rattle.std.specs.Prelude.{ℕ, Bool, Option}
 use Rattle.rds_fields.specs.Tag.{PairFields}
 use Rattle.rds_assembly.specs.Cells.{Cells}
 
--- the segments held of one service: its cells, the flag that they have, and their age in slots
+-- the held segments of one service: their cells, their flag and their age in slots
 pub record HeldSegments : Type 0 where
   pub cells : Cells
   pub flag : Bool

@@ -1,4 +1,4 @@
--- A receiver that is stored as plain numbers (this project's own).
+-- A receiver stored as plain numbers (this project's own form).
 use Rattle.std.specs.Prelude.{◌<◌}
 use Rattle.rds_fields.specs.Stored.{IsStoredPair, is_set, pair_stored}
 use Rattle.rds_assembly.specs.Held.{held_cells}
@@ -19,7 +19,7 @@ receiver_stored s = record {
   is_known = is_set s.is_known;
 }
 
--- the numbers are ones that a receiver is stored as
+-- the numbers are valid: the dwell is above 0, and a stored pair is valid
 pub record IsStored (s : StoredReceiver) : Type 0 where
   pub lasts : 0 < s.dwell
   pub pair : IsStoredPair s.pair

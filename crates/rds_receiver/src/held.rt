@@ -1,4 +1,4 @@
-//! The segments of one service that are held, with their flag and their age.
+//! The held segments of one service, with flag and age.
 ghost use Rattle.std.specs.Prelude.{◌≡◌, ◌≢◌, ◌+◌, ◌<◌, ◌≤◌, ◌↔◌, ◌⊎◌, None, IsFalse, IsTrue, IfSome, length};
 ghost use Rattle.std.specs.FinMap.{empty, insert};
 ghost use Rattle.std.specs.Option.{option_copied};
@@ -11,8 +11,8 @@ use crate::stored::StoredSegments;
 use rds_assembly::{Assembly, Service};
 use std::marker::Model;
 
-/// Segments with one flag. Their age is the number of slots since the newest came; it stops at the dwell, and
-/// there nothing is held.
+/// Held segments with one flag. The age is the number of slots since the newest one came. It stops at the dwell, and
+/// then nothing is held.
 #[derive(Drop)]
 pub(crate) struct Held<S: Service> {
     segments: Assembly<S>,
@@ -32,7 +32,7 @@ impl<S: Service> Model for Held<S> {
 }
 
 impl<S: Service> Held<S> {
-    /// Nothing held; the dwell is in slots.
+    /// Makes a `Held` without segments. The dwell is in slots.
     pub(crate) fn new(dwell: u16) -> Self
         ensures cells { result.cells ≡ empty }
         ensures age { result.age ≡ dwell }
@@ -44,7 +44,7 @@ impl<S: Service> Held<S> {
         }
     }
 
-    /// The segments that were stored.
+    /// Rebuilds the stored segments.
     pub(crate) fn restore(stored: &StoredSegments) -> Self
         ensures { result ≡ segments_stored stored.now }
     {
@@ -55,7 +55,7 @@ impl<S: Service> Held<S> {
         }
     }
 
-    /// The segments, to be stored.
+    /// Stores the segments as plain numbers.
     pub(crate) fn store(&self) -> StoredSegments
         ensures { segments_stored result ≡ self.now }
     {
@@ -68,7 +68,7 @@ impl<S: Service> Held<S> {
         }
     }
 
-    /// One slot older; what reaches the dwell is given up. False where no whole value was.
+    /// Ages the segments by one slot and drops them at the dwell, in slots. Returns whether a whole value was dropped.
     pub(crate) fn grow_older(&mut self, dwell: u16) -> bool
         ensures gone { dwell ≤ self.old.age → self.new ≡ self.old }
         ensures older { self.old.age + 1 < dwell
@@ -89,8 +89,8 @@ impl<S: Service> Held<S> {
         was_whole
     }
 
-    /// Takes a segment; those with the other flag are given up first. False where just this one was held, and where
-    /// nothing was whole and nothing is.
+    /// Takes a segment. Segments with the other flag are dropped first. Returns false if exactly this segment was held,
+    /// or if no value was whole before and none is now.
     pub(crate) fn take(&mut self, flag: bool, address: u8, bytes: [u8; 4]) -> bool
         requires { address < S.SEGMENTS }
         ensures same { flag ≡ self.old.flag → self.new.cells ≡ insert self.old.cells address bytes }
@@ -112,21 +112,21 @@ impl<S: Service> Held<S> {
         (is_new || is_other) && (was_whole || self.segments.whole().is_some())
     }
 
-    /// Whether segments are held.
+    /// Returns whether segments are held. The dwell is in slots.
     pub(crate) fn is_held(&self, dwell: u16) -> bool
         ensures { IsTrue result ↔ (self.now.age < dwell) }
     {
         self.age < dwell
     }
 
-    /// Whether the flag is this one.
+    /// Returns whether the flag is this one.
     pub(crate) fn has_flag(&self, flag: bool) -> bool
         ensures { IsTrue result ↔ (self.now.flag ≡ flag) }
     {
         self.flag == flag
     }
 
-    /// The value that the segments make whole, lent.
+    /// Returns the value that the segments make whole, borrowed from them.
     pub(crate) fn whole(&self) -> Option<&[u8]>
         ensures { IsShown S.is_whole self.now.cells (option_copied result) }
     {

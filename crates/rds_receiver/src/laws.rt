@@ -1,4 +1,4 @@
-//! What holds of all runs and views.
+//! Laws about all runs and views.
 ghost use Rattle.std.specs.Prelude.{◌≡◌, ◌≤◌, ◌++◌, ℕ, List, Option, length};
 ghost use Rattle.rds_block.specs.declared.group.Group.{Group};
 ghost use Rattle.rds_receiver.specs.Chained.{IsChained};
@@ -6,8 +6,8 @@ ghost use Rattle.rds_receiver.specs.Receipts.{Segment, Tuning};
 ghost use Rattle.rds_receiver.specs.Run.{run};
 ghost use Rattle.rds_receiver.specs.Shown.{IsView, ShownView};
 
-/// The run is the longest last part of the segments received that is chained: with one flag, neighbours less than
-/// the dwell apart, and the newest less than the dwell ago.
+/// States that the run is the longest last part of the received segments that is chained: with one flag, with
+/// neighbours less than the dwell apart, and with the newest one less than the dwell ago.
 pub fn run_is_the_longest()
     ensures last { (m t : ℕ) (segments : List Segment)
         → (older : List Segment) × (segments ≡ run m t segments ++ older) }
@@ -16,7 +16,7 @@ pub fn run_is_the_longest()
         → length front ≤ length (run m t (front ++ older)) }
 {}
 
-/// An input has one view.
+/// States that an input has one view.
 pub fn one_view()
     ensures { (t : Tuning) (input : List (Option Group)) (v w : ShownView)
         → IsView t input v → IsView t input w → v ≡ w }

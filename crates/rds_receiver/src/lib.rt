@@ -1,8 +1,9 @@
-//! A receiver of RadioText, programme type names and RadioText Plus, slot by slot.
+//! A receiver of RadioText (RT), programme type names (PTYN) and RadioText Plus (RT+), slot by slot.
 //!
-//! The one model is the run of each service: the longest last part of the segments received with one flag and no
-//! gap of the dwell or more. Each call keeps `StandsAt`, so `text`, `name`, `item` and `tag` show what everything
-//! heard makes whole and cuts out. It keeps ages and no slot number, copies nothing and takes no memory.
+//! The model is the run of each service: the longest last part of the received segments with one flag and with no gap
+//! of the dwell or more. Each call keeps `StandsAt`. So `text`, `name`, `item` and `tag` show what the run of
+//! everything heard makes whole, and the pieces that the tags mark in it. A receiver holds ages and no slot numbers. It
+//! copies no text and allocates no memory.
 //!
 //! ```text
 //! let mut receiver = Receiver::new(0xC201, dwell);

@@ -1,4 +1,4 @@
-//! A receiver, slot by slot.
+//! The receiver: it handles slot after slot and returns what it shows.
 ghost use Rattle.std.specs.Prelude.{◌≡◌, ◌≢◌, ◌+◌, ◌<◌, ◌≤◌, ◌↔◌, [], ◌∷◌};
 ghost use Rattle.std.specs.Prelude.{ℕ, Bool, List, Option, Some, None, IsFalse, IsTrue, IfSome, length, option_map};
 ghost use Rattle.std.specs.Option.{option_copied};
@@ -22,7 +22,8 @@ use rds_block::{Blocks, Group};
 use rds_fields::{Dwell, Message, RTPLUS_AID, RTPLUS_CODE, StoredPair, TagPair, Which};
 use std::marker::Model;
 
-/// What a receiver of this programme hears of a slot: nothing where no group came, or another programme's.
+/// Returns the message that a receiver of this programme hears in a slot. None if no group came, or if the group has
+/// another PI.
 #[inline(always)]
 pub fn heard(pi: u16, group: Option<Group>) -> Option<Message>
     ensures { Hears pi group result }
@@ -34,7 +35,7 @@ pub fn heard(pi: u16, group: Option<Group>) -> Option<Message>
     Some(Message::of(&group))
 }
 
-/// Shows the text, the name and the tags of one programme. Every group is taken, from any encoder.
+/// A receiver of one programme, which shows the text, the name and the tags. It accepts every group, from any encoder.
 #[derive(Drop)]
 pub struct Receiver {
     pi: u16,
@@ -64,7 +65,7 @@ impl Model for Receiver {
 }
 
 impl Receiver {
-    /// A receiver of this programme that heard nothing yet; the dwell is in slots.
+    /// Makes a receiver of this programme that has heard nothing yet.
     pub fn new(pi: u16, dwell: Dwell) -> Receiver
         ensures stands { (first : ℕ)
             → StandsAt record { programme = pi; dwell = dwell; first = first } result [] }
@@ -95,7 +96,7 @@ impl Receiver {
         }
     }
 
-    /// The receiver, to be stored.
+    /// Stores the receiver as plain numbers.
     pub fn store(&self) -> StoredReceiver
         ensures same { receiver_stored result ≡ self.now }
         ensures good { IsStored result }
@@ -110,8 +111,8 @@ impl Receiver {
         }
     }
 
-    /// Handles what one slot brought: a group, or nothing. Each slot has one call, of this, of `slot_blocks` or of
-    /// `slot_message`. False where the view is what it was in the slot before.
+    /// Handles one slot, with a group or nothing. Call this, `slot_blocks` or `slot_message` exactly once for each
+    /// slot. If it returns false, the view did not change.
     pub fn slot(&mut self, group: Option<Group>) -> bool
         ensures stands { WhereItStands self.old (λ t input. StandsAt t self.new (group ∷ input)) }
         ensures same { IsFalse result → (view : ShownView)
@@ -123,8 +124,7 @@ impl Receiver {
         }
     }
 
-    /// [`slot`](Self::slot) of a group by its blocks: what it says is taken where it is read, with no message put
-    /// together.
+    /// Does the same as [`slot`](Self::slot) for a group as its blocks. It builds no `Message`.
     #[inline(always)]
     pub fn slot_blocks(&mut self, group: Option<Blocks>) -> bool
         ensures stands { WhereItStands self.old (λ t input. StandsAt t self.new (group ∷ input)) }
@@ -142,7 +142,8 @@ impl Receiver {
         is_new || aged
     }
 
-    /// [`slot`](Self::slot) of a group that was read before: the message that is heard of it.
+    /// Does the same as [`slot`](Self::slot) for a group that was read before: takes the message that is heard in the
+    /// slot.
     #[inline(always)]
     pub fn slot_message(&mut self, message: Option<Message>) -> bool
         ensures stands { WhereItStands self.old (λ t input. (group : Option Group)
@@ -159,7 +160,7 @@ impl Receiver {
         heard || gave_up
     }
 
-    /// All that is shown, lent.
+    /// Returns all that is shown, borrowed from the receiver.
     pub fn view(&self) -> View<'_>
         ensures { WhereItStands self.now (λ t input. IsView t input (view_of result)) }
     {
@@ -172,7 +173,8 @@ impl Receiver {
         }
     }
 
-    /// The text shown, lent: up to 64 bytes. `Some` of no bytes is the empty text, and `None` no text.
+    /// Returns the text shown, at most 64 bytes, borrowed from the receiver. None if no text is shown; `Some` of no
+    /// bytes is the empty text.
     pub fn text(&self) -> Option<&[u8]>
         ensures shown { WhatItHeard self.now
             (λ m first heard. IsTextShown m first heard (option_copied result)) }
@@ -181,7 +183,7 @@ impl Receiver {
         self.text.whole()
     }
 
-    /// The name of the programme type that is shown, lent: eight bytes.
+    /// Returns the programme type name shown, eight bytes, borrowed from the receiver. None if no name is shown.
     pub fn name(&self) -> Option<&[u8]>
         ensures shown { WhatItHeard self.now
             (λ m first heard. IsNameShown m first heard (option_copied result)) }
@@ -190,7 +192,7 @@ impl Receiver {
         self.name.whole()
     }
 
-    /// The item toggle bit and the item running bit of the tags held; `None` where no text or no tags are shown.
+    /// Returns the item toggle bit and the item running bit. None if no text is shown or no pair of tags is held.
     pub fn item(&self) -> Option<(bool, bool)>
         ensures { WhatItHeard self.now (λ m first heard. IsItemShown m first heard result) }
     {
@@ -199,8 +201,8 @@ impl Receiver {
         Some((pair.toggle(), pair.running()))
     }
 
-    /// The class of one of the two tags and the piece of the text that it names, lent. `None` where no text or no
-    /// tags are shown, where the tag is the dummy, and where it does not end in the text.
+    /// Returns the class of one of the two tags and its piece of the text, borrowed from the receiver. None if no text
+    /// is shown or no pair is held, if the tag is the dummy, and if it does not end in the text.
     pub fn tag(&self, which: Which) -> Option<(u8, &[u8])>
         ensures shown { WhatItHeard self.now
             (λ m first heard. IsTagShown m first heard which (borrowed_tag result)) }
@@ -217,14 +219,15 @@ impl Receiver {
         Some((tag.class(), piece))
     }
 
-    /// The pair of tags that is held, of the text that is received; `None` where none is.
+    /// Returns the pair of tags that is held for the text being received. None if no pair is held.
     pub fn pair(&self) -> Option<TagPair>
         ensures { WhatItHeard self.now (λ m first heard. result ≡ pair_held m first heard) }
     {
         self.pair
     }
 
-    /// One slot older. The tags go with their text. False where all that is shown stays.
+    /// Ages the segments by one slot. Drops the pair if no segment of a text is held any more. If it returns false, all
+    /// that is shown stays the same.
     fn grow_older(&mut self) -> bool
         ensures programme { self.new.programme ≡ self.old.programme }
         ensures holds { (m first : ℕ) (heard : List (Option Message))
@@ -242,7 +245,7 @@ impl Receiver {
         true
     }
 
-    /// Handles a message of the programme. False where all that is shown stays.
+    /// Handles a message of the programme. If it returns false, all that is shown stays the same.
     #[inline(always)]
     fn hear(&mut self, message: Message) -> bool
         ensures programme { self.new.programme ≡ self.old.programme }
@@ -266,7 +269,7 @@ impl Receiver {
         }
     }
 
-    /// Handles a group of the programme. False where all that is shown stays.
+    /// Handles a group of the programme. If it returns false, all that is shown stays the same.
     #[inline(always)]
     fn hear_blocks(&mut self, group: Blocks) -> bool
         ensures programme { self.new.programme ≡ self.old.programme }
@@ -288,7 +291,7 @@ impl Receiver {
         false
     }
 
-    /// Takes a segment of a text; the tags of a text with the other flag are dropped.
+    /// Takes a text segment. Drops the pair of tags first if the flag changed.
     fn hear_text(&mut self, flag: bool, address: u8, bytes: [u8; 4]) -> bool
         requires { address < 16 }
         ensures programme { self.new.programme ≡ self.old.programme }
@@ -301,7 +304,7 @@ impl Receiver {
         self.text.take(flag, address, bytes)
     }
 
-    /// Takes an announcement: that RadioText Plus is there, or the contrary, which drops the tags.
+    /// Takes an announcement. One of RadioText Plus makes it known; a contrary one makes it unknown and drops the pair.
     fn hear_announcement(&mut self, code: u8, aid: u16) -> bool
         ensures known { self.new.is_known ≡ or_before (says_of_rtplus code aid) self.old.is_known }
         ensures pair { self.new.pair ≡ unless_contrary (says_of_rtplus code aid) self.old.pair }
@@ -322,7 +325,7 @@ impl Receiver {
         false
     }
 
-    /// Takes a pair of tags, where RadioText Plus is known and a text is received.
+    /// Takes a pair of tags if RadioText Plus is known and segments of a text are held. Ignores it otherwise.
     fn hear_tags(&mut self, pair: TagPair) -> bool
         ensures programme { self.new.programme ≡ self.old.programme }
         ensures holds { HearsMore self.old self.new (Message.Tags pair) }

@@ -1,4 +1,4 @@
-//! All that a receiver holds, as plain numbers, which another program can hold.
+//! A receiver as plain numbers, for a program that stores it.
 ghost use Rattle.std.specs.Prelude.{◌≡◌, ◌≢◌, ◌+◌, ◌<◌, ◌≤◌, ◌∷◌, ◌↔◌, ℕ, IsFalse, IsTrue, List, None, Option, Some, false, length, true};
 ghost use Rattle.rds_fields.specs.declared.message.Message.{Message};
 ghost use Rattle.rds_fields.specs.Spells.{Spells};
@@ -12,20 +12,20 @@ use rds_assembly::LONGEST_TEXT;
 use rds_block::Blocks;
 use rds_fields::{Message, RTPLUS_AID, RTPLUS_CODE, StoredPair};
 
-/// The segments of one service that are held: segment a stands at the places 4 * a to 4 * a + 3 of the bytes, and
-/// is held where bit a of the mask is 1. The flag is 0, or any other number.
+/// The held segments of one service. Segment a has the bytes at the places 4 * a to 4 * a + 3. It is held if bit a of
+/// the mask is 1. The flag is 0 for no and any other number for yes.
 #[repr(C)]
 #[derive(Clone, Copy)]
 pub struct StoredSegments {
     pub bytes: [u8; LONGEST_TEXT],
     pub mask: u16,
-    /// The slots since the newest came; the dwell where nothing is held.
+    /// The slots since the newest segment came, or the dwell if no segment is held.
     pub age: u16,
     pub flag: u8,
 }
 
 impl StoredSegments {
-    /// Whether the segment is held, with this flag.
+    /// Returns whether this segment is held, with this flag and these bytes.
     fn holds(&self, flag: bool, address: u8, bytes: [u8; 4]) -> bool
         requires { address < 16 }
         ensures { IsTrue result → HoldsAlready (segments_stored self.now) flag address bytes }
@@ -43,7 +43,7 @@ impl StoredSegments {
     }
 }
 
-/// Whether the four bytes are these, compared as one word.
+/// Returns whether the four bytes are equal, compared as one word.
 fn is_same(segment: &[u8], bytes: &[u8; 4]) -> bool
     requires { length segment.now ≡ 4 }
     ensures { IsTrue result ↔ (segment.now ≡ bytes.now) }
@@ -52,24 +52,30 @@ fn is_same(segment: &[u8], bytes: &[u8; 4]) -> bool
     u32::from_le_bytes(held) == u32::from_le_bytes(*bytes)
 }
 
-/// All that a receiver holds. What is whole is no part of it: `restore` finds that anew.
+/// All that a receiver holds, as plain numbers. Whether a value is whole is not stored: `restore` finds it out again.
 #[repr(C)]
 #[derive(Clone, Copy)]
 pub struct StoredReceiver {
     pub pi: u16,
-    /// In slots.
+    /// The dwell in slots.
     pub dwell: u16,
     pub text: StoredSegments,
     pub name: StoredSegments,
     pub pair: StoredPair,
-    /// Whether RadioText Plus was announced: 0, or any other number.
+    /// Whether RadioText Plus is known: 0 for no and any other number for yes.
     pub is_known: u8,
 }
 
 impl StoredReceiver {
-    /// Takes a slot that leaves nothing but the ages to change, without a receiver that is made for it: no group of the
-    /// programme came in it, or a segment that is held, an announcement of what is known, or no text, name, tags or
-    /// announcement, and nothing is given up. False, and no change, in any other slot.
+    /// Handles a slot in which only ages change, without rebuilding the receiver. Returns false and changes nothing in
+    /// any other slot.
+    ///
+    /// Only ages change if no segment reaches the dwell and the slot has one of these:
+    ///
+    /// - no group of the programme;
+    /// - a segment that is held;
+    /// - an announcement that changes nothing of what is known;
+    /// - a group that is no text, name, tags or announcement.
     pub fn rest(&mut self, group: Option<Blocks>) -> bool
         ensures stands { IsTrue result → WhereItStands (receiver_stored self.old)
             (λ t input. StandsAt t (receiver_stored self.new) (group ∷ input)) }
@@ -87,7 +93,7 @@ impl StoredReceiver {
         self.rest_group(group)
     }
 
-    /// [`rest`](Self::rest) in a slot in which a group of the programme came.
+    /// Does the same as [`rest`](Self::rest) for a group of the programme.
     #[inline(always)]
     fn rest_group(&mut self, group: Blocks) -> bool
         ensures programme { self.new.pi ≡ self.old.pi }
@@ -112,7 +118,8 @@ impl StoredReceiver {
         self.grow_older()
     }
 
-    /// One slot older, in which a segment of a text came that is held; else false, and no change.
+    /// Handles a slot with a text segment that is held: ages all segments and makes the text's age 0. Otherwise returns
+    /// false and changes nothing.
     fn rest_text(&mut self, flag: bool, address: u8, bytes: [u8; 4]) -> bool
         requires { address < 16 }
         ensures programme { self.new.pi ≡ self.old.pi }
@@ -132,7 +139,8 @@ impl StoredReceiver {
         true
     }
 
-    /// One slot older, in which a segment of a name came that is held; else false, and no change.
+    /// Handles a slot with a name segment that is held: ages all segments and makes the name's age 0. Otherwise returns
+    /// false and changes nothing.
     fn rest_name(&mut self, flag: bool, address: u8, bytes: [u8; 4]) -> bool
         requires { address < 16 }
         ensures programme { self.new.pi ≡ self.old.pi }
@@ -152,8 +160,8 @@ impl StoredReceiver {
         true
     }
 
-    /// One slot older, in which an announcement came that says what is known of RadioText Plus, or nothing; else false,
-    /// and no change.
+    /// Handles a slot with an announcement that changes nothing: ages all segments. Otherwise returns false and changes
+    /// nothing.
     fn rest_announced(&mut self, code: u8, aid: u16) -> bool
         ensures programme { self.new.pi ≡ self.old.pi }
         ensures holds { IsTrue result → (bits : ℕ) → GoesOn (receiver_stored self.old) (receiver_stored self.new)
@@ -168,7 +176,8 @@ impl StoredReceiver {
         self.grow_older()
     }
 
-    /// Whether an announcement says what is known of RadioText Plus, or nothing.
+    /// Returns whether an announcement changes nothing: RadioText Plus is announced and known, or neither the code nor
+    /// the application is its own.
     fn knows(&self, code: u8, aid: u16) -> bool
         ensures contrary { IsTrue result → says_of_rtplus code aid ≢ Some false }
         ensures known { IsTrue result → says_of_rtplus code aid ≡ Some true → is_set self.now.is_known ≡ true }
@@ -180,7 +189,7 @@ impl StoredReceiver {
         !fits_aid
     }
 
-    /// One slot older, where nothing is given up by it; else false, and no change.
+    /// Ages all segments by one slot if that drops none. Otherwise returns false and changes nothing.
     fn grow_older(&mut self) -> bool
         ensures programme { self.new.pi ≡ self.old.pi }
         ensures holds { IsTrue result → (m first : ℕ) (heard : List (Option Message))
@@ -206,7 +215,7 @@ impl StoredReceiver {
     }
 }
 
-/// The age one slot later; `None` where what has it is given up by then.
+/// Returns the age one slot later. None if it reaches the dwell then, so that the segments are dropped. Both in slots.
 fn age_after(age: u16, dwell: u16) -> Option<u16>
     ensures gone { dwell ≤ age → result ≡ Some age }
     ensures older { age + 1 < dwell → result ≡ Some (age + 1) }

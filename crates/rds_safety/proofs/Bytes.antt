@@ -1,4 +1,4 @@
--- What a run in one broadcast makes whole is the bytes of that broadcast.
+-- Lemmas: a run in one broadcast makes the bytes of that broadcast whole, or nothing.
 use Rattle.std.proofs.Common.{◌≡◌, ℕ, Bool, true, false, nat_eq, List, [], ◌∷◌, Some, cond, refl, sym, ap, ◌∙◌}
 use Rattle.std.specs.Cmp.{unsigned_tied}
 use Rattle.std.specs.List.{AllByRecursion}
@@ -41,7 +41,7 @@ are_fragments : (kind : Kind) (input : Input) (b : Broadcast) (gs : List Segment
 are_fragments kind input b [] all = tt
 are_fragments kind input b (g ∷ older) all = (all.0.has.fragment, are_fragments kind input b older all.1)
 
--- a service, and what is whole of its cells: of a value's own segments nothing but the value, of none nothing
+-- a service: segments of a value make only this value whole, and no segments make nothing whole
 pub record IsService (kind : Kind) (IsWhole : Cells → List ℕ → Type 0) : Type 0 where
   pub own : (cells : Cells) (x y : List ℕ) → kind.IsValue x → AreSegmentsOf (kind.body x) cells → IsWhole cells y → y ≡ x
   pub none : (x : List ℕ) → IsWhole empty x → ⊥

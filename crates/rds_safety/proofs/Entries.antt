@@ -1,4 +1,4 @@
--- Entries of lists by their slots, and where what was heard came from.
+-- Lemmas about entries of lists by their slots, and about the slots in which entries were sent.
 use Rattle.std.proofs.Common.{◌≡◌, ◌+◌, ◌<◌, ℕ, suc, List, [], ◌∷◌, length, Option, Some, None, refl, sym, ap, ◌∙◌, inl, inr, arith}
 use Rattle.rds_fields.specs.declared.message.Message.{Message}
 use Rattle.rds_safety.specs.Late.{CameFrom, HasEntry, Input, InputOf, IsHeardInOrder, SentIn}
@@ -10,7 +10,7 @@ before_end first [] t x a = absurd a
 before_end first (n ∷ before) t x (inl a) = omega arith
 before_end first (n ∷ before) t x (inr a) = omega (arith, before_end first before t x a)
 
--- one entry stands in a slot
+-- a slot has one entry
 pub one_entry : {X : Type 0} (first : ℕ) (entries : List X) (t : ℕ) (x y : X) → HasEntry first entries t x → HasEntry first entries t y → x ≡ y
 one_entry first [] t x y p q = absurd p
 one_entry first (n ∷ before) t x y (inl p) (inl q) = p.1 ∙ sym q.1
@@ -35,7 +35,7 @@ mark_sent of [] s message a = absurd a
 mark_sent of (x ∷ log) s message (inl a) = inl (omega (arith, marks_long of log), ap of a.1)
 mark_sent of (x ∷ log) s message (inr a) = inr (mark_sent of log s message a)
 
--- the message that came in slot t came from a slot of the log
+-- the message that came in slot t was sent in a slot of the log
 pub record Arrival (log : List (Option Message)) (input : Input) (t : ℕ) (message : Message) : Type 0 where
   pub slot : ℕ
   pub from : CameFrom input t slot
@@ -48,6 +48,6 @@ arrival log input t message order a = by (entry_beside input.first input.heard i
     by (None, o) = (let none : Some message ≡ None = order.each t None (Some message) o a in absurd (cc))
     by (Some s, o) = record { slot = s; from = o; sent = order.each t (Some s) (Some message) o a }
 
--- one slot was its origin
+-- an entry has one origin
 pub one_origin : {X : Type 0} (input : InputOf X) (t r s : ℕ) → CameFrom input t r → CameFrom input t s → r ≡ s
 one_origin input t r s p q = (let e = one_entry input.first input.origins t (Some r) (Some s) p q in cc)

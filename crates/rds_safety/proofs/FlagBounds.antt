@@ -1,4 +1,4 @@
--- What is asked for receivers with the flag bit alone is needed.
+-- Lemmas: each premise for receivers with the flag bit alone is needed.
 use Rattle.std.proofs.Common.{◌≡◌, ◌≢◌, ◌⊎◌, ◌+◌, ◌-◌, ◌<◌, ◌≤◌, ℕ, zero, suc, true, false, List, [], ◌∷◌, length, Option, Some, None, refl, sym, ap, subst, inl, inr, arith}
 use Rattle.rds_fields.specs.declared.message.Message.{Message}
 use Rattle.rds_fields.specs.declared.message.Message.TheVariants.{Tags, Text}
@@ -64,8 +64,8 @@ one_flag_twice d some =
     let e : d - 1 + 1 ≡ d = omega arith in
     subst (λ (x : ℕ). MixesByFlag x (λ plan now input. HearsEach text_fragment plan now input × HearsTextBeforeTags plan input)) e (at_one_or_more (d - 1))
 
--- ---- a segment of each broadcast has to be heard: `AAAACCC` is on air in the slots from 0 on, `EEEEEEE` with the other
--- flag from slot m + 1 on, and `BBBBDDD` with the first flag again in slot 2 m + 2. The receiver loses all of the second
+-- ---- a segment of each broadcast has to be heard: `AAAACCC` is on air from slot 0 on, `EEEEEEE` with the other flag
+-- from slot m + 1 on, and `BBBBDDD` with the first flag again in slot 2 m + 2. The receiver loses all of the second
 
 abbrev middle_text : List ℕ
 middle_text = text_of_two 69 69
@@ -148,7 +148,7 @@ none_longer : (m k s now : ℕ) (b : Broadcast) → HasNumber (three m) k b → 
 none_longer m k s now b p from to =
     (each_of_three (λ b. b.start ≤ s → s + (m + 2) ≤ b.end + 1 → ⊥) m k b p (λ u v. omega arith) (λ u v. omega arith) (λ u v. omega arith)) from to
 
--- what was sent: nothing in j slots after this
+-- what was sent, then nothing in j slots
 abbrev pub after : ℕ → List (Option Message) → List (Option Message)
 after zero before = before
 after (suc j) before = None ∷ after j before

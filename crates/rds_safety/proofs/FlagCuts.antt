@@ -1,5 +1,6 @@
--- Tags have to come after a segment of their text: `AAA` is on air in slots 0 and 1, `BBB` with the other flag from slot
--- 2 on, and tags of `BBB` are sent in slot d + 2. A receiver with the flag bit alone that loses all between cuts `AAA`.
+-- Lemmas: tags have to come after a segment of their text. `AAA` is on air in slots 0 and 1, `BBB` with the other flag
+-- from slot 2 on, and tags of `BBB` are sent in slot d + 2. A receiver with the flag bit alone that loses everything
+-- between cuts `AAA`.
 use Rattle.std.proofs.Common.{◌≡◌, ◌≢◌, ◌⊎◌, ◌+◌, ◌-◌, ◌<◌, ◌≤◌, ◌&&◌, ℕ, zero, suc, true, false, List, [], ◌∷◌, length, slice_index, Option, Some, None, refl, sym, ap, ◌∙◌, subst, inl, inr, arith}
 use Rattle.std.specs.Prelude.{nat_lt}
 use Rattle.std.specs.FinMap.{empty, get, insert}
@@ -174,7 +175,7 @@ lawful e = record {
       ]
     ]
 
--- the receiver is on time
+-- the receiver is on time: each entry is what was sent in its slot, or nothing
 after_on_time : (j : ℕ) (sent : List (Option Message)) (before : List (Option Message)) → ((t : ℕ) (entry : Option Message) → HasEntry 0 before t entry → (entry ≡ None) ⊎ SentIn sent t entry)
     → (t : ℕ) (entry : Option Message) → HasEntry 0 (after j before) t entry → (entry ≡ None) ⊎ SentIn sent t entry
 after_on_time zero sent before each t entry has = each t entry has

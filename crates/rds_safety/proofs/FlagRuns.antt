@@ -1,5 +1,5 @@
--- The runs of a receiver with the flag bit alone that heard a segment of each broadcast: what stands in one is of the
--- source's value, or that is the empty text.
+-- Lemmas about the runs of a receiver with the flag bit alone that heard a segment of each broadcast: all segments of a
+-- run are of its source's value, or this value is empty.
 use Rattle.std.proofs.Common.{◌≡◌, ◌≢◌, ◌⊎◌, ◌+◌, ◌-◌, ◌<◌, ◌≤◌, ℕ, Bool, List, [], ◌∷◌, length, Option, refl, sym, ap, ◌∙◌, subst, inl, inr, arith}
 use Rattle.std.specs.List.{AllByRecursion}
 use Rattle.std.proofs.lemmas.Bool.{cases_order, cond_both}
@@ -21,7 +21,7 @@ use Rattle.rds_safety.proofs.HeldWhole.{IsIn, came_in, in_below, in_segments}
 use Rattle.rds_safety.proofs.OneBroadcast.{PicksWhatIsMarked, all_of_any}
 use Rattle.rds_safety.proofs.Told.{AreJoined, IsOfAny, IsSegmentLike, IsSegmentOf, IsTold, all_like}
 
--- no harm goes on
+-- joining without harm is transitive
 pub harmless_on : (x y z : Broadcast) → IsHarmless x y → IsHarmless y z → IsHarmless x z
 harmless_on x y z u (inr none) = inr none
 harmless_on x y z (inl e) (inl f) = inl (e ∙ f)
@@ -35,17 +35,17 @@ came_earlier log input t u r s order p q less =
       | inr o ↦ elim o [ inl earlier ↦ earlier | inr later ↦ absurd (omega (arith, order.rising u t s r q p later)) ]
     ]
 
--- each one of a run is one of the segments
+-- each segment of a run is one of the segments
 pub all_before : (P : Segment → Type 0) (f : Bool) (gs : List Segment) → AllByRecursion P gs → AllByRecursion P (flag_run_before f gs)
 all_before P f [] all = tt
 all_before P f (g ∷ older) all =
     cond_both (is_same f g.fragment.flag) (g ∷ flag_run_before f older) [] (AllByRecursion P) (λ _. (all.0, all_before P f older all.1)) (λ _. tt)
 
--- a segment that was picked was heard from where it came
+-- a segment that was picked was heard, with its origin
 pub heard_from : (pick : Message → Option Fragment) (input : Input) (g : Segment) (r : ℕ) → IsPicked pick input.first input.heard g → CameFrom input g.slot r → IsHeardFrom pick input g.slot r
 heard_from pick input g r is from = record { message = is.message; fragment = g.fragment; came = is.came; picked = is.fragment; from = from }
 
--- no bytes, or some
+-- there are no bytes, or some
 no_or_some : (bytes : List ℕ) → (bytes ≡ []) ⊎ (bytes ≢ [])
 no_or_some [] = inl refl
 no_or_some (b ∷ bytes) = inr (λ e. (cc))
@@ -59,7 +59,8 @@ module _ (laws : PlanLaws) (names_one : EachNumberNamesOne) (d now : ℕ) (pick 
   abbrev IsNext : ℕ → Segment → Type 0
   IsNext slot h = (x : Segment) → IsIn all_segments x → h.slot < x.slot → x.slot < slot → ⊥
 
-  -- so no broadcast but the next one that is not empty began after the one in which h was sent and by what came then
+  -- so of the broadcasts that are not empty, at most the next one began after that of h and by the slot in which this
+  -- was sent
   pub none_passes : (slot s : ℕ) (h : Segment) (r k l : ℕ) (a b : Broadcast) → IsNext slot h → ((t q : ℕ) → CameFrom input t q → q < s → t < slot) → s ≤ now
       → IsPicked pick input.first input.heard h → CameFrom input h.slot r → HasNumber plan k a → HasNumber plan l b → Covers a r → b.start ≤ s
       → k + 1 < l → b.bytes ≢ [] → ⊥
@@ -75,7 +76,7 @@ module _ (laws : PlanLaws) (names_one : EachNumberNamesOne) (d now : ℕ) (pick 
       (came_earlier log input h.slot w.slot r w.origin order from its.from (omega (arith, covers.to, after, w.since)))
       (earlier w.slot w.origin its.from (omega (arith, w.until, before, begun)))
 
-  -- the flag tells two segments that came one after the other
+  -- the flag separates the broadcasts of two segments that came one after the other
   told : TurnsTheFlag plan → (g h : Segment) → h.slot < g.slot → IsNext g.slot h → IsPicked pick input.first input.heard h
       → (r s : ℕ) → CameFrom input h.slot r → CameFrom input g.slot s → IsTold IsHarmless plan r s
   told turns g h falls next is r s from to k l a b p q u v flag =
@@ -121,7 +122,7 @@ module _ (laws : PlanLaws) (names_one : EachNumberNamesOne) (d now : ℕ) (pick 
         | inr is_older ↦ is_older
       ]
 
--- a run is of one value, that of its newest segment's broadcast, or that one is empty
+-- a run has one value, that of the broadcast of its newest segment, or that broadcast is empty
 pub record IsOfOneValue (kind : Kind) (plan : List Broadcast) (input : Input) (g : Segment) (older : List Segment) : Type 0 where
   pub number : ℕ
   pub broadcast : Broadcast

@@ -1,4 +1,4 @@
--- What a receiver with the flag bit alone shows, where it heard a segment of each broadcast: the value of its run's
+-- Lemmas: a receiver with the flag bit alone that heard a segment of each broadcast shows the value of its run's
 -- source, and tags of that text; and two such receivers show neighbours.
 use Rattle.std.proofs.Common.{◌≡◌, ◌≢◌, ◌⊎◌, ◌+◌, ◌<◌, ◌≤◌, ℕ, zero, suc, Bool, true, false, List, [], ◌∷◌, length, slice_index, Option, Some, None, cond, refl, sym, ap, ◌∙◌, subst, inl, inr, arith}
 use Rattle.std.specs.Prelude.{IfSome}
@@ -41,12 +41,12 @@ use Rattle.rds_safety.proofs.Told.{IsSegmentLike}
 
 -- ---- values
 
--- where a carriage return is held at place 0 the empty text is whole, and no other
+-- if a carriage return is held at place 0, no text but the empty one is whole
 no_bytes : (cells : Cells) (y : List ℕ) → HasByte cells 0 13 → IsWholeText cells y → y ≡ []
 no_bytes cells [] held whole = refl
 no_bytes cells (b ∷ bytes) held whole = absurd (whole.plain 0 (omega arith) (one_byte cells 0 _ _ (whole.spelled.bytes 0 (omega arith)) held))
 
--- so it is once the segment of the empty text is held
+-- this holds once the segment of the empty text is held
 text_of_no_bytes : (cells : Cells) (p : Fragment) (y : List ℕ) → IsFragmentOf (text_body []) p → IsWholeText (insert cells p.address p.bytes) y → y ≡ []
 text_of_no_bytes cells p y is whole = by p.address p.bytes is.within is.bytes whole
   where
@@ -55,7 +55,7 @@ text_of_no_bytes cells p y is whole = by p.address p.bytes is.within is.bytes wh
         no_bytes (insert cells 0 bytes) y record { cell = bytes; held = get-put cells 0 bytes 0; byte = ap (λ (x : List ℕ). slice_index x 0) same } whole
     by (suc a) bytes within same whole = absurd (omega arith)
 
--- a service, and what its empty value would make whole
+-- a service, and what the segment of its empty value makes whole
 pub record HasNoBytes (kind : Kind) (IsWhole : Cells → List ℕ → Type 0) : Type 0 where
   pub empty : (cells : Cells) (p : Fragment) (y : List ℕ) → kind.IsValue [] → IsFragmentOf (kind.body []) p → IsWhole (insert cells p.address p.bytes) y → y ≡ []
 
@@ -65,7 +65,7 @@ texts_of_no_bytes = record { empty = λ cells p y value is whole. text_of_no_byt
 pub names_of_no_bytes : HasNoBytes names IsWholeName
 names_of_no_bytes = record { empty = λ cells p y value is whole. absurd (let eight = value.0 in omega arith) }
 
--- a run of a value that is not empty holds fragments of it alone
+-- a run of a value that is not empty has only fragments of it
 fragments_of_value : (kind : Kind) (plan : List Broadcast) (input : Input) (b : Broadcast) (gs : List Segment) → b.bytes ≢ [] → AllByRecursion (IsSegmentLike IsHarmless kind plan input b) gs
     → AllByRecursion (λ (g : Segment). IsFragmentOf (kind.body b.bytes) g.fragment) gs
 fragments_of_value kind plan input b [] some all = tt
@@ -75,7 +75,7 @@ fragments_of_value kind plan input b (g ∷ older) some all =
       | inr none ↦ absurd (some none)
     ]
 
--- some bytes or none
+-- there are some bytes, or none
 pub some_or_none : (bytes : List ℕ) → (bytes ≡ []) ⊎ (bytes ≢ [])
 some_or_none [] = inl refl
 some_or_none (b ∷ bytes) = inr (λ e. (cc))
@@ -152,7 +152,7 @@ begins_like kind pick plan input b g (h ∷ older) picks all =
       alike = rest.alike;
     }
 
--- what came since the first segment of a run stands in it
+-- each segment that came since the first segment of a run is in it
 kept_before : (f : Bool) (g : Segment) (gs : List Segment) (x : Segment) (since : ℕ) → AreFalling g.slot gs → begins_in (g ∷ flag_run_before f gs) ≡ Some since → since ≤ x.slot
     → IsIn gs x → IsIn (flag_run_before f gs) x
 kept_before f g [] x since falls e late is_in = absurd is_in
@@ -172,7 +172,7 @@ kept : (g : Segment) (older : List Segment) (x : Segment) (since : ℕ) → AreF
 kept g older x since falls e late (inl is) = inl is
 kept g older x since falls e late (inr is_older) = inr (kept_before g.fragment.flag g older x since falls e late is_older)
 
--- the pair was sent for a broadcast of this text, d slots after its start or later
+-- the pair was sent for a broadcast of this text, at least d slots after its start
 record WasSentForText (d : ℕ) (plan : List Broadcast) (log : List (Option Message)) (text : List ℕ) (pair : PairFields) : Type 0 where
   number : ℕ
   broadcast : Broadcast
@@ -242,7 +242,7 @@ no_piece : (tag : TagFields) (shown : Option (ℕ × List ℕ)) → IfSome shown
 no_piece tag None names = refl
 no_piece tag (Some s) names = absurd (let ends = names.ends in omega arith)
 
--- the tags that are shown are of the text that is shown, or that is empty
+-- the tags shown are of the text shown, or this text is empty
 pub tags_by_flag : PlanLaws → (d : ℕ) (plan : List Broadcast) (log : List (Option Message)) (input : Input) (view : ShownView)
     → IsLawful d texts plan (marks text_mark log) → IsHeardInOrder log input → HearsTextBeforeTags plan input
     → RunIsOfOneValue texts plan input (run_by_flag text_fragment input) → ShowsByFlag input view
@@ -284,7 +284,7 @@ tags_by_flag laws d plan log input view law order first_text v shows = by view.t
 
 -- ---- how new a source is
 
--- one that heard a segment of each broadcast is at most one behind
+-- the source of a receiver that heard a segment of each broadcast is at most one behind
 pub new_source : PlanLaws → EachNumberNamesOne → (d now : ℕ) (pick : Message → Option Fragment) (plan : List Broadcast) (log : List (Option Message)) (input : Input)
     → IsSpaced d plan → IsHeardInOrder log input → ((t s : ℕ) → CameFrom input t s → s ≤ now) → HearsEach pick plan now input → HasNewSource plan now input (run_by_flag pick input)
 new_source laws names_one d now pick plan log input spaced order past each k l a b source planned begun =
@@ -307,7 +307,7 @@ new_source laws names_one d now pick plan log input spaced order past each k l a
       ]
     ]
 
--- one with a dwell is so too, since its source is recent
+-- the source of a receiver with a dwell is at most one behind too, since it is recent
 dwell_is_new : PlanLaws → (d m now : ℕ) (kind : Kind) (pick : Message → Option Fragment) (of : Option Message → Mark) (plan : List Broadcast) (log : List (Option Message)) (input : Input)
     → PicksWhatIsMarked pick of → IsLawful d kind plan (marks of log) → IsHeardByOwnClock d m now log input → HasNewSource plan now input (run_at pick m input.first input.heard)
 dwell_is_new laws d m now kind pick of plan log input alike law hears k l a b source planned begun =

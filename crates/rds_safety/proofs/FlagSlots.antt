@@ -1,5 +1,5 @@
--- In slots: who hears a segment of each n slots in a row hears one of each broadcast that lasts so long. And a receiver
--- with the flag bit alone is one whose dwell is longer than all that it heard.
+-- Lemmas in slots: a receiver that hears a segment in each n slots in a row hears one of each broadcast that lasts for
+-- n slots. And a receiver with the flag bit alone shows the same as one whose dwell is longer than all that it heard.
 use Rattle.std.proofs.Common.{◌≡◌, ◌↔◌, ◌+◌, ◌<◌, ◌≤◌, ◌&&◌, ℕ, Bool, true, false, List, [], ◌∷◌, length, Option, Some, cond, refl, sym, ap, ◌∙◌, subst, arith, ◌⊎◌, ◌-◌, zero, suc, inl, inr}
 use Rattle.std.specs.Prelude.{nat_lt}
 use Rattle.std.proofs.lemmas.Bool.{cases_eq, cases_lt, cond-true, lt-ltb}
@@ -45,7 +45,7 @@ hears_text_before_tags laws d now plan log r law listens often t s u q k pair b 
     let one = often k b.start u q b planned (omega arith) (omega (arith, lasted, slot, covers.to)) (omega (arith, lasted, slot, listens.past t s from)) heard before in
     record { slot = one.slot; origin = one.origin; heard = one.heard; since = one.since; until = omega (arith, one.until, lasted, slot) }
 
--- what came from a slot is what was sent in it
+-- what came is what was sent in its origin
 came_as_sent : (log : List (Option Message)) (input : Input) (t s : ℕ) (message : Message) → IsHeardInOrder log input → CameFrom input t s → SentIn log s (Some message) → HasEntry input.first input.heard t (Some message)
 came_as_sent log input t s message order from sent =
     let w = entry_beside input.first input.origins input.heard t (Some s) (sym order.beside) from in
@@ -79,7 +79,7 @@ all_or_lost got s (suc k) = by (all_or_lost got s k) (got (s + k)) refl
       | inr last ↦ subst (λ (n : ℕ). got n ≡ true) (let same : s + k ≡ v = omega (arith, to, last) in same) is
     ])
 
--- between a slot that was lost and one that came there is one that came after one that was lost
+-- between a lost slot and one that came, some lost slot is followed by one that came
 edge : (got : ℕ → Bool) (j x : ℕ) → got x ≡ false → got (x + 1 + j) ≡ true → (y : ℕ) × (x ≤ y) × (y ≤ x + j) × (got y ≡ false) × (got (y + 1) ≡ true)
 edge got zero x lost came = (x, omega arith, omega arith, lost, subst (λ (n : ℕ). got n ≡ true) (let same : x + 1 + 0 ≡ x + 1 = omega arith in same) came)
 edge got (suc j) x lost came = by (got (x + 1)) refl (λ next. edge got j (x + 1) next (subst (λ (n : ℕ). got n ≡ true) (let same : x + 1 + suc j ≡ x + 1 + 1 + j = omega arith in same) came))

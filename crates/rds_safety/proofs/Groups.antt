@@ -1,4 +1,4 @@
--- What is heard as groups is heard as messages: late, or by a clock of the receiver's own.
+-- Lemmas: an input of groups is one of messages: late, or by the receiver's own clock.
 use Rattle.std.proofs.Common.{◌+◌, ◌≡◌, ◌≤◌, ℕ, suc, List, [], ◌∷◌, length, Option, Some, None, refl, sym, ap, ◌∙◌, subst, inl, inr, arith}
 use Rattle.std.specs.List.{AllZip}
 use Rattle.rds_block.specs.declared.group.Group.{Group}
@@ -23,7 +23,7 @@ heard_long pi [] (m ∷ heard) are = absurd are
 heard_long pi (g ∷ groups) [] are = absurd are
 heard_long pi (g ∷ groups) (m ∷ heard) are = ap suc (heard_long pi groups heard are.1)
 
--- the group of which a message was heard
+-- the group that gave a message
 group_at : (pi first : ℕ) (groups : List (Option Group)) (heard : List (Option Message)) (t : ℕ) (m : Option Message) → AreHeard pi groups heard → HasEntry first heard t m → (g : Option Group) × HasEntry first groups t g × Hears pi g m
 group_at pi first [] [] t m are a = absurd a
 group_at pi first [] (n ∷ heard) t m are a = absurd are
@@ -31,7 +31,7 @@ group_at pi first (g ∷ groups) [] t m are a = absurd are
 group_at pi first (g ∷ groups) (n ∷ heard) t m are (inl a) = (g, inl (omega (arith, heard_long pi groups heard are.1, a.0), refl), subst (Hears pi g) (sym a.1) are.0)
 group_at pi first (g ∷ groups) (n ∷ heard) t m are (inr a) = (let w = group_at pi first groups heard t m are.1 a in (w.0, inr w.1, w.2))
 
--- the message that was heard of a group
+-- the message of a group
 message_at : (pi first : ℕ) (groups : List (Option Group)) (heard : List (Option Message)) (t : ℕ) (g : Option Group) → AreHeard pi groups heard → HasEntry first groups t g → (m : Option Message) × HasEntry first heard t m × Hears pi g m
 message_at pi first [] [] t g are a = absurd a
 message_at pi first [] (n ∷ heard) t g are a = absurd are
@@ -49,7 +49,7 @@ one_heard one pi (Some g) (Some m) (Some n) (inl p) (inl q) = ap Some (one m n g
 one_heard one pi (Some g) None n (inl p) (inl q) = absurd p.1
 one_heard one pi (Some g) (Some m) None (inl p) (inl q) = absurd q.1
 
--- what is heard in order as groups is so as messages
+-- an input in order of groups is one of messages
 in_order_as_messages : OneMessage → (pi first : ℕ) (sent handed : List (Option Group)) (origins : List (Option ℕ)) (log heard : List (Option Message))
     → AreHeard pi sent log → AreHeard pi handed heard
     → IsHeardInOrder sent (input_of first handed origins) → IsHeardInOrder log (input_of first heard origins)
@@ -73,7 +73,7 @@ pub late_as_messages : OneMessage → (pi k first : ℕ) (sent handed : List (Op
 late_as_messages one pi k first sent handed origins log heard of_log of_handed late =
     record { order = in_order_as_messages one pi first sent handed origins log heard of_log of_handed late.order; past = late.past; late = late.late }
 
--- what a station sends is heard as its messages
+-- the groups of a station are heard as its messages
 sent_heard : (station : Head) (log : List (Option Message)) (sent : List (Option Group)) → AllZip (IsSent station) log sent → AreHeard station.pi sent log
 sent_heard station [] [] h = tt
 sent_heard station [] (g ∷ sent) h = absurd h

@@ -1,17 +1,17 @@
--- The segments among what was heard: each came in its slot, and the slots fall.
+-- Lemmas about the segments among what was heard: each came in its slot, and the slots fall.
 use Rattle.std.proofs.Common.{◌≡◌, ◌+◌, ◌<◌, ◌≤◌, ℕ, List, [], ◌∷◌, length, Option, Some, None, refl, inl, inr, arith}
 use Rattle.std.specs.List.{AllByRecursion}
 use Rattle.rds_fields.specs.declared.message.Message.{Message}
 use Rattle.rds_receiver.specs.Receipts.{Fragment, Segment, picked, segments, with_segment}
 use Rattle.rds_safety.specs.Late.{HasEntry}
 
--- the segment was picked of what was heard in its slot
+-- the segment was picked from what was heard in its slot
 pub record IsPicked (pick : Message → Option Fragment) (first : ℕ) (heard : List (Option Message)) (g : Segment) : Type 0 where
   pub message : Message
   pub came : HasEntry first heard g.slot (Some message)
   pub fragment : pick message ≡ Some g.fragment
 
--- and it stays so as more is heard
+-- this stays so as more is heard
 still_picked : (pick : Message → Option Fragment) (first : ℕ) (newest : Option Message) (heard : List (Option Message)) (gs : List Segment)
     → AllByRecursion (IsPicked pick first heard) gs → AllByRecursion (IsPicked pick first (newest ∷ heard)) gs
 still_picked pick first newest heard [] all = tt

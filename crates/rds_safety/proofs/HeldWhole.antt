@@ -1,4 +1,4 @@
--- A run holds each recent segment, so that a broadcast of which each segment came recently is shown.
+-- Lemmas: a run holds each recent segment, so a broadcast is shown if all its segments came recently.
 use Rattle.std.proofs.Common.{◌≡◌, ◌+◌, ◌<◌, ◌≤◌, ◌⊎◌, ℕ, Bool, true, false, List, [], ◌∷◌, Option, Some, None, cond, length, nat_eq, nat_lt, ◌&&◌, refl, sym, ap, ◌∙◌, subst, inl, inr, arith}
 use Rattle.std.specs.FinMap.{get}
 use Rattle.std.specs.List.{AllByRecursion}
@@ -37,7 +37,7 @@ all_in P (h ∷ older) g all (inr is_in) = all_in P older g all.1 is_in
 abbrev pub came_in : ℕ → Fragment → Segment
 came_in slot p = record { slot = slot; fragment = p }
 
--- what was heard of the service is among its segments
+-- each fragment that was heard is among the segments
 pub in_segments : (pick : Message → Option Fragment) (first : ℕ) (heard : List (Option Message)) (u : ℕ) (message : Message) (p : Fragment)
     → HasEntry first heard u (Some message) → pick message ≡ Some p → IsIn (segments pick first heard) (came_in u p)
 in_segments pick first [] u message p has is = absurd has
@@ -55,12 +55,12 @@ in_below n [] g falls is_in = absurd is_in
 in_below n (h ∷ older) g falls (inl e) = subst (λ (x : Segment). x.slot < n) (sym e) falls.0
 in_below n (h ∷ older) g falls (inr is_in) = omega (arith, falls.0, in_below h.slot older g falls.1 is_in)
 
--- where one of the segments came since slot s, so did the newest
+-- if one of the segments came in slot s or later, so did the newest one
 newest_since : (s : ℕ) (h : Segment) (older : List Segment) (g : Segment) → AreFalling h.slot older → s ≤ g.slot → IsIn (h ∷ older) g → s ≤ h.slot
 newest_since s h older g falls since (inl e) = subst (λ (x : Segment). s ≤ x.slot) e since
 newest_since s h older g falls since (inr is_in) = omega (arith, since, in_below h.slot older g falls is_in)
 
--- those that came since slot s have the flag
+-- the segments that came in slot s or later have the flag
 abbrev HaveFlag : Bool → ℕ → List Segment → Type 0
 HaveFlag f s gs = AllByRecursion (λ (g : Segment). s ≤ g.slot → g.fragment.flag ≡ f) gs
 
@@ -69,7 +69,7 @@ both_true true true p q = refl
 both_true true false p q = absurd (cc)
 both_true false b p q = absurd (cc)
 
--- slots from s to t are fewer than m: the run at slot t holds each segment that came since slot s
+-- if slots s to t are at most m, the run in slot t has each segment that came in slot s or later
 module _ (m t s : ℕ) (f : Bool) (soon : t < s + m) where
   kept_before : (n : ℕ) (gs : List Segment) (g : Segment) → n ≤ t → AreFalling n gs → HaveFlag f s gs → s ≤ g.slot → IsIn gs g → IsIn (run_before m f n gs) g
   kept_before n [] g past falls flags since is_in = absurd is_in
@@ -98,7 +98,7 @@ module _ (m t s : ℕ) (f : Bool) (soon : t < s + m) where
       by (inl e) rest = inl e
       by (inr is_in) rest = inr (rest is_in)
 
--- at the address of each segment of a run in one broadcast that broadcast's segment is held
+-- for each segment of a run in one broadcast, that broadcast's segment is held at its address
 held_own : (kind : Kind) (input : Input) (b : Broadcast) (gs : List Segment) (g : Segment) → AreOf kind input b gs → IsIn gs g
     → get (cells_of gs) g.fragment.address ≡ Some (segment_of (kind.body b.bytes) g.fragment.address)
 held_own kind input b [] g all is_in = absurd is_in
@@ -123,7 +123,7 @@ one_covers laws d plan k l a b u spaced p q v w =
       ]
     ]
 
--- a segment at this address came since slot s
+-- a segment with this address came in slot s or later
 pub record CameSince (gs : List Segment) (s address : ℕ) : Type 0 where
   pub segment : Segment
   pub since : s ≤ segment.slot
@@ -160,7 +160,7 @@ module _ (laws : PlanLaws) (m t s : ℕ) (kind : Kind) (pick : Message → Optio
   in_run g since is_in =
       kept m t s b.flag soon its_segments g (subst (λ (n : ℕ). AreFalling n its_segments) now (segments_fall pick input.first input.heard)) (flags its_segments (all_picked pick input.first input.heard)) since is_in
 
-  -- what is shown of a run that lies in one broadcast, and has each segment of this one
+  -- the value shown for a run that lies in one broadcast and has all its segments
   shown_of : (IsWhole : Cells → List ℕ → Type 0) → IsService kind IsWhole → (the_run : List Segment) → RunLiesInOne (m + k) t kind plan input the_run → ((g : Segment) → s ≤ g.slot → IsIn its_segments g → IsIn the_run g)
       → ((cells : Cells) → AreAllHeld (kind.body b.bytes) cells → IsWhole cells b.bytes) → 0 < segment_count (kind.body b.bytes)
       → ((a : ℕ) → a < segment_count (kind.body b.bytes) → CameSince its_segments s a) → (shown : Option (List ℕ)) → IsShown IsWhole (cells_of the_run) shown → shown ≡ Some b.bytes

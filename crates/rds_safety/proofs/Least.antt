@@ -1,7 +1,8 @@
--- The dwell and the lateness are the least. `AAAACCC` is on air in slot 0 alone and `BBBBDDD` in slot j + 1 alone,
--- both with flag 0. The receiver begins in slot k: it is handed the first segment of the one, n slots of nothing, and
--- then the second segment of the other. For it the two came less than its dwell apart, so it shows `AAAADDD`, which
--- nobody set. Where j is n + k, the first came k slots late and the second on time; by a clock of its own any j will do.
+-- Lemmas: no spacing below the dwell and the lateness is enough. `AAAACCC` is on air in slot 0 alone and `BBBBDDD` in
+-- slot j + 1 alone, both with flag 0. The receiver begins in slot k. It gets the first segment of `AAAACCC`, then
+-- nothing in n slots, then the second segment of `BBBBDDD`. For it the two came less than its dwell apart, so it shows
+-- `AAAADDD`, which nobody set. If j is n + k, the first came k slots late and the second on time. By a clock of its own
+-- any j will do.
 use Rattle.std.proofs.Common.{◌≡◌, ◌≢◌, ◌⊎◌, ◌+◌, ◌-◌, ◌<◌, ◌≤◌, ℕ, zero, suc, true, false, List, [], ◌∷◌, length, slice_index, Option, Some, None, refl, sym, ap, ◌∙◌, subst, inl, inr, arith}
 use Rattle.std.specs.Prelude.{IfSome, nat_lt}
 use Rattle.std.specs.FinMap.{empty, get, insert}
@@ -116,7 +117,7 @@ spaced c later = record {
   ]);
 }
 
--- the first segment, and then j slots of nothing
+-- the first segment, then nothing in j slots
 abbrev pub quiet : ℕ → List (Option Message)
 quiet zero = first_message ∷ []
 quiet (suc j) = None ∷ quiet j
@@ -145,7 +146,7 @@ quiet_names zero t m (inr s) = absurd s
 quiet_names (suc j) t m (inl s) = s.1
 quiet_names (suc j) t m (inr s) = quiet_names j t m s
 
--- what was sent: after that the second segment
+-- what was sent: after these slots the second segment
 abbrev pub log : ℕ → List (Option Message)
 log j = last_message ∷ quiet j
 
@@ -195,7 +196,7 @@ names_lawful d j = record {
     none t m (inl s) ne = ne s.1
     none t m (inr s) ne = ne (quiet_names j t m s)
 
--- what the receiver was handed, from slot k on
+-- what the receiver got, from slot k on
 abbrev pub heard : ℕ → List (Option Message)
 heard n = last_message ∷ quiet n
 
@@ -250,7 +251,7 @@ pub no_segments : (k n : ℕ) → segments name_fragment k (quiet n) ≡ []
 no_segments k zero = refl
 no_segments k (suc n) = no_segments k n
 
--- so it is up to the slot in which the last of them is as old as the dwell
+-- so it shows the mix until the last segment is as old as the dwell
 pub mixed_by : (k n now : ℕ) → now < k + length (quiet n) + (n + 2) → run (n + 2) now (segments text_fragment k (heard n)) ≡ last_segment (k + length (quiet n)) ∷ first_segment k ∷ []
 mixed_by k n now soon =
     let t : ℕ = k + length (quiet n) in
@@ -333,7 +334,7 @@ not_safe c d m t sent r shown safe =
 pub lawful : (j : ℕ) → AreLawful (j + 1) record { text = plan (j + 1); name = [] } (log j)
 lawful j = record { text = texts_lawful j; name = names_lawful (j + 1) j }
 
--- a receiver that listens so to that log, and shows the mix
+-- a receiver that listens in this way to that log, and shows the mix
 pub mixes : (n j now : ℕ) (Listens : ℕ → List (Option Message) → Listener → Type 0) (r : Listener) → r.view.text ≡ Some mix → Listens now (log j) r → ShowsAMix (j + 1) n Listens
 mixes n j now Listens r shown listens = record {
   plans = record { text = plan (j + 1); name = [] };

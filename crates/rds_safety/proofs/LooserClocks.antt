@@ -1,4 +1,4 @@
--- None of the three bounds of a receiver's own clock can be one slot looser.
+-- Lemmas: none of the three bounds of a receiver's own clock can be one slot looser.
 use Rattle.std.proofs.Common.{◌≡◌, ◌⊎◌, ◌↔◌, ◌+◌, ◌-◌, ◌<◌, ◌≤◌, ℕ, zero, suc, true, false, List, [], ◌∷◌, length, Option, Some, None, refl, ap, ◌∙◌, subst, inl, inr, arith}
 use Rattle.std.specs.Prelude.{nat_lt, slice_index}
 use Rattle.std.proofs.lemmas.Bool.{lt-ltb}
@@ -33,7 +33,7 @@ use Rattle.rds_safety.proofs.Entries.{marks_long}
 use Rattle.rds_safety.proofs.Least.{heard, in_order, input, log, mix, mix_is_whole, mixed_by, mixes, no_segments, quiet_long, quiet_origins, sent_by, three_and_end}
 use Rattle.rds_safety.proofs.OnTime.{input_of, nothing_in_order, one_more_in_order}
 
--- by the bounds of its own clock
+-- listening by an own clock is listening within its bounds
 pub own_bounds_are_own : (d m now : ℕ) (sent : List (Option Message)) (r : Listener) → ListensByOwnClock d m now sent r ↔ ListensWithin (own_bounds d) m now sent r
 own_bounds_are_own d m now sent r = (
   λ listens. record {
@@ -46,8 +46,8 @@ own_bounds_are_own d m now sent r = (
   },
 )
 
--- ---- between entries: as with plans that are lawful for one slot less, but after both segments the receiver counts
--- one slot more, so that a dwell has passed since the first
+-- ---- between entries: as for plans that are lawful for one slot less, except that the receiver counts one slot more
+-- after both segments, so that a dwell has passed since the first
 
 abbrev waited : ℕ → ℕ → Input
 waited n j = input_of 0 (None ∷ heard n) (None ∷ Some (j + 1) ∷ quiet_origins n)
@@ -106,7 +106,7 @@ one_slot_more_between d m g h =
     (subst (λ (x : ℕ). ShowsAMix x (m - 2 + 2) (ListensWithin (record { between = x + 1; since = x; ahead = 0 }) (m - 2 + 2))) d_is (between_mixes (m - 2) (d - 1)))
 
 -- ---- since an entry, and ahead of the station: a text of one segment is on air in slot a alone, and j slots follow.
--- The receiver is handed that segment in its slot 0, and counts no slot more
+-- The receiver gets that segment in its slot 0 and counts no other slot
 
 abbrev three : List ℕ
 three = 65 ∷ 65 ∷ 65 ∷ []
@@ -252,7 +252,7 @@ once_shows m h =
       two = refl;
     }
 
--- where the slot a is not one of the last d up to `now`
+-- if slot a is not one of the last d slots up to `now`
 once_unsafe : (b : Bounds) (d m a j now : ℕ) → 0 < m → 0 < b.between → now < a + b.since → a ≤ now + b.ahead → (a ≤ now → now < a + d → ⊥) → IsUnsafe d m (ListensWithin b m)
 once_unsafe b d m a j now some between since ahead out = record {
   plans = record { text = once a ∷ []; name = [] };

@@ -1,4 +1,4 @@
--- One more entry of an input in order, and of a late one, and inputs that are no slot late.
+-- Lemmas about one more entry of an input in order, or of a late one, and about inputs that are on time.
 use Rattle.std.proofs.Common.{◌≡◌, ◌⊎◌, ◌+◌, ◌<◌, ◌≤◌, ℕ, suc, List, [], ◌∷◌, length, Option, Some, None, refl, sym, ap, subst, inl, inr, arith}
 use Rattle.rds_safety.specs.Late.{HasEntry, InputOf, IsHeardInOrder, IsHeardLate, IsHeardOnTime, IsOfItsOrigin, SentIn, own_origins}
 use Rattle.rds_safety.proofs.Entries.{before_end, entry_beside}
@@ -9,7 +9,7 @@ input_of first heard origins = record { first = first; heard = heard; origins = 
 pub nothing_in_order : {X : Type 0} (log : List (Option X)) (first : ℕ) → IsHeardInOrder log (input_of first [] [])
 nothing_in_order log first = record { beside = refl; each = λ t origin entry o a. absurd o; rising = λ t u r s p q h. absurd p }
 
--- an entry that is what its origin says goes on an input in order, where it was sent after all that came before
+-- an entry that is what was sent in its origin extends an input in order, if its origin is later than all before
 pub one_more_in_order : {X : Type 0} (log : List (Option X)) (first : ℕ) (heard : List (Option X)) (origins : List (Option ℕ)) (o : Option ℕ) (x : Option X)
     → IsHeardInOrder log (input_of first heard origins) → IsOfItsOrigin log o x
     → ((r u s : ℕ) → o ≡ Some r → HasEntry first origins u (Some s) → s < r)
@@ -32,7 +32,7 @@ one_more_in_order {X} log first heard origins o x order says after = record {
     rising t u r s (inr p) (inl q) l = after s t r (sym q.1) p
     rising t u r s (inr p) (inr q) l = order.rising t u r s p q l
 
--- what comes in slot t was sent in it or at most k slots before, where it was sent
+-- the origin of an entry that came in slot t, if it has one, is one of the slots t - k to t
 abbrev pub IsSoon : ℕ → ℕ → Option ℕ → Type 0
 IsSoon k t None = Unit {0}
 IsSoon k t (Some s) = (s ≤ t) × (t ≤ s + k)
@@ -40,7 +40,7 @@ IsSoon k t (Some s) = (s ≤ t) × (t ≤ s + k)
 pub nothing_heard : {X : Type 0} (k : ℕ) (log : List (Option X)) (first : ℕ) → IsHeardLate k log (input_of first [] [])
 nothing_heard k log first = record { order = nothing_in_order log first; past = λ t s p. absurd p; late = λ t s p. absurd p }
 
--- the same of a late input, where the entry came soon
+-- the same for a late input, if the entry came so soon
 pub one_more : {X : Type 0} (k : ℕ) (log : List (Option X)) (first : ℕ) (heard : List (Option X)) (origins : List (Option ℕ)) (o : Option ℕ) (x : Option X)
     → IsHeardLate k log (input_of first heard origins) → IsOfItsOrigin log o x → IsSoon k (first + length heard) o
     → ((r u s : ℕ) → o ≡ Some r → HasEntry first origins u (Some s) → s < r)
@@ -57,7 +57,7 @@ one_more {X} k log first heard origins o x late says soon after = record {
         subst (λ n. IsSoon k n (Some s)) (sym here) (subst (λ y. IsSoon k (first + length heard) y) (sym p.1) soon)
     all_soon t s (inr p) = (late.past t s p, late.late t s p)
 
--- no slot late, each entry is that of its slot
+-- zero slots late, each entry is that of its slot
 pub each_on_time : {X : Type 0} (log : List (Option X)) (first : ℕ) (heard : List (Option X)) (origins : List (Option ℕ)) → IsHeardLate 0 log (input_of first heard origins) → IsHeardOnTime log first heard
 each_on_time {X} log first heard origins late t entry a = by (entry_beside first heard origins t entry late.order.beside a)
   where
@@ -83,7 +83,7 @@ origin_is_slot first (Some x ∷ before) t s (inl p) =
     (omega (arith, own_long first before, p.0), omega (arith, own_long first before, p.0))
 origin_is_slot first (Some x ∷ before) t s (inr p) = (let rest = origin_is_slot first before t s p in (rest.0, omega (arith, rest.1)))
 
--- what is on time is no slot late
+-- an input that is on time is zero slots late
 pub no_slot_late : {X : Type 0} (log : List (Option X)) (first : ℕ) (heard : List (Option X)) → IsHeardOnTime log first heard → IsHeardLate 0 log (input_of first heard (own_origins first heard))
 no_slot_late log first [] each = nothing_heard 0 log first
 no_slot_late log first (None ∷ before) each =

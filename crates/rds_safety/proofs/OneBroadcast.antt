@@ -1,5 +1,5 @@
--- A run, which knows one bit of its broadcast, lies in one broadcast: two neighbours of it have one flag, and
--- were sent less than d slots apart, by whatever clock they came.
+-- Lemmas: a run lies in one broadcast. A receiver knows only one bit of a broadcast, but any two neighbours of a run
+-- have one flag and were sent less than d slots apart, by whatever clock they came.
 use Rattle.std.proofs.Common.{◌≡◌, ◌+◌, ◌<◌, ◌≤◌, ℕ, Bool, List, [], ◌∷◌, length, Option, Some, ◌&&◌, refl, sym, ap, ◌∙◌, subst, inl, inr, arith}
 use Rattle.std.specs.Prelude.{nat_lt}
 use Rattle.std.specs.List.{AllByRecursion}
@@ -31,11 +31,11 @@ one_number laws d plan k l a b s r spaced p q u v after before e =
       ]
     ]
 
--- what is picked of a message is the fragment of its mark
+-- the fragment picked from a message is that of its mark
 abbrev pub PicksWhatIsMarked : (Message → Option Fragment) → (Option Message → Mark) → Type 0
 PicksWhatIsMarked pick of = (message : Message) (p : Fragment) → pick message ≡ Some p → of (Some message) ≡ Sends p
 
--- each segment picked is one of some broadcast
+-- each segment that was picked is of some broadcast
 pub all_of_any : (d : ℕ) (kind : Kind) (pick : Message → Option Fragment) (of : Option Message → Mark) (plan : List Broadcast) (log : List (Option Message)) (input : Input) (gs : List Segment)
     → PicksWhatIsMarked pick of → IsLawful d kind plan (marks of log) → IsHeardInOrder log input → AllByRecursion (IsPicked pick input.first input.heard) gs → AllByRecursion (IsOfAny kind plan input) gs
 all_of_any d kind pick of plan log input [] alike law order all = tt
@@ -61,19 +61,19 @@ pub record LiesInOne (d t : ℕ) (kind : Kind) (plan : List Broadcast) (input : 
   pub past : all.0.slot ≤ t
   pub recent : t < all.0.slot + d
 
--- so does a run, where it has a segment
+-- the same for a run, if it is not empty
 abbrev pub RunLiesInOne : ℕ → ℕ → Kind → List Broadcast → Input → List Segment → Type 0
 RunLiesInOne d t kind plan input [] = Unit {0}
 RunLiesInOne d t kind plan input (g ∷ older) = LiesInOne d t kind plan input g older
 
--- each one of a run is one of the segments
+-- each segment of a run is one of the segments
 all_before : (P : Segment → Type 0) (m : ℕ) (f : Bool) (s : ℕ) (gs : List Segment) → AllByRecursion P gs → AllByRecursion P (run_before m f s gs)
 all_before P m f s [] all = tt
 all_before P m f s (g ∷ older) all =
     cond_both (is_same f g.fragment.flag && nat_lt s (g.slot + m)) (g ∷ run_before m f g.slot older) [] (AllByRecursion P) (λ _. (all.0, all_before P m f g.slot older all.1)) (λ _. tt)
 
 module _ (laws : PlanLaws) (d m t : ℕ) (kind : Kind) (plan : List Broadcast) (log : List (Option Message)) (input : Input) (spaced : IsSpaced d plan) (hears : IsHeardByOwnClock d m t log input) where
-  -- less than d slots apart the flag tells one broadcast from another
+  -- the flag separates broadcasts less than d slots apart
   told : (g h : Segment) → h.slot < g.slot → g.slot < h.slot + m → (r s : ℕ) → CameFrom input h.slot r → CameFrom input g.slot s → IsTold (λ x y. x ≡ y) plan r s
   told g h falls near r s from to k l a b p q u v flag =
       let later = hears.order.rising h.slot g.slot r s from to falls in

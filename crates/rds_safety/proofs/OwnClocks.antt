@@ -1,4 +1,4 @@
--- Which clocks are clocks of a receiver's own: a slow one, that of who hears late, and the station's.
+-- Lemmas: own clocks are a slow clock, that of a receiver that hears late, and that of the station.
 use Rattle.std.proofs.Common.{◌≡◌, ◌↔◌, ◌+◌, ◌<◌, ℕ, List, Option, Some, subst, inl, inr, arith}
 use Rattle.std.proofs.lemmas.Bool.{cases_order}
 use Rattle.rds_fields.specs.declared.message.Message.{Message}
@@ -7,7 +7,7 @@ use Rattle.rds_safety.specs.OwnClock.{IsHeardByOwnClock, IsTrueClock, ListensByO
 use Rattle.rds_safety.specs.Safe.{Listener, ListensTo}
 use Rattle.rds_safety.proofs.Entries.{before_end, one_origin}
 
--- a receiver that is handed groups at most k slots late counts at most k slots too few
+-- a receiver that gets groups at most k slots late counts at most k slots too few
 pub late_is_slow : {X : Type 0} (k m now : ℕ) (log : List (Option X)) (input : InputOf X) → IsHeardLate k log input → next_slot input ≡ now + 1 → IsHeardInOrder log input × LosesAtMost k m now input
 late_is_slow k m now log input late next = (
   late.order,
@@ -18,7 +18,7 @@ late_is_slow k m now log input late next = (
   },
 )
 
--- for a clock that counts at most k slots too few, less than m of its slots are less than m + k of the station's
+-- by a clock that counts at most k slots too few, fewer than m own slots are fewer than m + k of the station
 pub slow_is_own : {X : Type 0} (k m now : ℕ) (log : List (Option X)) (input : InputOf X) → IsHeardInOrder log input → LosesAtMost k m now input → IsHeardByOwnClock (m + k) m now log input
 slow_is_own k m now log input order loses = record {
   order = order;
@@ -37,7 +37,7 @@ slow_is_own k m now log input order loses = record {
           ]
         ]
 
--- so is being late
+-- the same for an input at most k slots late
 pub late_hears : {X : Type 0} (k m now : ℕ) (log : List (Option X)) (input : InputOf X) → IsHeardLate k log input → next_slot input ≡ now + 1 → IsHeardByOwnClock (m + k) m now log input
 late_hears k m now log input late next = (let slow = late_is_slow k m now log input late next in slow_is_own k m now log input slow.0 slow.1)
 
@@ -50,7 +50,7 @@ late_listens k m now log r listens =
     let slow = late_is_slow k m now log r.input listens.late listens.now in
     record { order = slow.0; clock = slow.1; shows = listens.shows }
 
--- who counts the station's slots hears no slot late, and the other way round
+-- a receiver that counts the station's slots hears zero slots late, and the other way round
 pub true_clock : {X : Type 0} (log : List (Option X)) (input : InputOf X) → (IsHeardInOrder log input × IsTrueClock input) ↔ IsHeardLate 0 log input
 true_clock {X} log input = (to, from)
   where

@@ -1,5 +1,5 @@
--- The pair of tags that is held was sent in the source of the text: after the first segment of its run was
--- sent, and so early that no later text had lasted for d slots.
+-- Lemmas: the pair of tags that is held was sent in the source of the text, after the first segment of its run and
+-- before any later text had lasted for d slots.
 use Rattle.std.proofs.Common.{◌≡◌, ◌⊎◌, ◌+◌, ◌<◌, ◌≤◌, ◌&&◌, ◌||◌, ◌==◌, ℕ, Bool, true, false, List, [], ◌∷◌, length, Option, Some, None, refl, sym, ap, subst, inl, inr, arith}
 use Rattle.std.specs.Prelude.{IfSome, nat_le, nat_lt, option_map, take, drop}
 use Rattle.std.proofs.lemmas.Bool.{and_parts, cases_order, cond_both, eqb-true, leb-true, ltb-true}
@@ -27,7 +27,7 @@ use Rattle.rds_safety.proofs.OneBroadcast.{LiesInOne, RunLiesInOne}
 use Rattle.rds_safety.proofs.Told.{AreOf}
 use Rattle.rds_safety.proofs.Sources.{source_of}
 
--- the pair was heard later than slot `since`
+-- the pair was heard in a slot later than `since`
 pub record WasHeardSince (first since : ℕ) (heard : List (Option Message)) (pair : PairFields) : Type 0 where
   pub slot : ℕ
   pub later : since < slot
@@ -72,7 +72,7 @@ begins kind input b g (h ∷ older) all =
     let rest = begins kind input b h older all.1 in
     record { since = rest.since; begins = rest.begins; slot = rest.slot; from = rest.from; covers = rest.covers }
 
--- the pair was sent in the broadcast, d slots after its start or later
+-- the pair was sent in the broadcast, at least d slots after its start
 record WasSentFor (d : ℕ) (log : List (Option Message)) (b : Broadcast) (pair : PairFields) : Type 0 where
   slot : ℕ
   tagged : IsMarkIn (marks text_mark log) slot (Tagged pair)
@@ -106,7 +106,7 @@ sent_for laws d m t plan log input g older pair law hears l e =
       ]
     ]
 
--- a tag with a class that ends in a text has its place there
+-- the piece of a tag with a class that ends in a text is within it
 real_ends : (tag : TagFields) (n : ℕ) → 0 < tag.class → ends_in n tag ≡ true → end_of tag ≤ n
 real_ends tag n real t = by (tag.class == 0) refl t
   where
@@ -114,7 +114,7 @@ real_ends tag n real t = by (tag.class == 0) refl t
     by true e u = (let none = eqb-true tag.class 0 e in absurd (omega arith))
     by false e u = leb-true _ _ u
 
--- what is shown of a tag is the piece that it names
+-- the bytes shown of a tag are its piece
 pub names_piece : (tag : TagFields) (x bytes : List ℕ) (shown : Option (ℕ × List ℕ)) → x ≡ bytes → shown ≡ cut_by tag x → IfSome shown (NamesPiece tag bytes)
 names_piece tag x bytes shown same e =
     subst (λ (s : Option (ℕ × List ℕ)). IfSome s (NamesPiece tag bytes)) (sym e)
@@ -131,7 +131,7 @@ names_piece tag x bytes shown same e =
     })
     (λ _. tt))
 
--- what is shown of tags was sent in the source of the text
+-- the tags shown were sent in the source of the text
 pub shows_tags : PlanLaws → (d m t : ℕ) (plan : List Broadcast) (log : List (Option Message)) (input : Input) (view : ShownView)
     → IsLawful d texts plan (marks text_mark log) → IsHeardByOwnClock d m t log input
     → RunLiesInOne d t texts plan input (text_run m input) → ShowsView m input.first input.heard view

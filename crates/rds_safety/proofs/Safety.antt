@@ -1,4 +1,4 @@
--- Lawful plans make every slot safe for any number of receivers.
+-- Lemmas: lawful plans make each slot safe for any number of receivers.
 use Rattle.std.proofs.Common.{◌≡◌, ◌+◌, ℕ, List, Option, slice_index_or, sym, ap, subst, arith}
 use Rattle.std.specs.List.{All}
 use Rattle.rds_fields.specs.declared.message.Message.{Message}
@@ -59,19 +59,20 @@ module _ (laws : PlanLaws) (d m t : ℕ) (plans : Plans) (log : List (Option Mes
     neighbours = λ i o h j e g. neighbours (slice_index_or receivers i o) (slice_index_or receivers j e) (all i o h) (all j e g);
   }
 
--- where the clocks of all count at most k slots too few in a dwell, the dwell and k do
+-- if all clocks count at most k slots too few within m, plans that are lawful for m + k are enough
 pub are_safe_by_slow_clocks : PlanLaws → (m k t : ℕ) (plans : Plans) (log : List (Option Message)) (receivers : List Listener)
     → AreLawful (m + k) plans log → All (ListensBySlowClock k m t log) receivers → AreSafe (m + k) m t plans log receivers
 are_safe_by_slow_clocks laws m k t plans log receivers law all =
     are_safe laws (m + k) m t plans log law receivers (λ i o h. slow_listens k m t log (slice_index_or receivers i o) (all i o h))
 
--- and where all are at most k slots late
+-- the same if all inputs are at most k slots late
 pub are_safe_late : PlanLaws → (m k t : ℕ) (plans : Plans) (log : List (Option Message)) (receivers : List Listener)
     → AreLawful (m + k) plans log → All (ListensTo k m t log) receivers → AreSafe (m + k) m t plans log receivers
 are_safe_late laws m k t plans log receivers law all =
     are_safe_by_slow_clocks laws m k t plans log receivers law (λ i o h. late_listens k m t log (slice_index_or receivers i o) (all i o h))
 
--- where no receiver is late, the dwell does
+-- if no receiver is late, plans that are lawful for m are enough
+-- Prover: a law of its own, since `m + 0` does not compute to `m` (docs/PROVER.md, "Workarounds").
 pub are_safe_on_time : PlanLaws → (m t : ℕ) (plans : Plans) (log : List (Option Message)) (receivers : List Listener)
     → AreLawful m plans log → All (ListensTo 0 m t log) receivers → AreSafe m m t plans log receivers
 are_safe_on_time laws m t plans log receivers law all =

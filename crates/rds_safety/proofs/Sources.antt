@@ -1,4 +1,4 @@
--- What is shown was on air, a run has one source, and the sources of two runs are near each other.
+-- Lemmas: what is shown was on air, a run has one source, and the sources of two runs are near each other.
 use Rattle.std.proofs.Common.{◌≡◌, ◌+◌, ◌≤◌, ℕ, List, [], ◌∷◌, Option, Some, None, sym, subst, inl, inr, arith}
 use Rattle.std.specs.Prelude.{IfSome}
 use Rattle.std.proofs.lemmas.Bool.{cases_lt, cases_order}
@@ -70,7 +70,7 @@ one_source laws d plan input the_run k l a b spaced p q =
     let same : k ≡ l = one_covers laws d plan k l a b p.slot spaced p.planned q.planned p.covers in_one_slot in
     (same, laws.one plan l a b (subst (λ (n : ℕ). HasNumber plan n a) same p.planned) q.planned)
 
--- at one slot the source of a run is at most the next one after that of another run
+-- in one slot, the source of a run is at most the next one after that of another run
 not_far : PlanLaws → (d t : ℕ) (kind : Kind) (plan : List Broadcast) (x : Input) (x_run : List Segment) (y : Input) (y_run : List Segment) (n l : ℕ) (a b : Broadcast)
     → IsSpaced d plan → RunLiesInOne d t kind plan x x_run → RunLiesInOne d t kind plan y y_run
     → IsSource plan x x_run n a → IsSource plan y y_run l b → l ≤ n + 1

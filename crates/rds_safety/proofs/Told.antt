@@ -1,5 +1,5 @@
--- A run in which the flag tells each two neighbours apart is of one broadcast, or of some that are alike: whatever
--- the receiver forgets by. So it is for receivers with a dwell, and for those with the flag bit alone.
+-- Lemmas: if the flag separates each two neighbours of a run, the run is of one broadcast, or of some that are alike,
+-- whatever makes the receiver drop segments. This serves receivers with a dwell and receivers with the flag bit alone.
 use Rattle.std.proofs.Common.{◌≡◌, ℕ, List, [], ◌∷◌, refl, sym, ◌∙◌, subst}
 use Rattle.std.specs.List.{AllByRecursion}
 use Rattle.rds_encoder.specs.Plan.{Broadcast, Covers, HasNumber}
@@ -13,7 +13,7 @@ pub record IsSegmentOf (kind : Kind) (input : Input) (g : Segment) (b : Broadcas
   pub from : CameFrom input g.slot slot
   pub has : HasFragment kind slot g.fragment b
 
--- the segment is one of some broadcast of the plan
+-- the segment is of some broadcast of the plan
 abbrev pub IsOfAny : Kind → List Broadcast → Input → Segment → Type 0
 IsOfAny kind plan input g = HasOne plan (IsSegmentOf kind input g)
 
@@ -21,23 +21,23 @@ IsOfAny kind plan input g = HasOne plan (IsSegmentOf kind input g)
 abbrev pub AreOf : Kind → Input → Broadcast → List Segment → Type 0
 AreOf kind input b gs = AllByRecursion (λ (g : Segment). IsSegmentOf kind input g b) gs
 
--- the flag tells what was sent in slot r from what was sent in slot s: broadcasts of one flag that cover them are alike
+-- the flag separates what was sent in slots r and s: broadcasts of one flag that cover them are alike
 abbrev pub IsTold : (Broadcast → Broadcast → Type 0) → List Broadcast → ℕ → ℕ → Type 0
 IsTold Alike plan r s =
     (k l : ℕ) (a b : Broadcast) → HasNumber plan k a → HasNumber plan l b → Covers a r → Covers b s → a.flag ≡ b.flag → Alike a b
 
--- a segment and the one before it have one flag, and it tells them apart
+-- a segment and the one before it have one flag, and it separates their broadcasts
 pub record IsJoined (Alike : Broadcast → Broadcast → Type 0) (plan : List Broadcast) (input : Input) (g h : Segment) : Type 0 where
   pub flag : g.fragment.flag ≡ h.fragment.flag
   pub told : (r s : ℕ) → CameFrom input h.slot r → CameFrom input g.slot s → IsTold Alike plan r s
 
--- so have each two neighbours of the run
+-- this holds of each two neighbours of the run
 abbrev pub AreJoined : (Broadcast → Broadcast → Type 0) → List Broadcast → Input → List Segment → Type 0
 AreJoined Alike plan input [] = Unit {0}
 AreJoined Alike plan input (g ∷ []) = Unit {0}
 AreJoined Alike plan input (g ∷ h ∷ older) = IsJoined Alike plan input g h × AreJoined Alike plan input (h ∷ older)
 
--- the segment is one of some broadcast that is alike
+-- the segment is of some broadcast that is alike
 pub record IsSegmentLike (Alike : Broadcast → Broadcast → Type 0) (kind : Kind) (plan : List Broadcast) (input : Input) (b : Broadcast) (g : Segment) : Type 0 where
   pub number : ℕ
   pub broadcast : Broadcast
@@ -45,7 +45,7 @@ pub record IsSegmentLike (Alike : Broadcast → Broadcast → Type 0) (kind : Ki
   pub is : IsSegmentOf kind input g broadcast
   pub alike : Alike broadcast b
 
--- the segments that stand before one of a broadcast that is like b are like b
+-- segments before one of a broadcast that is like b are like b
 pub all_like : (Alike : Broadcast → Broadcast → Type 0) → ((x y z : Broadcast) → Alike x y → Alike y z → Alike x z)
     → (kind : Kind) (plan : List Broadcast) (input : Input) (b : Broadcast) (g : Segment) (older : List Segment) (l : ℕ) (c : Broadcast)
     → HasNumber plan l c → IsSegmentOf kind input g c → Alike c b → AreJoined Alike plan input (g ∷ older) → AllByRecursion (IsOfAny kind plan input) older
@@ -60,7 +60,7 @@ all_like Alike on kind plan input b g (h ∷ older) l c p own near joined all =
       all_like Alike on kind plan input b h older its.number its.broadcast its.planned its.is near_too joined.1 all.1,
     )
 
--- where alike is the same, they are of one broadcast
+-- if only the same is alike, they are of one broadcast
 pub all_of_one : (kind : Kind) (plan : List Broadcast) (input : Input) (l : ℕ) (b : Broadcast) (g : Segment) (older : List Segment) → HasNumber plan l b → IsSegmentOf kind input g b
     → AreJoined (λ x y. x ≡ y) plan input (g ∷ older) → AllByRecursion (IsOfAny kind plan input) older → AreOf kind input b older
 all_of_one kind plan input l b g older p own joined all = by older (all_like (λ x y. x ≡ y) (λ x y z u v. u ∙ v) kind plan input b g older l b p own refl joined all)

@@ -1,4 +1,4 @@
--- Rows worked by hand, for the definitions of safety. Lists have the newest first.
+-- Worked examples of the definitions of safety, calculated by hand. Lists have the newest first.
 use Rattle.std.proofs.Common.{◌≡◌, ℕ, true, false, List, [], ◌∷◌, ◌++◌, take, drop, slice_index, Option, Some, None, refl, sym, ap, ◌∙◌, inl, inr, arith, replicate}
 use Rattle.rds_fields.specs.declared.message.Message.{Message}
 use Rattle.rds_fields.specs.declared.message.Message.TheVariants.{Text}
@@ -76,7 +76,7 @@ thir = song_segment 0 (0x54 ∷ 0x48 ∷ 0x49 ∷ 0x52 ∷ [])
 sent_in_20 : HasEntry 0 (sent 4 three_songs) 20 thir
 sent_in_20 = inl (refl, refl)
 
--- the receiver is handed slots 6 and 8, segments 1 and 2 of the first, and every slot from 20 on
+-- the receiver gets slots 6 and 8, with segments 1 and 2 of the first song, and each slot from 20 on
 abbrev heard_in_20 : Input
 heard_in_20 = record {
   first = 0;
@@ -87,7 +87,7 @@ heard_in_20 = record {
 abbrev third_segment : ℕ → ℕ → List ℕ → Segment
 third_segment slot address bytes = record { slot = slot; fragment = record { flag = false; address = address; bytes = bytes } }
 
--- in slot 20 its run is the newest segment alone, so that `THIRT SONG` is not made whole
+-- in slot 20 its run is the newest segment alone, so `THIRT SONG` is not whole
 run_in_20 : text_run 4 heard_in_20 ≡ third_segment 20 0 (0x54 ∷ 0x48 ∷ 0x49 ∷ 0x52 ∷ []) ∷ []
 run_in_20 = refl
 
@@ -95,7 +95,7 @@ run_in_20 = refl
 source_in_20 : IsSource (songs 20) heard_in_20 (text_run 4 heard_in_20) 2 (third_broadcast 20)
 source_in_20 = record { planned = inl (refl, refl); slot = 20; sent = inl (refl, refl); covers = record { from = omega arith; to = omega arith } }
 
--- of the texts that it could show there, the third song was on air
+-- of the texts that it could show then, the third song was on air
 third_was_on_air : WasOnAir 4 20 (songs 20) heard_in_20 (text_run 4 heard_in_20) third_song
 third_was_on_air = record {
   number = 2;
@@ -146,7 +146,7 @@ run_in_24 = refl
 source_in_24 : IsSource (songs 24) heard_in_24 (text_run 4 heard_in_24) 2 (third_broadcast 24)
 source_in_24 = record { planned = inl (refl, refl); slot = 24; sent = inl (refl, refl); covers = record { from = omega arith; to = omega arith } }
 
--- a receiver with the flag bit alone, handed the same, joins in slot 20 what the dwell keeps apart
+-- a receiver with the flag bit alone that gets the same joins in slot 20 what the dwell keeps apart
 run_by_flag_in_20 : run_by_flag text_fragment heard_in_20
     ≡ third_segment 20 0 (0x54 ∷ 0x48 ∷ 0x49 ∷ 0x52 ∷ [])
     ∷ third_segment 8 2 (0x4E ∷ 0x47 ∷ 0x0D ∷ 0x20 ∷ [])
@@ -154,7 +154,7 @@ run_by_flag_in_20 : run_by_flag text_fragment heard_in_20
     ∷ []
 run_by_flag_in_20 = refl
 
--- where it is handed slot 12 too, a segment of `OTHER SONG`, it begins anew there and in slot 20
+-- if it also gets slot 12, a segment of `OTHER SONG`, it starts again there and in slot 20
 abbrev othe : Option Message
 othe = Some (Text true 0 (0x4F ∷ 0x54 ∷ 0x48 ∷ 0x45 ∷ []))
 
@@ -171,8 +171,8 @@ heard_with_other = record {
 run_with_other : run_by_flag text_fragment heard_with_other ≡ third_segment 20 0 (0x54 ∷ 0x48 ∷ 0x49 ∷ 0x52 ∷ []) ∷ []
 run_with_other = refl
 
--- neighbours in one slot: at a dwell of 4, `ONE` is on air from slot 4 on and `TWO` from slot 12 on. The group
--- of slot 12 is lost for one of two receivers
+-- neighbours in one slot: at a dwell of 4, `ONE` is on air from slot 4 on and `TWO` from slot 12 on. One of two
+-- receivers loses the group of slot 12
 abbrev one : List ℕ
 one = 0x4F ∷ 0x4E ∷ 0x45 ∷ []
 
@@ -191,7 +191,7 @@ two_on_air = record { start = 12; end = 12; flag = true; bytes = two }
 one_and_two_planned : plan_of 4 12 (text_moves one_and_two) ≡ two_on_air ∷ one_on_air ∷ []
 one_and_two_planned = refl
 
--- each is handed what was sent from slot 10 on
+-- each gets what was sent from slot 10 on
 abbrev handed : Input
 handed = record { first = 10; heard = take 3 (sent 4 one_and_two); origins = Some 12 ∷ Some 11 ∷ Some 10 ∷ [] }
 
@@ -217,7 +217,7 @@ not_on_time each = elim (each 4 ng (inl (refl, refl))) [
   | inr sent ↦ elim sent [ inl now ↦ (let none = now.1 in absurd (cc)) | inr before ↦ omega (arith, before_end 0 (ng ∷ nothing 3) 4 ng before) ]
 ]
 
--- the tags of `ABBA - WATERLOO` name its artist and its title
+-- the tags of `ABBA - WATERLOO` mark its artist and its title
 abbrev abba : List ℕ
 abba = 0x41 ∷ 0x42 ∷ 0x42 ∷ 0x41 ∷ []
 

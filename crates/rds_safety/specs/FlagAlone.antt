@@ -1,6 +1,6 @@
--- Receivers that go by the A/B flag of IEC 62106 alone, like the radios on the road: they have no dwell. Such a receiver
--- starts again when a segment comes with the other flag, and never forgets. What the station and the reception need so
--- that it shows no mix is this project's own rule. Lists have the newest first.
+-- Receivers that follow the A/B flag of IEC 62106 alone, like the radios in use: they have no dwell. Such a receiver
+-- starts again when a segment comes with the other flag, and otherwise drops nothing. What the station and the
+-- reception need so that it shows no mix is this project's own rule. Lists have the newest first.
 use Rattle.std.specs.Prelude.{◌≡◌, ◌≢◌, ◌+◌, ◌<◌, ◌≤◌, ◌⊎◌, ℕ, Bool, true, false, List, [], ◌∷◌, Option, Some, if◌then◌else◌}
 use Rattle.rds_fields.specs.declared.message.Message.{Message}
 use Rattle.rds_fields.specs.declared.message.Message.TheVariants.{Tags}
@@ -17,12 +17,12 @@ use Rattle.rds_safety.specs.Safe.{Listener}
 
 -- ---- what such a receiver shows
 
--- the segments that join a newer one with flag f
+-- the last segments that all have flag f
 abbrev pub flag_run_before : Bool → List Segment → List Segment
 flag_run_before f [] = []
 flag_run_before f (g ∷ older) = if is_same f g.fragment.flag then g ∷ flag_run_before f older else []
 
--- the longest last part of the segments that has one flag
+-- the longest last part of the segments with one flag
 abbrev pub flag_run : List Segment → List Segment
 flag_run [] = []
 flag_run (g ∷ older) = g ∷ flag_run_before g.fragment.flag older
@@ -31,11 +31,11 @@ flag_run (g ∷ older) = g ∷ flag_run_before g.fragment.flag older
 abbrev pub run_by_flag : (Message → Option Fragment) → Input → List Segment
 run_by_flag pick input = flag_run (segments pick input.first input.heard)
 
--- the pair held: the last one later than the first segment of the run of texts
+-- the pair held: the last one that came later than the first segment of this run of texts (see `pair_since`)
 abbrev pub pair_by_flag : Input → Option PairFields
 pair_by_flag input = pair_from input.first (begins_in (run_by_flag text_fragment input)) input.heard
 
--- the view: what these runs make whole, and the tags beside it
+-- the view: the text and the name that these runs make whole, and the tags beside the text
 pub record ShowsByFlag (input : Input) (view : ShownView) : Type 0 where
   pub text : IsShown IsWholeText (cells_of (run_by_flag text_fragment input)) view.text
   pub name : IsShown IsWholeName (cells_of (run_by_flag name_fragment input)) view.name
@@ -43,16 +43,17 @@ pub record ShowsByFlag (input : Input) (view : ShownView) : Type 0 where
   pub one : view.one ≡ tag_of One view.text (pair_by_flag input)
   pub two : view.two ≡ tag_of Two view.text (pair_by_flag input)
 
--- the receiver heard the log in order, by any clock, up to the station's slot `now`, and shows the view of that
+-- the receiver heard the log in order, by any clock, up to the station's slot `now`, and shows the view of that by the
+-- flag alone
 pub record ListensByFlag (now : ℕ) (log : List (Option Message)) (r : Listener) : Type 0 where
   pub order : IsHeardInOrder log r.input
   pub past : (t s : ℕ) → CameFrom r.input t s → s ≤ now
   pub shows : ShowsByFlag r.input r.view
 
--- ---- what is asked of the station
+-- ---- what the station must do
 
--- joining segments of broadcast a to those of b does no harm: both have the same bytes, or b is the empty text, whose one
--- segment is whole whatever segments follow it
+-- joining segments of broadcast a to those of b does no harm: both have the same bytes, or b is the empty text, whose
+-- one segment is whole whatever follows it
 abbrev pub IsHarmless : Broadcast → Broadcast → Type 0
 IsHarmless a b = (a.bytes ≡ b.bytes) ⊎ (b.bytes ≡ [])
 
@@ -61,7 +62,7 @@ abbrev pub TurnsTheFlag : List Broadcast → Type 0
 TurnsTheFlag plan =
     (k : ℕ) (a b : Broadcast) → HasNumber plan k a → HasNumber plan (k + 1) b → (a.flag ≢ b.flag) ⊎ IsHarmless a b
 
--- ---- what is asked of the reception
+-- ---- what the reception must give
 
 -- the receiver heard in its slot t a segment that was sent in slot s
 pub record IsHeardFrom (pick : Message → Option Fragment) (input : Input) (t s : ℕ) : Type 0 where
@@ -71,7 +72,7 @@ pub record IsHeardFrom (pick : Message → Option Fragment) (input : Input) (t s
   pub picked : pick message ≡ Some fragment
   pub from : CameFrom input t s
 
--- the receiver heard a segment that was sent from slot `from` on and before slot `before`
+-- the receiver heard a segment that was sent in slot `from` or later, and before slot `before`
 pub record HearsOneBetween (pick : Message → Option Fragment) (input : Input) (from before : ℕ) : Type 0 where
   pub slot : ℕ
   pub origin : ℕ
@@ -79,8 +80,8 @@ pub record HearsOneBetween (pick : Message → Option Fragment) (input : Input) 
   pub since : from ≤ origin
   pub until : origin < before
 
--- once the receiver heard a segment, it heard one of each later broadcast that another one followed by slot `now`; it may
--- miss a broadcast before the empty text
+-- once the receiver heard a segment, it heard one of each later broadcast that another one followed by slot `now`; it
+-- may miss a broadcast before the empty text
 abbrev pub HearsEach : (Message → Option Fragment) → List Broadcast → ℕ → Input → Type 0
 HearsEach pick plan now input =
     (k : ℕ) (b next : Broadcast) (t r : ℕ) → HasNumber plan k b → HasNumber plan (k + 1) next → next.bytes ≢ []
@@ -99,13 +100,13 @@ HearsOneIn n pick plan now input =
     (k s t r : ℕ) (b : Broadcast) → HasNumber plan k b → b.start ≤ s → s + n ≤ b.end + 1 → s + n ≤ now
     → IsHeardFrom pick input t r → r < s → HearsOneBetween pick input s (s + n)
 
--- each broadcast lasts for n slots or more if another one follows that is not the empty text
+-- each broadcast lasts for at least n slots if another one follows that is not the empty text
 abbrev pub EachLasts : ℕ → List Broadcast → Type 0
 EachLasts n plan =
     (k : ℕ) (b next : Broadcast) → HasNumber plan k b → HasNumber plan (k + 1) next → next.bytes ≢ []
     → b.start + n ≤ b.end + 1
 
--- in slots sent: a segment was sent from slot `from` on and before slot `before`
+-- a segment was sent in slot `from` or later, and before slot `before`
 pub record SendsOneBetween (pick : Message → Option Fragment) (log : List (Option Message)) (from before : ℕ) : Type 0 where
   pub slot : ℕ
   pub message : Message
@@ -128,14 +129,15 @@ pub record GetsInARow (r : ℕ) (input : Input) (from before : ℕ) : Type 0 whe
   pub until : first + r ≤ before
   pub each : (s : ℕ) → first ≤ s → s < first + r → (t : ℕ) × CameFrom input t s
 
--- once the receiver heard a segment, it got r slots in a row of each n slots in a row of one broadcast, up to slot `now`
+-- once the receiver heard a segment, it got r slots in a row of each n slots in a row of one broadcast, up to slot
+-- `now`
 abbrev pub GetsSome : ℕ → ℕ → (Message → Option Fragment) → List Broadcast → ℕ → Input → Type 0
 GetsSome r n pick plan now input =
     (k s t q : ℕ) (b : Broadcast) → HasNumber plan k b → b.start ≤ s → s + n ≤ b.end + 1 → s + n ≤ now
     → IsHeardFrom pick input t q → q < s → GetsInARow r input s (s + n)
 
--- in slots lost, where `got` says which slots came: once the receiver heard a segment, it lost at most so many slots in a
--- row, and got r slots in a row after each loss, up to slot `now`
+-- `got` says which slots came: once the receiver heard a segment, it lost at most `most` slots in a row, and got r
+-- slots in a row after each loss, up to slot `now`
 pub record LosesInARow (most r : ℕ) (pick : Message → Option Fragment) (now : ℕ) (input : Input)
     (got : ℕ → Bool) : Type 0 where
   pub came : (s : ℕ) → got s ≡ true → (t : ℕ) × CameFrom input t s

@@ -1,4 +1,4 @@
--- The promises to receivers with the flag bit alone (this project's own rule). Lists have the newest first.
+-- The laws about receivers with the flag bit alone (this project's own rule). Lists have the newest first.
 use Rattle.std.specs.Prelude.{◌≡◌, ◌+◌, ◌*◌, ◌≤◌, ◌⊎◌, ◌↔◌, ℕ, Bool, List, [], Option, Some, None, IfSome}
 use Rattle.std.specs.List.{AllByRecursion}
 use Rattle.rds_fields.specs.declared.message.Message.{Message}
@@ -16,7 +16,7 @@ use Rattle.rds_safety.specs.OwnClock.{ListensByOwnClock, next_slot}
 use Rattle.rds_safety.specs.Safe.{Listener, NamesPiece, ShowsNoTags}
 use Rattle.rds_safety.specs.Source.{IsSource, name_run, text_run}
 
--- a receiver with the flag bit alone is one whose dwell is longer than all that it heard
+-- a receiver with the flag bit alone shows what a receiver shows whose dwell m is no less than the slot after its input
 abbrev pub TheFlagAloneIsALongDwell : Type 0
 TheFlagAloneIsALongDwell =
     (m : ℕ) (input : Input) (view : ShownView) → next_slot input ≤ m
@@ -30,13 +30,14 @@ pub record IsOfItsSource (plan : List Broadcast) (input : Input) (the_run : List
   pub source : IsSource plan input the_run number broadcast
   pub bytes : broadcast.bytes ≡ value
 
--- all segments of the run are of the value of its source, or that is the empty text
+-- all segments of the run are of the value of its source, or this value is empty
 abbrev pub HoldsItsSource : Kind → List Broadcast → Input → List Segment → Type 0
 HoldsItsSource kind plan input the_run =
     (k : ℕ) (b : Broadcast) → IsSource plan input the_run k b
     → (b.bytes ≡ []) ⊎ AllByRecursion (λ (g : Segment). IsFragmentOf (kind.body b.bytes) g.fragment) the_run
 
--- the tags shown were sent for a broadcast of the text shown, d slots after its start or later, and name pieces of it
+-- the tags shown were sent for a broadcast of the text shown, at least d slots after its start, and each is its piece
+-- of this text
 pub record ShowsTagsOfText (d : ℕ) (plan : List Broadcast) (sent : List Mark) (view : ShownView) : Type 0 where
   pub number : ℕ
   pub broadcast : Broadcast
@@ -51,13 +52,13 @@ pub record ShowsTagsOfText (d : ℕ) (plan : List Broadcast) (sent : List Mark) 
   pub one : IfSome view.one (NamesPiece pair.one broadcast.bytes)
   pub two : IfSome view.two (NamesPiece pair.two broadcast.bytes)
 
--- the empty text is shown, and no tag of it
+-- the empty text is shown, and neither tag
 pub record ShowsEmptyText (view : ShownView) : Type 0 where
   pub text : view.text ≡ Some []
   pub one : view.one ≡ None
   pub two : view.two ≡ None
 
--- a text that is shown is that of the broadcast in which the last segment heard was sent
+-- the text shown is that of the source of its run, in which the last segment heard was sent
 abbrev pub TextsByFlagAreOfTheirSource : Type 0
 TextsByFlagAreOfTheirSource =
     (d now : ℕ) (plan : List Broadcast) (log : List (Option Message)) (r : Listener)
@@ -65,7 +66,7 @@ TextsByFlagAreOfTheirSource =
     → HearsEach text_fragment plan now r.input
     → IfSome r.view.text (IsOfItsSource plan r.input (run_by_flag text_fragment r.input))
 
--- so is a name
+-- the name shown likewise
 abbrev pub NamesByFlagAreOfTheirSource : Type 0
 NamesByFlagAreOfTheirSource =
     (d now : ℕ) (plan : List Broadcast) (log : List (Option Message)) (r : Listener)
@@ -73,7 +74,8 @@ NamesByFlagAreOfTheirSource =
     → HearsEach name_fragment plan now r.input
     → IfSome r.view.name (IsOfItsSource plan r.input (run_by_flag name_fragment r.input))
 
--- the receiver holds segments of no other text, so a text that it shows in part is no mix either
+-- unless the source is the empty text, the receiver holds segments of the source's text alone; so a text shown in part
+-- is no mix either
 abbrev pub TextsByFlagAreHeldAlone : Type 0
 TextsByFlagAreHeldAlone =
     (d now : ℕ) (plan : List Broadcast) (log : List (Option Message)) (r : Listener)
@@ -81,7 +83,7 @@ TextsByFlagAreHeldAlone =
     → HearsEach text_fragment plan now r.input
     → HoldsItsSource texts plan r.input (run_by_flag text_fragment r.input)
 
--- tags that are shown are those of the text that is shown
+-- no tags are shown, or the empty text is shown without a tag, or the tags shown are of the text shown
 abbrev pub TagsByFlagAreOfTheirText : Type 0
 TagsByFlagAreOfTheirText =
     (d now : ℕ) (plan : List Broadcast) (log : List (Option Message)) (r : Listener)
@@ -89,27 +91,27 @@ TagsByFlagAreOfTheirText =
     → HearsEach text_fragment plan now r.input → HearsTextBeforeTags plan r.input
     → ShowsNoTags r.view ⊎ ShowsEmptyText r.view ⊎ ShowsTagsOfText d plan (marks text_mark log) r.view
 
--- the source of a run is the newest broadcast that began by slot `now`, or the one before it, or the empty text came since
+-- each broadcast that began by slot `now` is at most the next one after the source of the run, or is the empty text
 abbrev pub HasNewSource : List Broadcast → ℕ → Input → List Segment → Type 0
 HasNewSource plan now input the_run =
     (k l : ℕ) (a b : Broadcast) → IsSource plan input the_run k a → HasNumber plan l b → b.start ≤ now
     → (l ≤ k + 1) ⊎ (b.bytes ≡ [])
 
--- this holds of a receiver that heard a segment of each broadcast of texts
+-- this holds for a receiver that hears a segment of each broadcast of texts
 abbrev pub TextsByFlagAreNew : Type 0
 TextsByFlagAreNew =
     (d now : ℕ) (plan : List Broadcast) (log : List (Option Message)) (r : Listener)
     → IsLawful d texts plan (marks text_mark log) → ListensByFlag now log r → HearsEach text_fragment plan now r.input
     → HasNewSource plan now r.input (run_by_flag text_fragment r.input)
 
--- or of names
+-- this holds for one that hears a segment of each broadcast of names
 abbrev pub NamesByFlagAreNew : Type 0
 NamesByFlagAreNew =
     (d now : ℕ) (plan : List Broadcast) (log : List (Option Message)) (r : Listener)
     → IsLawful d names plan (marks name_mark log) → ListensByFlag now log r → HearsEach name_fragment plan now r.input
     → HasNewSource plan now r.input (run_by_flag name_fragment r.input)
 
--- this holds of each receiver with a dwell, whatever it hears
+-- this holds for each receiver with a dwell, whatever it hears
 abbrev pub TextsWithADwellAreNew : Type 0
 TextsWithADwellAreNew =
     (d m now : ℕ) (plan : List Broadcast) (log : List (Option Message)) (r : Listener)
@@ -122,33 +124,35 @@ NamesWithADwellAreNew =
     → IsLawful d names plan (marks name_mark log) → ListensByOwnClock d m now log r
     → HasNewSource plan now r.input (name_run m r.input)
 
--- the sources of two runs are one broadcast, or two that follow each other, or the later one is the empty text
+-- of the sources of two runs, each is at most the next one after the other, or is the empty text
 abbrev pub HaveNearSourcesByFlag : List Broadcast → Input → List Segment → Input → List Segment → Type 0
 HaveNearSourcesByFlag plan x x_run y y_run =
     (k l : ℕ) (a b : Broadcast) → IsSource plan x x_run k a → IsSource plan y y_run l b
     → ((l ≤ k + 1) ⊎ (b.bytes ≡ [])) × ((k ≤ l + 1) ⊎ (a.bytes ≡ []))
 
--- this holds of any two receivers whose sources are so new, with a dwell or without
+-- this holds for any two receivers whose sources are so new, with a dwell or without
 abbrev pub NewSourcesAreNear : Type 0
 NewSourcesAreNear =
     (now : ℕ) (plan : List Broadcast) (x y : Input) (x_run y_run : List Segment)
     → ((t s : ℕ) → CameFrom x t s → s ≤ now) → ((t s : ℕ) → CameFrom y t s → s ≤ now)
     → HasNewSource plan now x x_run → HasNewSource plan now y y_run → HaveNearSourcesByFlag plan x x_run y y_run
 
--- a receiver that hears a segment in each n slots in a row of a broadcast hears each broadcast that lasts so long
+-- if each broadcast lasts for n slots, a receiver that hears a segment in each n slots in a row hears one of each
+-- broadcast
 abbrev pub WhoHearsOneInHearsEach : Type 0
 WhoHearsOneInHearsEach =
     (d n now : ℕ) (pick : Message → Option Fragment) (plan : List Broadcast) (input : Input)
     → IsSpaced d plan → EachLasts n plan → HearsOneIn n pick plan now input → HearsEach pick plan now input
 
--- a receiver that hears one in each d slots in a row of a broadcast hears no tags before their text
+-- a receiver that hears a segment in each d slots in a row of a broadcast hears tags only after their text
 abbrev pub WhoHearsOneInHearsTextBeforeTags : Type 0
 WhoHearsOneInHearsTextBeforeTags =
     (d now : ℕ) (plan : List Broadcast) (log : List (Option Message)) (r : Listener)
     → IsLawful d texts plan (marks text_mark log) → ListensByFlag now log r
     → HearsOneIn d text_fragment plan now r.input → HearsTextBeforeTags plan r.input
 
--- if a segment is sent in each r slots in a row, a receiver that gets r slots in a row of each n hears one in each n
+-- if a segment is sent in each r slots in a row, a receiver that gets r slots in a row of each n hears a segment in
+-- each n
 abbrev pub WhoGetsSomeHearsOneIn : Type 0
 WhoGetsSomeHearsOneIn =
     (r n now : ℕ) (pick : Message → Option Fragment) (plan : List Broadcast) (log : List (Option Message))
@@ -156,7 +160,8 @@ WhoGetsSomeHearsOneIn =
     → IsHeardInOrder log input → SendsOneIn r pick plan log → GetsSome r n pick plan now input
     → HearsOneIn n pick plan now input
 
--- a receiver that loses at most `most` slots in a row gets r in a row of each n, if most + 2 r is at most n + 1
+-- a receiver that loses at most `most` slots in a row, and gets r in a row after each loss, gets r in a row of each n,
+-- if most + 2 r is at most n + 1
 abbrev pub WhoLosesFewGetsSome : Type 0
 WhoLosesFewGetsSome =
     (most r n now : ℕ) (pick : Message → Option Fragment) (plan : List Broadcast) (input : Input) (got : ℕ → Bool)

@@ -1,4 +1,4 @@
--- Two flags are the same or not.
+-- Lemma: two flags are equal or not.
 use Rattle.std.proofs.Common.{◌≡◌, ◌≢◌, ◌⊎◌, Bool, true, false, refl, inl, inr}
 use Rattle.rds_receiver.specs.Run.{is_same}
 

@@ -1,7 +1,6 @@
--- When a plan of broadcasts is lawful for what one service was sent (this project's own rule): the broadcasts
--- are spaced, each has a value that may be sent, and whatever was sent is of one of them. A plan is told by
--- numbers of broadcasts and of slots alone, so that it may come from an encoder or from a log. Lists have the
--- newest first, and the number of a broadcast counts from the oldest.
+-- When a plan of broadcasts is lawful for what one service sent (this project's own rule): the broadcasts are spaced,
+-- each value may be sent, and all that was sent is of one of them. A plan is only a list of broadcasts, so it may come
+-- from an encoder or from a log. Lists have the newest first, and the number of a broadcast counts from the oldest.
 use Rattle.std.specs.Prelude.{◌≡◌, ◌≤◌, ◌<◌, ◌+◌, ℕ, List, length}
 use Rattle.rds_fields.specs.Tag.{BothEndIn, PairFields}
 use Rattle.rds_assembly.specs.Body.{name_body, segment_count, segment_of, text_body}
@@ -11,7 +10,7 @@ use Rattle.rds_encoder.specs.Spaced.{IsSpaced}
 use Rattle.rds_receiver.specs.Receipts.{Fragment}
 use Rattle.rds_safety.specs.Marks.{IsMarkIn, Mark, Sends, Tagged}
 
--- a service: which values may be sent, and what is sent of one
+-- a service: the values that may be sent, and the body that is sent for each
 pub record Kind : Type 1 where
   pub IsValue : List ℕ → Type 0
   pub body : List ℕ → List ℕ
@@ -22,31 +21,32 @@ texts = record { IsValue = IsText; body = text_body }
 abbrev pub names : Kind
 names = record { IsValue = IsName; body = name_body }
 
--- the fragment is a segment of what is sent of a value
+-- the fragment is a segment of this body
 pub record IsFragmentOf (body : List ℕ) (p : Fragment) : Type 0 where
   pub within : p.address < segment_count body
   pub bytes : p.bytes ≡ segment_of body p.address
 
--- the broadcast has the fragment that was sent in the slot: it covers the slot, and has the flag and the segment
+-- the broadcast has the fragment that was sent in this slot: it covers the slot, and has the flag and the segment
 pub record HasFragment (kind : Kind) (slot : ℕ) (p : Fragment) (b : Broadcast) : Type 0 where
   pub covers : Covers b slot
   pub flag : p.flag ≡ b.flag
   pub fragment : IsFragmentOf (kind.body b.bytes) p
 
--- the broadcast has the tags that were sent in the slot: it had lasted for d slots, and they end in its text
+-- the broadcast has the tags that were sent in this slot: it started at least d slots before, it has not ended, and
+-- both tags end in its text
 pub record HasTags (d slot : ℕ) (pair : PairFields) (b : Broadcast) : Type 0 where
   pub lasted : b.start + d ≤ slot
   pub to : slot ≤ b.end
   pub ends : BothEndIn (length b.bytes) pair
 
--- some broadcast of the plan is so
+-- some broadcast of the plan has this property
 pub record HasOne (plan : List Broadcast) (Is : Broadcast → Type 0) : Type 0 where
   pub number : ℕ
   pub broadcast : Broadcast
   pub planned : HasNumber plan number broadcast
   pub is : Is broadcast
 
--- the plan is lawful, with d slots apart, for what the service was sent
+-- the plan is lawful, with a spacing of d slots, for what the service sent
 pub record IsLawful (d : ℕ) (kind : Kind) (plan : List Broadcast) (sent : List Mark) : Type 0 where
   pub spaced : IsSpaced d plan
   pub values : (k : ℕ) (b : Broadcast) → HasNumber plan k b → kind.IsValue b.bytes

@@ -1,4 +1,4 @@
--- What holds of all plans, logs and inputs. Lists have the newest first.
+-- The laws about all plans, logs and inputs. Lists have the newest first.
 use Rattle.std.specs.Prelude.{◌≡◌, ◌+◌, ◌-◌, ◌<◌, ◌↔◌, ℕ, List, [], ◌∷◌, Option, Some, length}
 use Rattle.std.specs.List.{All, AllZip}
 use Rattle.rds_block.specs.declared.group.Group.{Group}
@@ -18,8 +18,8 @@ use Rattle.rds_safety.specs.Plans.{AreLawful, Plans}
 use Rattle.rds_safety.specs.Safe.{AreSafe, Listener, ListensTo}
 use Rattle.rds_safety.specs.Source.{IsSource}
 
--- what holds of the broadcasts of all plans: a number names one and is below their count, and spaced ones stand
--- in order and far apart
+-- what holds of the broadcasts of all plans: a number names one broadcast and is below their count; spaced broadcasts
+-- are in order and far apart
 pub record PlanLaws : Type 0 where
   pub one : ANumberNamesOne
   pub below : ANumberIsBelowTheLength
@@ -27,27 +27,28 @@ pub record PlanLaws : Type 0 where
   pub far : SpacedAreFarApart
   pub one_flag : SpacedOfOneFlagAreFarApart
 
--- where less than m slots of each receiver's own clock are less than d of the station's, plans that are lawful for d
--- make every slot safe for any number of receivers of dwell m
+-- if fewer than m slots of each receiver's own clock are fewer than d of the station, plans that are lawful for d make
+-- each slot safe for any number of receivers of dwell m
 abbrev pub LawfulPlansAreSafeByOwnClocks : Type 0
 LawfulPlansAreSafeByOwnClocks =
     (d m now : ℕ) (plans : Plans) (log : List (Option Message)) (receivers : List Listener)
     → AreLawful d plans log → All (ListensByOwnClock d m now log) receivers → AreSafe d m now plans log receivers
 
--- where the clock of each counts at most k slots too few in a dwell, plans that are lawful for m + k do
+-- if each clock counts at most k slots too few within m, plans that are lawful for m + k make each slot safe
 abbrev pub LawfulPlansAreSafeForSlowClocks : Type 0
 LawfulPlansAreSafeForSlowClocks =
     (m k now : ℕ) (plans : Plans) (log : List (Option Message)) (receivers : List Listener)
     → AreLawful (m + k) plans log → All (ListensBySlowClock k m now log) receivers
     → AreSafe (m + k) m now plans log receivers
 
--- plans that are lawful for the dwell and the lateness make every slot safe for any number of receivers
+-- if no group comes more than k slots late, plans that are lawful for m + k make each slot safe
 abbrev pub LawfulPlansAreSafe : Type 0
 LawfulPlansAreSafe =
     (m k t : ℕ) (plans : Plans) (log : List (Option Message)) (receivers : List Listener)
     → AreLawful (m + k) plans log → All (ListensTo k m t log) receivers → AreSafe (m + k) m t plans log receivers
 
--- where all receivers are on time, plans that are lawful for their dwell do
+-- if all receivers are on time, plans that are lawful for m make each slot safe
+-- Prover: a law of its own, since `m + 0` does not compute to `m` (docs/PROVER.md, "Workarounds").
 abbrev pub LawfulPlansAreSafeOnTime : Type 0
 LawfulPlansAreSafeOnTime =
     (m t : ℕ) (plans : Plans) (log : List (Option Message)) (receivers : List Listener)
@@ -60,38 +61,38 @@ ARunHasOneSource =
     → IsSpaced d plan
     → IsSource plan input the_run k a → IsSource plan input the_run l b → (k ≡ l) × (a ≡ b)
 
--- what is heard no slot late is each entry of the log or nothing
+-- an input heard zero slots late has in each slot what the log has there, or nothing
 abbrev pub NoSlotLateIsOnTime : Type 0
 NoSlotLateIsOnTime =
     (log : List (Option Message)) (first : ℕ) (heard : List (Option Message)) (origins : List (Option ℕ))
     → IsHeardLate 0 log record { first = first; heard = heard; origins = origins } → IsHeardOnTime log first heard
 
--- and what is so was heard no slot late, where each entry was sent in its own slot
+-- and such an input is heard zero slots late, if the origin of each entry is its own slot
 abbrev pub OnTimeIsNoSlotLate : Type 0
 OnTimeIsNoSlotLate =
     (log : List (Option Message)) (first : ℕ) (heard : List (Option Message)) → IsHeardOnTime log first heard
     → IsHeardLate 0 log record { first = first; heard = heard; origins = own_origins first heard }
 
--- for a clock that counts at most k slots too few in a dwell, less than m slots are less than m + k of the station's
+-- a clock that counts at most k slots too few within m is an own clock with d = m + k
 abbrev pub ASlowClockIsAnOwnClock : Type 0
 ASlowClockIsAnOwnClock =
     (k m now : ℕ) (log : List (Option Message)) (input : Input) → IsHeardInOrder log input → LosesAtMost k m now input
     → IsHeardByOwnClock (m + k) m now log input
 
--- who hears at most k slots late, and has reached the station's slot, is as one whose clock counts at most k slots
--- too few
+-- an input that is at most k slots late, and has reached the station's slot, is one by a clock that counts at most k
+-- slots too few
 abbrev pub LateIsBySlowClock : Type 0
 LateIsBySlowClock =
     (k m now : ℕ) (log : List (Option Message)) (input : Input) → IsHeardLate k log input → next_slot input ≡ now + 1
     → IsHeardInOrder log input × LosesAtMost k m now input
 
--- who counts the station's slots hears no slot late, and the other way round
+-- a receiver that counts the station's slots hears zero slots late, and the other way round
 abbrev pub TheTrueClockIsNoSlotLate : Type 0
 TheTrueClockIsNoSlotLate =
     (log : List (Option Message)) (input : Input)
     → (IsHeardInOrder log input × IsTrueClock input) ↔ IsHeardLate 0 log input
 
--- what is late as groups is late as messages
+-- an input that is at most k slots late as groups is so as messages
 abbrev pub LateGroupsAreLateMessages : Type 0
 LateGroupsAreLateMessages =
     (pi k first : ℕ) (sent handed : List (Option Group)) (origins : List (Option ℕ)) (log heard : List (Option Message))
@@ -99,7 +100,7 @@ LateGroupsAreLateMessages =
     → IsHeardLate k sent record { first = first; heard = handed; origins = origins }
     → IsHeardLate k log record { first = first; heard = heard; origins = origins }
 
--- a receiver that was handed the groups of a station late, and shows their view, listens to what was sent
+-- a receiver that got the groups of a station late, and shows their view, listens to what was sent
 abbrev pub WhoIsHandedGroupsListens : Type 0
 WhoIsHandedGroupsListens =
     (station : Head) (k m t : ℕ) (log : List (Option Message)) (sent : List (Option Group)) (input : InputOf Group)
@@ -111,7 +112,7 @@ WhoIsHandedGroupsListens =
       view = view;
     }
 
--- and one that was handed them by its own clock listens by its own clock
+-- a receiver that got them by its own clock, and shows their view, listens by its own clock
 abbrev pub WhoIsHandedGroupsListensByOwnClock : Type 0
 WhoIsHandedGroupsListensByOwnClock =
     (station : Head) (d m now : ℕ) (log : List (Option Message)) (sent : List (Option Group)) (input : InputOf Group)
@@ -127,8 +128,8 @@ WhoIsHandedGroupsListensByOwnClock =
       view = view;
     }
 
--- plans that are lawful for so many slots, and one receiver, of dwell m, that listens so and shows a mix: a text that
--- no broadcast of the plans has. So what it shows is safe for no d
+-- there are plans that are lawful for so many slots, and a receiver of dwell m that listens in this way and shows a
+-- mix: a text that no broadcast of the plans has; so what it shows is safe for no d
 pub record ShowsAMix (slots m : ℕ) (Listens : ℕ → List (Option Message) → Listener → Type 0) : Type 0 where
   pub plans : Plans
   pub log : List (Option Message)
@@ -141,7 +142,8 @@ pub record ShowsAMix (slots m : ℕ) (Listens : ℕ → List (Option Message) �
   pub of_none : (k : ℕ) (b : Broadcast) → HasNumber plans.text k b → b.bytes ≡ mix → ⊥
   pub fails : (d : ℕ) → AreSafe d m t plans log (receiver ∷ []) → ⊥
 
--- plans that are lawful for d slots, and one receiver, of dwell m, that listens so and shows what is not safe for d
+-- there are plans that are lawful for d slots, and a receiver of dwell m that listens in this way and shows what is not
+-- safe for d
 pub record IsUnsafe (d m : ℕ) (Listens : ℕ → List (Option Message) → Listener → Type 0) : Type 0 where
   pub plans : Plans
   pub log : List (Option Message)
@@ -151,19 +153,20 @@ pub record IsUnsafe (d m : ℕ) (Listens : ℕ → List (Option Message) → Lis
   pub listens : Listens t log receiver
   pub fails : AreSafe d m t plans log (receiver ∷ []) → ⊥
 
--- plans that are lawful for one slot less than the dwell and the lateness are not enough
+-- plans that are lawful for m + k - 1 slots are not enough
 abbrev pub OneSlotLessMixes : Type 0
 OneSlotLessMixes = (m k : ℕ) → 1 < m → ShowsAMix (m + k - 1) m (ListensTo k m)
 
--- so the least dwell of a station whose receivers are on time is theirs
+-- so for receivers that are on time, plans that are lawful for m - 1 slots are not enough
 abbrev pub OneSlotLessMixesOnTime : Type 0
 OneSlotLessMixesOnTime = (m : ℕ) → 1 < m → ShowsAMix (m - 1) m (ListensTo 0 m)
 
--- nor, where less than m slots of a receiver's own clock are less than d of the station's, are plans that are lawful
--- for one slot less than d
+-- if fewer than m slots of a receiver's own clock are fewer than d of the station, plans that are lawful for d - 1
+-- slots are not enough
 abbrev pub OneSlotLessMixesByOwnClock : Type 0
 OneSlotLessMixesByOwnClock = (d m : ℕ) → 1 < d → 1 < m → ShowsAMix (d - 1) m (ListensByOwnClock d m)
 
--- so the slots that a clock may lose count in full
+-- if a receiver's clock counts at most k slots too few within m, plans that are lawful for m + k - 1 slots are not
+-- enough
 abbrev pub OneSlotLessMixesForSlowClocks : Type 0
 OneSlotLessMixesForSlowClocks = (m k : ℕ) → 1 < m → ShowsAMix (m + k - 1) m (ListensBySlowClock k m)

@@ -1,5 +1,5 @@
--- Plans of broadcasts, what is handed to receivers late, and when what they show is safe. Nothing here knows of a world
--- or of an audit. Read in this order; ClockBounds, which says that no bound is looser, can wait.
+-- Plans of broadcasts, late inputs, and when views are safe. Nothing here refers to a world or an audit. Read the files
+-- in this order; ClockBounds, which says that no bound can be looser, can wait.
 pub mod Marks
 pub mod Lawful
 pub mod Late

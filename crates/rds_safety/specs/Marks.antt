@@ -1,5 +1,5 @@
--- What one service, texts or names, was sent in each slot of a log: a fragment of a value, tags for it, or nothing
--- of it. Lists have the newest first, so the slot of a mark is the number of marks before it.
+-- The marks of one service, texts or names: what was sent for it in each slot of a log. A mark is a fragment of a
+-- value, tags for it, or nothing. Lists have the newest first, so the slot of a mark is the number of marks before it.
 use Rattle.std.specs.Prelude.{◌≡◌, ◌⊎◌, ℕ, List, [], ◌∷◌, Option, Some, None, length}
 use Rattle.rds_fields.specs.declared.message.Message.{Message}
 use Rattle.rds_fields.specs.declared.message.Message.TheVariants.{Text, Name, Announce, Tags, Other}
@@ -11,7 +11,7 @@ pub data Mark : Type 0 where
   Sends : (fragment : Fragment) → Mark
   Tagged : (pair : PairFields) → Mark
 
--- what texts were sent in a slot
+-- the mark for texts of what was sent in a slot
 abbrev pub text_mark : Option Message → Mark
 text_mark None = Nothing
 text_mark (Some (Text f a b)) = Sends record { flag = f; address = a; bytes = b }
@@ -20,7 +20,7 @@ text_mark (Some (Announce code bits aid)) = Nothing
 text_mark (Some (Tags pair)) = Tagged pair
 text_mark (Some Other) = Nothing
 
--- what names were sent in a slot
+-- the mark for names of what was sent in a slot
 abbrev pub name_mark : Option Message → Mark
 name_mark None = Nothing
 name_mark (Some (Text f a b)) = Nothing
@@ -34,7 +34,7 @@ abbrev pub marks : (Option Message → Mark) → List (Option Message) → List 
 marks of [] = []
 marks of (sent ∷ before) = of sent ∷ marks of before
 
--- the mark was sent in the slot
+-- the mark is in this slot
 abbrev pub IsMarkIn : List Mark → ℕ → Mark → Type 0
 IsMarkIn [] slot mark = ⊥
 IsMarkIn (newest ∷ before) slot mark = ((slot ≡ length before) × (mark ≡ newest)) ⊎ IsMarkIn before slot mark

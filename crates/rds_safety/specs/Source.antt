@@ -1,5 +1,5 @@
--- The source of a text or name that a receiver shows (this project's own rule): the broadcast of the plan in
--- which the last segment of its run was sent. Lists have the newest first.
+-- The source of a text or name shown (this project's own rule): the broadcast of the plan in which the last segment of
+-- its run was sent. Lists have the newest first.
 use Rattle.std.specs.Prelude.{ℕ, List, [], ◌∷◌}
 use Rattle.rds_encoder.specs.Plan.{Broadcast, Covers, HasNumber}
 use Rattle.rds_receiver.specs.Receipts.{Segment, name_fragment, text_fragment}
@@ -10,7 +10,7 @@ use Rattle.rds_safety.specs.Late.{CameFrom, Input}
 abbrev pub text_run : ℕ → Input → List Segment
 text_run m input = run_at text_fragment m input.first input.heard
 
--- the run of names
+-- the run of names, likewise
 abbrev pub name_run : ℕ → Input → List Segment
 name_run m input = run_at name_fragment m input.first input.heard
 
@@ -19,7 +19,7 @@ abbrev pub LastWasSentIn : Input → List Segment → ℕ → Type 0
 LastWasSentIn input [] slot = ⊥
 LastWasSentIn input (newest ∷ older) slot = CameFrom input newest.slot slot
 
--- the broadcast of this number is the source of the run
+-- the broadcast with this number is the source of the run: it covers the slot in which the run's last segment was sent
 pub record IsSource (plan : List Broadcast) (input : Input) (the_run : List Segment) (number : ℕ)
     (b : Broadcast) : Type 0 where
   pub planned : HasNumber plan number b

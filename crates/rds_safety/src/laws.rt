@@ -1,4 +1,4 @@
-//! What holds of all plans, logs and inputs.
+//! Laws about all plans, logs and inputs: when views are safe, and that no bound can be looser.
 ghost use Rattle.rds_safety.specs.ClockBounds.{OneSlotAheadIsUnsafe, OneSlotMoreBetweenMixes};
 ghost use Rattle.rds_safety.specs.ClockBounds.{OneSlotMoreSinceIsUnsafe, OwnClocksHaveTheseBounds};
 ghost use Rattle.rds_safety.specs.FlagBounds.{OneFlagTwiceMixes, OneSlotMoreCutsByFlag, OneSlotMoreMixesByFlag};
@@ -20,8 +20,12 @@ ghost use Rattle.rds_safety.specs.Laws.{WhoIsHandedGroupsListens, WhoIsHandedGro
 use rds_encoder::{broadcasts_are_spaced, numbers_name_broadcasts};
 use rds_fields::one_message;
 
-/// Plans that are lawful for the dwell and the lateness make every slot safe for any number of receivers, and so do
-/// those that are lawful for what a dwell of the receivers' own clocks lasts.
+/// States that lawful plans make each slot safe for any number of receivers:
+///
+/// - plans lawful for M + K, if no group comes more than K slots late, or if each receiver's clock counts at most K
+///   slots too few within M;
+/// - plans lawful for d, if fewer than M slots of each receiver's own clock are fewer than d slots of the station.
+// Prover: `on_time` is a clause of its own, since `M + 0` does not compute to `M` (docs/PROVER.md, "Workarounds").
 pub fn safe_by_plans()
     ensures own_clocks { LawfulPlansAreSafeByOwnClocks }
     ensures slow_clocks { LawfulPlansAreSafeForSlowClocks }
@@ -31,14 +35,14 @@ pub fn safe_by_plans()
     plan_laws();
 }
 
-/// A run has at most one source.
+/// States that a run has at most one source.
 pub fn one_source()
     ensures { ARunHasOneSource }
 {
     plan_laws();
 }
 
-/// What rds_encoder's laws say of all plans, as one record.
+/// States the laws of rds_encoder about all plans, as one record.
 pub fn plan_laws()
     ensures { PlanLaws }
 {
@@ -46,29 +50,29 @@ pub fn plan_laws()
     numbers_name_broadcasts();
 }
 
-/// To hear no slot late is to hear each entry of the log or nothing in its place.
+/// States that an input is heard zero slots late exactly if each entry is that of the log in its slot, or nothing.
 pub fn on_time()
     ensures each { NoSlotLateIsOnTime }
     ensures own { OnTimeIsNoSlotLate }
 {}
 
-/// A slow clock is a clock of the receiver's own, to hear late is as to have a slow clock, and to have the station's
-/// clock is to hear no slot late.
+/// States three facts about clocks. A slow clock is an own clock. An input that comes late is one by a slow clock. A
+/// receiver counts the station's slots exactly if it hears zero slots late.
 pub fn own_clocks()
     ensures slow { ASlowClockIsAnOwnClock }
     ensures late { LateIsBySlowClock }
     ensures no_slot_late { TheTrueClockIsNoSlotLate }
 {}
 
-/// What is late as groups is late as messages.
+/// States that an input that is late as groups is late as messages.
 pub fn late_as_messages()
     ensures { LateGroupsAreLateMessages }
 {
     one_message();
 }
 
-/// A receiver that was handed the groups of a station, late or by a clock of its own, and shows their view, listens to
-/// what was sent.
+/// States that a receiver listens to what was sent if it got the groups of a station, late or by its own clock, and
+/// shows their view.
 pub fn groups_listen()
     ensures late { WhoIsHandedGroupsListens }
     ensures own_clock { WhoIsHandedGroupsListensByOwnClock }
@@ -76,8 +80,8 @@ pub fn groups_listen()
     one_message();
 }
 
-/// One slot less than the dwell and the lateness is not enough, nor one less than a dwell of the receiver's own clock
-/// lasts: there are plans, a log and a receiver that shows a text which no broadcast has.
+/// States that one slot less of spacing is not enough: neither M + K - 1 for late groups and slow clocks, nor d - 1 for
+/// own clocks. There are plans, a log and a receiver that shows a text of no broadcast.
 pub fn the_dwell_is_the_least()
     ensures late { OneSlotLessMixes }
     ensures on_time { OneSlotLessMixesOnTime }
@@ -85,9 +89,9 @@ pub fn the_dwell_is_the_least()
     ensures slow_clock { OneSlotLessMixesForSlowClocks }
 {}
 
-/// None of the three bounds of a receiver's own clock can be one slot looser: with one slot more between two entries a
-/// receiver shows a text which no broadcast has; with one slot more since an entry, or an entry one slot ahead of the
-/// station, it shows what is not safe.
+/// States that none of the three bounds of a receiver's own clock can be one slot looser. With one slot more between
+/// two entries, a receiver shows a text of no broadcast. With one slot more since an entry, or an entry one slot ahead
+/// of the station, it shows what is not safe.
 pub fn each_bound_is_needed()
     ensures bounds { OwnClocksHaveTheseBounds }
     ensures between { OneSlotMoreBetweenMixes }
@@ -95,8 +99,8 @@ pub fn each_bound_is_needed()
     ensures past { OneSlotAheadIsUnsafe }
 {}
 
-/// A receiver with the flag bit alone shows no mix if it hears a segment of each broadcast, and each broadcast turns the
-/// flag, keeps the bytes or is the empty text.
+/// States what a receiver with the flag bit alone shows: no mix, if it hears a segment of each broadcast, and if each
+/// broadcast turns the flag, keeps the bytes or is the empty text.
 pub fn safe_by_the_flag()
     ensures texts { TextsByFlagAreOfTheirSource }
     ensures names { NamesByFlagAreOfTheirSource }
@@ -112,8 +116,8 @@ pub fn safe_by_the_flag()
     numbers_name_broadcasts();
 }
 
-/// In slots: if each broadcast lasts for n slots, it is enough to hear a segment in each n slots in a row, and for tags in
-/// each d.
+/// States when this is so, in slots: if each broadcast lasts for n slots, a segment in each n slots in a row is enough,
+/// and for tags one in each d slots in a row. Other clauses give the slots that a receiver may lose.
 pub fn often_is_enough()
     ensures each { WhoHearsOneInHearsEach }
     ensures tags { WhoHearsOneInHearsTextBeforeTags }
@@ -123,14 +127,15 @@ pub fn often_is_enough()
     plan_laws();
 }
 
-/// A receiver with the flag bit alone shows what a receiver shows whose dwell is longer than all that it heard.
+/// States that a receiver with the flag bit alone shows the same as one whose dwell is no less than the slot after its
+/// input.
 pub fn the_flag_alone_is_a_long_dwell()
     ensures { TheFlagAloneIsALongDwell }
 {}
 
-/// Each premise on receivers with the flag bit alone is needed. If the flag does not turn, or if each text lasts for n
-/// slots and the receiver hears a segment only in each n + 1, it can show a text of no broadcast. If it hears one only in
-/// each d + 1, it can show tags of another text.
+/// States that each premise about receivers with the flag bit alone is needed. If the flag does not turn, or if each
+/// text lasts for n slots and the receiver hears a segment only in each n + 1, it can show a text of no broadcast. If
+/// it hears one only in each d + 1, it can show tags of another text.
 pub fn the_flag_asks_no_less()
     ensures turns { OneFlagTwiceMixes }
     ensures often { OneSlotMoreMixesByFlag }

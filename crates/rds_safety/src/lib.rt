@@ -1,5 +1,5 @@
-//! What is safe: plans of broadcasts that are lawful make every slot safe, for any number of receivers that hear late
-//! or keep a clock of their own, and the bounds for it are the least.
+//! What receivers may safely show. Lawful plans of broadcasts make each slot safe for any number of receivers, which
+//! may hear late or keep clocks of their own. No bound for this can be smaller.
 //!
 //! Lists of slots have the newest first.
 #![tactic(auto)]

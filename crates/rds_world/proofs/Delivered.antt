@@ -1,4 +1,4 @@
--- Who got each free one of enough slots of a broadcast shows it.
+-- Lemmas: a receiver that got on time each free one of enough slots of a broadcast shows it.
 use Rattle.std.proofs.Common.{◌≡◌, ◌+◌, ◌-◌, ◌*◌, ◌<◌, ◌≤◌, ℕ, zero, suc, inl, inr, Bool, true, false, List, [], ◌∷◌, ◌++◌, Option, append_assoc, length-append, Some, nat_eq, replicate, ◌%◌, refl, sym, ap, ◌∙◌, subst, arith, length}
 use Rattle.std.proofs.lemmas.Bool.Decides.{nat_tests}
 use Rattle.std.proofs.lemmas.Bool.{cases_order}
@@ -40,7 +40,7 @@ use Rattle.rds_world.proofs.SafeWorld.{shows_view}
 use Rattle.rds_safety.proofs.Safety.{name_fragments_marked, text_fragments_marked}
 use Rattle.rds_world.proofs.SentWhole.{IsMoves, came_in_own, free_told, heard_among, moves_of_names, moves_of_texts, throughout, told_parts, told_since, told_until}
 
--- what is proved of every encoder
+-- the laws about each encoder
 pub record DeliveryLaws : Type 0 where
   pub plan : PlanLaws
   pub only : OnlyWhatIsOnAirCoversTheSlot
@@ -66,9 +66,9 @@ some_segments x t = by (nat_eq (length x) 64) refl
 two_segments : (x : List ℕ) → IsName x → segment_count (name_body x) ≡ 2
 two_segments x n = omega (arith, n.0, length-append x (replicate (8 - length x) 32), length-replicate {A = ℕ} (8 - length x) 32)
 
--- slots, the oldest of which follows those before, and which lie in one broadcast
+-- slots that lie in one broadcast, and the oldest of them follows those before
 module _ (laws : DeliveryLaws) (m : ℕ) (some : 0 < m) (newer : List Event) (oldest : Event) (before : List Event) where
-  -- what covers the last slot is on air in it
+  -- a broadcast that covers the last slot is on air in it
   on_now : (IsValue : List ℕ → Type 0) (moves : List Entry → List Move) (service : lawful.IsService IsValue moves) (reaches : (events : List Event) → slot_of (moves (entries events)) ≡ length events)
       (events : List Event) (k : ℕ) (b : Broadcast)
       → HasNumber (plan_of m (length events - 1) (moves (entries events))) k b → 0 < length events → b.start + 1 ≤ length events → length events ≤ b.end + 1 → on_air m (moves (entries events)) ≡ Some (endless b)
@@ -82,7 +82,7 @@ module _ (laws : DeliveryLaws) (m : ℕ) (some : 0 < m) (newer : List Event) (ol
       subst (λ (all : List Move). on_air m all ≡ Some (endless b)) (sym (service.slot e rest))
       (laws.only m h k b some now record { from = omega (arith, at, from); to = omega (arith, at, to) })
 
-  -- and was on air in all these slots
+  -- and it was on air in all these slots
   on_throughout : (IsValue : List ℕ → Type 0) (moves : List Entry → List Move) (service : lawful.IsService IsValue moves) (reaches : (events : List Event) → slot_of (moves (entries events)) ≡ length events)
       → IsMoves moves → (k : ℕ) (b : Broadcast)
       → HasNumber (plan_of m (length (newer ++ oldest ∷ before) - 1) (moves (entries (newer ++ oldest ∷ before)))) k b → b.start ≤ length before → length (newer ++ oldest ∷ before) ≤ b.end + 1
@@ -95,7 +95,7 @@ module _ (laws : DeliveryLaws) (m : ℕ) (some : 0 < m) (newer : List Event) (ol
       (subst (λ (es : List Entry). on_air m (moves es) ≡ Some (endless b)) (sym (told_parts newer oldest before))
       (on_now IsValue moves service reaches events k b planned (omega (arith, long)) (omega (arith, long, from)) to))
 
-  -- each text segment, or name segment, that was sent came since the oldest of these slots
+  -- each segment of a text, or of a name, that was sent in these slots came since the oldest of them
   came : (i : ℕ) (pick : Message → Option Fragment) (message : Message) (p : Fragment) → pick message ≡ Some p → GetsEachFree i (newer ++ oldest ∷ [])
       → IsSentAmong m (told_since newer oldest) (told_until oldest before) message
       → CameSince (segments pick (input_of m i (newer ++ oldest ∷ before)).first (input_of m i (newer ++ oldest ∷ before)).heard) (length before) p.address
@@ -104,7 +104,7 @@ module _ (laws : DeliveryLaws) (m : ℕ) (some : 0 < m) (newer : List Event) (ol
       let input = input_of m i (newer ++ oldest ∷ before) in
       record { segment = came_in w.at p; since = w.since; at = refl; is_in = in_segments pick input.first input.heard w.at message p w.heard is }
 
--- what a receiver got of these slots, the oldest of which is free
+-- what a receiver got in these slots, if the oldest is free
 record Listened (config : Config) (newer : List Event) (oldest : Event) (before : List Event) (view : ShownView) : Type 0 where
   world : WorldState
   stands : StandsAt config world (newer ++ oldest ∷ before)
@@ -145,7 +145,7 @@ module _ (laws : DeliveryLaws) (config : Config) (newer : List Event) (oldest : 
   late : IsHeardLate config.late (log d all_slots) its_input
   late = in_time d config.late i all_slots listened.stands.due
 
-  -- what came since the oldest of these slots was sent since then
+  -- an entry that came since the oldest of these slots was sent since then
   fresh : (u s : ℕ) → length before ≤ u → CameFrom its_input u s → length before ≤ s
   fresh u s since came =
       let earlier : IsHeardLate config.late (log d before) (input_of d i before) = in_time d config.late i before (due_before newer listened.stands.due) in
@@ -199,7 +199,7 @@ module _ (laws : DeliveryLaws) (config : Config) (newer : List Event) (oldest : 
       (laws.name d (told_since newer oldest) (told_until oldest before) (endless b) throughout (omega (arith, enough, free)) a (omega (arith, within, two))))
       view.name shown.name
 
--- some slots are newer ones, the oldest that is free, and older ones of which none is
+-- slots split into newer ones, the oldest free one, and older ones that are not free
 record HasOldest (slots : List Event) : Type 0 where
   newer : List Event
   oldest : Event
@@ -219,7 +219,7 @@ has_oldest (e ∷ slots) some = by e.free (free_slots slots) refl refl (has_olde
         let o = rest (omega (arith, more)) in
         record { newer = e ∷ o.newer; oldest = o.oldest; older = o.older; is = ap (λ (xs : List Event). e ∷ xs) o.is; free = o.free; others = o.others }
 
--- older slots of which none is free are no loss
+-- older slots without a free one can be left out
 free_without : (newer : List Event) (oldest : Event) (older : List Event) → free_slots older ≡ 0 → free_slots (newer ++ oldest ∷ older) ≡ free_slots (newer ++ oldest ∷ [])
 free_without [] oldest older none = omega (arith, none)
 free_without (e ∷ newer) oldest older none = omega (arith, free_without newer oldest older none)
@@ -269,7 +269,7 @@ module _ (laws : DeliveryLaws) (config : Config) (before : List Event) (view : S
       (subst (λ (events : List Event). length events ≤ b.end + 1) e lies.to) (subst (λ (events : List Event). HasNumber (plans_of (distance config) events).name lies.number b) e lies.planned)
       (omega (arith, enough, free_without newer oldest older none))
 
--- a planned text is a text
+-- a planned text is valid
 planned_text : DeliveryLaws → (config : Config) (recent before : List Event) (view : ShownView) (b : Broadcast)
     → GotRecently config recent before view → LieIn (plans_of (distance config) (recent ++ before)).text recent before b → IsText b.bytes
 planned_text laws config recent before view b got lies =

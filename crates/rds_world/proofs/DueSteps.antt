@@ -1,4 +1,4 @@
--- How far back a receiver may be handed what was sent, slot by slot, and what is kept of what was sent.
+-- Lemmas: how far back a receiver may get what was sent, slot by slot, and which messages are kept.
 use Rattle.std.proofs.Common.{◌≡◌, ◌+◌, ◌<◌, ◌≤◌, ℕ, zero, suc, List, [], ◌∷◌, Option, Some, None, refl, sym, ap, ◌∙◌, subst, arith, length, take}
 use Rattle.std.specs.Prelude.{IfSome, slice_get, slice_index_or}
 use Rattle.std.proofs.lemmas.List.{get_or_default, get_or_past, get_or-take}
@@ -16,7 +16,7 @@ use Rattle.rds_world.specs.StandsAt.{AreLastSent, IsHeardOfSome}
 use Rattle.rds_world.specs.declared.world.Config.{Config}
 use Rattle.rds_world.proofs.Received.{hears_sent}
 
--- the slot named last came before this one
+-- the slot of the last `Got` came before this one
 pub named_past : (i : ℕ) (events : List Event) → IfSome (last_named i events) (λ s. s < length events)
 named_past i [] = tt
 named_past i (e ∷ before) = by (slice_index_or e.receptions i Lost) (last_named i before) (named_past i before)
@@ -28,7 +28,7 @@ named_past i (e ∷ before) = by (slice_index_or e.receptions i Lost) (last_name
     by Restart None h = tt
     by Restart (Some s) h = omega (arith, h)
 
--- what is kept after one more slot
+-- the messages that are kept after one more slot
 pub one_more_sent : (config : Config) (sent : Option Message) (group : Option Group) (message : Option Message) (before messages : List (Option Message)) → IsSent config.head sent group
     → Hears config.head.pi group message → AreLastSent config before messages → AreLastSent config (sent ∷ before) (take (config.late + 1) (message ∷ messages))
 one_more_sent config sent group message before messages now hears kept back within =
@@ -38,19 +38,19 @@ one_more_sent config sent group message before messages now hears kept back with
     by zero within = (same_heard_in config.head.pi group message sent hears (hears_sent config sent group now), (group, hears_sent config sent group now))
     by (suc back) within = kept back (omega (arith, within))
 
--- a reception that is there is that of the event
+-- a reception at a place within the list is that of the event
 pub same_reception : (e : Event) (receptions : List Reception) (i : ℕ) → receptions ≡ e.receptions → i < length receptions → slice_index_or receptions i (Got 0) ≡ slice_index_or e.receptions i Lost
 same_reception e receptions i same there = get_or_default receptions i (Got 0) Lost there ∙ ap (λ (xs : List Reception). slice_index_or xs i Lost) same
 
--- one that is not there is due
+-- a reception past the end of the list is due
 pub due_past : (k : ℕ) (e : Event) (before : List Event) (i : ℕ) → length e.receptions ≤ i → IsDueTo k e before i
 due_past k e before i past = subst (λ (r : Reception). IsDue k (length before) (last_named i before) r) (sym (get_or_past e.receptions i Lost past)) tt
 
--- the slot that is reached is one more than those before
+-- the slot after an event is one more than those before
 pub reached_next : (k : ℕ) (e : Event) (before : List Event) (last : Option ℕ) → reach_of k (length before + 1) last ≡ reach_of k (length (e ∷ before)) last
 reached_next k e before last = (let next : length before + 1 ≡ length (e ∷ before) = omega arith in ap (λ (n : ℕ). reach_of k n last) next)
 
--- where nothing is kept so far back, nothing is read
+-- if nothing is kept so far back, nothing is read
 pub nothing_there : (groups : List (Option Message)) (back : ℕ) → slice_get groups back ≡ None → slice_index_or groups back None ≡ None
 nothing_there [] back e = refl
 nothing_there (g ∷ groups) zero e = absurd (cc)

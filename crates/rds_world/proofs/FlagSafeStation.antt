@@ -1,4 +1,4 @@
--- A station is safe for receivers with the flag bit alone that hear it often enough.
+-- Lemmas: a station is safe for receivers with the flag bit alone that hear it often enough.
 use Rattle.std.proofs.Common.{◌-◌, ◌*◌, ◌≤◌, ℕ, List, Option, length, arith}
 use Rattle.rds_fields.specs.declared.message.Message.{Message}
 use Rattle.rds_encoder.specs.Entries.{name_moves, text_moves}
@@ -12,7 +12,7 @@ use Rattle.rds_world.specs.Slots.{entries, log, plans_of}
 use Rattle.rds_world.specs.Station.{TheEncoderIsLawful}
 use Rattle.rds_world.proofs.FlagStation.{empties_are_harmless, keeps_each, turns_the_flag}
 
--- one of each n slots is one of each m, where these are more
+-- a segment in each n slots is one in each m slots, if n is at most m
 oftener : (n m : ℕ) (pick : Message → Option Fragment) (plan : List Broadcast) (now : ℕ) (input : Input) → n ≤ m → HearsOneIn n pick plan now input → HearsOneIn m pick plan now input
 oftener n m pick plan now input more often k s t r b planned from to by_now heard before =
     let w = often k s t r b planned from (omega (arith, more, to)) (omega (arith, more, by_now)) heard before in

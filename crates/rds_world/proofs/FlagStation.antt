@@ -1,5 +1,5 @@
--- The flag of a station turns with each text or name that it accepts in one life, and each that another one follows
--- lasts for two dwells; across a restart the empty text stands between.
+-- Lemmas: the flag of a station turns with each text or name that it accepts without a restart between, and each that
+-- another one follows lasts for 2d slots. Across a restart the empty text comes between.
 use Rattle.std.proofs.Common.{◌≡◌, ◌≢◌, ◌⊎◌, ◌+◌, ◌-◌, ◌*◌, ◌≤◌, ℕ, Bool, true, false, List, [], ◌∷◌, length, Option, Some, None, cond, refl, sym, ap, ◌∙◌, subst, inl, inr, arith, is_ok, option_map}
 use mathlib.Core.Bool.{not}
 use Rattle.std.specs.Prelude.{IfSome, nat_lt}
@@ -12,7 +12,7 @@ use Rattle.rds_encoder.proofs.OnAir.{flag_on_air, start_of, start_on_air}
 use Rattle.rds_safety.specs.FlagAlone.{EachLasts, IsHarmless, TurnsTheFlag}
 use Rattle.rds_world.specs.FlagStation.{HasNoRestart, IsEmptyAfter, IsFirstAfterRestart, IsHarmlessAfter}
 
--- a set is accepted where twice the dwell has passed since the one before
+-- a set is accepted only if 2d slots have passed since the one before
 not_held_back : (m now start : ℕ) (last : Option ℕ) → is_ok (reply_in m now start last) ≡ true → IfSome last (λ a. a + 2 * m ≤ now)
 not_held_back m now start None ok = tt
 not_held_back m now start (Some a) ok =
@@ -29,13 +29,13 @@ abbrev IsNewest : List Broadcast → Broadcast → Type 0
 IsNewest [] b = ⊥
 IsNewest (newest ∷ older) b = b ≡ newest
 
--- what has the last number is the newest
+-- the broadcast with the last number is the newest
 newest_by_number : (plan : List Broadcast) (k : ℕ) (a : Broadcast) → HasNumber plan k a → k + 1 ≡ length plan → IsNewest plan a
 newest_by_number [] k a p last = absurd p
 newest_by_number (n ∷ older) k a (inl p) last = p.1
 newest_by_number (n ∷ older) k a (inr p) last = absurd (omega (arith, below older k a p))
 
--- what is on air is the newest
+-- the broadcast on air is the newest
 newest_on_air : (d end : ℕ) (moves : List Move) (air : OnAir) → on_air d moves ≡ Some air → IsNewest (plan_of d end moves) (ending_in end air)
 newest_on_air d end [] air on = absurd (cc)
 newest_on_air d end (Begin ∷ before) air on = absurd (cc)
@@ -48,7 +48,7 @@ newest_on_air d end (Set x ∷ before) air on = by (is_ok (reply_to d before)) o
     by true on rest = (let same : record { start = slot_of before; flag = next_flag d before; bytes = x } ≡ air = cc in ap (ending_in end) (sym same))
     by false on rest = rest on
 
--- what is asked of each broadcast and the next one holds of a plan with one more, where it holds of the newest and that
+-- P holds of each broadcast and the next one of a plan
 abbrev pub AreFollowed : (Broadcast → Broadcast → Type 0) → List Broadcast → Type 0
 AreFollowed P plan = (k : ℕ) (a b : Broadcast) → HasNumber plan k a → HasNumber plan (k + 1) b → P a b
 
@@ -58,7 +58,7 @@ one_more P b older all last k a c (inl p) (inr q) = absurd (omega (arith, p.0, b
 one_more P b older all last k a c (inr p) (inl q) = subst (P a) (sym q.1) (last a (newest_by_number older k a p q.0))
 one_more P b older all last k a c (inr p) (inr q) = all k a c p q
 
--- so it holds of every plan, where it holds of what is on air and the next one, and of what comes first after a restart
+-- P holds for each plan if it holds of what is on air and the next broadcast, and of what comes first after a restart
 pub followed : (P : Broadcast → Broadcast → Type 0) (IsAfter : List Broadcast → List ℕ → Type 0) (d : ℕ)
     → ((moves : List Move) (air : OnAir) (end : ℕ) (x : List ℕ) → is_ok (reply_to d moves) ≡ true → on_air d moves ≡ Some air
     → P (ending_in (slot_of moves - 1) air) record { start = slot_of moves; end = end; flag = next_flag d moves; bytes = x })
@@ -114,7 +114,7 @@ keeps_each d end moves first =
     followed (λ a b. b.bytes ≢ [] → a.start + 2 * d ≤ a.end + 1) IsEmptyAfter d
     (λ h air e x ok on some. omega (arith, long_on_air d h air ok on)) (empty_first d) moves end first
 
--- what is empty is harmless
+-- an empty text is harmless
 empty_is_harmless : (plan : List Broadcast) (x : List ℕ) → IsEmptyAfter plan x → IsHarmlessAfter plan x
 empty_is_harmless [] x after = tt
 empty_is_harmless (n ∷ older) x none = inr none
@@ -125,9 +125,9 @@ empties_are_harmless d (Begin ∷ before) first = empties_are_harmless d before 
 empties_are_harmless d (Set x ∷ before) first = (λ ok on. empty_is_harmless (plan_of d (slot_of before - 1) before) x (first.0 ok on), empties_are_harmless d before first.1)
 empties_are_harmless d (End free ∷ before) first = empties_are_harmless d before first
 
--- ---- one life
+-- ---- without a restart
 
--- where there was no restart and nothing is on air nothing was planned
+-- if there was no restart and nothing is on air, nothing was planned
 nothing_yet : (d end : ℕ) (moves : List Move) → HasNoRestart moves → on_air d moves ≡ None → plan_of d end moves ≡ []
 nothing_yet d end [] one on = refl
 nothing_yet d end (Begin ∷ before) one on = absurd one

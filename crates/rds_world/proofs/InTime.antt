@@ -1,5 +1,4 @@
--- What a receiver of a world got was sent at most k slots before the slot in which it got it, where its receptions
--- are due.
+-- Lemmas: what a receiver of a world got was sent at most k slots before, if its receptions are due.
 use Rattle.std.proofs.Common.{◌≡◌, ◌+◌, ◌-◌, ◌<◌, ◌≤◌, ℕ, zero, suc, List, [], ◌∷◌, Option, Some, None, refl, subst, ◌∙◌, inl, inr, arith, length}
 use Rattle.std.specs.Prelude.{IfSome, slice_index_or}
 use Rattle.rds_fields.specs.declared.message.Message.{Message}
@@ -11,7 +10,7 @@ use Rattle.rds_safety.specs.Late.{CameFrom, HasEntry, Input, IsHeardLate, IsOfIt
 use Rattle.rds_world.specs.Slots.{input_of, log, received, sent_at, sent_back}
 use Rattle.rds_safety.proofs.OnTime.{nothing_heard, one_more}
 
--- a longer log has what the shorter one has
+-- a longer log has the entries of the shorter one
 says_longer : (log : List (Option Message)) (sent : Option Message) (origin : Option ℕ) (entry : Option Message) → IsOfItsOrigin log origin entry → IsOfItsOrigin (sent ∷ log) origin entry
 says_longer log sent None entry none = none
 says_longer log sent (Some s) entry is = inr is
@@ -36,12 +35,12 @@ back_in_log (suc back) newest (x ∷ before) h =
     let earlier : length before - back ≡ length (x ∷ before) - suc back = omega arith in
     inr (subst (λ (s : ℕ). HasEntry 0 (x ∷ before) s (sent_back back (x ∷ before))) earlier (back_in_log back x before (omega arith)))
 
--- the slot is that which was named last, or comes before it
+-- the slot is the last one given, or comes before it
 abbrev IsUpTo : Option ℕ → ℕ → Type 0
 IsUpTo None s = ⊥
 IsUpTo (Some last) s = s ≤ last
 
--- what a receiver was handed came no later than was named last
+-- no entry of the input was sent after the last slot given
 abbrev AreUpTo : Option ℕ → Input → Type 0
 AreUpTo last input = (u s : ℕ) → CameFrom input u s → IsUpTo last s
 
@@ -81,7 +80,7 @@ reaches (Got back) slot sent input now = omega (arith, now)
 reaches Lost slot sent input now = omega (arith, now)
 reaches Restart slot sent input now = omega arith
 
--- the input of a receiver reaches the last slot
+-- the input of a receiver has an entry up to the last slot
 pub input_reaches : (d i : ℕ) (events : List Event) → (input_of d i events).first + length (input_of d i events).heard ≡ length events
 input_reaches d i [] = refl
 input_reaches d i (e ∷ before) =

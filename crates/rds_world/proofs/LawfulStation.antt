@@ -1,5 +1,5 @@
--- What an encoder sends is lawful for its plans: of each mark of its log the broadcast is the one that was on air in
--- that slot, and this stays planned whatever comes later.
+-- Lemmas: what an encoder sends is lawful for its plans. For each mark of its log there is the broadcast that was on
+-- air in that slot, and it stays planned whatever comes later.
 use Rattle.std.proofs.Common.{◌≡◌, ◌+◌, ◌-◌, ◌<◌, ◌≤◌, ℕ, List, [], ◌∷◌, ◌++◌, append_assoc, Option, Some, None, refl, sym, ap, ◌∙◌, subst, inl, inr, arith, length}
 use Rattle.std.specs.Prelude.{IfSome}
 use Rattle.rds_fields.specs.declared.message.Message.{Message}
@@ -19,7 +19,7 @@ use Rattle.rds_safety.specs.Marks.{IsMarkIn, Mark, Sends, Tagged, marks, name_ma
 use Rattle.rds_safety.specs.Plans.{AreLawful}
 use Rattle.rds_world.specs.Slots.{SetValues, SetsAValue, commanded, entries, log, plans_of, sent_at}
 
--- what is proved of every encoder
+-- the laws about each encoder
 pub record EncoderLaws : Type 0 where
   pub spaced : ThePlanIsSpaced
   pub began : WhatIsOnAirBegan
@@ -30,7 +30,7 @@ pub record EncoderLaws : Type 0 where
   pub tags : TagsAreOfTheTextOnAir
   pub ends : ThePairEndsInTheText
 
--- all that is set has P
+-- P holds of each value that is set
 abbrev pub AllSetAre : (List ℕ → Type 0) → List Move → Type 0
 AllSetAre P [] = Unit {0}
 AllSetAre P (Begin ∷ before) = AllSetAre P before
@@ -44,7 +44,7 @@ accepted_value P m slot x (Set y ∷ before) all (inl now) = subst P now.1 all.0
 accepted_value P m slot x (Set y ∷ before) all (inr was) = accepted_value P m slot x before all.1 was
 accepted_value P m slot x (End free ∷ before) all was = accepted_value P m slot x before all was
 
--- one service: what it was told in a slot is at most one move, of a value, and then the end of the slot
+-- one service: its moves in a slot are at most one set of a value, and then the end of the slot
 pub record IsService (IsValue : List ℕ → Type 0) (moves : List Entry → List Move) : Type 0 where
   pub none : moves [] ≡ []
   pub slot : (e : Event) (before : List Event) → moves (entries (e ∷ before)) ≡ End e.free ∷ moves (commanded e.command (entries before))
@@ -115,7 +115,7 @@ name_service = record { none = refl; slot = λ e before. refl; longer = longer; 
     once (SetName x) before untold one = (untold, one)
     once (SetTags pair) before untold one = one
 
--- a mark of the log, the slot it was sent in, and what the service was told up to then and since
+-- a mark of the log, with its slot, and the events before and since
 record WasSentIn (of : Option Message → Mark) (moves : List Entry → List Move) (d : ℕ) (events : List Event) (slot : ℕ) (mark : Mark) : Type 0 where
   event : Event
   before : List Event
@@ -178,7 +178,7 @@ module _ (IsValue : List ℕ → Type 0) (of : Option Message → Mark) (moves :
         told = service.slot e before ∙ ap (λ (h : List Move). End e.free ∷ h) (more.1 ∙ ap (λ (h : List Move). more.0 ++ h) w.told ∙ sym (append_assoc more.0 w.since _));
       }
 
-  -- what was on air in that slot is planned
+  -- the broadcast on air in that slot is planned
   planned_then : (laws : EncoderLaws) (d : ℕ) (events : List Event) (slot : ℕ) (mark : Mark) (w : WasSentIn of moves d events slot mark) (air : OnAir)
       → on_air d (moves (commanded w.event.command (entries w.before))) ≡ Some air → HasOnAir (plan_of d (length events - 1) (moves (entries events))) air slot
   planned_then laws d events slot mark w air on =
@@ -217,7 +217,7 @@ has_tags d slot pair plan air lasted ends has = record {
   };
 }
 
--- marks tell their messages
+-- a mark determines its message
 text_of_mark : (sent : Option Message) (p : Fragment) → Sends p ≡ text_mark sent → sent ≡ Some (Text p.flag p.address p.bytes)
 text_of_mark None p e = absurd (cc)
 text_of_mark (Some (Text f a b)) p e = (let same : record { flag = f; address = a; bytes = b } ≡ p = cc in ap (λ (q : Fragment). Some (Text q.flag q.address q.bytes)) same)

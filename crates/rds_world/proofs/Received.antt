@@ -1,4 +1,4 @@
--- What a receiver has heard after one more slot, and one of a list after it was written.
+-- Lemmas: what a receiver has heard after one more slot, and one entry of a list after it was written.
 use Rattle.std.proofs.Common.{◌≡◌, ◌≢◌, ◌<◌, ℕ, zero, suc, Bool, true, false, List, [], ◌∷◌, Option, Some, None, refl, ap, subst, inl, take, length, arith}
 use Rattle.std.specs.List.{AllByRecursion}
 use Rattle.std.specs.Prelude.{slice_get, slice_index_or, slice_set}
@@ -14,7 +14,7 @@ use Rattle.rds_safety.specs.Late.{Input}
 use Rattle.rds_world.specs.StandsAt.{HasHeard, IsNew, StaysShown, tuned_to}
 use Rattle.rds_world.specs.declared.world.Config.{Config}
 
--- what the station sends, its receivers hear
+-- receivers hear what the station sends
 pub hears_sent : (config : Config) (sent : Option Message) (group : Option Group) → IsSent config.head sent group → Hears config.head.pi group sent
 hears_sent config None None s = refl
 hears_sent config None (Some group) s = absurd s
@@ -24,7 +24,7 @@ hears_sent config (Some message) (Some group) s = inl (s.head.pi, s.spelled)
 abbrev input_from : ℕ → List (Option Message) → List (Option ℕ) → Input
 input_from first heard origins = record { first = first; heard = heard; origins = origins }
 
--- one more group was handled, and it was heard so
+-- one more group was handled, so one more entry was heard
 pub hears_more : (config : Config) (input : Input) (old new : ReceiverState) (group : Option Group) (heard : Option Message) (origin : Option ℕ)
     → Hears config.head.pi group heard → WhereItStands old (λ t groups. (g : Option Group) → Hears t.programme g heard → StandsAt t new (g ∷ groups))
     → HasHeard config input old → HasHeard config (input_from input.first (heard ∷ input.heard) (origin ∷ input.origins)) new
@@ -34,7 +34,7 @@ hears_more config input old new group heard origin hears goes_on has = record {
   stands = goes_on record { programme = config.head.pi; dwell = config.dwell; first = input.first } has.groups has.stands group hears;
 }
 
--- one more group was handled, and what is shown stays
+-- one more group was handled, and the view did not change
 pub stays_shown : (config : Config) (input : Input) (old : ReceiverState) (group : Option Group) (heard : Option Message) (origin : Option ℕ)
     → Hears config.head.pi group heard → ((view : ShownView) → WhereItStands old (λ t groups. (g : Option Group) → Hears t.programme g heard → IsView t groups view → IsView t (g ∷ groups) view))
     → HasHeard config input old → StaysShown config input (input_from input.first (heard ∷ input.heard) (origin ∷ input.origins))
@@ -52,7 +52,7 @@ pub heard_nothing : (config : Config) (first : ℕ) (r : ReceiverState) → IsNe
     → HasHeard config (input_from first [] []) r
 heard_nothing config first r begins = record { groups = []; spelled = tt; stands = begins first }
 
--- one of a list was written
+-- writing one entry of a list keeps the others
 pub other_kept : {X : Type 0} (rs : List X) (i k : ℕ) (r : X) → k ≢ i → slice_get (slice_set rs i r) k ≡ slice_get rs k
 other_kept [] i k r ne = refl
 other_kept (x ∷ rs) zero zero r ne = absurd (ne refl)
@@ -65,7 +65,7 @@ written [] i r s e = absurd (cc)
 written (x ∷ rs) zero r s e = cc
 written (x ∷ rs) (suc i) r s e = written rs i r s e
 
--- one of the first is one of all
+-- each of the first entries is one of all entries
 pub one_of_first : {X : Type 0} (P : X → Type 0) (n : ℕ) (rs : List X) (i : ℕ) (r : X) → AllByRecursion P rs → slice_get (take n rs) i ≡ Some r → P r
 one_of_first P zero rs i r all e = absurd (cc)
 one_of_first P (suc n) [] i r all e = absurd (cc)
@@ -78,12 +78,12 @@ of_first (suc n) [] i x e = absurd (cc)
 of_first (suc n) (y ∷ xs) zero x e = (omega arith, e)
 of_first (suc n) (y ∷ xs) (suc i) x e = (let later = of_first n xs i x e in (omega (arith, later.0), later.1))
 
--- a receiver that stands has a dwell of some slots
+-- a receiver that stands at an input has a dwell above 0
 pub some_slots : (config : Config) (rs : List ReceiverState) → AllByRecursion (IsNew config) rs → 0 < length rs → 0 < config.dwell
 some_slots config [] all some = absurd (omega (arith, some))
 some_slots config (r ∷ rs) all some = (all.0 0).holds.lasts
 
--- one of a list of marks was written
+-- writing one mark of a list keeps the others
 pub other_marked : {X : Type 0} (xs : List X) (i k : ℕ) (x d : X) → k ≢ i → slice_index_or (slice_set xs i x) k d ≡ slice_index_or xs k d
 other_marked [] i k x d ne = refl
 other_marked (y ∷ xs) zero zero x d ne = absurd (ne refl)

@@ -1,6 +1,6 @@
--- A restart after which another text than the empty one comes first, at a dwell of one slot: `AAAACCC` is set in slot 1,
--- the encoder restarts in slot 4, and `BBBBDDD` is set in slot 5, with flag 0 again. A receiver with the flag bit alone
--- that gets each slot joins the second segment of the one with the first of the other in slot 5.
+-- Lemmas: a restart mixes if another text than the empty one comes first after it, for d = 1. `AAAACCC` is set in slot
+-- 1, the encoder restarts in slot 4, and `BBBBDDD` is set in slot 5, with flag 0 again. A receiver with the flag bit
+-- alone that gets each slot joins, in slot 5, the second segment of `AAAACCC` with the first of `BBBBDDD`.
 use Rattle.std.proofs.Common.{◌≡◌, ◌<◌, ◌≤◌, ℕ, zero, suc, true, false, List, [], ◌∷◌, Option, Some, None, refl, sym, ap, ◌∙◌, inl, inr, arith}
 use Rattle.std.specs.FinMap.{empty, get, insert}
 use Rattle.rds_fields.specs.declared.message.Message.{Message}
@@ -64,7 +64,7 @@ by_now t s came = omega (arith, late.past t s came, before_end 0 (own_origins 0 
 abbrev mix : List ℕ
 mix = text_of_two 66 67
 
--- the segments of slots 1 and 3, and that of slot 5 in the place of the first
+-- the segments of slots 1 and 3, and that of slot 5 in place of the first
 abbrev until_slot_3 : Cells
 until_slot_3 = insert (insert empty 0 (four 65)) 1 (three_and_end 67)
 
@@ -106,7 +106,7 @@ a_restart_mixes = record {
   of_none = of_none;
 }
 
--- ---- with the empty text between, as it is asked
+-- ---- with the empty text between, as the premise asks
 
 abbrev with_empty : List Event
 with_empty = slot (SetText newer_text) ∷ slot Quiet ∷ slot (SetText []) ∷ slot Restart ∷ slot Quiet ∷ slot (SetText older_text) ∷ slot Quiet ∷ []
@@ -121,6 +121,6 @@ planned_with_empty = refl
 first_is_empty : IsFirstAfterRestart IsEmptyAfter 1 (text_moves (entries with_empty))
 first_is_empty = (λ ok on. (cc), (λ ok on. refl, (λ ok on. tt, tt)))
 
--- and it is not so without it
+-- without it the premise fails
 first_is_none : IsFirstAfterRestart IsEmptyAfter 1 (text_moves (entries events)) → ⊥
 first_is_none first = (let none = first.0 refl refl in cc)

@@ -1,4 +1,4 @@
--- The receivers of a world listen to what its encoder sends, so that what they show is safe.
+-- Lemmas: the receivers of a world listen to what its encoder sends, so what they show is safe.
 use Rattle.std.proofs.Common.{◌≡◌, ◌+◌, ℕ, suc, List, [], ◌∷◌, Option, Some, refl, ◌∙◌, subst, arith, length}
 use Rattle.std.specs.List.{AllByRecursion, AllZip}
 use Rattle.std.specs.Prelude.{slice_get}

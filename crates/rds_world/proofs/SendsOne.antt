@@ -1,4 +1,4 @@
--- Of two slots of a text that are lent one after the other one sends a segment of it, since every second turn is the text's.
+-- Lemmas: of two free slots of a text, one after the other, one sends a segment, since each other turn is the text's.
 use Rattle.std.proofs.Common.{◌≡◌, ◌⊎◌, ◌+◌, ◌-◌, ◌%◌, ◌<◌, ◌≤◌, ℕ, Bool, true, false, nat_le, cond, List, [], ◌∷◌, ◌++◌, append_assoc, length, Option, Some, refl, sym, ap, ◌∙◌, subst, inl, inr, arith, is_ok}
 use Rattle.std.proofs.lemmas.Bool.{cases_eq, le-leb}
 use Rattle.rds_fields.specs.declared.message.Message.{Message}
@@ -21,7 +21,7 @@ use Rattle.rds_world.specs.Slots.{commanded, entries, log}
 use Rattle.rds_world.proofs.InTime.{logged}
 use Rattle.rds_world.proofs.LawfulStation.{reaches, text_service}
 
--- what is planned with one end is planned with another
+-- a broadcast that is planned with one end is planned with another
 record IsPlannedToo (d end : ℕ) (h : List Move) (k : ℕ) (b : Broadcast) : Type 0 where
   broadcast : Broadcast
   planned : HasNumber (plan_of d end h) k broadcast
@@ -48,7 +48,7 @@ planned_too d e f (Set x ∷ before) k b p = by (is_ok (reply_to d before)) refl
     by true is lasting (inr older) = record { broadcast = b; planned = rw is (inr older); same = refl; ends = inl refl }
     by false is lasting q = (let w = lasting q in record { broadcast = w.broadcast; planned = rw is w.planned; same = w.same; ends = w.ends })
 
--- ---- what is on air in a slot that a broadcast covers
+-- ---- the broadcast on air in a slot that it covers
 
 module _ (only : OnlyWhatIsOnAirCoversTheSlot) (began : WhatIsOnAirBegan) (even : EvenTurnsAreTheTexts) (d : ℕ) (some : 0 < d) where
   later_slot : (since : List Move) (free : Bool) (h : List Move) → slot_of h < slot_of (since ++ End free ∷ h)
@@ -105,7 +105,7 @@ module _ (only : OnlyWhatIsOnAirCoversTheSlot) (began : WhatIsOnAirBegan) (even 
   loud : (h : List Move) (air : OnAir) → on_air d h ≡ Some air → nat_le (restart_before h + d) (slot_of h) ≡ true
   loud h air on = (let w = began d h air on in le-leb (restart_before h + d) (slot_of h) (omega (arith, w.0, w.1)))
 
-  -- a command but a restart leaves the turn
+  -- a command other than a restart keeps the turn
   same_turn : (c : Command) (es : List Entry) (air : OnAir) → on_air d (text_moves (commanded c es)) ≡ Some air → turn_of d (text_moves (commanded c es)) ≡ turn_of d (text_moves es)
   same_turn command.Quiet es air on = refl
   same_turn command.Restart es air on = absurd (cc)
@@ -157,7 +157,7 @@ module _ (only : OnlyWhatIsOnAirCoversTheSlot) (began : WhatIsOnAirBegan) (even 
   free_before (e ∷ before) s (inl now) = omega (arith, now.0)
   free_before (e ∷ before) s (inr f) = omega (arith, free_before before s f)
 
-  -- where the turn is odd, the free slot before sent a segment
+  -- if the turn is odd, the free slot before sent a segment
   one_before : (b : Broadcast) (events : List Event) (s : ℕ) → IsOnWithin b events → IsFreeIn events s → b.start ≤ s → length events ≤ b.end + 1 → turn_after events % 2 ≡ 1
       → SendsOneBetween text_fragment (log d events) s (length events)
   one_before b [] s on free from to odd = absurd free

@@ -1,4 +1,5 @@
--- In slots that lie in one broadcast each segment of it is sent, and who got each free one of them heard it.
+-- Lemmas: in slots that lie in one broadcast each segment of it is sent, and a receiver that got each free one of them
+-- heard it.
 use Rattle.std.proofs.Common.{◌≡◌, ◌+◌, ◌-◌, ◌<◌, ◌≤◌, ℕ, List, [], ◌∷◌, ◌++◌, Bool, true, false, Option, Some, None, refl, sym, ap, ◌∙◌, subst, inl, inr, arith, length}
 use Rattle.std.specs.Prelude.{slice_index_or}
 use Rattle.rds_fields.specs.declared.message.Message.{Message}
@@ -18,7 +19,7 @@ use Rattle.rds_safety.specs.Late.{CameFrom, HasEntry, Input}
 use Rattle.rds_world.specs.Slots.{commanded, entries, input_of, log, received, sent_at, sent_back}
 use Rattle.rds_world.proofs.InTime.{input_reaches}
 
--- what the encoder was told from the end of the oldest of the recent slots on, and what before
+-- the encoder's entries from the end of the oldest of the recent slots on
 abbrev pub told_since : List Event → Event → List Entry
 told_since newer oldest = entries newer ++ Tick oldest.free ∷ []
 
@@ -54,7 +55,7 @@ free_told (e ∷ newer) oldest =
     ap free_in (commanded_front e.command (entries newer) (Tick oldest.free ∷ [])) ∙ free_commanded e.command (told_since newer oldest) ∙ free_told newer oldest in
     omega (arith, rest)
 
--- what a receiver got of a free slot it heard, and what it heard before it has heard still
+-- a receiver heard what it got in a free slot, and what it heard before
 heard_now : (r : Reception) (free : Bool) (slot : ℕ) (sent : Option Message) (before : List (Option Message)) (input : Input) (message : Message) → GetsIfFree free r → sent ≡ Some message
     → (free ≡ false → sent ≡ None) → input.first + length input.heard ≡ slot
     → HasEntry (received r slot (sent ∷ before) input).first (received r slot (sent ∷ before) input).heard slot (Some message)
@@ -72,7 +73,7 @@ heard_still Lost free slot sent input u message gets has = inr has
 heard_still reception.Restart true slot sent input u message gets has = absurd gets
 heard_still reception.Restart false slot sent input u message gets has = absurd gets
 
--- in a slot that is not free nothing is sent
+-- nothing is sent in a slot that is not free
 others_slot : (m : ℕ) (free : Bool) (es : List Entry) → free ≡ false → sent_in m free es ≡ None
 others_slot m true es e = absurd (cc)
 others_slot m false es e = refl
@@ -128,7 +129,7 @@ heard_among m i (e ∷ newer) oldest before message gets (inr among) =
       heard = heard_still (slice_index_or e.receptions i Lost) e.free (length older) (log m (e ∷ older)) (input_of m i older) rest.at message gets.0 rest.heard;
     }
 
--- the oldest of these slots, which is free, the receiver got in its own slot
+-- the receiver got the oldest of these slots, which is free, in its own slot
 own_origin : (r : Reception) (slot : ℕ) (sent : List (Option Message)) (input : Input) → GetsIfFree true r → input.first + length input.origins ≡ slot → CameFrom (received r slot sent input) slot slot
 own_origin (Got back) slot sent input gets now = inl (sym now, (let own : slot ≡ slot - back = omega (arith, gets) in ap (λ (n : ℕ). Some n) own))
 own_origin Lost slot sent input gets now = absurd gets
@@ -150,7 +151,7 @@ came_in_own d i (e ∷ newer) oldest before free gets now =
     came_still (slice_index_or e.receptions i Lost) e.free (length older) (log d (e ∷ older)) (input_of d i older) (length before) (length before) gets.0
     (came_in_own d i newer oldest before free gets.1 now)
 
--- one service: an entry is at most one move of it, and the end of a slot is one
+-- one service: an entry is at most one move of it, and the end of a slot is exactly one
 pub record IsMoves (moves : List Entry → List Move) : Type 0 where
   ticks : (free : Bool) (es : List Entry) → moves (Tick free ∷ es) ≡ End free ∷ moves es
   longer : (entry : Entry) (es : List Entry) → (told : List Move) × (moves (entry ∷ es) ≡ told ++ moves es)
@@ -190,7 +191,7 @@ moves_of_names = record { ticks = λ free es. refl; longer = longer; rises = ris
     rises (SetTags pair) es = omega arith
     rises (Tick free) es = omega arith
 
--- what is on air at the end, and began by the first slot, was on air throughout
+-- a value that is on air at the end, and began by the first slot, was on air throughout
 pub throughout : WhatIsOnAirWasOnAir → (moves : List Entry → List Move) → IsMoves moves → (m : ℕ) (air : OnAir) (later : List Entry) (free : Bool) (earlier : List Entry)
     → air.start ≤ slot_of (moves earlier) → on_air m (moves ((later ++ Tick free ∷ []) ++ earlier)) ≡ Some air → IsOnThroughout moves m air (later ++ Tick free ∷ []) earlier
 throughout was moves service m air [] free earlier from on =

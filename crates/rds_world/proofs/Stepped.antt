@@ -1,4 +1,4 @@
--- A world after one more slot.
+-- Lemmas: a world after one more slot.
 use Rattle.std.proofs.Common.{◌≡◌, ◌≤◌, ◌++◌, take, drop, ℕ, List, ◌∷◌, Option, Some, None, sym, ◌∙◌, subst, arith, length, refl, is_some, nat_lt, true, false}
 use Rattle.std.specs.Borrow.{Bor}
 use Rattle.std.specs.Prelude.{IfSome, slice_get, slice_index_or}
@@ -17,13 +17,13 @@ use Rattle.rds_world.specs.StandsAt.{AllHaveHeard, AreLastSent, HaveReaches, IsV
 use Rattle.rds_world.specs.State.{WorldState, distance}
 use Rattle.rds_world.specs.declared.world.Config.{Config}
 
--- the first so many of eight were written
+-- the first n of eight entries were written
 pub front_is : {X : Type 0} (new old : List X) (n : ℕ) → length new ≡ length (take n old) → n ≤ 8 → length old ≡ 8 → new ≡ take n (new ++ drop n old)
 front_is {X} new old n long few eight =
     let same : length new ≡ n = long ∙ length-take-le n old (omega (arith, few, eight)) in
     subst (λ (k : ℕ). new ≡ take k (new ++ drop n old)) same (sym (take-append_seam new (drop n old)))
 
--- a world stands by its own station
+-- a world stands at its slots with its own configuration
 pub by_own : (config : Config) (w : WorldState) (events : List Event) → StandsAt config w events → StandsAt w.config w events
 by_own config w events st = subst (λ (c : Config). StandsAt c w events) (sym st.is_set) st
 
@@ -49,7 +49,7 @@ stepped config old new events e st same value due told heard reaches sent stay =
       stay = stay;
     }
 
--- what a receiver that is lent shows is the view of its input
+-- the view of a borrowed receiver is that of its input
 pub shows_what_it_heard : (config : Config) (w : WorldState) (i : ℕ) (events : List Event) → StandsAt config w events
     → (o : Option (Bor ReceiverState)) → is_some o ≡ nat_lt i (length w.receivers) → IfSome o (λ r. r.now ≡ slice_index_or w.receivers i r.now)
     → IfSome o (λ r. (view : ShownView) → Shows r.now view → IsViewOfInput config (input_of (distance config) i events) view)

@@ -1,4 +1,4 @@
--- Rows worked by hand, for what is due and what a receiver hears. Lists have the newest first.
+-- Worked examples of what is due and what a receiver hears, calculated by hand. Lists have the newest first.
 use Rattle.std.proofs.Common.{◌≡◌, ◌-◌, ◌<◌, ℕ, List, ◌∷◌, Option, Some, None, refl, ap, arith}
 use Rattle.rds_fields.specs.declared.message.Message.{Message}
 use Rattle.rds_safety.specs.Late.{Input}
@@ -6,24 +6,24 @@ use Rattle.rds_world.specs.declared.event.Reception.TheVariants.{Got}
 use Rattle.rds_world.specs.Due.{IsDueBack}
 use Rattle.rds_world.specs.Slots.{received}
 
--- no slot late, a receiver hears what the slot sends, and its origin is the slot
+-- zero slots late, a receiver hears what is sent in the slot, and its origin is the slot
 received_now : (slot : ℕ) (newest : Option Message) (before : List (Option Message)) (input : Input)
     → received (Got 0) slot (newest ∷ before) input ≡ record { first = input.first; heard = newest ∷ input.heard; origins = Some slot ∷ input.origins }
 received_now slot newest before input =
     (let same : slot - 0 ≡ slot = omega arith in ap (λ (n : ℕ). record { first = input.first; heard = newest ∷ input.heard; origins = Some n ∷ input.origins }) same)
 
--- where none is late and the last `Got` was of an earlier slot, that of a slot is due
+-- with K = 0, the slot itself is due if the last `Got` was of an earlier slot
 due_now : (slot s : ℕ) → s < slot → IsDueBack 0 slot (Some s) 0
 due_now slot s earlier = record { soon = omega arith; there = omega arith; after = omega (arith, earlier) }
 
--- with groups up to two slots late: after slot 4 was handed over, in slot 6 slot 5 may be, and slot 4 may not
+-- with K = 2: after slot 4 came, in slot 6 slot 5 is due and slot 4 is not
 next_due : IsDueBack 2 6 (Some 4) 1
 next_due = record { soon = omega arith; there = omega arith; after = omega arith }
 
 not_again : IsDueBack 2 6 (Some 4) 2 → ⊥
 not_again due = (let after = due.after in omega (arith, after))
 
--- nothing is due from before the first slot, nor what is more than two slots late
+-- nothing is due from before slot 0, or from more than two slots before
 not_before_first : IsDueBack 2 1 None 2 → ⊥
 not_before_first due = (let there = due.there in omega (arith, there))
 

@@ -1,6 +1,5 @@
--- What is on air reaches those who listen (this project's own rule): a receiver that got each free one of some
--- slots of a broadcast, enough of them and no more than its dwell, shows that broadcast. Lists have the newest
--- first.
+-- Delivery: what is on air reaches receivers (this project's own rule). A receiver that got on time each free one of
+-- some slots of a broadcast, enough of them and at most M slots, shows that broadcast. Lists have the newest first.
 use Rattle.std.specs.Prelude.{◌≡◌, ◌+◌, ◌*◌, ◌≤◌, [], ◌∷◌, ◌++◌}
 use Rattle.std.specs.Prelude.{ℕ, Bool, true, false, List, Some, length, slice_get, slice_index_or}
 use Rattle.std.specs.List.{AllByRecursion}
@@ -17,12 +16,12 @@ use Rattle.rds_world.specs.StandsAt.{Shows, StandsAt}
 use Rattle.rds_world.specs.State.{WorldState, distance}
 use Rattle.rds_world.specs.declared.world.Config.{Config}
 
--- how many of these slots are free
+-- the number of free slots among these
 abbrev pub free_slots : List Event → ℕ
 free_slots [] = 0
 free_slots (e ∷ before) = one_if e.free + free_slots before
 
--- the receiver got the slot, if it is free, and no slot late; it was not restarted in it
+-- if the slot is free, the receiver got it, and in its own slot; the receiver did not restart in it
 abbrev pub GetsIfFree : Bool → Reception → Type 0
 GetsIfFree true (Got back) = back ≡ 0
 GetsIfFree true Lost = ⊥
@@ -31,7 +30,7 @@ GetsIfFree false (Got back) = Unit {0}
 GetsIfFree false Lost = Unit {0}
 GetsIfFree false Restart = ⊥
 
--- receiver i got each free one of these slots, and was restarted in none
+-- receiver i got each free one of these slots on time, and restarted in none
 abbrev pub GetsEachFree : ℕ → List Event → Type 0
 GetsEachFree i slots = AllByRecursion (λ (e : Event). GetsIfFree e.free (slice_index_or e.receptions i Lost)) slots
 
@@ -42,8 +41,8 @@ pub record LieIn (plan : List Broadcast) (recent before : List Event) (b : Broad
   pub from : b.start ≤ length before
   pub to : length (recent ++ before) ≤ b.end + 1
 
--- in a world that stands at the recent slots and those before, a receiver got each free one of the recent slots, which
--- are no more than its dwell, and shows this
+-- in a world that stands at the slots before and the recent ones, a receiver got on time each free one of the recent
+-- slots, at most M, and shows this view
 pub record GotRecently (config : Config) (recent before : List Event) (view : ShownView) : Type 0 where
   pub world : WorldState
   pub stands : StandsAt config world (recent ++ before)
@@ -62,7 +61,7 @@ ATextIsDelivered =
     → LieIn (plans_of (distance config) (recent ++ before)).text recent before b
     → 2 * segment_count (text_body b.bytes) ≤ free_slots recent → view.text ≡ Some b.bytes
 
--- and any text after 32
+-- any text is shown after 32 free slots of its broadcast
 abbrev pub AnyTextIsDelivered : Type 0
 AnyTextIsDelivered =
     (config : Config) (recent before : List Event) (view : ShownView) (b : Broadcast)
@@ -70,7 +69,7 @@ AnyTextIsDelivered =
     → LieIn (plans_of (distance config) (recent ++ before)).text recent before b
     → 32 ≤ free_slots recent → view.text ≡ Some b.bytes
 
--- a name is shown after eight
+-- a name is shown after eight free slots of its broadcast
 abbrev pub ANameIsDelivered : Type 0
 ANameIsDelivered =
     (config : Config) (recent before : List Event) (view : ShownView) (b : Broadcast)

@@ -1,44 +1,44 @@
--- When a receiver may be handed what was sent (this project's own rule): at most k slots late, and later than all
--- that it was handed before, in the order of sending. Lists have the newest first.
+-- When a reception is due (this project's own rule): what was sent comes at most k slots late, and in the order of
+-- sending. Lists have the newest first.
 use Rattle.std.specs.Prelude.{◌<◌, ◌≤◌, ◌+◌, ◌-◌, [], ◌∷◌}
 use Rattle.std.specs.Prelude.{ℕ, List, Option, Some, None, IfSome, length, min, slice_index_or}
 use Rattle.rds_world.specs.declared.event.Reception.{Reception}
 use Rattle.rds_world.specs.declared.event.Reception.TheVariants.{Got, Lost, Restart}
 use Rattle.rds_world.specs.Event.{Event}
 
--- the slot that a receiver's `Got`s named last, after a reception in this slot
+-- the slot whose message a receiver's last `Got` gave, after this reception in this slot
 abbrev pub named : Reception → ℕ → Option ℕ → Option ℕ
 named (Got d) slot last = Some (slot - d)
 named Lost slot last = last
 named Restart slot last = last
 
--- the slot that the last `Got` of receiver i named, through all restarts
+-- the slot whose message the last `Got` of receiver i gave, through all restarts
 abbrev pub last_named : ℕ → List Event → Option ℕ
 last_named i [] = None
 last_named i (e ∷ before) = named (slice_index_or e.receptions i Lost) (length before) (last_named i before)
 
--- what was sent d slots before this one is due: no more than k slots late, not before slot 0, and later than the
--- slot named last
+-- what was sent d slots before is due: at most k slots late, not before slot 0, and later than the slot of the last
+-- `Got`
 pub record IsDueBack (k slot : ℕ) (last : Option ℕ) (d : ℕ) : Type 0 where
   pub soon : d ≤ k
   pub there : d ≤ slot
   pub after : IfSome last (λ s. s < slot - d)
 
--- a reception is due
+-- the reception is due
 abbrev pub IsDue : ℕ → ℕ → Option ℕ → Reception → Type 0
 IsDue k slot last (Got d) = IsDueBack k slot last d
 IsDue k slot last Lost = Unit {0}
 IsDue k slot last Restart = Unit {0}
 
--- that of receiver i in this event is
+-- the reception of receiver i in this event is due
 abbrev pub IsDueTo : ℕ → Event → List Event → ℕ → Type 0
 IsDueTo k e before i = IsDue k (length before) (last_named i before) (slice_index_or e.receptions i Lost)
 
--- each one in this event is
+-- each reception in this event is due
 abbrev pub IsDueToAll : ℕ → Event → List Event → Type 0
 IsDueToAll k e before = (i : ℕ) → IsDueTo k e before i
 
--- each one in these slots is
+-- each reception in these slots is due
 abbrev pub AreDue : ℕ → List Event → Type 0
 AreDue k [] = Unit {0}
 AreDue k (e ∷ before) = IsDueToAll k e before × AreDue k before
@@ -49,11 +49,11 @@ pub record IsFirstLate (k : ℕ) (e : Event) (before : List Event) (r : ℕ) : T
   pub late : IsDueTo k e before r → ⊥
   pub first : (i : ℕ) → i < r → IsDueTo k e before i
 
--- how many slots came after the slot named last, this one among them
+-- the number of slots after the slot of the last `Got`, this one included
 abbrev pub slots_since : ℕ → Option ℕ → ℕ
 slots_since slot None = slot + 1
 slots_since slot (Some s) = slot - s
 
--- below how many slots back what was sent is due; it stops at one more than the greatest lateness
+-- what was sent fewer slots back than this is due; at most k + 1
 abbrev pub reach_of : ℕ → ℕ → Option ℕ → ℕ
 reach_of k slot last = min (k + 1) (slots_since slot last)

@@ -1,5 +1,5 @@
 -- What a station promises to receivers with the flag bit alone (this project's own rule). Its flag turns with each text
--- that it accepts. After a restart the flag starts at 0 again, so the empty text has to come first. Lists have the newest
+-- that it accepts. After a restart the flag is 0 again, so the empty text has to come first. Lists have the newest
 -- first.
 use Rattle.std.specs.Prelude.{◌≡◌, ◌+◌, ◌-◌, ◌*◌, ◌<◌, ◌≤◌, ◌⊎◌}
 use Rattle.std.specs.Prelude.{ℕ, Bool, true, List, [], ◌∷◌, Some, None, IfSome, is_ok, length}
@@ -21,12 +21,13 @@ abbrev pub IsEmptyAfter : List Broadcast → List ℕ → Type 0
 IsEmptyAfter [] x = Unit {0}
 IsEmptyAfter (newest ∷ older) x = x ≡ []
 
--- nothing was planned before, or the newest of it has the same bytes, or x is empty
+-- nothing was planned before, or the newest broadcast has the bytes x, or x is empty
 abbrev pub IsHarmlessAfter : List Broadcast → List ℕ → Type 0
 IsHarmlessAfter [] x = Unit {0}
 IsHarmlessAfter (newest ∷ older) x = (newest.bytes ≡ x) ⊎ (x ≡ [])
 
--- IsAfter holds of each text that was accepted first after a restart, and of what was planned before that restart
+-- IsAfter holds of each text that was accepted while no text was on air, that is first after a restart, and of the plan
+-- before it
 abbrev pub IsFirstAfterRestart : (List Broadcast → List ℕ → Type 0) → ℕ → List Move → Type 0
 IsFirstAfterRestart IsAfter d [] = Unit {0}
 IsFirstAfterRestart IsAfter d (Begin ∷ before) = IsFirstAfterRestart IsAfter d before
@@ -35,14 +36,14 @@ IsFirstAfterRestart IsAfter d (Set x ∷ before) =
     × IsFirstAfterRestart IsAfter d before
 IsFirstAfterRestart IsAfter d (End free ∷ before) = IsFirstAfterRestart IsAfter d before
 
--- no restart came
+-- there was no restart
 abbrev pub HasNoRestart : List Move → Type 0
 HasNoRestart [] = Unit {0}
 HasNoRestart (Begin ∷ before) = ⊥
 HasNoRestart (Set x ∷ before) = HasNoRestart before
 HasNoRestart (End free ∷ before) = HasNoRestart before
 
--- a station that never restarts needs no empty text
+-- a station that never restarts need not set the empty text first
 abbrev pub InOneLifeNothingIsAsked : Type 0
 InOneLifeNothingIsAsked = (d : ℕ) (moves : List Move) → HasNoRestart moves → IsFirstAfterRestart IsEmptyAfter d moves
 
@@ -51,14 +52,14 @@ abbrev pub TheStationTurnsTheFlag : Type 0
 TheStationTurnsTheFlag =
     (d end : ℕ) (moves : List Move) → IsFirstAfterRestart IsHarmlessAfter d moves → TurnsTheFlag (plan_of d end moves)
 
--- each broadcast lasts for two dwells if another one follows that is not the empty text
+-- each broadcast lasts for at least 2d slots if another one follows that is not the empty text
 abbrev pub TheStationKeepsEach : Type 0
 TheStationKeepsEach =
     (d end : ℕ) (moves : List Move) → IsFirstAfterRestart IsEmptyAfter d moves
     → EachLasts (2 * d) (plan_of d end moves)
 
--- so a receiver with the flag bit alone that hears a segment in each two dwells of a text shows the text of the broadcast
--- in which the last segment was sent
+-- a receiver with the flag bit alone that hears a segment in each 2d slots in a row of a text shows the text of its
+-- source, in which the last segment was sent
 abbrev pub TextsOfAStationAreOfTheirSource : Type 0
 TextsOfAStationAreOfTheirSource =
     (d now : ℕ) (events : List Event) (r : Listener) → 0 < d → SetValues events
@@ -66,7 +67,7 @@ TextsOfAStationAreOfTheirSource =
     → HearsOneIn (2 * d) text_fragment (plans_of d events).text now r.input
     → IfSome r.view.text (IsOfItsSource (plans_of d events).text r.input (run_by_flag text_fragment r.input))
 
--- this holds of names too, but no name is empty: so the station must not have restarted between two of them
+-- the same for names; no name is empty, so the station must not have restarted between two of them
 abbrev pub NamesOfAStationAreOfTheirSource : Type 0
 NamesOfAStationAreOfTheirSource =
     (d now : ℕ) (events : List Event) (r : Listener) → 0 < d → SetValues events
@@ -74,7 +75,7 @@ NamesOfAStationAreOfTheirSource =
     → HearsOneIn (2 * d) name_fragment (plans_of d events).name now r.input
     → IfSome r.view.name (IsOfItsSource (plans_of d events).name r.input (run_by_flag name_fragment r.input))
 
--- if it hears a segment in each dwell of a text, the tags that it shows are those of the text that it shows
+-- if it hears a segment in each d slots in a row of a text, the tags shown are those of the text shown
 abbrev pub TagsOfAStationAreOfTheirText : Type 0
 TagsOfAStationAreOfTheirText =
     (d now : ℕ) (events : List Event) (r : Listener) → 0 < d → SetValues events
@@ -83,7 +84,8 @@ TagsOfAStationAreOfTheirText =
     → ShowsNoTags r.view ⊎ ShowsEmptyText r.view
     ⊎ ShowsTagsOfText d (plans_of d events).text (marks text_mark (log d events)) r.view
 
--- a receiver that hears a segment in each two dwells of a text shows the text on air, or the one before it
+-- if it hears a segment in each 2d slots in a row of a text, its source is new: each text that began by slot `now` is
+-- at most the next one after it, or is empty
 abbrev pub TextsOfAStationAreNew : Type 0
 TextsOfAStationAreNew =
     (d now : ℕ) (events : List Event) (r : Listener) → 0 < d → SetValues events
@@ -91,7 +93,7 @@ TextsOfAStationAreNew =
     → HearsOneIn (2 * d) text_fragment (plans_of d events).text now r.input
     → HasNewSource (plans_of d events).text now r.input (run_by_flag text_fragment r.input)
 
--- this holds of names
+-- the same for names
 abbrev pub NamesOfAStationAreNew : Type 0
 NamesOfAStationAreNew =
     (d now : ℕ) (events : List Event) (r : Listener) → 0 < d → SetValues events
@@ -99,12 +101,12 @@ NamesOfAStationAreNew =
     → HearsOneIn (2 * d) name_fragment (plans_of d events).name now r.input
     → HasNewSource (plans_of d events).name now r.input (run_by_flag name_fragment r.input)
 
--- the slot was free for the text services
+-- the slot was free
 abbrev pub IsFreeIn : List Event → ℕ → Type 0
 IsFreeIn [] slot = ⊥
 IsFreeIn (newest ∷ before) slot = ((slot ≡ length before) × (newest.free ≡ true)) ⊎ IsFreeIn before slot
 
--- two slots from slot `from` on and before slot `before` were free
+-- two slots were free, both in slot `from` or later and before slot `before`
 pub record LendsTwoBetween (events : List Event) (from before : ℕ) : Type 0 where
   pub one : ℕ
   pub two : ℕ
@@ -120,13 +122,13 @@ LendsTwoIn r plan events =
     (k u : ℕ) (b : Broadcast) → HasNumber plan k b → b.start ≤ u → u + r ≤ b.end + 1
     → LendsTwoBetween events u (u + r)
 
--- then each r slots in a row of a text have a segment of it
+-- if two of each r slots in a row of a text are free, each r slots in a row of a text send a segment of it
 abbrev pub TheStationSendsOneIn : Type 0
 TheStationSendsOneIn =
     (d r : ℕ) (events : List Event) → 0 < d → LendsTwoIn r (plans_of d events).text events
     → SendsOneIn r text_fragment (plans_of d events).text (log d events)
 
--- so it is enough that a radio gets r slots in a row of each two dwells, whatever is sent in them
+-- then it is enough that a receiver gets r slots in a row of each 2d, whatever is sent in them
 abbrev pub WhoGetsSomeShowsTextsOfTheirSource : Type 0
 WhoGetsSomeShowsTextsOfTheirSource =
     (d r now : ℕ) (events : List Event) (l : Listener) → 0 < d → SetValues events
@@ -135,7 +137,7 @@ WhoGetsSomeShowsTextsOfTheirSource =
     → GetsSome r (2 * d) text_fragment (plans_of d events).text now l.input
     → IfSome l.view.text (IsOfItsSource (plans_of d events).text l.input (run_by_flag text_fragment l.input))
 
--- it is enough that it loses at most 2 d - 2 r + 1 slots in a row and gets r slots in a row between two losses
+-- it is enough that it loses at most 2d - 2r + 1 slots in a row, and gets r slots in a row after each loss
 abbrev pub WhoLosesFewShowsTextsOfTheirSource : Type 0
 WhoLosesFewShowsTextsOfTheirSource =
     (d r most now : ℕ) (events : List Event) (l : Listener) (got : ℕ → Bool) → 0 < d → SetValues events
@@ -144,8 +146,8 @@ WhoLosesFewShowsTextsOfTheirSource =
     → LosesInARow most r text_fragment now l.input got
     → IfSome l.view.text (IsOfItsSource (plans_of d events).text l.input (run_by_flag text_fragment l.input))
 
--- there are slots of a station of dwell d, and a receiver with the flag bit alone that got each of them on time and shows a
--- text that nobody set
+-- there are slots of a station with a spacing of d, and a receiver with the flag bit alone that got each of them on
+-- time and shows a text that nobody set
 pub record MixesAStation (d : ℕ) : Type 0 where
   pub events : List Event
   pub values : SetValues events
@@ -157,6 +159,6 @@ pub record MixesAStation (d : ℕ) : Type 0 where
   pub shown : receiver.view.text ≡ Some mix
   pub of_none : (k : ℕ) (b : Broadcast) → HasNumber (plans_of d events).text k b → b.bytes ≡ mix → ⊥
 
--- if another text than the empty one comes first after a restart there is such a receiver
+-- there is such a receiver for d = 1; so the premise on the first text after a restart is needed
 abbrev pub ARestartMixes : Type 0
 ARestartMixes = MixesAStation 1

@@ -1,5 +1,5 @@
--- The station and its receivers, slot by slot. Read in this order; SafeSlots and Delivery are what a world promises, and
--- FlagStation what its station promises to receivers with the flag bit alone.
+-- A station and its receivers, slot by slot. Read the files in this order. SafeSlots and Delivery have the promises of
+-- a world, FlagStation those of its station to receivers with the flag bit alone.
 pub mod Event
 pub mod Due
 pub mod Slots

@@ -1,5 +1,4 @@
--- The replies of a world: to a command, to a slot, and to a list of slots that it is to play (this project's own
--- rule).
+-- The replies of a world: to a command, to a slot, and to a list of slots (this project's own rule).
 use Rattle.std.specs.Prelude.{◌≡◌, ◌≢◌, ◌<◌, ◌≤◌, IfSome, ℕ, List, Ok, Err, length, reverse, slice_get, take}
 use Rattle.rds_encoder.specs.Entries.{Entry, name_moves, text_moves}
 use Rattle.rds_encoder.specs.Reply.{reply_to}
@@ -18,12 +17,12 @@ use Rattle.rds_world.specs.declared.slots.PlayRefused.TheVariants.{TooManyReceiv
 use Rattle.rds_world.specs.Due.{IsDueToAll, IsFirstLate}
 use Rattle.rds_world.specs.Event.{Event}
 
--- the encoder's reply, as the world gives it
+-- the encoder's reply as the reply of the world
 abbrev pub answered : encoder.Reply → Reply
 answered (Ok done) = Done
 answered (Err refusal) = Refused refusal
 
--- the reply to a command, where the encoder of dwell d was told this before
+-- the reply to a command, for an encoder with a spacing of d slots and these entries before
 abbrev pub reply_at : ℕ → Command → List Entry → Reply
 reply_at d Quiet before = reply.Quiet
 reply_at d Restart before = Restarted
@@ -31,27 +30,27 @@ reply_at d (SetText x) before = answered (reply_to d (text_moves before))
 reply_at d (SetName x) before = answered (reply_to d (name_moves before))
 reply_at d (SetTags pair) before = answered (tags_reply d pair before)
 
--- a slot that can be taken after those before: it names so many receivers, and each reception is due
+-- the slot can be taken after those before: it has one reception for each receiver, and each is due
 pub record CanBeTaken (k receivers : ℕ) (e : Event) (before : List Event) : Type 0 where
   pub count : length e.receptions ≡ receivers
   pub due : IsDueToAll k e before
 
--- a slot that names so many receivers, of which this is the first whose reception is not due
+-- the slot has one reception for each receiver, and r is the first receiver whose reception is not due
 pub record IsLateTo (k receivers : ℕ) (e : Event) (before : List Event) (r : ℕ) : Type 0 where
   pub count : length e.receptions ≡ receivers
   pub late : IsFirstLate k e before r
 
--- why a slot is not taken after those before
+-- why a slot is refused after those before
 abbrev pub IsStepRefused : ℕ → ℕ → Event → List Event → StepRefused → Type 0
 IsStepRefused k receivers e before step.ReceiverCount = length e.receptions ≢ receivers
 IsStepRefused k receivers e before (step.Late r) = IsLateTo k receivers e before r
 
--- the event at this place can be taken after those before it; here the oldest event is the first of the list
+-- the event at this place can be taken after those before it; the oldest event is the first of this list
 abbrev pub IsTaken : ℕ → ℕ → List Event → ℕ → Type 0
 IsTaken k receivers events place =
     IfSome (slice_get events place) (λ e. CanBeTaken k receivers e (reverse (take place events)))
 
--- slots that can be played: with at most eight receivers, and each of them can be taken
+-- the slots can be played: there are at most eight receivers, and each slot can be taken
 pub record CanBePlayed (k receivers : ℕ) (events : List Event) : Type 0 where
   pub few : receivers ≤ MOST_RECEIVERS
   pub each : (place : ℕ) → place < length events → IsTaken k receivers events place
@@ -63,7 +62,7 @@ pub record IsFirstRefused (k receivers : ℕ) (events : List Event) (place : ℕ
   pub there : place < length events
   pub first : (before : ℕ) → before < place → IsTaken k receivers events before
 
--- why slots are not played: for too many receivers exactly where there are more than eight
+-- why slots cannot be played: for too many receivers exactly if there are more than eight
 abbrev pub IsPlayRefused : ℕ → ℕ → List Event → PlayRefused → Type 0
 IsPlayRefused k receivers events TooManyReceivers = MOST_RECEIVERS < receivers
 IsPlayRefused k receivers events Memory = receivers ≤ MOST_RECEIVERS

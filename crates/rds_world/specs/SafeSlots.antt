@@ -1,5 +1,4 @@
--- The promise of this crate (this project's own rule): receivers show only what was on air. Lists have the
--- newest first.
+-- The headline (this project's own rule): receivers show only what was on air. Lists have the newest first.
 use Rattle.std.specs.Prelude.{ℕ, ◌+◌, List, [], ◌∷◌, length}
 use Rattle.std.specs.List.{AllZip}
 use Rattle.rds_receiver.specs.Shown.{ShownView}
@@ -11,17 +10,16 @@ use Rattle.rds_world.specs.StandsAt.{Shows, StandsAt}
 use Rattle.rds_world.specs.State.{WorldState, distance}
 use Rattle.rds_world.specs.declared.world.Config.{Config}
 
--- the receivers from number i on: what each got, and what it shows
+-- the receivers from number i on, each with its input and its view
 abbrev pub listeners : ℕ → List Event → ℕ → List ShownView → List Listener
 listeners d events i [] = []
 listeners d events i (view ∷ views) =
     record { input = input_of d i events; view = view } ∷ listeners d events (i + 1) views
 
--- For every list of slots, in each of which the encoder or any receiver may restart and each receiver gets a group
--- that was sent no earlier than the greatest lateness allows, in the order of sending, or nothing: at the end of the
--- newest slot every whole text or name that these receivers show was on air within the last slots that the station
--- keeps between changes, every tag shown was sent for the text shown, and any two receivers show the same broadcast or
--- two neighbouring ones.
+-- The headline, for each list of slots. In each slot the encoder and any receiver may restart. Each receiver gets what
+-- was sent at most K slots before, in the order of sending, or nothing. At the end of the newest slot, each text or
+-- name that these receivers show was on air in one of the last M + K slots, the tags shown were sent for the text
+-- shown, and any two receivers show one broadcast or two that follow each other.
 abbrev pub OnlyWhatWasOnAirIsShown : Config → List Event → List ReceiverState → Type 0
 OnlyWhatWasOnAirIsShown config [] receivers = Unit {0}
 OnlyWhatWasOnAirIsShown config (newest ∷ before) receivers =
@@ -29,7 +27,7 @@ OnlyWhatWasOnAirIsShown config (newest ∷ before) receivers =
     → AreSafe (distance config) config.dwell (length before) (plans_of (distance config) (newest ∷ before))
     (log (distance config) (newest ∷ before)) (listeners (distance config) (newest ∷ before) 0 views)
 
--- so it is in every world, wherever it stands
+-- this holds in each world, for each list of slots that it stands at
 abbrev pub EveryWorldShowsOnlyWhatWasOnAir : Type 0
 EveryWorldShowsOnlyWhatWasOnAir =
     (config : Config) (w : WorldState) (events : List Event) → StandsAt config w events

@@ -1,7 +1,6 @@
--- What a list of slots comes to (this project's own rule): what the encoder was told, what was sent in each
--- slot, which broadcasts were planned, and what each receiver got. Lists have the newest first, and the slot of
--- an event is the number of events before it. The encoder's dwell is d: that of the receivers and the greatest
--- lateness together.
+-- What follows from a list of slots (this project's own rule): the encoder's entries, what was sent in each slot, the
+-- plans, and the input of each receiver. Lists have the newest first, and the slot of an event is the number of events
+-- before it. The encoder's spacing d is M + K.
 use Rattle.std.specs.Prelude.{ℕ, ◌+◌, ◌-◌, List, [], ◌∷◌, Option, Some, None, length, slice_index_or}
 use Rattle.std.specs.List.{AllByRecursion}
 use Rattle.rds_fields.specs.declared.message.Message.{Message}
@@ -19,7 +18,7 @@ use Rattle.rds_world.specs.Event.{Event}
 use Rattle.rds_safety.specs.Late.{Input}
 use Rattle.rds_safety.specs.Plans.{Plans}
 
--- what is set is a text, or a name
+-- a text or name that the command sets is valid
 abbrev pub SetsAValue : Command → Type 0
 SetsAValue Quiet = Unit {0}
 SetsAValue Restart = Unit {0}
@@ -30,7 +29,7 @@ SetsAValue (SetTags pair) = Unit {0}
 abbrev pub SetValues : List Event → Type 0
 SetValues events = AllByRecursion (λ (e : Event). SetsAValue e.command) events
 
--- a command is what the encoder is told first in its slot
+-- the encoder's entries with this command, which comes first in its slot
 abbrev pub commanded : Command → List Entry → List Entry
 commanded Quiet before = before
 commanded Restart before = entry.Restart ∷ before
@@ -38,7 +37,7 @@ commanded (SetText x) before = entry.SetText x ∷ before
 commanded (SetName x) before = entry.SetName x ∷ before
 commanded (SetTags pair) before = entry.SetTags pair ∷ before
 
--- what the encoder was told: in each slot its command, and then that the slot ends
+-- the encoder's entries: in each slot its command, and then the end of the slot
 abbrev pub entries : List Event → List Entry
 entries [] = []
 entries (e ∷ before) = Tick e.free ∷ commanded e.command (entries before)
@@ -52,19 +51,19 @@ abbrev pub log : ℕ → List Event → List (Option Message)
 log d [] = []
 log d (e ∷ before) = sent_at d e before ∷ log d before
 
--- the broadcasts of texts and of names; those that are on air yet end in the last slot
+-- the plans of texts and of names; a broadcast that is still on air ends in the last slot
 abbrev pub plans_of : ℕ → List Event → Plans
 plans_of d events = record {
   text = plan_of d (length events - 1) (text_moves (entries events));
   name = plan_of d (length events - 1) (name_moves (entries events));
 }
 
--- what was sent so many slots before the last one of a log; nothing where that is before slot 0
+-- what was sent so many slots before the last one of a log; nothing if that is before slot 0
 abbrev pub sent_back : ℕ → List (Option Message) → Option Message
 sent_back back sent = slice_index_or sent back None
 
--- the input of a receiver after one more slot, up to which this was sent: what was sent so many slots before, or
--- nothing; a new receiver has got nothing yet, and its input begins in the slot after
+-- the input of a receiver after one more slot, with the log up to this slot: it gets what was sent so many slots
+-- before, or nothing; after a restart it is empty and begins in the next slot
 abbrev pub received : Reception → ℕ → List (Option Message) → Input → Input
 received (Got back) slot sent before =
     record {

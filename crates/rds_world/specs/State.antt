@@ -1,14 +1,12 @@
--- What a world holds: how the station is set, its encoder, and by its number each receiver, whether it shows what it
--- showed before the newest slot, and how many slots back it may be handed what was sent; and the messages of the last
--- slots, the newest first.
+-- The state of a world: its configuration, its encoder, its receivers with their reaches, a mark for each receiver
+-- whose view did not change in the newest slot, and the messages of the last slots, the newest first.
 use Rattle.std.specs.Prelude.{ℕ, ◌+◌, Bool, List, Option}
 use Rattle.rds_fields.specs.declared.message.Message.{Message}
 use Rattle.rds_encoder.specs.State.{EncoderState}
 use Rattle.rds_receiver.specs.State.{ReceiverState}
 use Rattle.rds_world.specs.declared.world.Config.{Config}
 
--- how many slots the station keeps between changes of one flag: the dwell of its receivers and the greatest
--- lateness together
+-- the spacing d of the station, in slots: the dwell M plus the lateness K
 abbrev pub distance : Config → ℕ
 distance config = config.dwell + config.late
 

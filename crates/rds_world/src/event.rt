@@ -1,4 +1,4 @@
-//! What happens in a slot.
+//! The events of a slot: a command and the receptions.
 ghost use Rattle.std.specs.Prelude.{◌≡◌};
 ghost use Rattle.rds_world.specs.declared.event.Reception.TheVariants as reception;
 
@@ -10,33 +10,33 @@ use std::marker::Model;
 /// The most receivers of a world (this project's own rule).
 pub const MOST_RECEIVERS: usize = 8;
 
-/// What the encoder is told at the start of a slot: at most one thing.
+/// The command that the encoder gets at the start of a slot. There is at most one.
 #[derive(Clone, Copy)]
 pub enum Command {
-    /// Nothing.
+    /// No command.
     Quiet,
-    /// The encoder begins anew, and is silent for the dwell and the lateness.
+    /// Restarts the encoder, which is then silent for M + K slots.
     Restart,
-    /// A text is set.
+    /// Sets a text.
     SetText(Text),
-    /// A name is set.
+    /// Sets a name.
     SetName(Name),
-    /// The text on air is given tags.
+    /// Sets a pair of tags for the text on air.
     SetTags(TagPair),
 }
 
-/// What a receiver gets of a slot.
+/// What a receiver gets in a slot.
 #[derive(Clone, Copy)]
 pub enum Reception {
-    /// The group that was sent so many slots before this one, or nothing where none was.
+    /// What was sent this many slots before: a group or nothing.
     Got(u16),
     /// Nothing.
     Lost,
-    /// A new receiver stands in its place, and gets nothing of this slot.
+    /// A new receiver in its place, which gets nothing in this slot.
     Restart,
 }
 
-/// A receiver of which nothing is said gets nothing.
+/// Gives `Lost`: by default a receiver gets nothing.
 impl Default for Reception {
     ghost is_default = { λ r. r ≡ reception.Lost };
 
@@ -45,7 +45,7 @@ impl Default for Reception {
     }
 }
 
-/// One slot: a command, whether the station lends the slot to the text services, and what each receiver gets.
+/// One slot: a command, whether the slot is free (the text services may use it), and what each receiver gets.
 #[derive(Drop)]
 pub struct SlotEvent {
     pub command: Command,

@@ -1,8 +1,8 @@
-//! A station and its receivers, slot by slot: an encoder, and up to eight receivers that each get a group that
-//! was sent, in its slot or some slots late, or nothing.
+//! A world: a station and its receivers, slot by slot. It has one encoder and up to eight receivers. Each receiver gets
+//! a group that was sent, in its slot or some slots late, or nothing.
 //!
-//! Lists of slots have the newest first. Whatever the slots are, each text that a receiver shows was on air
-//! within the last slots, as many as the dwell and the lateness together.
+//! Lists of slots have the newest first. Whatever the slots are, each text that a receiver shows was on air in one of
+//! the last M + K slots.
 #![tactic(auto)]
 
 mod event;

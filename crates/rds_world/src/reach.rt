@@ -1,4 +1,4 @@
-//! How far back a receiver may be handed what was sent.
+//! How many slots back a receiver may get what was sent.
 ghost use Rattle.std.specs.Prelude.{◌≡◌, ◌<◌, ◌≤◌, ◌+◌, ◌↔◌, ◌∷◌};
 ghost use Rattle.std.specs.Prelude.{ℕ, List, Option, IsTrue, IfOk, IfSome, MatchResult, length, take};
 ghost use Rattle.rds_world.specs.Due.{IsDue, IsDueToAll, IsFirstLate, named, reach_of};
@@ -10,8 +10,9 @@ use crate::{MOST_RECEIVERS, Reception, SlotEvent};
 use rds_fields::Late;
 use std::marker::Model;
 
-/// Below how many slots back what was sent is due to a receiver (this project's own rule): at most so late, and
-/// later than what its last `Got` named. It stops at one slot more than the lateness.
+/// A bound on how many slots back a receiver may get what was sent (this project's own rule): fewer slots than this. So
+/// nothing comes more than K slots late, and nothing that was sent up to the slot of the last `Got`. At most K + 1
+/// slots.
 #[derive(Clone, Copy)]
 pub(crate) struct Reach {
     slots: u16,
@@ -28,14 +29,14 @@ impl Model for Reach {
 }
 
 impl Reach {
-    /// In the first slot, before which there was none.
+    /// Makes the reach of the first slot, in which only that slot is due.
     pub(crate) fn new() -> Reach
         ensures { result ≡ 1 }
     {
         Reach { slots: 1 }
     }
 
-    /// Whether the reception is due.
+    /// Returns whether the reception is due.
     pub(crate) fn allows(self, reception: Reception) -> bool
         ensures { (k slot : ℕ) (last : Option ℕ) → self ≡ reach_of k slot last
             → IsTrue result ↔ IsDue k slot last reception }
@@ -46,7 +47,7 @@ impl Reach {
         }
     }
 
-    /// In the slot after this reception. A restart changes nothing of it.
+    /// Returns the reach in the slot after this reception. A restart counts as `Lost`.
     pub(crate) fn after(self, reception: Reception, late: Late) -> Reach
         ensures { (slot : ℕ) (last : Option ℕ) → IfSome last (λ s. s < slot)
             → self ≡ reach_of late slot last → IsDue late slot last reception
@@ -62,8 +63,8 @@ impl Reach {
     }
 }
 
-/// The reaches of as many receivers in the slot after this event, where each reception is due; else the first receiver
-/// of which it is not.
+/// Returns the reach of each receiver in the slot after this event. Error if a reception is not due: the number of the
+/// first such receiver.
 pub(crate) fn reaches_after(
     reaches: &[Reach],
     late: Late,

@@ -1,4 +1,4 @@
-//! The receivers' part of a slot.
+//! The receivers' part of a slot: hands out what was sent, and marks the receivers whose view did not change.
 ghost use Rattle.std.specs.Prelude.{◌≡◌, ◌≤◌, ℕ, List, None, Option, IsTrue, false, length, slice_index_or, true};
 ghost use Rattle.std.specs.List.{AllByRecursion};
 ghost use Rattle.rds_fields.specs.declared.message.Message.{Message};
@@ -15,7 +15,8 @@ use crate::{Config, MOST_RECEIVERS, Reception};
 use rds_fields::Message;
 use rds_receiver::Receiver;
 
-/// Eight receivers that heard nothing yet.
+/// Makes eight receivers that have heard nothing yet.
+// Prover: all eight are written out, without `array::from_fn` (docs/PROVER.md, "Workarounds").
 pub(crate) fn eight_receivers(config: &Config) -> [Receiver; MOST_RECEIVERS]
     ensures { AllByRecursion (IsNew config.now) result }
 {
@@ -33,8 +34,8 @@ pub(crate) fn eight_receivers(config: &Config) -> [Receiver; MOST_RECEIVERS]
     ]
 }
 
-/// Gives each receiver what it gets of a slot up to which this was sent, and marks those that show
-/// what they showed before.
+/// Gives each receiver its reception of a slot from the recent messages. Returns a mark for each: if it is true, the
+/// view of that receiver did not change.
 pub(crate) fn hand_out(
     receivers: &mut [Receiver],
     config: &Config,
@@ -59,8 +60,7 @@ pub(crate) fn hand_out(
     stays
 }
 
-/// Gives a receiver what it gets of a slot up to which this was sent. True where it shows what it showed
-/// before.
+/// Gives one receiver its reception of a slot. If it returns true, the view did not change.
 fn receive(
     receiver: &mut Receiver,
     config: &Config,

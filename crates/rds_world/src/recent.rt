@@ -1,4 +1,4 @@
-//! What was sent in the last slots.
+//! A ring of the messages of the last K + 1 slots.
 ghost use Rattle.std.specs.Prelude.{◌≡◌, ◌+◌, [], ◌∷◌, None, IfOk, slice_index_or, take};
 ghost use Rattle.circular_buffer.specs.Buffer.{buffer};
 
@@ -7,8 +7,7 @@ use rds_fields::{Late, Message};
 use std::alloc::{AllocError, Global};
 use std::marker::Model;
 
-/// What was sent in the newest slot and in as many before it as a group may be late, the newest first; nothing for a
-/// slot in which nothing was sent.
+/// A ring of the messages of the last K + 1 slots, the newest first. A slot in which nothing was sent has `None`.
 #[derive(Drop)]
 pub(crate) struct Recent {
     messages: HeapCircularBuffer<Option<Message>>,
@@ -25,7 +24,7 @@ impl Model for Recent {
 }
 
 impl Recent {
-    /// Before the first slot.
+    /// Makes an empty ring of K + 1 places. Error if out of memory.
     pub(crate) fn new(alloc: Global, late: Late) -> Result<Recent, AllocError>
         ensures { IfOk result (λ r. r ≡ buffer [] (late + 1)) }
     {
@@ -35,7 +34,7 @@ impl Recent {
         })
     }
 
-    /// This was sent in one more slot.
+    /// Adds what was sent in one more slot. A full ring drops its oldest message.
     pub(crate) fn push(&mut self, message: Option<Message>)
         ensures { self.new
             ≡ buffer (take self.old.capacity (message ∷ self.old.items)) self.old.capacity }
@@ -43,8 +42,9 @@ impl Recent {
         self.messages.push_front(message);
     }
 
-    /// What was sent so many slots before the newest one, in which this was sent. Most groups come in their own slot, so
-    /// that the ring is read once for all receivers.
+    /// Returns what was sent this many slots before the newest one, whose message is `newest`. None if nothing was
+    /// sent, or if the ring does not go back so far. Most groups come in their own slot, so the ring is read once for
+    /// all receivers.
     pub(crate) fn back_from(&self, newest: &Option<Message>, slots: u16) -> Option<Message>
         requires { newest.now ≡ slice_index_or self.now.items 0 None }
         ensures { result ≡ slice_index_or self.now.items slots None }
@@ -56,7 +56,8 @@ impl Recent {
         }
     }
 
-    /// What was sent so many slots before the newest.
+    /// Returns what was sent this many slots before the newest one. None if nothing was sent, or if the ring does not
+    /// go back so far.
     pub(crate) fn back(&self, slots: u16) -> Option<Message>
         ensures { result ≡ slice_index_or self.now.items slots None }
     {

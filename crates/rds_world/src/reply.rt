@@ -1,4 +1,4 @@
-//! What a slot gives, and why a slot or a world is refused.
+//! The replies of a world, and why a slot or a world is refused.
 use rds_block::Group;
 use rds_encoder::Refusal;
 use thiserror::Error;
@@ -6,43 +6,43 @@ use thiserror::Error;
 /// The reply to a command.
 #[derive(Clone, Copy, Debug, PartialEq, Eq)]
 pub enum Reply {
-    /// There was none.
+    /// There was no command.
     Quiet,
     /// The encoder restarted.
     Restarted,
     /// A text, a name or tags were accepted.
     Done,
-    /// They were refused; the slot goes on.
+    /// The text, name or tags were refused. The slot goes on.
     Refused(Refusal),
 }
 
-/// What a slot gave.
+/// What a slot gave: the reply to its command, and the group that was sent.
 #[derive(Clone, Copy, Debug, PartialEq, Eq)]
 pub struct Answer {
     pub reply: Reply,
-    /// The group that was sent; `None` where none was.
+    /// The group that was sent. None if nothing was sent.
     pub sent: Option<Group>,
 }
 
-/// Why a world is not made.
+/// Why a world cannot be made.
 #[derive(Clone, Copy, Debug, PartialEq, Eq, Error)]
 pub enum WorldRefused {
-    /// More than 8 receivers.
+    /// There are more than 8 receivers.
     #[error("there are more than 8 receivers")]
     TooManyReceivers,
-    /// Not enough memory for the groups of the last slots.
+    /// Out of memory for the messages of the last K + 1 slots.
     #[error("out of memory")]
     Memory,
 }
 
-/// Why a slot is not taken.
+/// Why a slot is refused.
 #[derive(Clone, Copy, Debug, PartialEq, Eq, Error)]
 pub enum StepRefused {
-    /// It has another number of receptions than there are receivers.
+    /// The slot has another number of receptions than there are receivers.
     #[error("the slot has another number of receptions than there are receivers")]
     ReceiverCount,
-    /// The first receiver that was to get what is not due to it: sent too many slots before, or before the first
-    /// slot, or no later than what that receiver's last `Got` named.
+    /// The first receiver whose reception is not due: sent more than K slots before, before slot 0, or no later than
+    /// what its last `Got` gave.
     #[error("receiver {0} was to get what is not due to it")]
     Late(usize),
 }

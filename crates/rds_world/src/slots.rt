@@ -1,4 +1,4 @@
-//! A world by all of its slots.
+//! A world played over a list of slots.
 ghost use Rattle.std.specs.Prelude.{◌≡◌, IfErr, IfOk, IsOk, length, reverse};
 ghost use Rattle.rds_world.specs.Replies.{CanBePlayed, IsPlayRefused};
 ghost use Rattle.rds_world.specs.SafeSlots.{OnlyWhatWasOnAirIsShown};
@@ -8,25 +8,27 @@ use crate::{Config, SlotEvent, StepRefused, World, WorldRefused};
 use std::alloc::Global;
 use thiserror::Error;
 
-/// Why slots are not played.
+/// Why slots cannot be played.
 #[derive(Clone, Copy, Debug, PartialEq, Eq, Error)]
 pub enum PlayRefused {
-    /// More than 8 receivers.
+    /// There are more than 8 receivers.
     #[error("there are more than 8 receivers")]
     TooManyReceivers,
-    /// Not enough memory for the groups of the last slots.
+    /// Out of memory for the messages of the last K + 1 slots.
     #[error("out of memory")]
     Memory,
-    /// The index of the first event that can't be taken, where it has another number of receptions than there are
+    /// The index of the first event that cannot be taken, if it has another number of receptions than there are
     /// receivers.
     #[error("slot {0} has another number of receptions than there are receivers")]
     ReceiverCount(usize),
-    /// That index where the number is right, and the first receiver that was to get what is not due to it.
+    /// The index of the first event that cannot be taken, if a reception is not due, and the first receiver with such a
+    /// reception.
     #[error("in slot {0} receiver {1} was to get what is not due to it")]
     Late(usize, usize),
 }
 
-/// The world after these slots, the first of which is the oldest.
+/// Makes a world and plays these slots, of which the first is the oldest. Error if there are more than 8 receivers, if
+/// a slot is refused, or if out of memory.
 pub fn play(
     alloc: Global,
     config: Config,

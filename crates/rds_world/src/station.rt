@@ -1,4 +1,4 @@
-//! The encoder's part of a slot.
+//! The encoder's part of a slot: the command.
 ghost use Rattle.std.specs.Prelude.{◌≡◌, List};
 ghost use Rattle.rds_encoder.specs.Entries.{Entry};
 ghost use Rattle.rds_encoder.specs.StandsAt.{StandsAt};
@@ -9,7 +9,7 @@ ghost use Rattle.rds_world.specs.State.{distance};
 use crate::{Command, Config, Reply};
 use rds_encoder::{Encoder, Refusal};
 
-/// Does what the command says.
+/// Gives the command to the encoder and returns the reply.
 pub(crate) fn obey(encoder: &mut Encoder, config: &Config, command: &Command) -> Reply
     ensures value { SetsAValue command.now }
     ensures reply { (entries : List Entry)

@@ -1,4 +1,5 @@
-//! What holds of a station and its receivers, whatever the slots are.
+//! Laws about a station and its receivers, whatever the slots are: the headline (receivers show only what was on air),
+//! delivery, and the promises to receivers with the flag bit alone.
 ghost use Rattle.rds_world.specs.Delivery.{ANameIsDelivered, ATextIsDelivered, AnyTextIsDelivered};
 ghost use Rattle.rds_world.specs.FlagStation.{ARestartMixes, InOneLifeNothingIsAsked, NamesOfAStationAreNew};
 ghost use Rattle.rds_world.specs.FlagStation.{NamesOfAStationAreOfTheirSource, TagsOfAStationAreOfTheirText};
@@ -15,7 +16,7 @@ use rds_encoder::{
 };
 use rds_safety::{often_is_enough, safe_by_plans, safe_by_the_flag};
 
-/// What an encoder sends is lawful for its plans.
+/// States that what an encoder sends is lawful for its plans.
 pub fn the_encoder_is_lawful()
     ensures { TheEncoderIsLawful }
 {
@@ -25,7 +26,7 @@ pub fn the_encoder_is_lawful()
     sent_is_of_what_is_on_air();
 }
 
-/// The receivers of a world show only what was on air, wherever it stands.
+/// States the headline: the receivers of each world show only what was on air.
 pub fn only_what_was_on_air_is_shown()
     ensures { EveryWorldShowsOnlyWhatWasOnAir }
 {
@@ -33,8 +34,8 @@ pub fn only_what_was_on_air_is_shown()
     safe_by_plans();
 }
 
-/// A receiver that got each free one of some slots of a broadcast, no more than the dwell, shows it: a text
-/// where twice as many are free as it has segments, any text where 32 are, a name where eight are.
+/// States that a receiver shows a broadcast if it got on time each free one of some slots of it, at most M slots. For a
+/// text of n segments 2n free slots are enough, for any text 32, for a name eight.
 pub fn on_air_is_delivered()
     ensures text { ATextIsDelivered }
     ensures any_text { AnyTextIsDelivered }
@@ -48,16 +49,17 @@ pub fn on_air_is_delivered()
     on_air_is_sent_whole();
 }
 
-/// An encoder turns the flag with each text or name that it accepts, and keeps each for two dwells. After a restart this
-/// needs the empty text first; for the flag alone the bytes that were on air before will do.
+/// States that an encoder turns the flag with each text or name that it accepts, and keeps each for 2d slots if another
+/// one follows. After a restart the empty text has to come first. To turn the flag, the bytes that were on air before
+/// are enough too. Without a restart nothing has to come first.
 pub fn the_station_turns_the_flag()
     ensures turns { TheStationTurnsTheFlag }
     ensures keeps { TheStationKeepsEach }
     ensures one_life { InOneLifeNothingIsAsked }
 {}
 
-/// A receiver with the flag bit alone shows only texts and names that the station set, if it hears a segment in each two
-/// dwells of a text, and only tags of the text shown, if it hears one in each dwell.
+/// States what a receiver with the flag bit alone shows: only texts and names that the station set, if it hears a
+/// segment in each 2d slots of a broadcast; and only tags of the text shown, if it hears one in each d slots.
 pub fn a_station_is_safe_by_the_flag()
     ensures texts { TextsOfAStationAreOfTheirSource }
     ensures names { NamesOfAStationAreOfTheirSource }
@@ -70,8 +72,8 @@ pub fn a_station_is_safe_by_the_flag()
     often_is_enough();
 }
 
-/// Of two free slots of a text, one after the other, one sends a segment. So a receiver with the flag bit alone shows no mix
-/// if it gets enough slots in a row of each two dwells, or loses few enough in a row.
+/// States that of two free slots of a text, one after the other, one sends a segment. So a receiver with the flag bit
+/// alone shows no mix if it gets enough slots in a row of each 2d, or loses few enough in a row.
 pub fn two_slots_are_enough()
     ensures sends { TheStationSendsOneIn }
     ensures texts { WhoGetsSomeShowsTextsOfTheirSource }
@@ -84,8 +86,8 @@ pub fn two_slots_are_enough()
     a_station_is_safe_by_the_flag();
 }
 
-/// If another text than the empty one comes first after a restart, a receiver with the flag bit alone can show a text that
-/// nobody set, although it loses nothing.
+/// States that a receiver with the flag bit alone can show a text that nobody set, although it loses nothing, if
+/// another text than the empty one comes first after a restart.
 pub fn a_restart_mixes()
     ensures { ARestartMixes }
 {}

@@ -1,4 +1,4 @@
-//! A station and its receivers, slot by slot.
+//! The world: a station and its receivers, slot by slot.
 ghost use Rattle.std.specs.Prelude.{◌≡◌, ◌≢◌, ◌+◌, ◌<◌, ◌≤◌, ◌↔◌, [], ◌∷◌};
 ghost use Rattle.std.specs.Prelude.{IsErrOf, IsOk, IsSome, IsTrue, IfOk, IfSome};
 ghost use Rattle.std.specs.Prelude.{MatchResult, OnErr, OnOk, length, option_map, slice_get};
@@ -27,8 +27,8 @@ use rds_receiver::{Receiver, heard};
 use std::alloc::Global;
 use std::marker::Model;
 
-/// The head of every group that the station sends, the dwell of the receivers, and how late a group may reach
-/// them, both in slots.
+/// The configuration of a world: the head of each group that the station sends, the dwell M of the receivers, and the
+/// lateness K, both in slots.
 #[derive(Clone, Copy)]
 pub struct Config {
     pub head: Head,
@@ -38,8 +38,8 @@ pub struct Config {
 
 /// One encoder and up to eight receivers of its programme.
 ///
-/// `StandsAt` is the relation between a world and the list of its slots: a new one stands at the empty list,
-/// and each `step` goes on to the list with that slot.
+/// `StandsAt` relates a world to the list of its slots. A new world stands at the empty list, and each accepted `step`
+/// adds its slot to the list.
 #[derive(Drop)]
 pub struct World {
     config: Config,
@@ -76,8 +76,9 @@ impl Model for World {
 }
 
 impl World {
-    /// A world before its first slot: the encoder at a restart, and receivers that heard nothing yet. It takes the
-    /// memory for the groups of as many slots as one may be late, and one more; no later call takes any.
+    /// Makes a world before its first slot: the encoder at a restart, and receivers that have heard nothing yet. Error
+    /// if there are more than 8 receivers, or if out of memory. It allocates memory for the messages of K + 1 slots; no
+    /// later call allocates.
     pub fn new(alloc: Global, config: Config, receivers: usize) -> Result<World, WorldRefused>
         ensures refused { IsErrOf result WorldRefused.TooManyReceivers ↔ (MOST_RECEIVERS < receivers) }
         ensures few { IsOk result → receivers ≤ MOST_RECEIVERS }
@@ -102,8 +103,8 @@ impl World {
         })
     }
 
-    /// One slot: the command, then the encoder's part, then the receivers'. A command that is refused is
-    /// answered, and the slot goes on. A slot that is refused leaves the world as it was.
+    /// Plays one slot: the command, then the encoder's part, then the receivers' part. If the encoder refuses the
+    /// command, the answer says so and the slot goes on. Error if the slot is refused; the world is then unchanged.
     pub fn step(&mut self, event: &SlotEvent) -> Result<Answer, StepRefused>
         ensures counted { IsErrOf result StepRefused.ReceiverCount
             ↔ (length event.now.receptions ≢ length self.old.receivers) }
@@ -121,7 +122,7 @@ impl World {
         ensures safe { WhereItStands self.old (λ config events.
             OnOk result (OnlyWhatWasOnAirIsShown config (event.now ∷ events) self.new.receivers)) }
     {
-        // the law by which `safe` holds
+        // Prover: a call of a law, which gives the clause `safe` (docs/PROVER.md, "Idioms").
         only_what_was_on_air_is_shown();
         let receptions = event.receptions.as_slice();
         if receptions.len() != self.count {
@@ -133,7 +134,7 @@ impl World {
         };
         let reply = obey(&mut self.encoder, &self.config, &event.command);
         let sent = self.encoder.tick(event.free);
-        // a copy by a name of its own: what is answered may not have been lent
+        // Prover: a `Copy` value is copied by a new name before its second use (docs/PROVER.md, "Workarounds").
         let handed = sent;
         self.recent.push(heard(self.config.head.pi, handed));
         self.stays = hand_out(
@@ -146,7 +147,8 @@ impl World {
         Ok(Answer { reply, sent })
     }
 
-    /// The text and the name on air, lent: up to 64 bytes, and eight; `None` where none is.
+    /// Returns the text on air, at most 64 bytes, and the name on air, eight bytes, borrowed from the encoder. None for
+    /// each that is not on air.
     pub fn on_air(&self) -> (Option<&[u8]>, Option<&[u8]>)
         ensures text { WhereItStands self.now (λ config events. option_copied result.0
             ≡ option_map bytes_of (on_air (distance config) (text_moves (entries events)))) }
@@ -156,7 +158,7 @@ impl World {
         (self.encoder.text(), self.encoder.name())
     }
 
-    /// Receiver i; they are counted from 0.
+    /// Returns receiver i, counted from 0, borrowed from the world. None if there are no more than i receivers.
     pub fn receiver(&self, i: usize) -> Option<&Receiver>
         ensures there { IsSome result ↔ (i < length self.now.receivers) }
         ensures same { option_copied result ≡ slice_get self.now.receivers i }
@@ -169,7 +171,7 @@ impl World {
         self.receivers[..self.count].get(i)
     }
 
-    /// Whether receiver i is known to show what it showed before the last slot.
+    /// Returns true only if receiver i shows what it showed before the last slot.
     pub fn stays(&self, i: usize) -> bool
         ensures { IsTrue result → WhereItStands self.now
             (λ config events. ShowsStill config i events) }

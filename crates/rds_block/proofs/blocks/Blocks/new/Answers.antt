@@ -8,7 +8,7 @@ use Rattle.rds_block.proofs.blocks.Blocks.new.Goals as goal
 abbrev number : ℕ → ℕ → ℕ → ℕ → ℕ
 number a b c d = 2 ^ 48 * a + 2 ^ 32 * b + 2 ^ 16 * c + d
 
--- four words joined by shifts
+-- joining four words by shifts gives their number
 joined : (a b c d : ℕ) → a < 65536 → b < 65536 → c < 65536 → d < 65536 →
     bit_or (bit_or (bit_or (a * 2 ^ 48 % 2 ^ 64) (b * 2 ^ 32 % 2 ^ 64)) (c * 2 ^ 16 % 2 ^ 64)) d ≡ number a b c d
 joined a b c d ha hb hc hd =
