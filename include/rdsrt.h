@@ -1,9 +1,10 @@
 /* rdsrt.h: receivers, encoders and audits of RDS texts (IEC 62106), for C11 and C++17 on Linux (x86-64, 64-bit Arm).
  *
- * FM stations send RadioText (up to 64 characters), a programme type name (PTYN, 8 characters; "name" below) and the
- * tags of RadioText Plus (RT+) in groups of four blocks of 16 bits. A SLOT is the time of one group: 104 bits at 1187.5
- * bit/s, about 88 ms. All times of this library are slots, and you count them: make one call for each slot, lost slots
- * too.
+ * FM stations send RadioText (up to 64 characters), a name (8 characters) and the tags of RadioText Plus (RT+) in groups
+ * of four blocks of 16 bits. Name: the programme type name (PTYN, group 10A); the station name (PS) is not handled.
+ *
+ * A SLOT is the time of one group: 104 bits at 1187.5 bit/s, about 88 ms. All times of this library are slots, and you
+ * count them: make one call for each slot, lost slots too.
  *
  * A receiver:
  *

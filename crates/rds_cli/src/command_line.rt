@@ -141,7 +141,8 @@ fn decode<'a>(alloc: Global) -> Result<Command<'a>, AllocError>
 {
     let page = Page {
         about: "Reads a log of received groups and prints what a receiver shows",
-        ending: "Prints one line for each change of the text, the name (PTYN) or the RT+ tags.\n\
+        ending: "Prints one line for each change of the text, the name or the RT+ tags.\n\
+                 name: the programme type name (PTYN, group 10A); the station name (PS) is not handled.\n\
                  A log has one line for each slot, lost slots too (---- ---- ---- ----).\n\n\
                  A receiver counts its own slots and needs M alone, so decode has no --k. K belongs\n\
                  to the station: encode, sim and audit have it.\n\n\
@@ -193,7 +194,8 @@ fn audit<'a>(alloc: Global) -> Result<Command<'a>, AllocError>
                    TagOutside  An RT+ tag ends past the end of its text. Count the start from 0,\n              \
                                send the number of characters less one as the length, and set\n              \
                                the tags after their text.\n\
-                 Names (PTYN) have the first three faults too.\n\n\
+                 Names (PTYN) have the first three faults too.\n\
+                 name: the programme type name (PTYN, group 10A); the station name (PS) is not handled.\n\n\
                  Example:\n  \
                    $ rdsrt audit --pi C201 --m 8 < examples/flags.log\n  \
                    no 4 EarlyFlag",
@@ -211,6 +213,7 @@ fn witness<'a>(alloc: Global) -> Result<Command<'a>, AllocError>
         ending: "Prints `lose A-B: ` and a line of `decode`, status 1: a receiver with this M that loses\n\
                  the slots A to B shows this text, name or tag in that slot. A receiver that loses\n\
                  nothing does not show it up to M - 1 slots after that slot.\n\
+                 name: the programme type name (PTYN, group 10A); the station name (PS) is not handled.\n\
                  Prints `no witness found with one burst lost`, status 0, if no burst of lost slots\n\
                  makes a mix of a text or a name. A tag or two bursts may still make one. If the line\n\
                  ends with ` up to slot N`, the search stopped there.\n\n\
@@ -242,7 +245,8 @@ fn encode<'a>(alloc: Global) -> Result<Command<'a>, AllocError>
         ending: "A row of the script is one slot: COMMAND,ARGUMENT,FREE,RECEPTIONS. The last field is\n\
                  empty here, for example text,HI,1, or -,,1, if nothing is set. Replies to commands\n\
                  are comments in the log. The station is silent in the first M + K rows. At the\n\
-                 default M of 128, put 128 rows such as -,,1, before the first text.\n\n\
+                 default M of 128, put 128 rows such as -,,1, before the first text.\n\
+                 name: the programme type name (PTYN, group 10A); the station name (PS) is not handled.\n\n\
                  Example:\n  \
                    $ printf -- '-,,1,\\ntext,HI,1,\\n' | rdsrt encode --pi C201 --m 1\n  \
                    ---- ---- ---- ----\n  \
@@ -263,7 +267,8 @@ fn simulate<'a>(alloc: Global) -> Result<Command<'a>, AllocError>
                  text,HI,1,GGL. RECEPTIONS has a letter for each receiver: G gets the group of this\n\
                  slot, G3 gets the group sent 3 slots before, L loses it, R restarts. The station is\n\
                  silent in the first M + K rows. At the default M of 128, put 128 rows such as\n\
-                 -,,1,GGL before the first text.\n\n\
+                 -,,1,GGL before the first text.\n\
+                 name: the programme type name (PTYN, group 10A); the station name (PS) is not handled.\n\n\
                  Example:\n  \
                    $ printf -- '-,,1,G\\ntext,HI,1,G\\n' | rdsrt sim --pi C201 --m 1\n  \
                    1 text ok\n  \
@@ -281,7 +286,8 @@ fn top<'a>(alloc: Global) -> Command<'a>
         .version("0.1.0")
         .about(
             "Encoder, receiver and audit for RDS texts that are never a mix of two\n\
-             Each command reads standard input and writes standard output.",
+             Each command reads standard input and writes standard output.\n\
+             name: the programme type name (PTYN, group 10A); the station name (PS) is not handled.",
         )
         .after_help(
             "Example:\n  \
