@@ -1,6 +1,6 @@
 #!/usr/bin/env python3
-"""Writes engine.js and examples.js, the module and the examples, and page.js, the scripts of the page in one. All are
-scripts, so that the page opens from a disk too.
+"""Writes engine.js (the module), examples.js (the examples) and page.js (the scripts of the page, joined in one order).
+All three are scripts, so that a browser can open the page from a disk too.
 
 usage: build.py MODULE EXAMPLES OUT      writes all of them
        build.py --scripts OUT            writes page.js alone
@@ -14,7 +14,7 @@ import os
 import re
 import sys
 
-HERE = os.path.dirname(os.path.abspath(__file__))
+PAGE_FOLDER = os.path.dirname(os.path.dirname(os.path.abspath(__file__)))
 # Each script uses only names of scripts before it. A worker runs those of WORKER.
 WORKER = ["lines.js", "rdsrt.js", "flag-alone.js", "logfile.js", "arrivals.js", "witness.js", "worker.js"]
 PAGE = ["lines.js", "rdsrt.js", "records.js", "flag-alone.js", "logfile.js", "painter.js", "picture.js", "timeline.js", "parts.js",
@@ -69,7 +69,7 @@ def write(out, name, constant, value):
 
 
 def read(name):
-    with open(os.path.join(HERE, name), encoding="utf-8") as file:
+    with open(os.path.join(PAGE_FOLDER, name), encoding="utf-8") as file:
         return file.read()
 
 
@@ -87,7 +87,7 @@ def joined(names):
 
 def write_scripts(out):
     """Writes page.js: the text of the worker's scripts, and the scripts of the page."""
-    missing = {name for name in os.listdir(HERE) if name.endswith(".js")} - {*WORKER, *PAGE}
+    missing = {name for name in os.listdir(PAGE_FOLDER) if name.endswith(".js")} - {*WORKER, *PAGE}
     if missing:
         sys.exit(f"build.py: no order for {', '.join(sorted(missing))}")
     page = joined(PAGE).replace('"use strict";\n', "", 1)
