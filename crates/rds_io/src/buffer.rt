@@ -5,7 +5,7 @@ ghost use Rattle.std.specs.Io.KnownBytes.{Appends};
 ghost use Rattle.rds_charset.specs.Told.{AppendsPrefix};
 ghost use Rattle.rds_io.specs.OutputBuffer.{failures_in, given_to, kept_in, writer_in};
 
-use rds_charset::{TellingWrite, Told, WriteFault, put};
+use rds_charset::{Told, WriteFault, put};
 use std::cell::RefCell;
 use std::io::{self, ErrorKind, Read, Write};
 use std::marker::Model;
@@ -156,20 +156,16 @@ pub fn send<W: Write>(output: &RefCell<OutputBuffer<W>>) -> io::Result<()> {
     output.send().map_err(|_| no_write())
 }
 
-/// A writer into a shared buffer, which counts its own failures. The reader that flushes the buffer shares it.
+/// A writer into a shared buffer. The reader that flushes the buffer shares it.
 #[derive(Drop)]
 pub struct BufferedWriter<'a, W> {
     output: &'a RefCell<OutputBuffer<W>>,
-    failures: u64,
 }
 
 impl<'a, W> BufferedWriter<'a, W> {
     /// Makes a writer into this buffer.
     pub fn new(output: &'a RefCell<OutputBuffer<W>>) -> Self {
-        BufferedWriter {
-            output,
-            failures: 0,
-        }
+        BufferedWriter { output }
     }
 }
 
@@ -183,27 +179,6 @@ impl<W: Write> Write for BufferedWriter<'_, W> {
 
     fn flush(&mut self) -> io::Result<()> {
         send(self.output)
-    }
-}
-
-impl<W: Write> TellingWrite for BufferedWriter<'_, W> {
-    ghost failures = { λ gathering. gathering.failures };
-
-    fn write_one(&mut self, buf: &[u8]) -> Option<usize> {
-        if self.failures == u64::MAX {
-            return None;
-        }
-        let taken = match self.output.try_borrow_mut() {
-            Ok(mut output) => output.keep(buf).ok(),
-            Err(_) => None,
-        };
-        match taken {
-            Some(count) if count > 0 || buf.is_empty() => Some(count),
-            _ => {
-                self.failures += 1;
-                None
-            }
-        }
     }
 }
 

@@ -78,7 +78,8 @@ fn run_and_send<R: Read, W: Write>(
     requires { reads_of input.old ≡ 0 }
     ensures { EndsRead read.entry (reads_of input.new ≡ 0) result }
 {
-    let status = run_read(alloc, read, input, &mut BufferedWriter::new(output), notes);
+    let mut writer = Told::new(BufferedWriter::new(output));
+    let status = run_read(alloc, read, input, &mut writer, notes);
     let all_out = send(output).is_ok();
     let was_read = input.reads() > 0;
     if was_read && !all_out {
