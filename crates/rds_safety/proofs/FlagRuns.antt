@@ -27,7 +27,7 @@ harmless_on x y z u (inr none) = inr none
 harmless_on x y z (inl e) (inl f) = inl (e ∙ f)
 harmless_on x y z (inr none) (inl f) = inr (sym f ∙ none)
 
--- what was sent earlier came earlier
+-- an entry that was sent earlier came earlier
 pub came_earlier : {X : Type 0} (log : List (Option X)) (input : InputOf X) (t u r s : ℕ) → IsHeardInOrder log input → CameFrom input t r → CameFrom input u s → r < s → t < u
 came_earlier log input t u r s order p q less =
     elim (cases_order t u) [

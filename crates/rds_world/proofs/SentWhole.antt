@@ -55,7 +55,7 @@ free_told (e ∷ newer) oldest =
     ap free_in (commanded_front e.command (entries newer) (Tick oldest.free ∷ [])) ∙ free_commanded e.command (told_since newer oldest) ∙ free_told newer oldest in
     omega (arith, rest)
 
--- a receiver heard what it got in a free slot, and what it heard before
+-- a receiver heard each free slot that it got, and all that it heard before
 heard_now : (r : Reception) (free : Bool) (slot : ℕ) (sent : Option Message) (before : List (Option Message)) (input : Input) (message : Message) → GetsIfFree free r → sent ≡ Some message
     → (free ≡ false → sent ≡ None) → input.first + length input.heard ≡ slot
     → HasEntry (received r slot (sent ∷ before) input).first (received r slot (sent ∷ before) input).heard slot (Some message)

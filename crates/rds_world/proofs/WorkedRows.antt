@@ -1,4 +1,4 @@
--- Worked examples of what is due and what a receiver hears, calculated by hand. Lists have the newest first.
+-- Worked examples of due receptions and of inputs, calculated by hand. Lists have the newest first.
 use Rattle.std.proofs.Common.{◌≡◌, ◌-◌, ◌<◌, ℕ, List, ◌∷◌, Option, Some, None, refl, ap, arith}
 use Rattle.rds_fields.specs.declared.message.Message.{Message}
 use Rattle.rds_safety.specs.Late.{Input}
