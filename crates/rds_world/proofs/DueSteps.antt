@@ -16,7 +16,7 @@ use Rattle.rds_world.specs.StandsAt.{AreLastSent, IsHeardOfSome}
 use Rattle.rds_world.specs.declared.world.Config.{Config}
 use Rattle.rds_world.proofs.Received.{hears_sent}
 
--- the slot of the last `Got` came before this one
+-- the slot whose message the last `Got` gave came before this one
 pub named_past : (i : ℕ) (events : List Event) → IfSome (last_named i events) (λ s. s < length events)
 named_past i [] = tt
 named_past i (e ∷ before) = by (slice_index_or e.receptions i Lost) (last_named i before) (named_past i before)

@@ -11,7 +11,8 @@ use rds_fields::Late;
 use std::marker::Model;
 
 /// A bound on how many slots back a receiver may get a message (this project's own rule): fewer slots than this. So no
-/// message comes more than K slots late, and none from before the one that the last `Got` gave. At most K + 1 slots.
+/// message comes more than K slots late, and each was sent later than the one that the last `Got` gave. At most K + 1
+/// slots.
 #[derive(Clone, Copy)]
 pub(crate) struct Reach {
     slots: u16,
