@@ -16,7 +16,7 @@ restart_by_now (Begin ∷ before) = omega arith
 restart_by_now (Set x ∷ before) = restart_by_now before
 restart_by_now (End free ∷ before) = omega (arith, restart_by_now before)
 
--- a set is accepted only if the silence is over and 2m slots have passed since the one before
+-- a set is accepted only if 2m slots have passed since the one before
 not_held_back : (m now : ℕ) (last : Option ℕ) → is_ok (held_reply m now last) ≡ true → IfSome last (λ a. a + 2 * m ≤ now)
 not_held_back m now None h = tt
 not_held_back m now (Some a) h = cond_both (nat_lt now (a + 2 * m)) _ _ (λ (r : Reply). is_ok r ≡ true → a + 2 * m ≤ now) (λ t e. absurd (cc)) (λ f e. ltb-false _ _ f) h

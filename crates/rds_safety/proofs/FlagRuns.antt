@@ -59,8 +59,7 @@ module _ (laws : PlanLaws) (names_one : EachNumberNamesOne) (d now : ℕ) (pick 
   abbrev IsNext : ℕ → Segment → Type 0
   IsNext slot h = (x : Segment) → IsIn all_segments x → h.slot < x.slot → x.slot < slot → ⊥
 
-  -- so of the broadcasts that are not empty, at most the next one began after that of h and by the slot in which this
-  -- was sent
+  -- so each broadcast that began by slot s is at most the next one after that of h, or is empty
   pub none_passes : (slot s : ℕ) (h : Segment) (r k l : ℕ) (a b : Broadcast) → IsNext slot h → ((t q : ℕ) → CameFrom input t q → q < s → t < slot) → s ≤ now
       → IsPicked pick input.first input.heard h → CameFrom input h.slot r → HasNumber plan k a → HasNumber plan l b → Covers a r → b.start ≤ s
       → k + 1 < l → b.bytes ≢ [] → ⊥
