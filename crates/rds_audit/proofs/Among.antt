@@ -1,4 +1,4 @@
--- Lemmas: each broadcast of which a fragment was sent has a reign.
+-- Lemmas: each broadcast with a sent fragment has a reign.
 use Rattle.std.proofs.Common.{◌≡◌, ℕ, List, [], ◌∷◌, length, subst, inl, inr, arith}
 use Rattle.std.proofs.lemmas.Bool.{cases_order}
 use Rattle.rds_encoder.specs.Plan.{Broadcast, Covers, HasNumber}

@@ -85,7 +85,7 @@ safe_by_flag laws safe_texts safe_names safe_tags d log some passes =
 
 -- ---- without a pause the flag turns from each reign to the next one
 
--- two tests of which one fails and the other does not
+-- two tests: one fails and the other does not
 first_fails : (a b : Bool) → (a && b) ≡ false → b ≡ true → a ≡ false
 first_fails true b both holds = absurd (cc)
 first_fails false b both holds = refl

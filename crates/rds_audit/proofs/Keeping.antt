@@ -25,7 +25,7 @@ pub record IsKept (d : ℕ) (sent : List Mark) (r : Reign) : Type 0 where
 abbrev pub AllBehind : List Mark → List Reign → Type 0
 AllBehind sent rs = (u : ℕ) → IsMarked sent u → IsBehind sent rs u
 
--- each reign is kept, and all that was sent before it opened belongs to those before it
+-- each reign is kept, and each mark before it opened is behind the reigns before it (`IsBehind`)
 abbrev pub AreKept : ℕ → List Mark → List Reign → Type 0
 AreKept d sent [] = Unit {0}
 AreKept d sent (r ∷ older) = IsKept d sent r × ((u : ℕ) → IsMarked sent u → u < r.opened → IsBehind sent older u) × AreKept d sent older
@@ -139,7 +139,7 @@ joined_kept d sent p r older near h k =
         let now = early sent t (Sends g) st in
         bridged_later d (Sends p) sent u t (k.0.dense u t q g (sent_before (Sends p) sent u (Sends q) (omega arith) su) st from lt (h t (fragment_is_marked sent t g st)))
 
--- both for a list of reigns
+-- the reigns are kept, and all marks are behind them
 abbrev pub Keeps : ℕ → List Mark → List Reign → Type 0
 Keeps d sent rs = AreKept d sent rs × AllBehind sent rs
 

@@ -18,7 +18,7 @@ use Rattle.rds_safety.specs.Flags.{other_flag, same_flag}
 use Rattle.rds_audit.proofs.Keeping.{AreKept, IsBehind, Keeps, keeps}
 use Rattle.rds_audit.proofs.Sending.{TagsAreAfter, early, one_mark, fragment_is_marked, sent_before, tags_are_marked}
 
--- each reign starts where one can start after those before it
+-- each reign starts as early as one can after those before it
 abbrev pub IsChained : ℕ → List Reign → Type 0
 IsChained d [] = Unit {0}
 IsChained d (r ∷ older) = (r.start ≡ start_after d r.flag older) × IsChained d older
@@ -48,7 +48,7 @@ pub record HoldsTags (t : ℕ) (pair : PairFields) (r : Reign) : Type 0 where
   pub to : t ≤ r.last
   pub listed : IsIn record { slot = t; pair = pair } r.tags
 
--- one more slot keeps what the reigns hold
+-- one more slot keeps the marks that the reigns hold
 fragment_stays : (d now t : ℕ) (p q : Fragment) (rs : List Reign) → t ≤ now → SomeReign (HoldsFragment t p) rs → SomeReign (HoldsFragment t p) (after_fragment d now q rs)
 fragment_stays d now t p q [] le h = absurd h
 fragment_stays d now t p q (r ∷ older) le h =
@@ -220,7 +220,7 @@ tags_planned d kind t pair (r ∷ older) a (inl h) = record {
   };
 }
 
--- what was sent in a reign's broadcast was sent after the reign was opened
+-- a mark in a reign's broadcast was sent after the reign was opened
 since_opened : (d : ℕ) (sent : List Mark) (r : Reign) (older : List Reign) (u : ℕ) → 0 < d → r.start ≡ start_after d r.flag older → r.start ≤ u → IsBehind sent older u → (q : Fragment) → IsMarkIn sent u (Sends q) → ⊥
 since_opened d sent r [] u pos c from b q s = b q s
 since_opened d sent r (e ∷ older) u pos c from b q s = omega (arith, starts_after d r.flag e older pos)

@@ -23,7 +23,7 @@ use Rattle.rds_safety.specs.Flags.{is_same_flag, same_flag}
 use Rattle.rds_audit.proofs.Keeping.{AreKept, Keeps, keeps}
 use Rattle.rds_audit.proofs.Sending.{TagsAreAfter, after_later, early, marked_early}
 
--- the state that follows from these reigns, each of which can be a broadcast
+-- the state that follows from these reigns, if each can be a broadcast
 pub record Holds (g : Gauge) (d now : ℕ) (rs : List Reign) (st : ReignsState) : Type 0 where
   pub ages : HoldsAges d now rs st.ages
   pub content : HoldsContent g (fragments_of rs) (tags_of rs) st.content

@@ -1,4 +1,4 @@
--- Lemmas: what was sent before and after one more slot.
+-- Lemmas: the marks before and after one more slot.
 use Rattle.std.proofs.Common.{◌≡◌, ◌<◌, ℕ, List, [], ◌∷◌, length, sym, ◌∙◌, inl, inr, arith}
 use Rattle.rds_fields.specs.Tag.{PairFields}
 use Rattle.rds_receiver.specs.Receipts.{Fragment}

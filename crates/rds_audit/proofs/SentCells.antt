@@ -38,7 +38,7 @@ cell_of (q ∷ older) p u (inr i) = by (nat_eq p.address q.address) refl (cell_o
     by false t e = e
     by true t e = ap Some (sym (all_in (λ (x : Fragment). x.address ≡ q.address → x.bytes ≡ q.bytes) p older u.0 i (eqb-true p.address q.address t)))
 
--- the newest fragment leaves the addresses unchanged exactly where its own holds nothing or its bytes
+-- the newest fragment keeps the addresses unchanged exactly if its own holds nothing or its bytes
 pub unchanged_by : (p : Fragment) (older : List Fragment) → AreUnchanged older → (sent_last p.address older ≡ None) ⊎ (sent_last p.address older ≡ Some p.bytes) → AreUnchanged (p ∷ older)
 unchanged_by p older u h = (each older (λ q i. i), u)
   where

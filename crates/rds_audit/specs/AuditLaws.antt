@@ -45,8 +45,8 @@ abbrev pub SomeReign : (Reign → Type 0) → List Reign → Type 0
 SomeReign Is [] = ⊥
 SomeReign Is (r ∷ older) = Is r ⊎ SomeReign Is older
 
--- the reigns are the broadcasts of which a fragment was sent, in order: each reign is of one broadcast, and each of
--- these broadcasts has a reign
+-- the reigns are the broadcasts with a sent fragment, in order: each reign is of one broadcast, and each of these
+-- broadcasts has a reign
 pub record AreTheReigns (d : ℕ) (kind : Kind) (plan : List Broadcast) (sent : List Mark) : Type 0 where
   pub each : AreReignsOf d kind plan (length plan) (reigns d sent)
   pub all : (k : ℕ) (b : Broadcast) (slot : ℕ) (p : Fragment) → HasNumber plan k b → HasFragment kind slot p b

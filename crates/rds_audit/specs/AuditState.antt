@@ -49,7 +49,7 @@ pub record HasRoom (allowed : Option Lengths) (l : Lengths) : Type 0 where
   pub some : is_some allowed ≡ true
   pub room : (narrowed allowed l).least ≤ (narrowed allowed l).most
 
--- these bytes, which allow these lengths, can be sent at the address together with what is held
+-- these bytes, which allow these lengths, can be sent at the address together with the content held
 pub record CanTake (allowed : Option Lengths) (address : ℕ) (bytes : List ℕ) (c : ContentState) : Type 0 where
   pub unchanged : HoldsNoOther address bytes c
   pub lengths : HasRoom allowed c.lengths

@@ -1,4 +1,4 @@
--- When a plan is dense for what a service sent (this project's own rule): within a broadcast, less than d slots pass
+-- When a plan is dense for the marks of a service (this project's own rule): within a broadcast, less than d slots pass
 -- from a fragment or tags to the next fragment. So the fragments of one broadcast can be separated from those of two.
 -- Lists have the newest first.
 use Rattle.std.specs.Prelude.{◌≢◌, ◌≤◌, ◌<◌, ◌+◌, ℕ, List, Option}
@@ -45,7 +45,7 @@ pub record AreDense (d : ℕ) (plans : Plans) (log : List (Option Message)) : Ty
   pub text : IsDense d plans.text (marks text_mark log)
   pub name : IsDense d plans.name (marks name_mark log)
 
--- the service has a plan that is lawful and dense for what it sent
+-- the service has a plan that is lawful and dense for these marks
 pub record HasPlan (d : ℕ) (kind : Kind) (sent : List Mark) : Type 0 where
   pub plan : List Broadcast
   pub lawful : IsLawful d kind plan sent

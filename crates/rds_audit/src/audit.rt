@@ -47,8 +47,8 @@ pub enum AuditFault {
     TagOutside,
 }
 
-/// Audits a log: what a station sent, slot by slot. A log passes exactly if it has plans of texts and of names that are
-/// lawful and dense, with a spacing of M + K slots.
+/// Audits a log: the groups of a station, slot by slot. A log passes exactly if it has plans of texts and of names that
+/// are lawful and dense, with a spacing of M + K slots.
 ///
 /// It holds ages that stop at a limit, and no slot numbers, so a log may have any number of slots. `AuditStandsAt`
 /// relates an audit to its log. A new audit stands at the empty log, and each `slot` adds its slot to the log.
@@ -211,7 +211,7 @@ impl Audit {
         self.passed() && self.name.turns()
     }
 
-    /// Takes what was sent in this slot. Error if it breaks a rule.
+    /// Takes the group of this slot, if it is one of the programme. Error if it breaks a rule.
     #[inline(always)]
     fn take_slot(&mut self, group: Option<Blocks>) -> Result<(), AuditFault>
         ensures programme { self.new.programme ≡ self.old.programme }

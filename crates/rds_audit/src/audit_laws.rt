@@ -14,7 +14,7 @@ pub fn passes_by_plans()
     plan_laws();
 }
 
-/// States that for each lawful and dense plan, the broadcasts of which a segment was sent are the reigns, in order.
+/// States that for each lawful and dense plan, the broadcasts with a sent segment are the reigns, in order.
 pub fn broadcasts_are_the_reigns()
     ensures texts { BroadcastsAreTheReigns texts }
     ensures names { BroadcastsAreTheReigns names }
@@ -39,9 +39,9 @@ pub fn one_fault()
     passes_by_plans();
 }
 
-/// States what a log that passes promises to receivers with the flag bit alone: if its flag turns from each reign to
-/// the next, and they hear a segment of each reign, they show only what the plans have. The flag always turns so if
-/// each segment except the first comes less than d slots after a segment or tags.
+/// States a promise to receivers with the flag bit alone: if the flag of a log that passes turns from each reign to the
+/// next, and they hear a segment of each reign, they show only texts, names and tags of the plans. The flag always
+/// turns so if each segment except the first comes less than d slots after a segment or tags.
 pub fn what_passes_is_safe_by_the_flag()
     ensures safe { WhatPassesIsSafeByTheFlag }
     ensures without_pause { WithoutPauseFlagsAlternate }

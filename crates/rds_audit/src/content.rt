@@ -88,8 +88,8 @@ impl<S: Audited> Content<S> {
         }
     }
 
-    /// Takes a segment if some value has it together with what was sent. Otherwise error `Changed`, `NotOneText` or
-    /// `TagOutside`.
+    /// Takes a segment if some value has it together with the segments and tags before. Otherwise error `Changed`,
+    /// `NotOneText` or `TagOutside`.
     pub(crate) fn take(&mut self, address: u8, bytes: [u8; 4]) -> Result<(), AuditFault>
         requires { address < S.gauge.segments }
         ensures can { IfOk result

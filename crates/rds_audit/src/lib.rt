@@ -1,5 +1,5 @@
-//! The audit of a log: an `Audit` takes what some encoder sent, slot by slot. A log passes exactly if it has plans of
-//! broadcasts that are lawful and dense. Then no receiver of that log that keeps to M and K shows a mix.
+//! The audit of a log: an `Audit` takes the groups of some encoder, slot by slot. A log passes exactly if it has plans
+//! of broadcasts that are lawful and dense. Then no receiver of that log that keeps to M and K shows a mix.
 #![tactic(auto)]
 
 mod ages;

@@ -100,7 +100,7 @@ has_word text at a b c d =
 pub word_fits : (text : List ℕ) (at : ℕ) → HasWord text at (word_of text at) → word_of text at < 65536
 word_fits text at has = omega (arith, has.first, has.second, has.third, has.fourth, has.word)
 
--- the bytes of a line of which all sixteen lanes pass
+-- the bytes of a line whose sixteen lanes all pass
 abbrev pub AllPass : List ℕ → Type 0
 AllPass text = mask_l (passes (slice_index text 0) ∷ passes (slice_index text 1) ∷ passes (slice_index text 2) ∷ passes (slice_index text 3) ∷ passes (slice_index text 5) ∷ passes (slice_index text 6) ∷ passes (slice_index text 7) ∷ passes (slice_index text 8) ∷ passes (slice_index text 10) ∷ passes (slice_index text 11) ∷ passes (slice_index text 12) ∷ passes (slice_index text 13) ∷ passes (slice_index text 15) ∷ passes (slice_index text 16) ∷ passes (slice_index text 17) ∷ passes (slice_index text 18) ∷ []) % 2 ^ 64 ≡ 65535
 

@@ -19,8 +19,8 @@ pub trait TellingRead: Read {
     /// Asks the reader once for bytes, and returns how many it put at the front of `buf`.
     ///
     /// `Some(0)` is the end, unless `buf` is empty. `None` is a failure: no byte was taken from the reader, and the
-    /// contents of `buf` have no meaning. An interrupted read is a failure too. If the count of failures is at 2^64 -
-    /// 1, it cannot rise, so the reader is not asked and the call fails.
+    /// contents of `buf` have no meaning. An interrupted read is a failure too. If the count of failures is at
+    /// 2^64 - 1, it cannot rise, so the reader is not asked and the call fails.
     fn read_one(&mut self, buf: &mut [u8]) -> Option<usize>
         ensures one { ReadsOne (traffic Self.remaining failures self.old self.new) result buf.new }
         ensures counts { reads self.new ≡ next_count (reads self.old) };

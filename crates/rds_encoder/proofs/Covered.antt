@@ -9,7 +9,7 @@ abbrev or_nothing : Option OnAir → OnAir
 or_nothing None = record { start = 0; flag = false; bytes = [] }
 or_nothing (Some air) = air
 
--- what is on air is in the plan
+-- the text or name on air is in the plan
 pub planned : (m end : ℕ) (moves : List Move) (air : OnAir) → on_air m moves ≡ Some air → (k : ℕ) × HasNumber (plan_of m end moves) k (ending_in end air)
 planned m end [] air e = absurd (cc)
 planned m end (Begin ∷ before) air e = absurd (cc)

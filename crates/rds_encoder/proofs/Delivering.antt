@@ -33,7 +33,7 @@ one_of_rest n first a h = by_rest (cases_lt a (first % n))
     by_rest (inr more) =
         (first / n * n + a, omega (arith, whole, short, more), omega (arith, whole, short, more, h), mod-mul-add (first / n) n a h)
 
--- what is on air throughout is on air at the end
+-- a value that is on air throughout is on air at the end
 is_on : (moves : List Entry → List Move) (m : ℕ) (air : OnAir) (later earlier : List Entry) → IsOnThroughout moves m air later earlier → on_air m (moves (later ++ earlier)) ≡ Some air
 is_on moves m air [] earlier t = t
 is_on moves m air (entry ∷ later) earlier t = t.0

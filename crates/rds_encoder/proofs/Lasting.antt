@@ -1,4 +1,4 @@
--- Lemmas: what was on air stays planned, and was on air before.
+-- Lemmas: a text or name that was on air stays planned, and was on air before.
 use Rattle.std.proofs.Common.{◌≡◌, ℕ, ◌-◌, ◌<◌, ◌≤◌, List, [], ◌∷◌, ◌++◌, Bool, true, false, Option, Some, None, refl, sym, ap, inl, inr, ◌⊎◌, arith, is_ok, length}
 use Rattle.rds_encoder.specs.Entries.{Move, Begin, Set, End, slot_of}
 use Rattle.rds_encoder.specs.Reply.{reply_to}

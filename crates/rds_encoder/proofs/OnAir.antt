@@ -1,4 +1,4 @@
--- Lemmas: what is on air, beside the last accepted set and the flag of the next one.
+-- Lemmas: the text or name on air, beside the last accepted set and the flag of the next one.
 use Rattle.std.proofs.Common.{◌≡◌, ℕ, zero, suc, ◌+◌, ◌-◌, ◌*◌, ◌%◌, ◌<◌, ◌≤◌, List, [], ◌∷◌, Bool, true, false, cond, nat_lt, nat_le, Option, Some, None, refl, sym, ap, ◌∙◌, arith, is_ok, option_map}
 use mathlib.Core.Bool.{not}
 use Rattle.std.specs.Prelude.{◌==◌, IfSome}
@@ -10,7 +10,7 @@ use Rattle.rds_encoder.specs.Reply.{last_accepted, reply_to}
 abbrev pub start_of : OnAir → ℕ
 start_of air = air.start
 
--- what is on air began with the last accepted set
+-- the text or name on air began with the last accepted set
 pub start_on_air : (m : ℕ) (moves : List Move) → option_map start_of (on_air m moves) ≡ last_accepted m moves
 start_on_air m [] = refl
 start_on_air m (Begin ∷ before) = refl
@@ -37,7 +37,7 @@ abbrev flag_or : Option OnAir → Bool
 flag_or None = false
 flag_or (Some air) = air.flag
 
--- what is on air has the flag that the next one does not have
+-- the text or name on air has the flag that the next one does not have
 pub flag_on_air : (m : ℕ) (moves : List Move) (air : OnAir) → on_air m moves ≡ Some air → not (next_flag m moves) ≡ air.flag
 flag_on_air m [] air e = absurd (cc)
 flag_on_air m (Begin ∷ before) air e = absurd (cc)
@@ -86,7 +86,7 @@ lasts_alike left m start now e = by_test (nat_le left m) refl
     by_test true t = grind (arith, nat_tests)
     by_test false t = grind (arith, nat_tests)
 
--- what is on air began after the silence
+-- the text or name on air began after the silence
 pub air_since : (m : ℕ) (moves : List Move) (air : OnAir) → on_air m moves ≡ Some air → (restart_before moves + m ≤ air.start) × (air.start ≤ slot_of moves)
 air_since m moves air e =
     let last : last_accepted m moves ≡ Some air.start = sym (start_on_air m moves) ∙ ap (option_map start_of) e in

@@ -1,4 +1,4 @@
--- Lemmas: what is sent is of what is on air.
+-- Lemmas: all that is sent is of the text or name on air.
 use Rattle.std.proofs.Common.{◌≡◌, ℕ, zero, suc, ◌+◌, ◌-◌, ◌%◌, ◌<◌, ◌≤◌, List, [], ◌∷◌, Bool, true, false, nat_eq, nat_le, Option, Some, None, refl, subst, arith, length, replicate, length-append, is_ok, nat_lt}
 use Rattle.std.proofs.lemmas.Bool.{cond_both, leb-true}
 use Rattle.std.proofs.lemmas.Bool.Decides.{nat_tests}
@@ -18,7 +18,7 @@ use Rattle.rds_encoder.specs.Round.{IsTurn, turn_in}
 use Rattle.rds_encoder.specs.Sent.{count_from, is_text_turn, is_turn, name_segment, sent_at_turn, sent_in, tags_due, text_segment, turn_of}
 use Rattle.rds_encoder.specs.Tags.{fitting_reply, pair_on_air, tags_reply}
 
--- what is sent in a slot with a turn
+-- the message of a slot with a turn
 at_turn : (m : ℕ) (free : Bool) (before : List Entry) (message : Message) → sent_in m free before ≡ Some message → sent_at_turn m (turn_in (turn_of m (text_moves before) % 8)) before ≡ Some message
 at_turn m free before message = cond_both (is_turn m free (text_moves before)) (sent_at_turn m (turn_in (turn_of m (text_moves before) % 8)) before) None
     (λ (o : Option Message). o ≡ Some message → sent_at_turn m (turn_in (turn_of m (text_moves before) % 8)) before ≡ Some message) (λ t e. e) (λ f e. absurd (cc))

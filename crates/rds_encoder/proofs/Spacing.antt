@@ -16,7 +16,7 @@ restart_by_now (Begin ∷ before) = omega arith
 restart_by_now (Set x ∷ before) = restart_by_now before
 restart_by_now (End free ∷ before) = omega (arith, restart_by_now before)
 
--- a set is accepted only if the silence is over and 2m slots have passed since the one before
+-- a set is accepted only if 2m slots have passed since the one before
 not_held_back : (m now : ℕ) (last : Option ℕ) → is_ok (held_reply m now last) ≡ true → IfSome last (λ a. a + 2 * m ≤ now)
 not_held_back m now None h = tt
 not_held_back m now (Some a) h = cond_both (nat_lt now (a + 2 * m)) _ _ (λ (r : Reply). is_ok r ≡ true → a + 2 * m ≤ now) (λ t e. absurd (cc)) (λ f e. ltb-false _ _ f) h
@@ -26,7 +26,7 @@ when_accepted m now start last h =
     cond_both (nat_lt now (start + m)) _ _ (λ (r : Reply). is_ok r ≡ true → (start + m ≤ now) × IfSome last (λ a. a + 2 * m ≤ now))
     (λ t e. absurd (cc)) (λ f e. (ltb-false _ _ f, not_held_back m now last e)) h
 
--- so what was on air then began at least 2m slots before
+-- so the text or name on air then began at least 2m slots before
 long_on_air : (m : ℕ) (moves : List Move) (air : OnAir) → is_ok (reply_to m moves) ≡ true → on_air m moves ≡ Some air → air.start + 2 * m ≤ slot_of moves
 long_on_air m moves air ok on =
     let last : last_accepted m moves ≡ Some air.start = sym (start_on_air m moves) ∙ ap (option_map start_of) on in
@@ -36,7 +36,7 @@ long_on_air m moves air ok on =
 abbrev IsOn : ℕ → ℕ → List Move → ℕ → Broadcast → Type 0
 IsOn m end moves k b = (on_air m moves ≡ Some (endless b)) × (b.end ≡ end) × (k + 1 ≡ length (plan_of m end moves))
 
--- the broadcast ended before the last restart, or before what is on air began
+-- the broadcast ended before the last restart, or before the one on air began
 abbrev IsOver : ℕ → List Move → Broadcast → Type 0
 IsOver m moves b = (b.end < restart_before moves) ⊎ ((air : OnAir) × (on_air m moves ≡ Some air) × (b.end < air.start))
 
@@ -118,7 +118,7 @@ on_top d b older s last next = record { lasts = lasts; order = order; apart = ap
     far k a c (inr p) (inl q) = subst (λ (c : Broadcast). a.end + d ≤ c.start) (sym q.1) (elim ((next k a p).1) [ inl w ↦ absurd (omega (arith, w.1, q.0)) | inr w ↦ w ])
     far k a c (inr p) (inr q) = s.far k a c p q
 
--- what is on air began by this slot
+-- the text or name on air began by this slot
 abbrev pub BeganBy : ℕ → Option OnAir → Type 0
 BeganBy slot o = IfSome o (λ (air : OnAir). air.start ≤ slot)
 

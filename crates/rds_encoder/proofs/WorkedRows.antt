@@ -12,7 +12,7 @@ use Rattle.rds_encoder.specs.Reply.{reply_to}
 use Rattle.rds_encoder.specs.Sent.{sent_in}
 use Rattle.rds_encoder.specs.Tags.{pair_on_air, tags_reply}
 
--- what was sent in each slot that ended
+-- the messages sent in the slots that ended
 abbrev sent : ℕ → List Entry → List (Option Message)
 sent m [] = []
 sent m (Restart ∷ before) = sent m before

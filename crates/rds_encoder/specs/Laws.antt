@@ -14,7 +14,7 @@ use Rattle.rds_encoder.specs.Sent.{sent_in}
 use Rattle.rds_encoder.specs.Spaced.{IsOnePerSlot, IsSpaced}
 use Rattle.rds_encoder.specs.Tags.{pair_on_air}
 
--- what is on air is planned, as a broadcast that so far ends in the current slot
+-- the text or name on air is planned, as a broadcast that so far ends in the current slot
 abbrev pub WhatIsOnAirIsPlanned : Type 0
 WhatIsOnAirIsPlanned = (m : ℕ) (moves : List Move) (air : OnAir) → on_air m moves ≡ Some air
     → (k : ℕ) × HasNumber (plan_of m (slot_of moves) moves) k (ending_in (slot_of moves) air)
@@ -38,18 +38,18 @@ pub record HasOnAir (plan : List Broadcast) (air : OnAir) (slot : ℕ) : Type 0 
   pub same : endless broadcast ≡ air
   pub covers : Covers broadcast slot
 
--- what is on air when a slot ends stays planned, whatever comes later
+-- a text or name that is on air when a slot ends stays planned, whatever comes later
 abbrev pub WhatWasOnAirStaysPlanned : Type 0
 WhatWasOnAirStaysPlanned = (m end : ℕ) (later : List Move) (free : Bool) (earlier : List Move) (air : OnAir)
     → on_air m earlier ≡ Some air → slot_of earlier ≤ end
     → HasOnAir (plan_of m end (later ++ End free ∷ earlier)) air (slot_of earlier)
 
--- what is on air began after the silence, and no later than the current slot
+-- the text or name on air began after the silence, and no later than the current slot
 abbrev pub WhatIsOnAirBegan : Type 0
 WhatIsOnAirBegan = (m : ℕ) (moves : List Move) (air : OnAir) → on_air m moves ≡ Some air
     → (restart_before moves + m ≤ air.start) × (air.start ≤ slot_of moves)
 
--- what is on air was on air in each slot after its first
+-- the text or name on air was on air in each slot after its first
 abbrev pub WhatIsOnAirWasOnAir : Type 0
 WhatIsOnAirWasOnAir = (m : ℕ) (later earlier : List Move) (air : OnAir) → on_air m (later ++ earlier) ≡ Some air
     → air.start < slot_of earlier → on_air m earlier ≡ Some air
@@ -67,8 +67,8 @@ abbrev pub WhatIsPlannedWasAccepted : Type 0
 WhatIsPlannedWasAccepted = (m end : ℕ) (moves : List Move) (k : ℕ) (b : Broadcast) → HasNumber (plan_of m end moves) k b
     → WasAccepted m b.start b.bytes moves
 
--- the plan is spaced by m, if each slot had at most one restart or set, and if what is on air ends no earlier than it
--- began
+-- the plan is spaced by m, if each slot had at most one restart or set, and if the broadcast on air ends no earlier
+-- than it began
 abbrev pub ThePlanIsSpaced : Type 0
 ThePlanIsSpaced = (m end : ℕ) (moves : List Move) → 0 < m → IsOnePerSlot moves
     → IfSome (on_air m moves) (λ air. air.start ≤ end) → IsSpaced m (plan_of m end moves)
@@ -100,7 +100,7 @@ abbrev pub SpacedOfOneFlagAreFarApart : Type 0
 SpacedOfOneFlagAreFarApart = (d : ℕ) (plan : List Broadcast) (k l : ℕ) (a b : Broadcast) → IsSpaced d plan
     → HasNumber plan k a → HasNumber plan l b → k < l → a.flag ≡ b.flag → a.end + d ≤ b.start
 
--- a segment with flag f, address a and bytes x is one of what is on air
+-- a segment with flag f, address a and bytes x is one of the text or name on air
 pub record IsSegmentOf (body : List ℕ → List ℕ) (f : Bool) (a : ℕ) (x : List ℕ) (air : OnAir) : Type 0 where
   pub flag : f ≡ air.flag
   pub within : a < segment_count (body air.bytes)

@@ -51,7 +51,7 @@ pub record OnAir : Type 0 where
   pub flag : Bool
   pub bytes : List ℕ
 
--- what is on air in the current slot: the last set accepted since the last restart
+-- the text or name on air in the current slot: the last set accepted since the last restart
 abbrev pub on_air : ℕ → List Move → Option OnAir
 on_air m [] = None
 on_air m (Begin ∷ before) = None
@@ -61,7 +61,7 @@ on_air m (Set x ∷ before) =
     else on_air m before
 on_air m (End free ∷ before) = on_air m before
 
--- what is on air, as a broadcast that ends in this slot
+-- the text or name on air, as a broadcast that ends in this slot
 abbrev pub ending_in : ℕ → OnAir → Broadcast
 ending_in slot air = record { start = air.start; end = slot; flag = air.flag; bytes = air.bytes }
 

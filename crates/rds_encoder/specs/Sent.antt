@@ -65,7 +65,7 @@ tags_due m now None pair = None
 tags_due m now (Some air) None = None
 tags_due m now (Some air) (Some pair) = if nat_le (air.start + m) now then Some (Tags pair) else None
 
--- what is sent in the current slot if it has this turn
+-- the message of the current slot if it has this turn
 abbrev pub sent_at_turn : ℕ → Turn → List Entry → Option Message
 sent_at_turn m turn.Text before = text_segment m (text_moves before) (on_air m (text_moves before))
 sent_at_turn m (turn.Name a) before = name_segment a (on_air m (name_moves before))
@@ -73,7 +73,7 @@ sent_at_turn m turn.Announcement before = Some announcement
 sent_at_turn m turn.Tags before =
     tags_due m (slot_of (text_moves before)) (on_air m (text_moves before)) (pair_on_air m before)
 
--- what is sent in the current slot
+-- the message of the current slot
 abbrev pub sent_in : ℕ → Bool → List Entry → Option Message
 sent_in m free before =
     if is_turn m free (text_moves before)

@@ -22,7 +22,7 @@ pub record HoldsBack (m : ℕ) (hold : HoldState) (moves : List Move) : Type 0 w
   pub left : hold.left ≡ hold_left m (slot_of moves) (last_accepted m moves)
   pub flag : hold.next_flag ≡ next_flag m moves
 
--- the state of a service follows from these moves, with `kept` for what is on air
+-- the state of a service follows from these moves, with `kept` of the text or name on air
 pub record Follows {V : Type 0} (m : ℕ) (kept : OnAir → V) (track : TrackState V) (moves : List Move) : Type 0 where
   pub hold : HoldsBack m track.hold moves
   pub on_air : track.on_air ≡ option_map kept (on_air m moves)

@@ -204,8 +204,7 @@ impl Encoder {
         Some(self.text.on_air.as_ref()?.bytes())
     }
 
-    /// Returns the name on air, eight bytes with spaces at the end, borrowed from the encoder. None if no name is on
-    /// air.
+    /// Returns the name on air, eight bytes, padded with spaces, borrowed from the encoder. None if no name is on air.
     pub fn name(&self) -> Option<&[u8]>
         ensures on_air { WhereItStands self.now
             (λ _ m entries. option_copied result

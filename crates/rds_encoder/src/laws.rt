@@ -16,14 +16,14 @@ pub fn on_air_is_what_covers_the_slot()
     ensures only { OnlyWhatIsOnAirCoversTheSlot }
 {}
 
-/// States that what is on air began after the silence, and was on air in each slot since.
+/// States that the text or name on air began after the silence, and was on air in each slot since.
 pub fn on_air_from_its_start_on()
     ensures began { WhatIsOnAirBegan }
     ensures was { WhatIsOnAirWasOnAir }
 {}
 
-/// States that what was on air when a slot ended stays planned, whatever came later, and that each planned broadcast
-/// was accepted.
+/// States that a text or name that was on air when a slot ended stays planned, whatever came later, and that each
+/// planned broadcast was accepted.
 pub fn planned_is_what_was_on_air()
     ensures stays { WhatWasOnAirStaysPlanned }
     ensures accepted { WhatIsPlannedWasAccepted }
@@ -45,8 +45,8 @@ pub fn numbers_name_broadcasts()
     ensures each { EachNumberNamesOne }
 {}
 
-/// States that each segment and each pair of tags that is sent is of what is on air, and that the pair on air ends in
-/// its text.
+/// States that each segment and each pair of tags that is sent is of the text or name on air, and that the pair on air
+/// ends in its text.
 pub fn sent_is_of_what_is_on_air()
     ensures text { ATextSegmentIsOfTheTextOnAir }
     ensures name { ANameSegmentIsOfTheNameOnAir }

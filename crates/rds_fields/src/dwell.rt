@@ -1,9 +1,10 @@
-//! The dwell of a text: how many slots a sender and a receiver count on.
+//! The dwell M, a number of slots.
 ghost use Rattle.std.specs.Prelude.{◌≡◌, ℕ, ◌<◌, ◌↔◌, IsNone, IfSome};
 
 use std::marker::Model;
 
-/// A dwell: a number of slots, 1 to 65535, that sender and receiver agree on (this project's own rule).
+/// The dwell M, 1 to 65535 slots: a receiver drops a text or name if no segment of it came for M slots. Sender and
+/// receiver agree on it (this project's own rule).
 #[derive(Clone, Copy, Debug, PartialEq, Eq)]
 pub struct Dwell {
     slots: u16,

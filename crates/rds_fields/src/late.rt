@@ -1,9 +1,9 @@
-//! The lateness: how many slots late a group may arrive.
+//! The lateness K, a number of slots.
 ghost use Rattle.std.specs.Prelude.{◌≡◌, ◌<◌, ◌≤◌, ◌↔◌, IsNone, IfSome};
 
 use std::marker::Model;
 
-/// The most slots by which a group may arrive late, 0 to 1024 (this project's own rule).
+/// The lateness K, 0 to 1024 slots: a group reaches a receiver at most K slots late (this project's own rule).
 #[derive(Clone, Copy, Debug, PartialEq, Eq)]
 pub struct Late {
     slots: u16,

@@ -47,6 +47,7 @@ pub struct Receiver {
 }
 
 impl Model for Receiver {
+    // Prover: an `impl Model` with own `ghost use` lines does not read those at the top (docs/PROVER.md, "Idioms").
     ghost use Rattle.rds_receiver.specs.Codes.{receiver_code};
     ghost use Rattle.rds_receiver.specs.State.{ReceiverState};
 

@@ -1,9 +1,9 @@
-//! What a receiver shows, borrowed from it.
+//! The view of a receiver, borrowed from it.
 // Prover: a struct with a ghost field imports all that the `ghost use` lines of its file name, so it has a file of its
 // own (docs/PROVER.md, "Workarounds").
 ghost use Rattle.rds_receiver.specs.Shown.{IsShort};
 
-/// What a receiver shows at the end of a slot, borrowed from it. A part is `None` if it is not shown.
+/// All that a receiver shows at the end of a slot, borrowed from it. A part is `None` if it is not shown.
 #[derive(Clone, Copy, Debug, PartialEq)]
 pub struct View<'a> {
     /// The text, at most 64 bytes. `Some` of no bytes is the empty text.

@@ -29,7 +29,7 @@ pub marks_long : (of : Option Message → Mark) (log : List (Option Message)) �
 marks_long of [] = refl
 marks_long of (x ∷ log) = ap suc (marks_long of log)
 
--- what was sent is among the log's marks
+-- the mark of a sent message is among the marks of the log
 pub mark_sent : (of : Option Message → Mark) (log : List (Option Message)) (s : ℕ) (message : Option Message) → SentIn log s message → IsMarkIn (marks of log) s (of message)
 mark_sent of [] s message a = absurd a
 mark_sent of (x ∷ log) s message (inl a) = inl (omega (arith, marks_long of log), ap of a.1)

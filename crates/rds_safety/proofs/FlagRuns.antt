@@ -27,7 +27,7 @@ harmless_on x y z u (inr none) = inr none
 harmless_on x y z (inl e) (inl f) = inl (e ∙ f)
 harmless_on x y z (inr none) (inl f) = inr (sym f ∙ none)
 
--- what was sent earlier came earlier
+-- an entry that was sent earlier came earlier
 pub came_earlier : {X : Type 0} (log : List (Option X)) (input : InputOf X) (t u r s : ℕ) → IsHeardInOrder log input → CameFrom input t r → CameFrom input u s → r < s → t < u
 came_earlier log input t u r s order p q less =
     elim (cases_order t u) [
@@ -59,8 +59,7 @@ module _ (laws : PlanLaws) (names_one : EachNumberNamesOne) (d now : ℕ) (pick 
   abbrev IsNext : ℕ → Segment → Type 0
   IsNext slot h = (x : Segment) → IsIn all_segments x → h.slot < x.slot → x.slot < slot → ⊥
 
-  -- so of the broadcasts that are not empty, at most the next one began after that of h and by the slot in which this
-  -- was sent
+  -- so each broadcast that began by slot s is at most the next one after that of h, or is empty
   pub none_passes : (slot s : ℕ) (h : Segment) (r k l : ℕ) (a b : Broadcast) → IsNext slot h → ((t q : ℕ) → CameFrom input t q → q < s → t < slot) → s ≤ now
       → IsPicked pick input.first input.heard h → CameFrom input h.slot r → HasNumber plan k a → HasNumber plan l b → Covers a r → b.start ≤ s
       → k + 1 < l → b.bytes ≢ [] → ⊥

@@ -9,7 +9,7 @@ input_of first heard origins = record { first = first; heard = heard; origins = 
 pub nothing_in_order : {X : Type 0} (log : List (Option X)) (first : ℕ) → IsHeardInOrder log (input_of first [] [])
 nothing_in_order log first = record { beside = refl; each = λ t origin entry o a. absurd o; rising = λ t u r s p q h. absurd p }
 
--- an entry that is what was sent in its origin extends an input in order, if its origin is later than all before
+-- an entry of the log extends an input in order, if its origin is later than all origins before
 pub one_more_in_order : {X : Type 0} (log : List (Option X)) (first : ℕ) (heard : List (Option X)) (origins : List (Option ℕ)) (o : Option ℕ) (x : Option X)
     → IsHeardInOrder log (input_of first heard origins) → IsOfItsOrigin log o x
     → ((r u s : ℕ) → o ≡ Some r → HasEntry first origins u (Some s) → s < r)

@@ -106,7 +106,7 @@ sent_for laws d m t plan log input g older pair law hears l e =
       ]
     ]
 
--- the piece of a tag with a class that ends in a text is within it
+-- a tag with a class that ends in a text of n characters has its end at most at n
 real_ends : (tag : TagFields) (n : ℕ) → 0 < tag.class → ends_in n tag ≡ true → end_of tag ≤ n
 real_ends tag n real t = by (tag.class == 0) refl t
   where

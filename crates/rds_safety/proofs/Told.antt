@@ -21,7 +21,7 @@ IsOfAny kind plan input g = HasOne plan (IsSegmentOf kind input g)
 abbrev pub AreOf : Kind → Input → Broadcast → List Segment → Type 0
 AreOf kind input b gs = AllByRecursion (λ (g : Segment). IsSegmentOf kind input g b) gs
 
--- the flag separates what was sent in slots r and s: broadcasts of one flag that cover them are alike
+-- the flag separates slots r and s: broadcasts with one flag that cover them are alike
 abbrev pub IsTold : (Broadcast → Broadcast → Type 0) → List Broadcast → ℕ → ℕ → Type 0
 IsTold Alike plan r s =
     (k l : ℕ) (a b : Broadcast) → HasNumber plan k a → HasNumber plan l b → Covers a r → Covers b s → a.flag ≡ b.flag → Alike a b

@@ -146,7 +146,7 @@ run_in_24 = refl
 source_in_24 : IsSource (songs 24) heard_in_24 (text_run 4 heard_in_24) 2 (third_broadcast 24)
 source_in_24 = record { planned = inl (refl, refl); slot = 24; sent = inl (refl, refl); covers = record { from = omega arith; to = omega arith } }
 
--- a receiver with the flag bit alone that gets the same joins in slot 20 what the dwell keeps apart
+-- a receiver with the flag bit alone that gets the same joins the two songs in slot 20, which the dwell keeps apart
 run_by_flag_in_20 : run_by_flag text_fragment heard_in_20
     ≡ third_segment 20 0 (0x54 ∷ 0x48 ∷ 0x49 ∷ 0x52 ∷ [])
     ∷ third_segment 8 2 (0x4E ∷ 0x47 ∷ 0x0D ∷ 0x20 ∷ [])

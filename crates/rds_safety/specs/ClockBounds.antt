@@ -43,12 +43,12 @@ abbrev pub OneSlotMoreBetweenMixes : Type 0
 OneSlotMoreBetweenMixes =
     (d m : ℕ) → 0 < d → 1 < m → ShowsAMix d m (ListensWithin (record { between = d + 1; since = d; ahead = 0 }) m)
 
--- with one slot more since an entry, a receiver shows what is not safe
+-- with one slot more since an entry, the view of a receiver is not safe
 abbrev pub OneSlotMoreSinceIsUnsafe : Type 0
 OneSlotMoreSinceIsUnsafe =
     (d m : ℕ) → 0 < d → 0 < m → IsUnsafe d m (ListensWithin (record { between = d; since = d + 1; ahead = 0 }) m)
 
--- if an entry may come one slot ahead of the station, a receiver shows what is not safe
+-- if an entry may come one slot ahead of the station, the view of a receiver is not safe
 abbrev pub OneSlotAheadIsUnsafe : Type 0
 OneSlotAheadIsUnsafe =
     (d m : ℕ) → 0 < d → 0 < m → IsUnsafe d m (ListensWithin (record { between = d; since = d; ahead = 1 }) m)

@@ -16,7 +16,8 @@ use Rattle.rds_safety.specs.OwnClock.{ListensByOwnClock, next_slot}
 use Rattle.rds_safety.specs.Safe.{Listener, NamesPiece, ShowsNoTags}
 use Rattle.rds_safety.specs.Source.{IsSource, name_run, text_run}
 
--- a receiver with the flag bit alone shows what a receiver shows whose dwell m is no less than the slot after its input
+-- a receiver with the flag bit alone shows the same as a receiver whose dwell m is no less than the slot after its
+-- input
 abbrev pub TheFlagAloneIsALongDwell : Type 0
 TheFlagAloneIsALongDwell =
     (m : ℕ) (input : Input) (view : ShownView) → next_slot input ≤ m

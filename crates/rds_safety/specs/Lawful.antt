@@ -1,6 +1,7 @@
--- When a plan of broadcasts is lawful for what one service sent (this project's own rule): the broadcasts are spaced,
--- each value may be sent, and all that was sent is of one of them. A plan is only a list of broadcasts, so it may come
--- from an encoder or from a log. Lists have the newest first, and the number of a broadcast counts from the oldest.
+-- When a plan of broadcasts is lawful for the marks of one service (this project's own rule): the broadcasts are
+-- spaced, each value may be sent, and each fragment and each pair of tags is of one of them. A plan is only a list of
+-- broadcasts, so it may come from an encoder or from a log. Lists have the newest first, and the number of a broadcast
+-- counts from the oldest.
 use Rattle.std.specs.Prelude.{◌≡◌, ◌≤◌, ◌<◌, ◌+◌, ℕ, List, length}
 use Rattle.rds_fields.specs.Tag.{BothEndIn, PairFields}
 use Rattle.rds_assembly.specs.Body.{name_body, segment_count, segment_of, text_body}
@@ -46,7 +47,7 @@ pub record HasOne (plan : List Broadcast) (Is : Broadcast → Type 0) : Type 0 w
   pub planned : HasNumber plan number broadcast
   pub is : Is broadcast
 
--- the plan is lawful, with a spacing of d slots, for what the service sent
+-- the plan is lawful, with a spacing of d slots, for these marks of the service
 pub record IsLawful (d : ℕ) (kind : Kind) (plan : List Broadcast) (sent : List Mark) : Type 0 where
   pub spaced : IsSpaced d plan
   pub values : (k : ℕ) (b : Broadcast) → HasNumber plan k b → kind.IsValue b.bytes

@@ -18,7 +18,7 @@ use Rattle.rds_safety.specs.Plans.{AreLawful, Plans}
 use Rattle.rds_safety.specs.Safe.{AreSafe, Listener, ListensTo}
 use Rattle.rds_safety.specs.Source.{IsSource}
 
--- what holds of the broadcasts of all plans: a number names one broadcast and is below their count; spaced broadcasts
+-- the laws about the broadcasts of all plans: a number names one broadcast and is below their count; spaced broadcasts
 -- are in order and far apart
 pub record PlanLaws : Type 0 where
   pub one : ANumberNamesOne
@@ -61,7 +61,7 @@ ARunHasOneSource =
     → IsSpaced d plan
     → IsSource plan input the_run k a → IsSource plan input the_run l b → (k ≡ l) × (a ≡ b)
 
--- an input heard zero slots late has in each slot what the log has there, or nothing
+-- an input heard zero slots late has in each slot the entry of the log, or nothing
 abbrev pub NoSlotLateIsOnTime : Type 0
 NoSlotLateIsOnTime =
     (log : List (Option Message)) (first : ℕ) (heard : List (Option Message)) (origins : List (Option ℕ))
@@ -100,7 +100,7 @@ LateGroupsAreLateMessages =
     → IsHeardLate k sent record { first = first; heard = handed; origins = origins }
     → IsHeardLate k log record { first = first; heard = heard; origins = origins }
 
--- a receiver that got the groups of a station late, and shows their view, listens to what was sent
+-- a receiver that got the groups of a station late, and shows their view, listens to the log of messages
 abbrev pub WhoIsHandedGroupsListens : Type 0
 WhoIsHandedGroupsListens =
     (station : Head) (k m t : ℕ) (log : List (Option Message)) (sent : List (Option Group)) (input : InputOf Group)
@@ -129,7 +129,7 @@ WhoIsHandedGroupsListensByOwnClock =
     }
 
 -- there are plans that are lawful for so many slots, and a receiver of dwell m that listens in this way and shows a
--- mix: a text that no broadcast of the plans has; so what it shows is safe for no d
+-- mix: a text that no broadcast of the plans has; so its view is safe for no d
 pub record ShowsAMix (slots m : ℕ) (Listens : ℕ → List (Option Message) → Listener → Type 0) : Type 0 where
   pub plans : Plans
   pub log : List (Option Message)
@@ -142,7 +142,7 @@ pub record ShowsAMix (slots m : ℕ) (Listens : ℕ → List (Option Message) �
   pub of_none : (k : ℕ) (b : Broadcast) → HasNumber plans.text k b → b.bytes ≡ mix → ⊥
   pub fails : (d : ℕ) → AreSafe d m t plans log (receiver ∷ []) → ⊥
 
--- there are plans that are lawful for d slots, and a receiver of dwell m that listens in this way and shows what is not
+-- there are plans that are lawful for d slots, and a receiver of dwell m that listens in this way and whose view is not
 -- safe for d
 pub record IsUnsafe (d m : ℕ) (Listens : ℕ → List (Option Message) → Listener → Type 0) : Type 0 where
   pub plans : Plans

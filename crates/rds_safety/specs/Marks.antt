@@ -11,7 +11,7 @@ pub data Mark : Type 0 where
   Sends : (fragment : Fragment) → Mark
   Tagged : (pair : PairFields) → Mark
 
--- the mark for texts of what was sent in a slot
+-- the mark of a message for texts
 abbrev pub text_mark : Option Message → Mark
 text_mark None = Nothing
 text_mark (Some (Text f a b)) = Sends record { flag = f; address = a; bytes = b }
@@ -20,7 +20,7 @@ text_mark (Some (Announce code bits aid)) = Nothing
 text_mark (Some (Tags pair)) = Tagged pair
 text_mark (Some Other) = Nothing
 
--- the mark for names of what was sent in a slot
+-- the mark of a message for names
 abbrev pub name_mark : Option Message → Mark
 name_mark None = Nothing
 name_mark (Some (Text f a b)) = Nothing

@@ -1,4 +1,4 @@
--- The plans of a station, one of its texts and one of its names, and when they are lawful for the log of what it sent
+-- The plans of a station, one of its texts and one of its names, and when they are lawful for the log of its messages
 -- (this project's own rule). Lists have the newest first.
 use Rattle.std.specs.Prelude.{ℕ, List, Option}
 use Rattle.rds_fields.specs.declared.message.Message.{Message}
@@ -10,7 +10,7 @@ pub record Plans : Type 0 where
   pub text : List Broadcast
   pub name : List Broadcast
 
--- both plans are lawful, with a spacing of d slots, for what was sent
+-- both plans are lawful for the log, with a spacing of d slots
 pub record AreLawful (d : ℕ) (plans : Plans) (log : List (Option Message)) : Type 0 where
   pub text : IsLawful d texts plans.text (marks text_mark log)
   pub name : IsLawful d names plans.name (marks name_mark log)

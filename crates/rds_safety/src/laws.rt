@@ -71,7 +71,7 @@ pub fn late_as_messages()
     one_message();
 }
 
-/// States that a receiver listens to what was sent if it got the groups of a station, late or by its own clock, and
+/// States that a receiver listens to the log of a station if it got the station's groups, late or by its own clock, and
 /// shows their view.
 pub fn groups_listen()
     ensures late { WhoIsHandedGroupsListens }

@@ -1,4 +1,4 @@
--- Lemmas: how far back a receiver may get what was sent, slot by slot, and which messages are kept.
+-- Lemmas: how far back a receiver may get a message, slot by slot, and which messages are kept.
 use Rattle.std.proofs.Common.{◌≡◌, ◌+◌, ◌<◌, ◌≤◌, ℕ, zero, suc, List, [], ◌∷◌, Option, Some, None, refl, sym, ap, ◌∙◌, subst, arith, length, take}
 use Rattle.std.specs.Prelude.{IfSome, slice_get, slice_index_or}
 use Rattle.std.proofs.lemmas.List.{get_or_default, get_or_past, get_or-take}
@@ -16,7 +16,7 @@ use Rattle.rds_world.specs.StandsAt.{AreLastSent, IsHeardOfSome}
 use Rattle.rds_world.specs.declared.world.Config.{Config}
 use Rattle.rds_world.proofs.Received.{hears_sent}
 
--- the slot of the last `Got` came before this one
+-- the slot whose message the last `Got` gave came before this one
 pub named_past : (i : ℕ) (events : List Event) → IfSome (last_named i events) (λ s. s < length events)
 named_past i [] = tt
 named_past i (e ∷ before) = by (slice_index_or e.receptions i Lost) (last_named i before) (named_past i before)
@@ -56,6 +56,6 @@ nothing_there [] back e = refl
 nothing_there (g ∷ groups) zero e = absurd (cc)
 nothing_there (g ∷ groups) (suc back) e = nothing_there groups back e
 
--- in the first slot only what is sent in it is due
+-- in the first slot only that slot is due
 pub at_first : (k : ℕ) → 1 ≡ reach_of k 0 None
 at_first k = omega arith

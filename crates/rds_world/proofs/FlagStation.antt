@@ -58,7 +58,8 @@ one_more P b older all last k a c (inl p) (inr q) = absurd (omega (arith, p.0, b
 one_more P b older all last k a c (inr p) (inl q) = subst (P a) (sym q.1) (last a (newest_by_number older k a p q.0))
 one_more P b older all last k a c (inr p) (inr q) = all k a c p q
 
--- P holds for each plan if it holds of what is on air and the next broadcast, and of what comes first after a restart
+-- P holds for each plan if it holds of the broadcast on air and the next one, and of the one that comes first after a
+-- restart
 pub followed : (P : Broadcast → Broadcast → Type 0) (IsAfter : List Broadcast → List ℕ → Type 0) (d : ℕ)
     → ((moves : List Move) (air : OnAir) (end : ℕ) (x : List ℕ) → is_ok (reply_to d moves) ≡ true → on_air d moves ≡ Some air
     → P (ending_in (slot_of moves - 1) air) record { start = slot_of moves; end = end; flag = next_flag d moves; bytes = x })

@@ -1,4 +1,4 @@
--- Lemmas: what a receiver of a world got was sent at most k slots before, if its receptions are due.
+-- Lemmas: each message that a receiver of a world got was sent at most k slots before, if its receptions are due.
 use Rattle.std.proofs.Common.{◌≡◌, ◌+◌, ◌-◌, ◌<◌, ◌≤◌, ℕ, zero, suc, List, [], ◌∷◌, Option, Some, None, refl, subst, ◌∙◌, inl, inr, arith, length}
 use Rattle.std.specs.Prelude.{IfSome, slice_index_or}
 use Rattle.rds_fields.specs.declared.message.Message.{Message}
@@ -26,7 +26,7 @@ longer_log k log sent input late = record {
   late = late.late;
 }
 
--- what was sent so many slots before the last one of a log is its entry in that slot
+-- the message sent so many slots before the last one of a log is its entry in that slot
 back_in_log : (back : ℕ) (newest : Option Message) (before : List (Option Message)) → back ≤ length before
     → HasEntry 0 (newest ∷ before) (length before - back) (sent_back back (newest ∷ before))
 back_in_log zero newest before h = inl (omega arith, refl)

@@ -1,5 +1,5 @@
--- Lemmas: what an encoder sends is lawful for its plans. For each mark of its log there is the broadcast that was on
--- air in that slot, and it stays planned whatever comes later.
+-- Lemmas: the messages of an encoder are lawful for its plans. For each mark of its log there is the broadcast that was
+-- on air in that slot, and it stays planned whatever comes later.
 use Rattle.std.proofs.Common.{◌≡◌, ◌+◌, ◌-◌, ◌<◌, ◌≤◌, ℕ, List, [], ◌∷◌, ◌++◌, append_assoc, Option, Some, None, refl, sym, ap, ◌∙◌, subst, inl, inr, arith, length}
 use Rattle.std.specs.Prelude.{IfSome}
 use Rattle.rds_fields.specs.declared.message.Message.{Message}

@@ -1,4 +1,4 @@
--- Lemmas: what a receiver has heard after one more slot, and one entry of a list after it was written.
+-- Lemmas: the input of a receiver after one more slot, and one entry of a list after it was written.
 use Rattle.std.proofs.Common.{◌≡◌, ◌≢◌, ◌<◌, ℕ, zero, suc, Bool, true, false, List, [], ◌∷◌, Option, Some, None, refl, ap, subst, inl, take, length, arith}
 use Rattle.std.specs.List.{AllByRecursion}
 use Rattle.std.specs.Prelude.{slice_get, slice_index_or, slice_set}
@@ -14,7 +14,7 @@ use Rattle.rds_safety.specs.Late.{Input}
 use Rattle.rds_world.specs.StandsAt.{HasHeard, IsNew, StaysShown, tuned_to}
 use Rattle.rds_world.specs.declared.world.Config.{Config}
 
--- receivers hear what the station sends
+-- receivers hear the messages of the station
 pub hears_sent : (config : Config) (sent : Option Message) (group : Option Group) → IsSent config.head sent group → Hears config.head.pi group sent
 hears_sent config None None s = refl
 hears_sent config None (Some group) s = absurd s

@@ -1,4 +1,4 @@
--- Lemmas: the receivers of a world listen to what its encoder sends, so what they show is safe.
+-- Lemmas: the receivers of a world listen to its encoder, so their views are safe.
 use Rattle.std.proofs.Common.{◌≡◌, ◌+◌, ℕ, suc, List, [], ◌∷◌, Option, Some, refl, ◌∙◌, subst, arith, length}
 use Rattle.std.specs.List.{AllByRecursion, AllZip}
 use Rattle.std.specs.Prelude.{slice_get}
@@ -20,7 +20,7 @@ use Rattle.rds_world.specs.declared.world.Config.{Config}
 use Rattle.rds_world.specs.Station.{TheEncoderIsLawful}
 use Rattle.rds_world.proofs.InTime.{in_time, input_reaches}
 
--- what a receiver shows is the view of what it heard
+-- the view of a receiver is that of its input
 pub shows_view : (config : Config) (input : Input) (r : ReceiverState) (view : ShownView) → HasHeard config input r → Shows r view → ShowsView config.dwell input.first input.heard view
 shows_view config input r view has shows =
     let v = shows (tuned_to config input) has.groups has.stands in

@@ -19,7 +19,7 @@ use Rattle.rds_safety.specs.Late.{CameFrom, HasEntry, Input}
 use Rattle.rds_world.specs.Slots.{commanded, entries, input_of, log, received, sent_at, sent_back}
 use Rattle.rds_world.proofs.InTime.{input_reaches}
 
--- the encoder's entries from the end of the oldest of the recent slots on
+-- the encoder's entries from the end of the oldest of the recent slots on, and those before
 abbrev pub told_since : List Event → Event → List Entry
 told_since newer oldest = entries newer ++ Tick oldest.free ∷ []
 
@@ -55,7 +55,7 @@ free_told (e ∷ newer) oldest =
     ap free_in (commanded_front e.command (entries newer) (Tick oldest.free ∷ [])) ∙ free_commanded e.command (told_since newer oldest) ∙ free_told newer oldest in
     omega (arith, rest)
 
--- a receiver heard what it got in a free slot, and what it heard before
+-- a receiver heard the message of a free slot that it got, and all that it heard before
 heard_now : (r : Reception) (free : Bool) (slot : ℕ) (sent : Option Message) (before : List (Option Message)) (input : Input) (message : Message) → GetsIfFree free r → sent ≡ Some message
     → (free ≡ false → sent ≡ None) → input.first + length input.heard ≡ slot
     → HasEntry (received r slot (sent ∷ before) input).first (received r slot (sent ∷ before) input).heard slot (Some message)

@@ -1,4 +1,4 @@
--- Worked examples of what is due and what a receiver hears, calculated by hand. Lists have the newest first.
+-- Worked examples of due receptions and of inputs, calculated by hand. Lists have the newest first.
 use Rattle.std.proofs.Common.{◌≡◌, ◌-◌, ◌<◌, ℕ, List, ◌∷◌, Option, Some, None, refl, ap, arith}
 use Rattle.rds_fields.specs.declared.message.Message.{Message}
 use Rattle.rds_safety.specs.Late.{Input}
@@ -12,7 +12,7 @@ received_now : (slot : ℕ) (newest : Option Message) (before : List (Option Mes
 received_now slot newest before input =
     (let same : slot - 0 ≡ slot = omega arith in ap (λ (n : ℕ). record { first = input.first; heard = newest ∷ input.heard; origins = Some n ∷ input.origins }) same)
 
--- with K = 0, the slot itself is due if the last `Got` was of an earlier slot
+-- with K = 0, the slot itself is due if the last `Got` gave an earlier one
 due_now : (slot s : ℕ) → s < slot → IsDueBack 0 slot (Some s) 0
 due_now slot s earlier = record { soon = omega arith; there = omega arith; after = omega (arith, earlier) }
 

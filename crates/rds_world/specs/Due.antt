@@ -1,5 +1,5 @@
--- When a reception is due (this project's own rule): what was sent comes at most k slots late, and in the order of
--- sending. Lists have the newest first.
+-- When a reception is due (this project's own rule): a message comes at most k slots late, and messages come in the
+-- order of sending. Lists have the newest first.
 use Rattle.std.specs.Prelude.{◌<◌, ◌≤◌, ◌+◌, ◌-◌, [], ◌∷◌}
 use Rattle.std.specs.Prelude.{ℕ, List, Option, Some, None, IfSome, length, min, slice_index_or}
 use Rattle.rds_world.specs.declared.event.Reception.{Reception}
@@ -17,8 +17,8 @@ abbrev pub last_named : ℕ → List Event → Option ℕ
 last_named i [] = None
 last_named i (e ∷ before) = named (slice_index_or e.receptions i Lost) (length before) (last_named i before)
 
--- what was sent d slots before is due: at most k slots late, not before slot 0, and later than the slot of the last
--- `Got`
+-- a `Got` of d slots before is due: at most k slots late, not before slot 0, and later than the slot whose message the
+-- last `Got` gave
 pub record IsDueBack (k slot : ℕ) (last : Option ℕ) (d : ℕ) : Type 0 where
   pub soon : d ≤ k
   pub there : d ≤ slot
@@ -49,11 +49,12 @@ pub record IsFirstLate (k : ℕ) (e : Event) (before : List Event) (r : ℕ) : T
   pub late : IsDueTo k e before r → ⊥
   pub first : (i : ℕ) → i < r → IsDueTo k e before i
 
--- the number of slots after the slot of the last `Got`, this one included
+-- the number of slots after the slot whose message the last `Got` gave, this one included; without a `Got`, all slots
+-- so far
 abbrev pub slots_since : ℕ → Option ℕ → ℕ
 slots_since slot None = slot + 1
 slots_since slot (Some s) = slot - s
 
--- what was sent fewer slots back than this is due; at most k + 1
+-- a `Got` of fewer slots back than this is due; at most k + 1
 abbrev pub reach_of : ℕ → ℕ → Option ℕ → ℕ
 reach_of k slot last = min (k + 1) (slots_since slot last)

@@ -42,11 +42,11 @@ abbrev pub entries : List Event → List Entry
 entries [] = []
 entries (e ∷ before) = Tick e.free ∷ commanded e.command (entries before)
 
--- what is sent in the slot of this event
+-- the message sent in the slot of this event
 abbrev pub sent_at : ℕ → Event → List Event → Option Message
 sent_at d e before = sent_in d e.free (commanded e.command (entries before))
 
--- what was sent in each slot
+-- the log: the message sent in each slot
 abbrev pub log : ℕ → List Event → List (Option Message)
 log d [] = []
 log d (e ∷ before) = sent_at d e before ∷ log d before
@@ -58,11 +58,11 @@ plans_of d events = record {
   name = plan_of d (length events - 1) (name_moves (entries events));
 }
 
--- what was sent so many slots before the last one of a log; nothing if that is before slot 0
+-- the message sent so many slots before the last one of a log; none if nothing was sent, or if that is before slot 0
 abbrev pub sent_back : ℕ → List (Option Message) → Option Message
 sent_back back sent = slice_index_or sent back None
 
--- the input of a receiver after one more slot, with the log up to this slot: it gets what was sent so many slots
+-- the input of a receiver after one more slot, with the log up to this slot: it gets the message sent so many slots
 -- before, or nothing; after a restart it is empty and begins in the next slot
 abbrev pub received : Reception → ℕ → List (Option Message) → Input → Input
 received (Got back) slot sent before =

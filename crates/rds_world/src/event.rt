@@ -28,7 +28,7 @@ pub enum Command {
 /// What a receiver gets in a slot.
 #[derive(Clone, Copy)]
 pub enum Reception {
-    /// What was sent this many slots before: a group or nothing.
+    /// The group that was sent this many slots before, or nothing if none was sent.
     Got(u16),
     /// Nothing.
     Lost,

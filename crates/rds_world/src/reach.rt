@@ -1,4 +1,4 @@
-//! How many slots back a receiver may get what was sent.
+//! How far back a receiver may get a message.
 ghost use Rattle.std.specs.Prelude.{◌≡◌, ◌<◌, ◌≤◌, ◌+◌, ◌↔◌, ◌∷◌};
 ghost use Rattle.std.specs.Prelude.{ℕ, List, Option, IsTrue, IfOk, IfSome, MatchResult, length, take};
 ghost use Rattle.rds_world.specs.Due.{IsDue, IsDueToAll, IsFirstLate, named, reach_of};
@@ -10,8 +10,8 @@ use crate::{MOST_RECEIVERS, Reception, SlotEvent};
 use rds_fields::Late;
 use std::marker::Model;
 
-/// A bound on how many slots back a receiver may get what was sent (this project's own rule): fewer slots than this. So
-/// nothing comes more than K slots late, and nothing that was sent up to the slot of the last `Got`. At most K + 1
+/// A bound on how many slots back a receiver may get a message (this project's own rule): fewer slots than this. So no
+/// message comes more than K slots late, and each was sent later than the one that the last `Got` gave. At most K + 1
 /// slots.
 #[derive(Clone, Copy)]
 pub(crate) struct Reach {

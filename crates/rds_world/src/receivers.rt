@@ -1,4 +1,4 @@
-//! The receivers' part of a slot: hands out what was sent, and marks the receivers whose view did not change.
+//! The receivers' part of a slot: hands out the messages, and marks the receivers whose view did not change.
 ghost use Rattle.std.specs.Prelude.{◌≡◌, ◌≤◌, ℕ, List, None, Option, IsTrue, false, length, slice_index_or, true};
 ghost use Rattle.std.specs.List.{AllByRecursion};
 ghost use Rattle.rds_fields.specs.declared.message.Message.{Message};

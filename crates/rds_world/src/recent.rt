@@ -34,7 +34,7 @@ impl Recent {
         })
     }
 
-    /// Adds what was sent in one more slot. A full ring drops its oldest message.
+    /// Adds the message of one more slot. A full ring drops its oldest message.
     pub(crate) fn push(&mut self, message: Option<Message>)
         ensures { self.new
             ≡ buffer (take self.old.capacity (message ∷ self.old.items)) self.old.capacity }
@@ -42,7 +42,7 @@ impl Recent {
         self.messages.push_front(message);
     }
 
-    /// Returns what was sent this many slots before the newest one, whose message is `newest`. None if nothing was
+    /// Returns the message sent this many slots before the newest one, whose message is `newest`. None if nothing was
     /// sent, or if the ring does not go back so far. Most groups come in their own slot, so the ring is read once for
     /// all receivers.
     pub(crate) fn back_from(&self, newest: &Option<Message>, slots: u16) -> Option<Message>
@@ -56,8 +56,8 @@ impl Recent {
         }
     }
 
-    /// Returns what was sent this many slots before the newest one. None if nothing was sent, or if the ring does not
-    /// go back so far.
+    /// Returns the message sent this many slots before the newest one. None if nothing was sent, or if the ring does
+    /// not go back so far.
     pub(crate) fn back(&self, slots: u16) -> Option<Message>
         ensures { result ≡ slice_index_or self.now.items slots None }
     {

@@ -16,7 +16,7 @@ pub enum Reply {
     Refused(Refusal),
 }
 
-/// What a slot gave: the reply to its command, and the group that was sent.
+/// The result of a slot: the reply to its command, and the group that was sent.
 #[derive(Clone, Copy, Debug, PartialEq, Eq)]
 pub struct Answer {
     pub reply: Reply,

@@ -27,8 +27,8 @@ pub enum PlayRefused {
     Late(usize, usize),
 }
 
-/// Makes a world and plays these slots, of which the first is the oldest. Error if there are more than 8 receivers, if
-/// a slot is refused, or if out of memory.
+/// Makes a world and plays these slots, the oldest first. Error if there are more than 8 receivers, if a slot is
+/// refused, or if out of memory.
 pub fn play(
     alloc: Global,
     config: Config,

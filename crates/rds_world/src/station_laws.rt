@@ -16,7 +16,7 @@ use rds_encoder::{
 };
 use rds_safety::{often_is_enough, safe_by_plans, safe_by_the_flag};
 
-/// States that what an encoder sends is lawful for its plans.
+/// States that the messages of an encoder are lawful for its plans.
 pub fn the_encoder_is_lawful()
     ensures { TheEncoderIsLawful }
 {
