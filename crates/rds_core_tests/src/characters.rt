@@ -1,4 +1,4 @@
-//! What no clause says: the characters themselves, and readers and writers that fail.
+//! Tests of what no clause says: the characters themselves, and readers and writers that fail.
 
 use crate::same::same;
 use rds_charset::{
@@ -11,7 +11,7 @@ use std::process::Abort;
 use std::str;
 use std::test::Fail;
 
-/// A writer that takes so many bytes a call at most, and none at one of its calls.
+/// A writer that takes at most this many bytes a call, and no byte at one of its calls.
 #[derive(Drop)]
 struct Slow {
     held: Vec<u8>,

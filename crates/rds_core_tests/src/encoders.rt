@@ -12,7 +12,7 @@ use rds_fields::{Dwell, Head, Late, Tag, TagPair, Which};
 use std::process::Abort;
 use std::test::Fail;
 
-/// A text, a name or tags that are set, with the reply; a free slot, with what it sends.
+/// A set of a text, a name or tags with its reply, or a free slot with its group.
 #[derive(Clone, Copy)]
 enum Row {
     Text([u8; 2], Result<(), Refusal>),
@@ -141,7 +141,7 @@ fn whole_round(rt: HostRuntime) -> Result<(), Fail> {
     Ok(())
 }
 
-/// What a refusal prints.
+/// The text of each refusal.
 #[test]
 fn printed_refusals(rt: HostRuntime) -> Result<(), Fail> {
     let rows = [

@@ -1,7 +1,7 @@
 //! The tests of the crates that know of no log and no script: blocks, fields, segments, characters, the encoder, the
 //! receiver, the world and the audit. They make the public calls of these as any crate above them does.
 //!
-//! They stand in one crate of their own, since a crate with tests is proved once more for them.
+//! They are in a crate of their own, since a crate with tests is proved once more for them.
 #![tactic(auto)]
 
 #[cfg(test)]

@@ -1,4 +1,4 @@
-//! Groups and what they say: texts, names, announcements and tags.
+//! Tests of groups and their messages: texts, names, announcements and tags.
 
 use crate::same::same;
 use rds_block::{Group, Place};
@@ -116,7 +116,7 @@ fn pieces(rt: HostRuntime) -> Result<(), Fail> {
     Ok(())
 }
 
-/// What is refused of a tag, and its text.
+/// The refused tags, and the text of each refusal.
 #[test]
 fn refused_tags(rt: HostRuntime) -> Result<(), Fail> {
     let rows = [

@@ -10,7 +10,7 @@ use std::test::Fail;
 /// The programme that the receivers are of.
 const PI: u16 = 0xC201;
 
-/// What is shown: the text, the name, the item bits and the two tags.
+/// The view: the text, the name, the item bits and the two tags.
 #[derive(Clone, Copy)]
 struct Shown {
     text: Option<&'static [u8]>,
@@ -63,7 +63,7 @@ fn assert_shown(rt: &impl Abort, receiver: &Receiver, shown: Shown) {
     same(rt, receiver.tag(Which::Two), shown.two);
 }
 
-/// Each slot brings these words, or nothing, and this is shown at its end.
+/// Each slot has these words, or no group, and this view at its end.
 fn assert_slots(
     rt: &impl Abort,
     dwell: u16,
@@ -115,7 +115,7 @@ fn laws(_rt: HostRuntime) -> Result<(), Fail> {
     Ok(())
 }
 
-/// A slot that brings nothing new, and before the dwell ends, leaves the view as it was.
+/// A slot with nothing new, before the dwell ends, leaves the view unchanged.
 #[test]
 fn told_whether_the_view_stays(rt: HostRuntime) -> Result<(), Fail> {
     let hi = Some(Group::from_blocks([PI, 0x2140, 0x4849, 0x0D20]));
@@ -140,7 +140,7 @@ fn told_whether_the_view_stays(rt: HostRuntime) -> Result<(), Fail> {
     Ok(())
 }
 
-/// Nor does one that brings a part of a text, where none was whole before.
+/// So does a slot with a part of a text, if no text was complete before.
 #[test]
 fn told_that_no_part_is_shown(rt: HostRuntime) -> Result<(), Fail> {
     let mut receiver = Receiver::new(PI, Dwell::new(4).ok_or("dwell")?);

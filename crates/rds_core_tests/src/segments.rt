@@ -6,14 +6,14 @@ use rds_assembly::{
 };
 use std::test::Fail;
 
-/// What is done to the segments held.
+/// A call on the held segments.
 #[derive(Clone, Copy)]
 enum Call {
     Put(u8, [u8; 4]),
     Clear,
 }
 
-/// What is whole after each call of one run. What was given up doesn't come back.
+/// The complete value after each call of one run. Dropped segments do not come back.
 #[test]
 fn one_run(rt: HostRuntime) {
     let run: [(Call, Option<&[u8]>); 9] = [
@@ -38,7 +38,7 @@ fn one_run(rt: HostRuntime) {
     }
 }
 
-/// What is held already is no change.
+/// A segment that is already held is no change.
 #[test]
 fn held_again(rt: HostRuntime) {
     let mut text: Assembly<RadioText> = Assembly::new();
@@ -65,8 +65,7 @@ fn names(rt: HostRuntime) {
     assert!(rt; name.is_empty() && !name.has(1));
 }
 
-/// After a text come a carriage return and spaces, in a segment of their own where it needs one.
-/// All of its segments make it whole, and fewer don't.
+/// A carriage return and spaces follow a text, in a segment of their own if necessary.
 #[test]
 fn texts_there_and_back(rt: HostRuntime) -> Result<(), Fail> {
     let texts: [(&[u8], u8, [u8; 4]); 6] = [
@@ -91,7 +90,7 @@ fn texts_there_and_back(rt: HostRuntime) -> Result<(), Fail> {
     Ok(())
 }
 
-/// A line feed, an end of a headline and a soft hyphen may stand in a text.
+/// A text may contain a line feed, an end of a headline and a soft hyphen.
 #[test]
 fn bytes_of_texts(rt: HostRuntime) -> Result<(), Fail> {
     let marked = Text::new(&[0x41, 0x0A, 0x0B, 0x1F])?;
@@ -110,7 +109,7 @@ fn segments_of_names(rt: HostRuntime) -> Result<(), Fail> {
     Ok(())
 }
 
-/// Each refusal, and what it prints.
+/// Each refusal, and its text.
 #[test]
 fn refused_bytes(rt: HostRuntime) -> Result<(), Fail> {
     let texts: [(&[u8], TextRefused); 2] = [

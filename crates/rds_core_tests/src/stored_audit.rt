@@ -1,4 +1,4 @@
-//! An audit keeps its fault, and goes on from what is stored.
+//! Tests that an audit keeps its fault, and continues from its stored numbers.
 
 use crate::same::same;
 use rds_audit::{Audit, AuditFault};
@@ -10,8 +10,8 @@ fn text(flags: u16, bytes: u16) -> Option<Group> {
     Some(Group::from_blocks([0xC201, flags, bytes, 0x0D20]))
 }
 
-/// What is restored finds the fault of the whole log, and keeps it, whatever is sent. Worked logs are cases of the built
-/// program.
+/// A restored audit finds the fault of the whole log, and keeps it, whatever is sent. The tests of the built program
+/// have worked logs.
 #[test]
 fn goes_on_from_what_is_stored(rt: HostRuntime) -> Result<(), Fail> {
     let dwell = Dwell::new(8).ok_or("dwell")?;
@@ -36,7 +36,7 @@ fn goes_on_from_what_is_stored(rt: HostRuntime) -> Result<(), Fail> {
     Ok(())
 }
 
-/// Tags without a text come early. The fault stays, also where nothing is sent in the next slot.
+/// Tags without a text come too early. The fault stays, even if the next slot has no group.
 #[test]
 fn early_tag_stays(rt: HostRuntime) -> Result<(), Fail> {
     let dwell = Dwell::new(8).ok_or("dwell")?;

@@ -17,7 +17,7 @@ fn station() -> Result<Encoder, Fail> {
     Ok(Encoder::new(head, dwell, Late::new(0).ok_or("late")?))
 }
 
-/// What is restored goes on where what was stored stood.
+/// A restored encoder continues where the stored one was.
 #[test]
 fn goes_on_from_what_is_stored(rt: HostRuntime) -> Result<(), Fail> {
     let mut encoder = station()?;
@@ -35,7 +35,7 @@ fn goes_on_from_what_is_stored(rt: HostRuntime) -> Result<(), Fail> {
     Ok(())
 }
 
-/// Numbers that no encoder is stored as are restored too: what is no text is none on air.
+/// Numbers that no encoder has are restored too: an invalid text means no text on air.
 #[test]
 fn restores_any_numbers(rt: HostRuntime) -> Result<(), Fail> {
     let mut stored: StoredEncoder = station()?.store();

@@ -6,7 +6,7 @@ use rds_fields::{Dwell, StoredPair};
 use rds_receiver::{Receiver, StoredReceiver, StoredSegments};
 use std::test::Fail;
 
-/// What is restored goes on where what was stored stood.
+/// A restored receiver continues where the stored one was.
 #[test]
 fn goes_on_from_what_is_stored(rt: HostRuntime) -> Result<(), Fail> {
     let mut receiver = Receiver::new(0xC201, Dwell::new(2).ok_or("dwell")?);

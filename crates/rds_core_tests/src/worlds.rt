@@ -65,7 +65,7 @@ impl Row {
     }
 }
 
-/// Plays the slots, and promises nothing: what `play` promises would burden the proof of each test.
+/// Plays the slots without a promise: the clauses of `play` would burden the proof of each test.
 fn play_slots(
     alloc: Global,
     config: Config,
@@ -75,7 +75,7 @@ fn play_slots(
     play(alloc, config, receivers, slots)
 }
 
-/// Why the slots are not played, where they aren't.
+/// Returns why the slots are not played. `None` if they are.
 fn not_played(
     alloc: Global,
     config: Config,
@@ -85,7 +85,7 @@ fn not_played(
     play(alloc, config, receivers, slots).err()
 }
 
-/// Why there is no world of so many receivers, where there is none.
+/// Returns why there is no world of this many receivers. `None` if there is one.
 fn not_made(alloc: Global, config: Config, receivers: usize) -> Option<WorldRefused> {
     World::new(alloc, config, receivers).err()
 }
@@ -104,7 +104,7 @@ fn world_of(alloc: Global, config: Config, receivers: usize) -> Result<World, Fa
     Ok(World::new(alloc, config, receivers).ok().ok_or("world")?)
 }
 
-/// Plays the rows on a new world of so many receivers, and gives that world.
+/// Plays the rows on a new world of this many receivers, and returns the world.
 fn played(rt: &impl Abort, alloc: Global, receivers: usize, rows: &[Row]) -> Result<World, Fail> {
     let mut world = new_world(alloc, receivers)?;
     step_rows(rt, &mut world, receivers, rows)?;
@@ -136,7 +136,7 @@ fn step_rows(
     Ok(())
 }
 
-/// Holds what a receiver shows to a text. What a world promises of its receivers burdens no test that calls this.
+/// Compares the text of a receiver with this one. The clauses of a world then burden no test that calls this.
 fn assert_text(
     rt: &impl Abort,
     world: &World,
@@ -148,7 +148,7 @@ fn assert_text(
     Ok(())
 }
 
-/// Holds what is on air to a text and a name.
+/// Compares the text and the name on air with these.
 fn assert_on_air(rt: &impl Abort, world: &World, wanted: (Option<&[u8]>, Option<&[u8]>)) {
     same(rt, world.on_air(), wanted);
 }
@@ -198,7 +198,7 @@ fn text(bytes: &[u8]) -> Result<Text, Fail> {
 /// The text `HI` with flag 0.
 const HI: [u16; 4] = [0xC201, 0x2140, 0x4849, 0x0D20];
 
-/// A restart takes off air what was on it; the receiver still shows it.
+/// A restart takes the text off the air; the receiver still shows it.
 #[test]
 fn nothing_on_air_after_a_restart(rt: HostRuntime) -> Result<(), Fail> {
     let hi = text(b"HI")?;

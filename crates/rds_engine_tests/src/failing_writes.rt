@@ -13,7 +13,7 @@ use std::cell::Cell;
 use std::io::{self, ErrorKind, Write};
 use std::test::Fail;
 
-/// Takes at most so many bytes a write. One write takes none: it fails, or takes 0 bytes.
+/// A writer that takes at most this many bytes a write. One write fails or takes 0 bytes.
 #[derive(Drop)]
 pub(crate) struct Stubborn<'a> {
     pub(crate) taken: &'a mut Vec<u8>,
@@ -51,7 +51,7 @@ enum Engine {
     Encode,
 }
 
-/// Returns what the engine writes over the input of these tests.
+/// Returns the output of the engine for the input of these tests.
 fn output_of(engine: Engine) -> &'static [u8] {
     match engine {
         Engine::Decode => TWO_LINES,
@@ -92,7 +92,7 @@ fn encoded_to(alloc: Global, writer: Stubborn) -> Result<Result<(), LogFault>, F
     Ok(encode(alloc, reader, &mut Told::new(writer), config(1)?))
 }
 
-/// Runs the engine with a writer that takes up to four bytes a write, and none at one of its writes.
+/// Runs the engine with a writer that takes up to four bytes a write, and no byte at one of its writes.
 fn ended(
     engine: Engine,
     alloc: Global,
@@ -116,7 +116,7 @@ fn ended(
     }
 }
 
-/// The answer is `Write`, and what went out is a first part of the output, until no write is left to fail.
+/// The result is `Write`, and the output is some first part of the whole, until no write is left to fail.
 #[test]
 fn each_write_fails_or_takes_nothing(rt: HostRuntime) -> Result<(), Fail> {
     for engine in [

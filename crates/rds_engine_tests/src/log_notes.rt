@@ -1,4 +1,4 @@
-//! What is noted of a log beside what is written. The wanted notes are written out by hand.
+//! Tests of the notes on a log. The expected notes are written by hand.
 
 use rds_audit::AuditFault;
 use rds_charset::Told;
@@ -13,7 +13,7 @@ use std::test::Fail;
 /// A log of two slots: a group of C201, and a lost one.
 const TWO_SLOTS: &[u8] = b"# note\nC201 2140 4849 0D20\n---- ---- ---- ----\n";
 
-/// A line that is no log line, and why.
+/// A malformed line, and its mistake.
 const CAUSES: [(&[u8], LineCause); 9] = [
     (b"{\"pi\":\"0xC201\"}", LineCause::Json),
     (b"text,HI,1,G", LineCause::Script),
@@ -30,7 +30,7 @@ fn dwell(slots: u16) -> Result<Dwell, Fail> {
     Ok(Dwell::new(slots).ok_or("dwell")?)
 }
 
-/// A bad line is noted by its first bytes and its cause, whatever came before it.
+/// The note on a malformed line has its first bytes and its mistake, whatever came before it.
 #[test]
 fn causes_of_lines(rt: HostRuntime) -> Result<(), Fail> {
     for (line, cause) in CAUSES {

@@ -17,14 +17,14 @@ use std::test::Fail;
 /// Two texts of one segment each, the second with the other flag.
 pub(crate) const TWO_TEXTS: &[u8] = b"C201 2140 4849 0D20\nC201 2150 594F 0D20\n";
 
-/// What is written for them.
+/// The output for them.
 pub(crate) const TWO_LINES: &[u8] = b"0 text \"HI\"\n1 text \"YO\"\n";
 
 fn dwell() -> Result<Dwell, Fail> {
     Ok(Dwell::new(128).ok_or("dwell")?)
 }
 
-/// Gives the same bytes for ever, and counts the reads.
+/// A reader that returns the same bytes for ever, and counts the reads.
 #[derive(Drop)]
 pub(crate) struct Endless<'a> {
     pub(crate) bytes: &'a [u8],
@@ -34,7 +34,7 @@ pub(crate) struct Endless<'a> {
 /// A line of a log.
 pub(crate) const LINE: &[u8] = b"C201 2140 4849 0D20\n";
 
-/// A line that never ends: each read gives this byte.
+/// A reader of a line that never ends: each read returns this byte.
 pub(crate) const ONE_BYTE: &[u8] = b"C";
 
 impl Read for Endless<'_> {

@@ -15,7 +15,7 @@ use std::io::{self, ErrorKind, Read, Write};
 use std::process::Abort;
 use std::test::Fail;
 
-/// A text that one receiver gets with a dwell of one slot, and what is simulated.
+/// A text that one receiver gets with a dwell of one slot, and the output of `sim`.
 pub(crate) const SIMULATED: &[u8] = b"-,,1,G\ntext,HI,1,G\n-,,0,G\n";
 
 pub(crate) const SIMULATED_OUTPUT: &[u8] =
@@ -190,8 +190,7 @@ impl Write for Page {
     }
 }
 
-/// A script that ends for want of memory has written a first part of its output; where there is memory, all of it.
-/// `tests/cases` runs the tests that call this with each request refused in turn.
+/// If memory runs out, some first part of the output was written; if not, all of it.
 fn ends_whole_or_for_memory(
     rt: &impl Abort,
     done: Result<(), LogFault>,

@@ -1,5 +1,4 @@
-//! Where the engines stop: no read is made after the one that brought it, and no engine says that a read failed where
-//! none did.
+//! Tests of the last read: no read follows the one with the end, and no engine reports a failed read if none failed.
 
 use crate::same::same;
 use rds_block::Place;
@@ -47,7 +46,7 @@ fn config(pi: u16, dwell: u16, late: u16) -> Result<Config, Fail> {
     })
 }
 
-/// What plays a script.
+/// The engine that plays a script.
 #[derive(Clone, Copy)]
 enum Engine {
     Simulate,
@@ -107,10 +106,10 @@ fn audited(alloc: Global, log: &[u8]) -> Result<(Result<bool, LogFault>, usize),
 /// A row, and how many bytes it has.
 const ROW: usize = 6;
 
-/// Five rows, a record that is none, and three rows.
+/// Five rows, a malformed record, and three rows.
 const BAD_ROW: &[u8] = b"-,,1,\n-,,1,\n-,,1,\n-,,1,\n-,,1,\nx\n-,,1,\n-,,1,\n-,,1,\n";
 
-/// What is after the bad row.
+/// The bytes after the malformed record.
 const AFTER_BAD_ROW: usize = 3 * ROW;
 
 /// Each line comes in a read of its own: the rows after a bad one are never read, however many stand before it.
@@ -149,7 +148,7 @@ const COMMANDS: [&[u8]; 5] = [
     b"-,,0,",
 ];
 
-/// What up to eight receivers get.
+/// The receptions of up to eight receivers.
 const RECEPTIONS: [&[u8]; 9] = [
     b"",
     b"G",

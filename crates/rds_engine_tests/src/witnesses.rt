@@ -21,7 +21,7 @@ C201 2140 4D4E 4F50
 C201 2141 5152 0D20
 ";
 
-/// The answer to the log for receivers of so many slots, and what is written.
+/// Returns the answer to the log for receivers with this dwell, and the output.
 fn looked_for(
     reader: impl Read + Drop,
     alloc: Global,

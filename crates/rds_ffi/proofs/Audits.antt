@@ -1,4 +1,4 @@
--- From the audit that lies in the caller's memory to what it stands for, and back.
+-- From the audit in the caller's memory to its state, and back.
 use Rattle.std.proofs.Common.{◌≡◌, ℕ, List, Option, sym, subst}
 use Rattle.std.specs.Prelude.{Result, Ok, Err, MatchOption, MatchResult}
 use Rattle.rds_block.specs.declared.group.Group.{Group}
@@ -21,7 +21,7 @@ back pi d s log a same good stands = record {
   at = subst (λ (x : AuditState). AuditStandsAt pi d x log) (sym same) stands;
 }
 
--- what holds of what it heard wherever the audit stands holds wherever the one that stands for it lies
+-- a statement about the log of each audit with this state holds for the audit in memory
 pub lying : (s : StoredAudit) (a : AuditState) (Holds : ℕ → List (Option Message) → Type 0) → (IsStored s → a ≡ audit_stored s) → WhereTheAuditStands a Holds → WhereItHeard s Holds
 lying s a Holds same holds pi d log lies = subst (λ (x : AuditState). (stands : AuditStandsAt pi d x log) → Holds d stands.heard) (same lies.good) (holds pi d log) lies.at
 

@@ -1,3 +1,3 @@
 pub mod Bits
-pub mod Lying
+pub mod InMemory
 pub mod Audits

@@ -1,5 +1,5 @@
 use Rattle.std.proofs.Common.{◌∙◌}
-use Rattle.rds_ffi.proofs.Lying.{there}
+use Rattle.rds_ffi.proofs.InMemory.{there}
 use Rattle.rds_ffi.proofs.encoder.rdsrt_encoder_on_air.Goals as goal
 
 pub returns-clause-text : goal.returns-clause-text

@@ -2,7 +2,7 @@ use Rattle.std.proofs.Common.{◌∷◌, ◌∙◌, ap, subst, ℕ, List}
 use Rattle.rds_encoder.specs.Entries.{SetName}
 use Rattle.rds_ffi.specs.EncoderInMemory.{EncoderInMemory}
 use Rattle.rds_ffi.specs.Codes.{reply_of}
-use Rattle.rds_ffi.proofs.Lying.{back, there, unmoved}
+use Rattle.rds_ffi.proofs.InMemory.{back, there, unmoved}
 use Rattle.rds_ffi.proofs.encoder.rdsrt_encoder_set_name.Goals as goal
 
 pub returns-clause-reply : goal.returns-clause-reply

@@ -4,7 +4,7 @@ use Rattle.rds_encoder.specs.Entries.{SetTags}
 use Rattle.rds_encoder.specs.Tags.{tags_reply}
 use Rattle.rds_ffi.specs.EncoderInMemory.{EncoderInMemory}
 use Rattle.rds_ffi.specs.Codes.{reply_of}
-use Rattle.rds_ffi.proofs.Lying.{back, there, unmoved}
+use Rattle.rds_ffi.proofs.InMemory.{back, there, unmoved}
 use Rattle.rds_ffi.proofs.encoder.rdsrt_encoder_set_tags.Goals as goal
 
 pub returns-clause-reply : goal.returns-clause-reply

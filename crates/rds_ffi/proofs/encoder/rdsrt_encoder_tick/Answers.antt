@@ -1,4 +1,4 @@
-use Rattle.rds_ffi.proofs.Lying.{back, there}
+use Rattle.rds_ffi.proofs.InMemory.{back, there}
 use Rattle.rds_ffi.proofs.encoder.rdsrt_encoder_tick.Goals as goal
 
 pub returns-in_default-clause-stands : goal.returns-in_default-clause-stands
