@@ -10,7 +10,6 @@ import sys
 from typing import NamedTuple
 
 TOOLS = os.path.dirname(os.path.abspath(__file__))
-sys.path.insert(1, os.path.dirname(TOOLS))
 from crates import KIT, folder
 
 

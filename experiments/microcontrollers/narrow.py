@@ -20,7 +20,7 @@ import tempfile
 sys.dont_write_bytecode = True
 HERE = os.path.dirname(os.path.abspath(__file__))
 ROOT = os.path.dirname(os.path.dirname(HERE))
-sys.path.insert(0, ROOT)
+sys.path.insert(0, os.path.join(ROOT, "tools"))
 from crates import KIT, compile_words, folder, listed
 
 CLANG, OUT = f"{KIT}/toolchain/bin/clang", os.path.join(HERE, "out")
@@ -90,7 +90,7 @@ def ran(words, at=HERE):
 
 def kept_module():
     """Returns the module as text. Keeps it anew if the archive is newer; the kept proofs make that fast."""
-    ran([os.path.join(ROOT, "tests/archive")])
+    ran([os.path.join(ROOT, "tools/static_library"), "rds_ffi"])
     kept = os.path.join(OUT, "module.ll")
     with open(os.path.join(CRATE, "out/lock"), "w", encoding="utf-8") as lock:
         fcntl.flock(lock, fcntl.LOCK_EX)

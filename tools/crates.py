@@ -1,15 +1,17 @@
-"""The crates that crates.txt lists, where each of them is kept, and the words by which the kit's compiler takes one."""
+"""Reads crates.txt: the crates with their layers and libraries. Knows where their files are, which of these are stale, and
+how to call the kit's compiler for a crate.
+"""
 import os
 import re
 import shutil
 
-ROOT = os.path.dirname(os.path.abspath(__file__))
+ROOT = os.path.dirname(os.path.dirname(os.path.abspath(__file__)))
 LIST = os.path.join(ROOT, "crates.txt")
 KIT = os.path.dirname(os.path.dirname(os.path.realpath(shutil.which("rt"))))
 
 
 def listed():
-    """Of each crate of crates.txt the crates that it names."""
+    """Returns each crate of crates.txt with the libraries that it uses."""
     with open(LIST, encoding="utf-8") as file:
         rows = [line.partition("#")[0].partition(":") for line in file]
     return {head.split()[0]: libraries.split() for head, _, libraries in rows if head.strip()}
@@ -40,7 +42,7 @@ def unnamed(name, uses):
 
 
 def below(name, uses):
-    """The repository's crates that this one stands on, lowest first."""
+    """Returns the repository's crates below this one, lowest first."""
     found = []
     for it in uses[name]:
         found += [dep for dep in [*below(it, uses), it] if dep not in found] if it in uses else []
@@ -52,29 +54,33 @@ def folder(name):
 
 
 def rlib(name):
-    """What is left of a library that is proved, for those above it."""
+    """Returns the folder of a proved library, which the crates above it need."""
     return os.path.join(folder(name), "out/rlib", f"{name}.rlib")
 
 
-def last_change(name):
-    """When a source of the crate, or the list of crates, was last written, or one of its files came or went."""
+def newest_source(name, uses):
+    """Returns when crates.txt or a source of the crate or of one below it was last written, or one of its files added."""
     changed = [LIST]
-    for part in ("src", "specs", "proofs"):
-        for at, _, found in os.walk(os.path.join(folder(name), part)):
-            changed += [at, *(os.path.join(at, it) for it in found)]
+    for crate in [*below(name, uses), name]:
+        for part in ("src", "specs", "proofs"):
+            for at, _, found in os.walk(os.path.join(folder(crate), part)):
+                changed += [at, *(os.path.join(at, it) for it in found)]
     return max(map(os.path.getmtime, changed))
 
 
-def is_left(name):
-    """Whether the crate has what `rt ci` or ./build left of it, which bears no stamp, and no newer source."""
+def is_stale(made, name, uses):
+    """Returns whether a built file of the crate is missing, or older than a source of the crate or of one below it."""
+    return not os.path.exists(made) or os.path.getmtime(made) < newest_source(name, uses)
+
+
+def is_left(name, uses):
+    """Returns whether `rt ci` or tools/build left the library of the crate, which has no stamp then, and it is not stale."""
     made = rlib(name)
-    if not os.path.isdir(made) or os.path.exists(os.path.join(os.path.dirname(made), "stamp")):
-        return False
-    return last_change(name) <= os.path.getmtime(made)
+    return not is_stale(made, name, uses) and not os.path.exists(os.path.join(os.path.dirname(made), "stamp"))
 
 
 def compile_words(name, uses, jobs, *more):
-    """A call of the kit's compiler, in the crate's folder, that proves and builds the crate."""
+    """Returns the call of the kit's compiler, in the crate's folder, that proves and builds the crate."""
     source = next(it for it in ("src/main.rt", "src/lib.rt") if os.path.exists(os.path.join(folder(name), it)))
     made = [(it, rlib(it) if it in uses else f"{KIT}/rlibs/{it}.rlib") for it in ("std", *uses[name])]
     folders = [f"{KIT}/rlibs", *(os.path.dirname(rlib(it)) for it in below(name, uses))]
