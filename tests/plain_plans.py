@@ -1,8 +1,7 @@
 """A plain search for plans beside the audit: all plans of some short logs are tried, slot by slot."""
 import collections
-import random
 
-import plain_audit
+from tests import plain_audit
 
 SLOTS, LOGS = 8, 2000
 # what a service is sent in a slot: a segment with its flag, or tags (no flag), and which of four values have them
@@ -84,22 +83,26 @@ def first_without_a_plan(dwell, marks):
     return None
 
 
-def cases(check, ran):
-    """The audit answers no in the first slot up to which no plan is found, as the rules say; each answer occurs."""
-    rng, answers = random.Random(20261124), collections.Counter()
-    for number in range(LOGS):
-        dwell, pool = rng.randrange(1, 5), rng.choices(LETTERS, k=3)
-        log = [NOTHING if rng.random() < 1 / 3 else rng.choice(pool) for _ in range(SLOTS)]
-        blocks = [it.line if it.line and it.line[0] == "C201" else None for it in log]
-        answer = plain_audit.audit(blocks, dwell)
-        # a service of which nothing was sent needs no broadcast
-        sent = [marks for marks in ([it.text for it in log], [it.name for it in log]) if any(marks)]
-        first = [first_without_a_plan(dwell, marks) for marks in sent]
-        planned = min((it for it in first if it is not None), default=None)
-        ruled = int(answer.split()[1]) if answer.startswith("no") else None
-        check(f"short log {number}: plans and rules", planned, ruled)
-        given = "".join(" ".join(it.line or ["----"] * 4) + "\n" for it in log).encode()
-        words, status = ["audit", "--pi", "C201", "--m", str(dwell)], 0 if answer.startswith("yes") else 1
-        check(f"short log {number}: the audit", ran(words, given), (status, answer.encode()))
-        answers[answer.split()[-1]] += 1
-    check("answers to short logs", (len(answers), min(answers.values()) > 9), (6, True))
+def random_log(rng):
+    """Returns a dwell and a short log of a few letters."""
+    dwell, pool = rng.randrange(1, 5), rng.choices(LETTERS, k=3)
+    return dwell, [NOTHING if rng.random() < 1 / 3 else rng.choice(pool) for _ in range(SLOTS)]
+
+
+def lines_of(log):
+    """Returns the log as the program reads it."""
+    return "".join(" ".join(it.line or ["----"] * 4) + "\n" for it in log).encode()
+
+
+def first_of_a_log(log, dwell):
+    """Returns the first slot up to which no plan is lawful and dense, or None."""
+    # a service of which nothing was sent needs no broadcast
+    sent = [marks for marks in ([it.text for it in log], [it.name for it in log]) if any(marks)]
+    first = [first_without_a_plan(dwell, marks) for marks in sent]
+    return min((it for it in first if it is not None), default=None)
+
+
+def answer_by_the_rules(log, dwell):
+    """Returns the answer of the plain audit, and the slot of its no or None."""
+    answer = plain_audit.audit([it.line if it.line and it.line[0] == "C201" else None for it in log], dwell)
+    return answer, int(answer.split()[1]) if answer.startswith("no") else None

@@ -1,7 +1,8 @@
 """Radios with the flag bit alone, looked up: radios by chance beside a diary of all that was on air.
 
-Such a radio keeps segments, and tags for them, until a segment with the other flag comes. It never forgets. `encode` sends
-the logs. A radio loses slots, restarts, gets groups late and counts slots wrong. What it shows is compared in two ways:
+Such a radio keeps segments, and tags for them, until a segment with the other flag comes. It never forgets. `encode`
+sends the logs. A radio loses slots, restarts, gets groups late and counts slots wrong. What it shows is compared in two
+ways:
 
 - with `decode --m 65535` over what it got. The law the_flag_alone_is_a_long_dwell says that both show the same.
 - with the diary. In each slot in which the premise of a promise holds, the promise holds too. Where the premise fails,
@@ -9,25 +10,22 @@ the logs. A radio loses slots, restarts, gets groups late and counts slots wrong
 
 The promises, where d is M + K:
 
-- text: the text shown is that of the broadcast in which the last segment heard was sent. Premise: of each 2 d slots in a
-  row of a text the radio heard a segment, and after each restart of the encoder the empty text came first.
-- tag: each tag shown was sent for the text shown. Premise: that of text, and of each d slots in a row of a text the radio
-  heard a segment.
-- behind: the broadcast of the text shown is the newest one or the one before, or the empty text came since. Premise: that
-  of text, up to the present slot.
+- text: the text shown is that of the broadcast in which the last segment heard was sent. Premise: of each 2 d slots in
+a row of a text the radio heard a segment, and after each restart of the encoder the empty text came first.
+- tag: each tag shown was sent for the text shown. Premise: that of text, and of each d slots in a row of a text the
+radio heard a segment.
+- behind: the broadcast of the text shown is the newest one or the one before, or the empty text came since. Premise:
+that of text, up to the present slot.
 - name: the same as text. Premise: the radio heard a segment of each name, and each name has another flag than the one
   before, or the same characters.
 """
 import collections
 import math
-import random
 
-import outputs
-import plain_worlds
-import random_scripts
-import witness
+from tests import outputs, plain_witness, plain_worlds, random_scripts
+from tests.support import ran
 
-WORLDS, RADIOS, SLOTS = 400, 5, 96
+SLOTS = 96
 LONG_DWELL = "65535"
 LOST = "---- ---- ---- ----"
 PROMISES = ("text", "tag", "behind", "name")
@@ -39,7 +37,8 @@ NOTHING, RESTART = "nothing", "restart"
 
 
 class Broadcast:
-    """A text or a name on air: its characters, its first and its last slot, its flag, and the tags that were sent for it."""
+    """A text or a name on air: its characters, its first and its last slot, its flag, and the tags that were sent for
+    it."""
 
     def __init__(self, value, start, number):
         self.value, self.start, self.end, self.flag, self.pieces = value, start, SLOTS, number % 2, set()
@@ -89,7 +88,7 @@ def diary(rows, accepted):
     return found["text"], found["name"]
 
 
-def sent(rng, ran, dwell, late):
+def sent(rng, dwell, late):
     """The slots that an encoder sends, and the broadcasts of texts and of names."""
     rows = list(commands(rng, dwell + late, rng.random() < 3 / 4, rng.random() < 3 / 4))
     output = ran(["encode", "--pi", "C201", "--m", str(dwell), "--k", str(late)], plain_worlds.script(rows))[1]
@@ -101,7 +100,8 @@ def sent(rng, ran, dwell, late):
 
 
 def receptions(rng, may_lose):
-    """For each slot the slot whose group a radio gets, NOTHING or RESTART. It gets no group twice and none out of order."""
+    """For each slot the slot whose group a radio gets, NOTHING or RESTART. It gets no group twice and none out of
+    order."""
     lossy, late = (rng.choice((0.05, 0.2, 0.4)), rng.choice((0, 0, 2, 6))) if may_lose else (0, 0)
     last, fading = -1, 0
     for slot in range(SLOTS):
@@ -117,8 +117,8 @@ def receptions(rng, may_lose):
 
 
 def lives(rng, got):
-    """The slots that a radio counts, in a list for each of its lives: the station's slot, and the slot whose group it gets
-    or None. It may count a slot three times, and a slot without a group not at all."""
+    """The slots that a radio counts, in a list for each of its lives: the station's slot, and the slot whose group it
+    gets or None. It may count a slot three times, and a slot without a group not at all."""
     miscounts, life = rng.choice((0, 0.2)), []
     for slot, source in enumerate(got):
         if source == RESTART:
@@ -153,8 +153,10 @@ class Radio:
 
     def view(self):
         """What it shows, as part and value."""
-        run = witness.run_of(self.texts, math.inf, self.count)
-        text, name = witness.value_of(run, False), witness.value_of(witness.run_of(self.names, math.inf, self.count), True)
+        run = plain_witness.run_of(self.texts, math.inf, self.count)
+        text, name = plain_witness.value_of(run,
+                                            False), plain_witness.value_of(plain_witness.run_of(self.names, math.inf,
+                                                                                                self.count), True)
         shown = {part: value.decode() for part, value in (("text", text), ("name", name)) if value is not None}
         pair = next((bits for at, bits in reversed(self.tags) if run and at > run[-1][0]), None)
         return {**shown, **pieces(text.decode(), pair)} if text is not None and pair is not None else shown
@@ -167,7 +169,7 @@ def pieces(text, pair):
             for part, (kind, start, extra) in zip(("tag1", "tag2"), tags) if kind and start + extra < len(text)}
 
 
-def decoded(ran, log):
+def decoded(log):
     """What `decode` shows in each slot of the log with a dwell as long as any log here; items are left out."""
     given = "".join(f"{line}\n" for line in log).encode()
     output = ran(["decode", "--pi", "C201", "--m", LONG_DWELL], given)[1].decode()
@@ -179,7 +181,8 @@ def decoded(ran, log):
 
 
 def hears_one_in(count, broadcasts, heard, now):
-    """Whether a segment was heard of each so many slots in a row of a broadcast, up to now, once one was heard at all."""
+    """Whether a segment was heard of each so many slots in a row of a broadcast, up to now, once one was heard at
+    all."""
     for it in broadcasts if heard else ():
         missed = 0
         for slot in range(max(it.start, min(heard) + 1), min(it.end, now) + 1):
@@ -218,7 +221,8 @@ def on_air_in(broadcasts, slot):
 
 
 class Judge:
-    """Looks at what one radio shows in each slot, by the broadcasts and by the slots in which what it heard was sent."""
+    """Looks at what one radio shows in each slot, by the broadcasts and by the slots in which what it heard was
+    sent."""
 
     def __init__(self, texts, names, spacing):
         self.texts, self.names, self.spacing = texts, names, spacing
@@ -265,25 +269,3 @@ def played(life, slots, judge):
         views.append(radio.view())
         judgements += [(*it, slot, views[-1]) for it in (*judge.of_text(views[-1], slot), *judge.of_name(views[-1]))]
     return views, judgements, log
-
-
-def cases(check, ran):
-    """2,000 radios: each keeps the promises whose premises hold, and some break those whose premises fail."""
-    seen, mixed_alone = collections.Counter(), 0
-    for seed in range(WORLDS):
-        rng = random.Random(seed)
-        dwell, late = rng.choice((3, 4, 5)), rng.choice((0, 0, 1, 2))
-        slots, broadcasts = sent(rng, ran, dwell, late)
-        for number in range(RADIOS):
-            name, breaches = f"radio {number} of world {seed}, M {dwell}, K {late}", []
-            for life in lives(rng, receptions(rng, number > 0)):
-                views, judgements, log = played(life, slots, Judge(*broadcasts, dwell + late))
-                check(f"{name}: as decode --m {LONG_DWELL}", views == decoded(ran, log), True)
-                breaches += [it for it in judgements if it[1] and not it[2]]
-                seen.update(it[:3] for it in judgements)
-                mixed_alone += number == 0 and any(it[0] == "text" and not it[2] for it in judgements)
-            check(f"{name}: breaches", breaches[:3], [])
-    for promise in PROMISES:
-        check(f"radios: {promise}: the premise holds often", seen[promise, True, True] > 1000, True)
-        check(f"radios: {promise}: some break it without the premise", seen[promise, False, False] > 20, True)
-    check("radios: some mix that lose nothing, after a restart without the empty text", mixed_alone > 5, True)

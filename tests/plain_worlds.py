@@ -7,8 +7,8 @@ import collections
 import itertools
 import random
 
-import outputs
-import random_scripts
+from tests import outputs, random_scripts
+from tests.support import ran
 
 DWELL, SLOTS, WORLDS = 4, 64, 200
 LOST = "---- ---- ---- ----"
@@ -96,28 +96,7 @@ def accepted_in(replies):
     return {slot for slot, _, answer in replies if answer == "ok "}
 
 
-def worlds(check, ran):
-    """All that two receivers of a world show is right, whatever they lose, and however late they get it; and they show
-    something of each kind."""
-    seen = collections.Counter()
-    for seed in range(WORLDS):
-        rng, late = random.Random(seed), seed % 4
-        rows, lasts = [], [-1, -1]
-        for slot, row in enumerate(random_rows(rng)):
-            got = [random_scripts.reception(rng, slot, late, last) for last in lasts]
-            lasts = [last for _, last in got]
-            rows.append(row._replace(receptions="".join(it for it, _ in got)))
-        status, output = ran(["sim", "--pi", "C201", "--m", str(DWELL), "--k", str(late)], script(rows))
-        replies, _, changes, _ = outputs.parts_of(output, False)
-        diary = Diary(rows, accepted_in(replies))
-        views = [shown(changes[receiver], SLOTS) for receiver in range(2)]
-        found = [it for slot, pair in enumerate(zip(*views)) for it in diary.wrongs(slot, DWELL + late, pair)]
-        check(f"world {seed}: what is shown", (status, found), (0, []))
-        seen.update(part for pair in zip(*views) for view in pair for part in view)
-    check("worlds: slots with each part", min(seen[it] for it in ("text", "name", "item", "tag1", "tag2")) > 100, True)
-
-
-def encoded(rng, ran, late):
+def encoded(rng, late):
     """The slots that an encoder sends, and the diary of it."""
     rows = list(random_rows(rng))
     output = ran(["encode", "--pi", "C201", "--m", str(DWELL), "--k", str(late)], script(rows))[1]
@@ -125,22 +104,10 @@ def encoded(rng, ran, late):
     return [groups.get(slot, LOST) for slot in range(slots)], Diary(rows, accepted_in(replies))
 
 
-def decoded(ran, dwell, log):
+def decoded(dwell, log):
     """What a receiver shows at the end of each of its slots."""
     lines = ran(["decode", "--pi", "C201", "--m", str(dwell)], "".join(f"{it}\n" for it in log).encode())[1]
     return shown(lines.decode().splitlines(), len(log))
-
-
-def twice_the_dwell_mixes(check, ran):
-    """The look can find a mix: some receivers of twice the encoder's dwell show one."""
-    found = []
-    for seed in range(WORLDS):
-        rng = random.Random(seed)
-        slots, diary = encoded(rng, ran, 0)
-        log = [LOST if rng.random() < 1 / 4 else it for it in slots]
-        for slot, view in enumerate(decoded(ran, 2 * DWELL, log)):
-            found += diary.wrongs(slot, 2 * DWELL, [view])
-    check("twice the dwell: some show what was not on air", {"text"} <= {part for _, part, _ in found}, True)
 
 
 def own_slots(rng, slots, may_lose):
@@ -158,32 +125,19 @@ def own_slots(rng, slots, may_lose):
     return own
 
 
-def shown_by_the_clock(rng, ran, slots, may_lose):
+def shown_by_the_clock(rng, slots, may_lose):
     """What a receiver with a clock of its own shows at the end of each slot of the station."""
     own = own_slots(rng, slots, may_lose)
-    views = dict(zip((slot for slot, _ in own), decoded(ran, DWELL, [line for _, line in own])))
+    views = dict(zip((slot for slot, _ in own), decoded(DWELL, [line for _, line in own])))
     # a slot that isn't counted leaves what is shown
     return list(itertools.accumulate(range(len(slots)), lambda view, slot: views.get(slot, view), initial={}))[1:]
 
 
-def clocks(ran, late, may_lose):
+def clocks(late, may_lose):
     """All that is wrong in what receivers show whose clocks may lose so many slots within a dwell."""
     for seed in range(WORLDS):
         rng = random.Random(seed)
-        slots, diary = encoded(rng, ran, late)
-        pair = [shown_by_the_clock(rng, ran, slots, may_lose) for _ in range(2)]
+        slots, diary = encoded(rng, late)
+        pair = [shown_by_the_clock(rng, slots, may_lose) for _ in range(2)]
         for slot, views in enumerate(zip(*pair)):
             yield from diary.wrongs(slot, DWELL + late, views)
-
-
-def own_clocks(check, ran):
-    """Clocks that run fast, and lose up to K slots within a dwell, show what was on air; where they lose more, some do
-    not."""
-    for late in range(4):
-        check(f"clocks that lose up to {late} slots", list(clocks(ran, late, late)), [])
-    check("clocks that lose more: some are wrong", any(clocks(ran, 0, DWELL)), True)
-
-
-def cases(check, ran):
-    for part in (worlds, twice_the_dwell_mixes, own_clocks):
-        part(check, ran)

@@ -615,8 +615,3 @@ def rows():
     yield from decoded_classes()
     yield from one_of_three_programmes()
     yield from faults_of_programmes()
-
-
-def cases(check, ran):
-    for name, words, status, given, shown in rows():
-        check(f"row: {name}, {words}, {given[:80]!r}", ran(shlex.split(words), given), (status, shown))

@@ -191,7 +191,7 @@ impl Write for Page {
 }
 
 /// A script that ends for want of memory has written a first part of its output; where there is memory, all of it.
-/// `tests/cases` runs the tests that call this with each request refused in turn.
+/// `test_memory` runs the tests that call this with each request refused in turn.
 fn ends_whole_or_for_memory(
     rt: &impl Abort,
     done: Result<(), LogFault>,

@@ -13,7 +13,8 @@ import os
 import re
 import sys
 
-ROOT = os.path.dirname(os.path.dirname(os.path.abspath(__file__)))
+from tests.support import ROOT, Case, text_of
+
 sys.path.insert(1, ROOT)
 import crates
 
@@ -125,7 +126,7 @@ def files():
 
 def is_code(path):
     """Tells whether the test looks for names in the file. Pages, proofs and this file do not count."""
-    return not path.endswith((".md", ".png")) and "/proofs/" not in path and path != "tests/names.py"
+    return not path.endswith((".md", ".png")) and "/proofs/" not in path and path != "tests/test_names.py"
 
 
 def code_of(path):
@@ -299,11 +300,15 @@ def stale(sources, page, text):
     return found
 
 
-def run(check):
-    """Checks the names in all pages, and that the test finds each name of STALE."""
-    sources = Sources()
-    for page in sources.headings:
-        with open(os.path.join(ROOT, page), encoding="utf-8") as file:
-            check(f"{page}: names that do not exist", stale(sources, page, file.read()), [])
-    for text in STALE:
-        check(f"names: the test finds the stale one in {text!r}", bool(stale(sources, "README.md", text)), True)
+class Names(Case):
+    @classmethod
+    def setUpClass(cls):
+        cls.sources = Sources()
+
+    def test_each_name_in_a_page_exists(self):
+        for page in self.sources.headings:
+            self.check(f"{page}: names that do not exist", stale(self.sources, page, text_of(page)), [])
+
+    def test_a_stale_name_is_found(self):
+        for text in STALE:
+            self.check(f"{text!r}", bool(stale(self.sources, "README.md", text)), True)
