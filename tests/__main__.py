@@ -142,12 +142,20 @@ def run_all(tests):
     return failed == 0
 
 
+def no_tests(why):
+    """Prints why no test can run. Returns the status."""
+    print(f"FAILED: {why}\n0 passed, 1 failed, 0 skipped")
+    return 1
+
+
 def main():
     words = asked()
-    from tests import support
+    try:
+        from tests import support
+    except SystemExit as why:
+        return no_tests(why)
     if not os.path.exists(support.PROGRAM):
-        print(f"FAILED: there is no {support.PROGRAM}: `rt ci` or ./build makes it\n0 passed, 1 failed, 0 skipped")
-        return 1
+        return no_tests(f"there is no {support.PROGRAM}: `rt ci` or ./build makes it")
     tests = tests_of(words.names)
     if words.target:
         tests = [it for it in tests if isinstance(it, (support.ProgramCase, unittest.loader._FailedTest))]

@@ -55,37 +55,41 @@ def idle(b):
 
 
 def call(b, what, *given):
-    """What a function of the page gives for these values."""
+    """Calls a function of the page with these values. Returns its value once the page is idle."""
     got = b.run(f"{what}({', '.join(map(json.dumps, given))})")
     idle(b)
     return got
 
 
 def of(b, query, what):
-    """A property of the first element that fits."""
+    """Returns a property of the first element that fits the query."""
     return b.run(f"document.querySelector({json.dumps(query)}).{what}")
 
 
 def text_of(b, query):
+    """Returns the text of the first element that fits the query."""
     return of(b, query, "textContent")
 
 
 def click(b, query):
+    """Clicks the first element that fits the query."""
     b.run(f"document.querySelector({json.dumps(query)}).click()")
     idle(b)
 
 
 def shown(b, radio):
+    """Returns the text on a receiver's display."""
     return text_of(b, f"#{radio} .lcd .text")
 
 
 def settle(b):
+    """Waits as long as the page waits after a change of a field."""
     b.run("new Promise(done => setTimeout(done, 250))")
     idle(b)
 
 
 def visit(b, url):
-    """Opens the page; answers whether it came to its begin."""
+    """Opens the page. Returns whether it is ready in time."""
     b.go(url)
     with open(PROBE, encoding="utf-8") as probe:
         b.run(probe.read() + ";window.probe = probe; undefined")
@@ -98,33 +102,36 @@ def reload(b):
 
 
 def open_script(b, text, **options):
+    """Opens a script with these options in its tab."""
     call(b, "page.tab", "script")
     call(b, "scriptTab.open", text, options)
 
 
 def verdict_of(b, log, m):
-    """Opens the log, and gives the verdict once it says something of receivers."""
+    """Opens a log, and returns its verdict."""
     call(b, "page.tab", "log")
     call(b, "logTab.open", log, {"pi": "C201", "m": m, "k": 0})
     return settled_verdict(b)
 
 
 def settled_verdict(b):
+    """Returns the verdict once the page has looked for a witness."""
     b.until("!document.querySelector('#verdict').textContent.includes('Looking for')")
     return text_of(b, "#verdict")
 
 
 def printed(b):
+    """Returns the lines of the script's output."""
     return text_of(b, "#script-lines")
 
 
 def hidden(b):
-    """The tabs that are not open."""
+    """Returns the tabs that are not open."""
     return [name for name in TABS if of(b, f"#{name}", "hidden")]
 
 
 def first_examples(b):
-    """Opens the first example of each tab. Edits of the case before are not saved."""
+    """Opens the first example of each tab. Drops edits that are not saved."""
     for name in ("log-example", "script-example"):
         call(b, "probe.choose", name, 0)
         b.run("document.querySelector('#ask').open && document.querySelector('#ask-yes').click()")
@@ -132,7 +139,7 @@ def first_examples(b):
 
 
 def waited_for(path):
-    """What the browser saves in this file."""
+    """Waits for a file that the browser saves. Returns its bytes."""
     end = time.time() + SECONDS
     while time.time() < end:
         if os.path.exists(path) and os.path.getsize(path):
@@ -143,7 +150,7 @@ def waited_for(path):
 
 
 def packed(script):
-    """A script as a link holds it."""
+    """Returns a script as a link holds it."""
     deflate = zlib.compressobj(wbits=-15)
     return base64.urlsafe_b64encode(deflate.compress(script) + deflate.flush()).decode().rstrip("=")
 

@@ -15,10 +15,12 @@ ALL = frozenset(range(4))
 
 
 def text(flag, words, *values):
+    """Returns the letter of a text segment, with the texts that have it."""
     return Letter(f"C201 {0x2140 | flag << 4:04X} {words}".split(), Mark(flag, frozenset(values)), None)
 
 
 def name(flag, address, words, *values):
+    """Returns the letter of a name segment, with the names that have it."""
     return Letter(f"C201 {0xA140 | flag << 4 | address:04X} {words}".split(), None, Mark(flag, frozenset(values)))
 
 
@@ -41,15 +43,16 @@ LETTERS = (
 
 
 def may_begin(plan, dwell, slot, flag):
-    """Whether a broadcast may begin in the slot: the dwell after the second before, and after the one before where that
-    has its flag."""
+    """Returns whether a broadcast may begin in the slot: the dwell after the end of the one before the last, and also
+    after the last one if both have the same flag."""
     *_, second, last = (None, None, *plan.ended)
     is_apart = last is None or last[0] != flag or slot >= last[1] + dwell
     return is_apart and (second is None or slot >= second[1] + dwell)
 
 
 def followed(plan, dwell, slot):
-    """What a plan does in the slot: the broadcast goes on, or it ends, and one of either flag may begin."""
+    """Gives the plans that follow a plan in the slot. Its broadcast goes on, or it ends, and a broadcast of either flag
+    may begin."""
     if plan.now is not None:
         yield plan._replace(now=plan.now._replace(end=slot))
         plan = Plan(None, (*plan.ended, (plan.now.flag, plan.now.end))[-2:])
@@ -60,7 +63,8 @@ def followed(plan, dwell, slot):
 
 
 def has(plan, dwell, slot, mark):
-    """The plan after what was sent in the slot; None where that is not of its broadcast, or leaves a gap."""
+    """Returns the plan after the group that was sent in the slot, or None if the group is not of its broadcast or
+    leaves a gap."""
     if mark is None:
         return plan
     now = plan.now
@@ -74,7 +78,7 @@ def has(plan, dwell, slot, mark):
 
 
 def first_without_a_plan(dwell, marks):
-    """The first slot up to which no plan is lawful and dense; None where one is for all."""
+    """Returns the first slot up to which no plan is lawful and dense, or None if one plan is right for all slots."""
     plans = {Plan(None, ())}
     for slot, mark in enumerate(marks):
         plans = {has(after, dwell, slot, mark) for plan in plans for after in followed(plan, dwell, slot)} - {None}

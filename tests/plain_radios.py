@@ -47,8 +47,8 @@ class Broadcast:
 
 
 def commands(rng, spacing, empty_first, same_name_first):
-    """What a station is told in each slot. After a restart the first text that is accepted is the empty one if
-    `empty_first`, and the first name the one before if `same_name_first`."""
+    """Gives the command of a station in each slot. After a restart the first text that is accepted is the empty one if
+    `empty_first`, and the first name is the one before if `same_name_first`."""
     silent, name, fresh = spacing, None, set()
     for slot in range(SLOTS):
         kind = rng.choices(("restart", "text", "name", "tags", "-"), weights=(2, 34, 12, 24, 24))[0]
@@ -69,7 +69,7 @@ def commands(rng, spacing, empty_first, same_name_first):
 
 
 def diary(rows, accepted):
-    """The broadcasts of texts and of names, oldest first."""
+    """Returns the broadcasts of texts and of names, oldest first."""
     found, on_air, counts = {"text": [], "name": []}, {}, collections.Counter()
     for slot, row in enumerate(rows):
         kind = row.command
@@ -89,7 +89,7 @@ def diary(rows, accepted):
 
 
 def sent(rng, dwell, late):
-    """The slots that an encoder sends, and the broadcasts of texts and of names."""
+    """Returns the slots that an encoder sends, and the broadcasts of texts and of names."""
     rows = list(commands(rng, dwell + late, rng.random() < 3 / 4, rng.random() < 3 / 4))
     output = ran(["encode", "--pi", "C201", "--m", str(dwell), "--k", str(late)], plain_worlds.script(rows))[1]
     replies, groups, _, slots = outputs.parts_of(output, True)
@@ -100,8 +100,8 @@ def sent(rng, dwell, late):
 
 
 def receptions(rng, may_lose):
-    """For each slot the slot whose group a radio gets, NOTHING or RESTART. It gets no group twice and none out of
-    order."""
+    """Gives for each slot the slot whose group a radio gets, NOTHING or RESTART. A radio gets no group twice and none
+    out of order."""
     lossy, late = (rng.choice((0.05, 0.2, 0.4)), rng.choice((0, 0, 2, 6))) if may_lose else (0, 0)
     last, fading = -1, 0
     for slot in range(SLOTS):
@@ -117,8 +117,8 @@ def receptions(rng, may_lose):
 
 
 def lives(rng, got):
-    """The slots that a radio counts, in a list for each of its lives: the station's slot, and the slot whose group it
-    gets or None. It may count a slot three times, and a slot without a group not at all."""
+    """Gives the slots that a radio counts, in a list for each of its lives: the station's slot, and the slot whose
+    group it gets or None. It may count a slot three times, and may leave out a slot without a group."""
     miscounts, life = rng.choice((0, 0.2)), []
     for slot, source in enumerate(got):
         if source == RESTART:
@@ -139,6 +139,7 @@ class Radio:
         self.texts, self.names, self.tags, self.knows_tags, self.count = [], [], [], False, 0
 
     def hear(self, line):
+        """Takes a group."""
         self.count += 1
         second, data = int(line[5:9], 16), bytes.fromhex(line[10:])
         number, low = second >> 12, second & 0x1F
@@ -152,7 +153,7 @@ class Radio:
             self.tags.append((self.count, low << 32 | int.from_bytes(data, "big")))
 
     def view(self):
-        """What it shows, as part and value."""
+        """Returns the parts that the radio shows, with their values."""
         run = plain_witness.run_of(self.texts, math.inf, self.count)
         text, name = plain_witness.value_of(run,
                                             False), plain_witness.value_of(plain_witness.run_of(self.names, math.inf,
@@ -163,14 +164,14 @@ class Radio:
 
 
 def pieces(text, pair):
-    """What the tags of a pair show of a text, as part and value."""
+    """Returns the pieces that the tags of a pair show of a text, by part."""
     tags = (pair >> 29 & 63, pair >> 23 & 63, pair >> 17 & 63), (pair >> 11 & 63, pair >> 5 & 63, pair & 31)
     return {part: f'{plain_worlds.CLASSES[kind]} "{text[start:start + extra + 1]}"'
             for part, (kind, start, extra) in zip(("tag1", "tag2"), tags) if kind and start + extra < len(text)}
 
 
 def decoded(log):
-    """What `decode` shows in each slot of the log with a dwell as long as any log here; items are left out."""
+    """Returns the view of `decode` in each slot of the log, without items. The dwell is longer than any log here."""
     given = "".join(f"{line}\n" for line in log).encode()
     output = ran(["decode", "--pi", "C201", "--m", LONG_DWELL], given)[1].decode()
     return [{part: value for part, value in view.items() if part != "item"}
@@ -181,8 +182,8 @@ def decoded(log):
 
 
 def hears_one_in(count, broadcasts, heard, now):
-    """Whether a segment was heard of each so many slots in a row of a broadcast, up to now, once one was heard at
-    all."""
+    """Returns whether a segment was heard of each so many slots in a row of a broadcast, up to now. Slots before the
+    first segment that was heard do not count."""
     for it in broadcasts if heard else ():
         missed = 0
         for slot in range(max(it.start, min(heard) + 1), min(it.end, now) + 1):
@@ -193,7 +194,8 @@ def hears_one_in(count, broadcasts, heard, now):
 
 
 def hears_each(broadcasts, heard, now):
-    """Whether a segment was heard of each broadcast that another has followed, once one was heard at all."""
+    """Returns whether a segment was heard of each broadcast that another has followed. Broadcasts before the first
+    segment that was heard do not count."""
     for it, after in zip(broadcasts, broadcasts[1:]):
         is_asked = after.start <= now and heard and min(heard) < it.start
         if is_asked and not any(it.start <= slot <= it.end for slot in heard):
@@ -202,12 +204,12 @@ def hears_each(broadcasts, heard, now):
 
 
 def is_emptied(texts, now):
-    """Whether the empty text came first after each restart."""
+    """Returns whether the empty text came first after each restart."""
     return all(it.value == "" for it in texts[1:] if it.is_first and it.start <= now)
 
 
 def turns(names, now):
-    """Whether each name has another flag than the one before, or the same characters."""
+    """Returns whether each name has another flag than the one before, or the same characters."""
     pairs = [(one, two) for one, two in zip(names, names[1:]) if two.start <= now]
     return all(one.flag != two.flag or one.value == two.value for one, two in pairs)
 
@@ -216,7 +218,7 @@ def turns(names, now):
 
 
 def on_air_in(broadcasts, slot):
-    """The number of the broadcast that was on air in the slot."""
+    """Returns the number of the broadcast that was on air in the slot."""
     return next(number for number, it in enumerate(broadcasts) if it.start <= slot <= it.end)
 
 
@@ -232,10 +234,13 @@ class Judge:
         self.heard.get(line[5], []).append(sent_in)
 
     def is_heard(self, count, now):
+        """Returns whether the premise of a text holds: it was heard often enough, and the empty text came first after
+        restarts."""
         return hears_one_in(count, self.texts, self.heard["2"], now) and is_emptied(self.texts, now)
 
     def of_text(self, view, slot):
-        """Each promise on texts and tags that speaks of the view: its name, and whether premise and promise hold."""
+        """Gives each promise on texts and tags that speaks of the view: its name, whether its premise holds, and
+        whether it holds."""
         if "text" not in view:
             return
         last, tagged = self.heard["2"][-1], self.heard["B"][-1:]
@@ -251,7 +256,8 @@ class Judge:
         yield "behind", self.is_heard(2 * self.spacing, slot), len(since) <= 1 or "" in since
 
     def of_name(self, view):
-        """The same of names."""
+        """Gives the promise on names if it speaks of the view: its name, whether its premise holds, and whether it
+        holds."""
         if "name" in view:
             last = self.heard["A"][-1]
             premise = hears_each(self.names, self.heard["A"], last) and turns(self.names, last)
@@ -259,7 +265,7 @@ class Judge:
 
 
 def played(life, slots, judge):
-    """What a radio shows in each slot of its life, what was judged of it, and the log of what it got."""
+    """Plays a life of a radio. Returns its view in each slot, the judgements, and the log that it got."""
     radio, views, judgements, log = Radio(), [], [], []
     for slot, source in life:
         log.append(LOST if source is None else slots[source])

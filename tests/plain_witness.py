@@ -8,7 +8,7 @@ ANNOUNCED = "C201 3156 0000 4BD7"
 
 
 def run_of(heard, dwell, slot):
-    """The segments of the run at the end of the slot, the newest first: slot, flag, address and bytes."""
+    """Returns the segments of the run at the end of the slot, the newest first: slot, flag, address and bytes."""
     run = []
     for it in reversed(heard):
         if (run[-1][0] if run else slot) - it[0] >= dwell or run and it[1] != run[-1][1]:
@@ -18,7 +18,7 @@ def run_of(heard, dwell, slot):
 
 
 def value_of(run, is_name):
-    """The value that the run makes whole; None where it makes none."""
+    """Returns the text or the name that the run completes, or None."""
     cells = {}
     for _, _, address, data in run:
         cells.setdefault(address, data)
@@ -30,19 +30,22 @@ def value_of(run, is_name):
 
 
 def tags_of(heard_tags, run, announced, slot):
-    """The bits of the pair that is held, which came after the first segment of the run and while it was known."""
+    """Returns the bits of the tags that are held, or None. They came after the first segment of the run, while RT+ was
+    announced."""
     first = run[-1][0] if run else slot
     return next((bits for at, bits in reversed(heard_tags) if at > first and announced), None) if run else None
 
 
 def pieces(text, bits):
+    """Returns the class of each tag and its piece of the text."""
     tags = [(bits >> 29 & 63, bits >> 23 & 63, bits >> 17 & 63), (bits >> 11 & 63, bits >> 5 & 63, bits & 31)]
     return {(kind, text[start:start + extra + 1]) for kind, start, extra in tags if kind and start + extra < len(text)}
 
 
 def views(slots, dwell):
-    """For each slot what is shown at its end, as a set of things, and the things that pairs of the run before would
-    have shown too. RadioText Plus is announced in the first slot of such a log or nowhere, and never taken back."""
+    """Gives for each slot the things that are shown at its end, and these with the things that earlier pairs of tags of
+    the run would have shown too. RadioText Plus is announced in the first slot of such a log or nowhere, and the
+    announcement stays."""
     texts, names, tags, announced = [], [], [], False
     for slot, line in enumerate(slots):
         if line != LOST:
@@ -67,7 +70,7 @@ def views(slots, dwell):
 
 
 def first_mix(slots, dwell):
-    """The first slot in which some receiver that lost a burst shows a mix; None where none does."""
+    """Returns the first slot in which some receiver that lost a burst shows a mix, or None."""
     wide = [things for _, things in views(slots, dwell)]
     known = [set().union(*wide[:slot + dwell]) for slot in range(len(slots))]
     best = None

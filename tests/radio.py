@@ -33,7 +33,8 @@ def is_there():
 
 
 def fades(seed, slots, shortest, longest, between=60):
-    """Ranges of slots in which the station is away, each after a time in which it is heard; the first 50 are free."""
+    """Returns ranges of slots in which the station is away, each after a time in which it is heard. The first 50 slots
+    are free."""
     rng, at, ranges = random.Random(seed), 50, []
     while at + longest < slots - 20:
         length = rng.randint(shortest, longest)
@@ -43,7 +44,8 @@ def fades(seed, slots, shortest, longest, between=60):
 
 
 def script(seed, slots, dwell):
-    """Rows of a station that changes its text as often as it may, four slots of five lent to it; and the texts."""
+    """Returns the rows of a station that changes its text as often as it may, with four of five slots free, and its
+    texts."""
     rng, rows, texts = random.Random(seed), [], set()
     for slot in range(slots):
         command = "-,"
@@ -56,14 +58,14 @@ def script(seed, slots, dwell):
 
 
 def encoded(programme, seed, slots, dwell):
-    """The log of a station, and its texts."""
+    """Returns the log of a station, and its texts."""
     rows, texts = script(seed, slots, dwell)
     words = [PROGRAM, "encode", "--pi", programme, "--m", str(dwell)]
     return subprocess.run(words, input=rows, stdout=subprocess.PIPE, timeout=SECONDS, check=True).stdout, texts
 
 
 def heard(case, folder):
-    """What a station sent, and the lines that were received of it."""
+    """Returns the groups that a station sent, and the lines that were received."""
     log, texts = encoded("C201", case.seed, case.slots, case.dwell)
     air = [AIR, str(case.seed), str(case.decibels), ",".join(f"{a}-{b}" for a, b in case.fades) or "none"]
     if case.other:
@@ -84,7 +86,7 @@ def heard(case, folder):
 
 
 def shown(lines, dwell):
-    """The texts that `decode` shows of these lines."""
+    """Returns the texts that `decode` shows of these lines."""
     given = "".join(f"{line}\n" for line in lines).encode()
     words = [PROGRAM, "decode", "--pi", "C201", "--m", str(dwell)]
     output = subprocess.run(words, input=given, stdout=subprocess.PIPE, stderr=subprocess.DEVNULL, timeout=SECONDS,
@@ -93,9 +95,11 @@ def shown(lines, dwell):
 
 
 def is_of(line, sent):
-    """Whether the line may stand for the slot in which this was sent: the group, or one of the station's names."""
+    """Returns whether the line may be that of the slot in which this group was sent: the group, a lost slot, or one of
+    the station's names."""
     return line in (LOST, sent) or (sent == LOST and re.fullmatch("C201 000[0-3] E0CD [0-9A-F]{4}", line) is not None)
 
 
 def never_set(lines, case, texts):
+    """Returns the texts that `decode` shows although no station set them."""
     return [text for text in shown(lines, case.dwell) if text not in texts]

@@ -40,6 +40,12 @@ def bytes_of(name):
         return file.read()
 
 
+def output(words, given=b"", seconds=300, **more):
+    """Returns the status and the output of any program, with what it prints on standard error."""
+    done = subprocess.run(words, input=given, stdout=subprocess.PIPE, stderr=subprocess.STDOUT, timeout=seconds, **more)
+    return done.returncode, done.stdout
+
+
 # ---- the program
 
 
@@ -48,8 +54,9 @@ def target_program():
     from tests import emulated
     if emulated.why_missing():
         sys.exit(f"no {TARGET} here: {emulated.why_missing()}")
-    if subprocess.run([BUILD, TARGET], stdout=sys.stderr).returncode:
-        sys.exit(f"build {TARGET} failed")
+    status, printed = output([BUILD, TARGET], seconds=3600)
+    if status:
+        sys.exit(f"the program for {TARGET} is not built: {printed[-2000:].decode()}")
     folder = tempfile.mkdtemp(prefix="rdsrt-")
     atexit.register(shutil.rmtree, folder, ignore_errors=True)
     return emulated.wrapped(emulated.ARM.built("rdsrt", "rdsrt"), folder)
@@ -66,31 +73,25 @@ PROGRAM = found_program()
 
 
 def ran(words, given=b"", program=None, **more):
-    """Returns the status and the output of the program for these arguments and this input. Standard error is
-    dropped."""
+    """Returns the status and the output of the program for these arguments and this input, without standard error."""
     done = subprocess.run([program or PROGRAM, *words], input=given, stdout=subprocess.PIPE, stderr=subprocess.DEVNULL,
                           timeout=SECONDS, **more)
     return done.returncode, done.stdout
 
 
 def ran_by_shell(call, given=b"", **more):
-    """Returns the status and the output of a line of bash. Standard error is dropped."""
+    """Returns the status and the output of a line of bash, without standard error."""
     done = subprocess.run(["bash", "-c", call], input=given, stdout=subprocess.PIPE, stderr=subprocess.DEVNULL,
                           timeout=SECONDS, **more)
     return done.returncode, done.stdout
 
 
-def output(words, given=b"", seconds=300, **more):
-    """Returns the status and the output of any program, with what it prints on standard error."""
-    done = subprocess.run(words, input=given, stdout=subprocess.PIPE, stderr=subprocess.STDOUT, timeout=seconds, **more)
-    return done.returncode, done.stdout
-
-
 def build_archive(*target):
-    """Builds the archive of the C library if a source is newer: minutes if it must be proved. Raises if it is not
-    built."""
-    if subprocess.run([BUILD_ARCHIVE, *target], stdout=subprocess.DEVNULL).returncode:
-        raise RuntimeError("the archive of the C library is not built")
+    """Builds the archive of the C library if a source is newer. That takes minutes if it must be proved. Raises if it is
+    not built."""
+    status, printed = output([BUILD_ARCHIVE, *target], seconds=3600)
+    if status:
+        raise RuntimeError(f"the archive of the C library is not built: {printed[-2000:].decode()}")
 
 
 # ---- the tests

@@ -11,7 +11,7 @@ SEED, SEED_OF_PLANS = 20261122, 20261124
 
 
 def random_script(rng):
-    """Some dozens of rows: commands of each kind, and slots that are not free."""
+    """Returns some dozens of rows: commands of each kind, and slots that are not free."""
     texts = ["HI", "YO", "NEWS", "ABBA - WATERLOO", "Café €", "x" * 64]
     commands = [("text", lambda: rng.choice(texts)), ("name", lambda: rng.choice(["JAZZ FM", "NEWS"])),
                 ("restart", str),

@@ -11,11 +11,9 @@ from tests.support import (ARCHIVE, INSTALL, Case, build_archive, bytes_of, miss
 
 class Header(Case):
     def test_it_has_the_codes_of_the_definitions(self):
-        header = text_of(c_library.HEADER)
-        defined = {name: int(number) for name,
-                   number in re.findall(r"^(RDSRT_\w+) = (\d+)$", text_of(c_library.CODES), re.M)}
-        declared = {name: int(number) for name, number in re.findall(r"\b(RDSRT_[A-Z0-9_]+) = (\d+)", header)}
-        declared["RDSRT_ABI"] = c_library.ABI
+        defined = dict(re.findall(r"^(RDSRT_\w+) = (\d+)$", text_of(c_library.CODES), re.M))
+        declared = dict(re.findall(r"\b(RDSRT_[A-Z0-9_]+) = (\d+)", text_of(c_library.HEADER)))
+        declared["RDSRT_ABI"] = str(c_library.ABI)
         self.check("codes", declared, defined)
 
     def test_it_has_the_version_of_the_program(self):

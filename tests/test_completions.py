@@ -34,6 +34,7 @@ def summaries():
 
 
 def help_of(command):
+    """Returns the help of a command."""
     done = subprocess.run([PROGRAM, *command, "--help"], stdout=subprocess.PIPE, text=True, check=True, timeout=SECONDS)
     return done.stdout
 
@@ -47,16 +48,19 @@ def offered(command):
 
 
 def by_bash(command):
+    """Returns the commands and options that bash offers."""
     words = ["bash", "-c", BASH, "bash", os.path.join(FOLDER, FILES["bash"]), *command]
     return lines([*words, ""]) | lines([*words, "-"])
 
 
 def by_zsh(command):
+    """Returns the commands and options that zsh offers."""
     words = ["zsh", "-f", "-c", ZSH, "zsh", os.path.join(FOLDER, FILES["zsh"]), "option" if command else "command"]
     return lines([*words, *command]) - (set() if not command else {"-V", "--version"})
 
 
 def by_fish(command):
+    """Returns the commands and options that fish offers."""
     found = set()
     for begun in ("", "-", "--"):
         call = f"source {os.path.join(FOLDER, FILES['fish'])}; complete -C '{' '.join(['rdsrt', *command, begun])}'"

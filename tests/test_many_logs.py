@@ -23,6 +23,7 @@ SUMMARIES = {
 
 
 def ran(*words):
+    """Returns the status and the output of examples/many-logs."""
     environment = {**os.environ, "RDSRT": PROGRAM, "LC_ALL": "C"}
     done = subprocess.run([MANY, *words], stdin=subprocess.DEVNULL, capture_output=True, timeout=SECONDS,
                           env=environment)
@@ -30,7 +31,7 @@ def ran(*words):
 
 
 def notes(folder, outputs, *words):
-    """What is printed on standard error, in the order of the logs."""
+    """Returns the lines of standard error in the order of the logs."""
     environment = {**os.environ, "RDSRT": PROGRAM, "LC_ALL": "C"}
     done = subprocess.run([MANY, folder, outputs, *words], stdin=subprocess.DEVNULL, capture_output=True,
                           timeout=SECONDS,

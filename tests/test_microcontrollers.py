@@ -64,6 +64,7 @@ class Microcontrollers(Case):
         c_library.run_all(self.check, "armv7", folder, c_library.inputs(), ["qemu-arm"])
 
     def test_a_module_with_an_unknown_form_is_refused(self):
+        os.makedirs(narrow.OUT, exist_ok=True)
         module, header = narrow.kept_module(), text_of(c_library.HEADER)
         for line in ["", *UNKNOWN]:
             try:

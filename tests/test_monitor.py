@@ -88,8 +88,8 @@ class Monitor(PackageCase):
         values, types = series(metrics)
         for name, dwell, _ in STATIONS:
             wanted = decoded(logs[name], dwell)
-            got = [{key: value for key,
-                    value in it.items() if key != "station"} for it in objects if it["station"] == name]
+            own = [it for it in objects if it["station"] == name]
+            got = [{key: value for key, value in it.items() if key != "station"} for it in own]
             self.check(f"{name}", (got == wanted, len(got) > 10), (True, True))
             lost = sum("----" in it or not it.startswith("C201") for it in logs[name])
             counts = {"slots": SLOTS, "lost": lost, "changes": len(wanted), "malformed": int(name == "JAZZ")}

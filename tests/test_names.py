@@ -73,6 +73,7 @@ class Sources:
         self.words = {path: words_of(path, code) for path, code in self.code.items()}
         self.edits = {os.path.splitext(os.path.basename(it))[0] for it in self.files if it.endswith(".edit")}
         self.tests = set(re.findall(r"#\[test\]\s*fn (\w+)", "\n".join(self.code.values())))
+        self.tests |= {os.path.basename(it)[:-3] for it in self.files if re.fullmatch(r"tests/test_\w+\.py", it)}
         self.headings = {it: headings_of(it) for it in self.files if it.endswith(".md")}
 
     def among(self, names):

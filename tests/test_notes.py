@@ -79,12 +79,13 @@ def noted(words, given, **more):
 
 
 def note(text):
+    """Returns a note as the program prints it."""
     return f"rdsrt: {text}\n"
 
 
 def earlier_of(slots, spacing):
-    """The fault of the slots, whether it is of a name, and the slot that it comes too soon after, by the plain
-    audit."""
+    """Returns the fault of the slots by the plain audit, whether it is of a name, and the earlier slot that it names or
+    None."""
     services = {"text": plain_audit.Reigns(spacing, plain_audit.is_text_segment),
                 "name": plain_audit.Reigns(spacing, plain_audit.is_name_segment)}
     for slot, group in enumerate(slots):

@@ -9,7 +9,7 @@ NARROW = (390, 320)
 
 
 def tree(b):
-    """What a screen reader is told: role, name and value of each thing that is not left out."""
+    """Returns role, name and value of each thing that a screen reader hears."""
     nodes = [it for it in b.ask("Accessibility.getFullAXTree")["nodes"] if not it.get("ignored")]
     return [tuple(it.get(key, {}).get("value") for key in ("role", "name", "value")) for it in nodes]
 

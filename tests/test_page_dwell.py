@@ -5,8 +5,7 @@ from tests.page_support import ChromiumCase, FirefoxCase, call, click, of, text_
 
 
 def dwell_shows(b):
-    """The two answers for texts that change every so many seconds, without their buttons, and the time of the first
-    card."""
+    """Returns the two answers for texts that change every so many seconds, and the time of the first card."""
     answers = b.run("[...document.querySelectorAll('#answers p')].map(p => p.textContent)")
     return [*answers, *b.run("[...document.querySelectorAll('.card.first strong')].map(card => card.textContent)")]
 

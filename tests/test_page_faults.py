@@ -11,7 +11,7 @@ SOME_ROWS = ["-,,1,G"] * 6 + ['"-","",1,G', '""', "", "", '-,"a\n,b",1,G', '-,"a
 
 
 def results(b, tab):
-    """What a tab shows of a result: texts, marks of a mix, lanes and lines."""
+    """Returns all that a tab shows of a result: texts, marks of a mix, lanes and lines."""
     texts = b.run(f"[...document.querySelectorAll('#{tab} .lcd .text:not(.none)')].map(it => it.textContent)")
     lanes = b.run(f"{tab}Tab.timeline.lanes.length")
     return texts, b.run(f"document.querySelectorAll('#{tab} .mixed').length"), lanes, text_of(b, f"#{tab}-lines")
@@ -100,11 +100,11 @@ class Faults:
             told = BAD_ROW.search("".join(run_program(["sim", "--pi", "C201"], plain.encode())[2]))
             open_script(b, script, m=128, k=0)
             got = BAD_ROW.search(text_of(b, "#script-fault"))
-            self.check(f"the row of {script!r}", got and got[1], told and told[1])
+            self.check(f"seed {SEED}, the row of {script!r}", got and got[1], told and told[1])
             if not told or not got:
                 continue
             click(b, "#script-fault button")
-            self.check(f"the line of {script!r}", call(b, "probe.chosenLine", "script-text"),
+            self.check(f"seed {SEED}, the line of {script!r}", call(b, "probe.chosenLine", "script-text"),
                        plain.split("\n")[int(told[2]) - 1])
             seen.add(plain.split("\n")[int(told[2]) - 1])
         self.check("several kinds of bad rows", len(seen) > 4 or seen, True)

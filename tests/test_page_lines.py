@@ -6,17 +6,20 @@ from tests.page_support import EXAMPLES, GROUPS, SEED, ChromiumCase, FirefoxCase
 
 
 def some_line(dice):
+    """Returns a line of a log by chance."""
     if dice.random() < 0.98:
         return dice.choice(GROUPS)
     return dice.choice(["", "# note", "<x>", "bad", f"C201 {dice.randrange(65536):04x} 1234 0d0D @time"])
 
 
 def some_log(dice):
+    """Returns a log by chance."""
     return "\n".join(some_line(dice)
                      for _ in range(dice.randrange(80))).encode() + (b"\n" if dice.random() < 0.8 else b"")
 
 
 def some_script(dice, receivers, late):
+    """Returns a script by chance."""
     arguments = {"text": ["HI", "Édith", '"a, b"', "X" * 64, "", "no\u2603"], "name": ["POP MIX", "CHANSON"],
                  "tags": ["1 1 4 0 1 1 0 0", "0 0 1 60 3 0 0 0", "x"]}
     rows = []
@@ -65,13 +68,13 @@ class Lines:
         for number in range(120):
             data, m, k = some_log(dice), str(dice.choice([1, 2, 5, 8, 128, 65535])), str(dice.choice([0, 0, 1, 7,
                                                                                                       1024]))
-            self.same(f"log {number}", ["decode", "--pi", "C201", "--m", m], data)
-            self.same(f"log {number}", ["audit", "--pi", "C201", "--m", m, "--k", k], data)
+            self.same(f"seed {SEED}, log {number}", ["decode", "--pi", "C201", "--m", m], data)
+            self.same(f"seed {SEED}, log {number}", ["audit", "--pi", "C201", "--m", m, "--k", k], data)
         for number in range(120):
             m, k = dice.choice([1, 2, 4, 8]), dice.choice([0, 0, 1, 2])
             options = ["--pi", "C201", "--m", str(m), "--k", str(k)]
-            self.same(f"script {number}", ["sim", *options], some_script(dice, dice.randrange(9), k))
-            self.same(f"script {number}", ["encode", *options], some_script(dice, 0, k))
+            self.same(f"seed {SEED}, script {number}", ["sim", *options], some_script(dice, dice.randrange(9), k))
+            self.same(f"seed {SEED}, script {number}", ["encode", *options], some_script(dice, 0, k))
 
     def test_the_memory_has_room_beyond_32_bits(self):
         b = self.b

@@ -18,7 +18,7 @@ LOG_STATE = ("(({ timeline: { cursor, from, across }, state: { lost } }) => "
 
 @contextlib.contextmanager
 def served(folder):
-    """Serves the page's folder; gives the page's address."""
+    """Serves the page's folder. Gives the page's address."""
     class Handler(SimpleHTTPRequestHandler):
         def __init__(self, *given):
             super().__init__(*given, directory=folder)
@@ -36,7 +36,8 @@ def served(folder):
 
 
 def script_link(b):
-    """What the page says and shows of the script's link, whether the address has it, and the list of examples."""
+    """Returns the page's message on the script's link, whether the link is shown, whether the address has it, and the
+    chosen example."""
     shows = of(b, "#script-link", "checkVisibility()"), b.run("location.hash.includes('script=')")
     return [text_of(b, "#script-saved"), *shows, of(b, "#script-example", "value")]
 

@@ -47,6 +47,7 @@ EXPLAINED = [
 
 
 def lost(b):
+    """Returns the slots that the reader lost."""
     return b.run("[...logTab.state.lost]")
 
 
@@ -121,7 +122,7 @@ class LogTab:
                 got = b.run("[...document.querySelectorAll('#dwells button')].map(it => it.textContent)")
                 answers = [program(["audit", "--pi", "C201", "--m", str(m), "--k", str(k)],
                                    log.encode())[0] for m in DWELLS]
-                self.check(f"answers for log {number}, K {k}", got,
+                self.check(f"seed {SEED}, answers for log {number}, K {k}", got,
                            [f"{m:,} {'✗' if no else '✓'}" for m, no in zip(DWELLS, answers)])
         call(b, "logTab.open", EVERY_100, {"pi": "C201", "m": 128, "k": 0})
         click(b, "#dwells [data-m='64']")
@@ -141,16 +142,18 @@ class LogTab:
                                   capture_output=True, timeout=SECONDS)
             has_more = len(done.stdout.splitlines()) > b.run("logTab.state.times.timed")
             is_offered = "Add the lost slots" in text_of(b, "#verdict")
-            self.check(f"times {number}: offered", is_offered, has_more)
+            self.check(f"seed {SEED}, times {number}: offered", is_offered, has_more)
             if not is_offered:
                 continue
             offered += 1
-            self.check(f"times {number}: no green", of(b, "#verdict", "className") in ("verdict empty", "verdict no"),
+            self.check(f"seed {SEED}, times {number}: no green",
+                       of(b, "#verdict", "className") in ("verdict empty", "verdict no"),
                        True)
             buttons = "[...document.querySelectorAll('#verdict button')]"
             b.run(f"{buttons}.find(it => it.textContent === 'Add the lost slots').click()")
             idle(b)
-            self.check(f"times {number}: added as by examples/slots", of(b, "#log-text", "value"), done.stdout.decode())
+            self.check(f"seed {SEED}, times {number}: added as by examples/slots", of(b, "#log-text", "value"),
+                       done.stdout.decode())
         self.check("lost slots were offered", offered > 20, True)
         hour = f"{HI} @2026/11/26 10:00:00.00\nC201 2150 4A4F 0D20 @2026/11/26 11:00:00.00\n"
         call(b, "logTab.open", hour, {"pi": "C201", "m": 128, "k": 0})
@@ -179,7 +182,7 @@ class LogTab:
             before = "\n".join(good[:int(bad[1]) - 1]) + "\n" if bad else log
             slots = program(["decode", "--pi", "C201", "--m", "1"], before.encode())[0]
             count = sum(1 for line in before.split("\n") if line.strip("\r") and line[0] not in "<#%")
-            self.check(f"slots of odd log {number}", (b.run("logTab.state.log.count"), slots), (count, 0))
+            self.check(f"seed {SEED}, slots of odd log {number}", (b.run("logTab.state.log.count"), slots), (count, 0))
 
     def test_the_list_has_each_change_and_can_be_filtered(self):
         """A row goes to its slot."""
@@ -243,12 +246,13 @@ class LogTab:
             m, log = dice.choice([2, 4, 8]), "".join(f"{dice.choice(groups)}\n" for _ in range(dice.randrange(4, 60)))
             options, said = ["--pi", "C201", "--m", str(m)], verdict_of(b, log, m)
             if program(["audit", *options], log.encode())[0] == 0:
-                self.check(f"log {number} passes", "✓ Passes with M = " in said, True)
+                self.check(f"seed {SEED}, log {number} passes", "✓ Passes with M = " in said, True)
                 continue
             told = program(["witness", *options], log.encode())[1].splitlines()
             its = b.run("logTab.state.witness")
             slots = its["lost"] and "-".join(map(str, sorted(set(its["lost"]))))
-            self.check(f"witness of log {number}, M {m}", [f"lose {slots}: {line}" for line in its["shown"]]
+            self.check(f"seed {SEED}, witness of log {number}, M {m}",
+                       [f"lose {slots}: {line}" for line in its["shown"]]
                        or ["no witness found with one burst lost"], told)
             found += bool(its["shown"])
         self.check("witnesses were found", found > 5, True)

@@ -6,7 +6,7 @@ from tests.page_support import (HI, NOTHING, ChromiumCase, FirefoxCase, call, cl
 
 
 def runs_of(b, view, part="text"):
-    """The slots from which a view shows something else of a part, with what it shows."""
+    """Returns the slots from which a view shows another value of a part, with the value."""
     return b.run(f"{view}.parts.{part}.map(run => [run.from, run.value])")
 
 

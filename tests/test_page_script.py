@@ -4,6 +4,7 @@ from tests.page_support import (ChromiumCase, FirefoxCase, call, click, example,
 
 
 def mouse(b, kind, at, buttons=1):
+    """Sends an event of the mouse at this place."""
     b.ask("Input.dispatchMouseEvent", type=kind, x=at[0], y=at[1], button="left", buttons=buttons, clickCount=1)
 
 
@@ -33,7 +34,7 @@ class ScriptTab:
         self.check("eight receivers", b.run("scriptTab.state.rows[0].receptions.length"), 8)
 
     def brush(self):
-        """A stroke of the brush over a receiver's lane."""
+        """Paints with the brush over a receiver's lane, and undoes the stroke."""
         b = self.b
         got = "scriptTab.state.rows.slice(8, 17).map(row => row.receptions[0]).join('')"
         click(b, "[name=brush][value=L]")

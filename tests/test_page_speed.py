@@ -11,6 +11,7 @@ DAY = 982_000
 
 
 def day_of_slots():
+    """Returns the log of a day."""
     out = []
     for slot in range(DAY):
         number = slot // 342

@@ -7,8 +7,8 @@ from tests.page_support import (HI, URL, ChromiumCase, call, click, example, hid
 
 
 def asked(b, does):
-    """Does it, and answers whether the page asks of unsaved edits and what it asks to keep; the keys answer no and then
-    yes."""
+    """Opens something over unsaved edits twice, and answers no and then yes by key. Returns for each the focus and
+    whether the edits stay, and whether the question is still open."""
     got = []
     for key in ("Escape", "Enter"):
         before = of(b, "#script-text", "value")

@@ -23,20 +23,20 @@ TIMES = ("6 to 11 minutes", "20 to 30 minutes")
 
 
 def all_pages():
-    """The paths of all Markdown pages."""
+    """Returns the paths of all Markdown pages."""
     found = [it for at in ("", "docs", "examples", "python",
                            "experiments/*") for it in glob.glob(os.path.join(ROOT, at, "*.md"))]
     return sorted(os.path.relpath(it, ROOT) for it in found)
 
 
 def manual():
-    """The man page as text: without its requests and escapes."""
+    """Returns the man page as text, without its requests and escapes."""
     lines = [re.sub(r"^\.[A-Za-z]{1,2} ?", "", line) for line in text_of(MANUAL).splitlines()]
     return "\n".join(lines).replace(r"\e", "\\").replace(r"\-", "-")
 
 
 def shell_blocks(path):
-    """The blocks of shell lines: of a page those marked so, of the man page and of help the examples."""
+    """Returns the blocks of shell lines: the marked ones of a page, and the examples of the man page and of help."""
     if path.endswith(".md"):
         return re.findall(r"```sh\n(.*?)```", text_of(path), re.S)
     if path == MANUAL:
@@ -45,7 +45,7 @@ def shell_blocks(path):
 
 
 def commands_in(path):
-    """Each shown command with the lines under it."""
+    """Gives each command that is shown, with the lines under it."""
     for block in shell_blocks(path):
         block = re.sub(r"^  ", "", block, flags=re.M).strip("\n") + "\n"
         for shown in re.split(r"^\$ ", block, flags=re.M)[1:]:
@@ -54,13 +54,13 @@ def commands_in(path):
 
 
 def slugs(path):
-    """The anchors of a page's headings, as GitHub makes them."""
+    """Returns the anchors of a page's headings, as GitHub makes them."""
     headings = re.findall(r"^#+ (.*)$", re.sub(r"```.*?```", "", text_of(path), flags=re.S), re.M)
     return {re.sub(r"[^\w\- ]", "", it.lower()).replace(" ", "-") for it in headings}
 
 
 def plain(text):
-    """The words alone, so that line ends and signs of comments, roff and code do not matter."""
+    """Returns only the words, without line ends and signs of comments, roff and code."""
     joined = re.sub(r'"\s*\+\s*"', "", text)
     return " ".join(re.findall(r"[A-Za-z0-9/]+|(?<=[A-Z] )\+(?= [A-Z])|(?<=RT)\+", re.sub(r"\n\s*\*? *", " ", joined)))
 

@@ -12,6 +12,7 @@ SLOTS = path("examples/slots")
 HI = "C201 2140 4849 0D20"
 LOST = "---- ---- ---- ----"
 SLOT = 104 / 1187.5
+SEED = 20261123
 SPY = "@2024/{}.00".format
 BACK = "slots: line 2: the time is earlier than the one before it; a new count begins after {} lost slots\n".format
 DAY = ("slots: line 2: the time is more than a day later than the one before it; "
@@ -54,6 +55,7 @@ ODD = [
 
 
 def ran(given, *words):
+    """Returns the status, the lines and the notes of examples/slots."""
     done = subprocess.run([SLOTS, *words], input=given.encode(), capture_output=True, timeout=SECONDS)
     return done.returncode, done.stdout.decode().splitlines(), done.stderr.decode()
 
@@ -95,27 +97,27 @@ class Worked(Case):
 
 class ByChance(Case):
     def test_each_slot_has_its_line(self):
-        """Delays that vary by less than the grain: each group is in its slot. By less than a slot: never too few."""
-        rng = random.Random(20261123)
+        """If delays vary by less than the grain, each group is in its slot. If they vary by less than a slot, no slot
+        is missing."""
+        rng = random.Random(SEED)
         for spread, is_exact in ((0.019, True), (SLOT - 0.021, False)):
             slots = [slot for slot in range(4000) if slot == 0 or rng.random() < 0.3]
             times = [max(0, slot * SLOT + rng.uniform(0, spread)) for slot in slots]
             if not is_exact:
                 # an arrival is not before the one that came earlier
                 times = [max(times[:at + 1]) for at in range(len(times))]
-            status, lines, told = ran("".join(f"C201 0000 0000 {slot:04X} {time:.4f}\n" for slot,
-                                              time in zip(slots, times)))
+            given = "".join(f"C201 0000 0000 {slot:04X} {time:.4f}\n" for slot, time in zip(slots, times))
+            status, lines, told = ran(given)
             places = [at for at, line in enumerate(lines) if line != LOST]
             written = [int(lines[at][15:19], 16) for at in places]
-            self.check(f"each group once, {spread}", (written, status, told), (slots, 0, ""))
+            self.check(f"seed {SEED}, each group once, {spread}", (written, status, told), (slots, 0, ""))
             gaps = [b - a - (d - c) for a, b, c, d in zip(places, places[1:], slots, slots[1:])]
-            self.check(f"no slot too few, {spread}", min(gaps), 0)
-            self.check(f"and none too many, {spread}", max(gaps) == 0, is_exact)
+            self.check(f"seed {SEED}, no slot too few, {spread}", min(gaps), 0)
+            self.check(f"seed {SEED}, and none too many, {spread}", max(gaps) == 0, is_exact)
 
 
 class Live(Case):
     def test_a_group_is_written_before_the_next_is_read(self):
-        """A group is written before the next one is read."""
         with subprocess.Popen([SLOTS], stdin=subprocess.PIPE, stdout=subprocess.PIPE, bufsize=0) as program:
             for time in ("1.00", "1.09"):
                 program.stdin.write(f"{HI} {time}\n".encode())

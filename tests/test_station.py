@@ -15,11 +15,12 @@ from tests.support import PROGRAM, SECONDS, Case, path
 
 STATION = path("examples/station")
 SLOT = 104 / 1187.5
+SEED = 20261125
 LOST = "---- ---- ---- ----"
 
 
 def rows_of(text, *words):
-    """Status, rows and what is told, of a station whose file has this text."""
+    """Returns status, rows and notes of a station whose file has this text."""
     with tempfile.NamedTemporaryFile() as file:
         file.write(text)
         file.flush()
@@ -28,13 +29,14 @@ def rows_of(text, *words):
 
 
 def encoded(rows, dwell):
+    """Runs `rdsrt encode` over these rows."""
     words = [PROGRAM, "encode", "--pi", "C201", "--m", str(dwell)]
     return subprocess.run(words, input=rows.encode(), stdout=subprocess.PIPE, stderr=subprocess.DEVNULL,
                           timeout=SECONDS)
 
 
 def fed(words, texts):
-    """Status and rows of a station of 40 slots whose file gets these texts, each after so many rows."""
+    """Returns status and rows of a station of 40 slots. Its file gets each of these texts after so many rows."""
     with tempfile.TemporaryDirectory() as folder:
         path, rows = os.path.join(folder, "now.txt"), []
         call = [STATION, *words, "--one-in", "1", "--slots", "40", path]
@@ -53,8 +55,8 @@ LIVES = [{1: "NIGHT TRAIN"}, {1: "JAZZ AT EIGHT", 15: "NEWS AT TEN"}, {1: "WEATH
 
 
 def joined(option):
-    """The slots of a station with this option that is started once for each of LIVES, and the last text flag of
-    each."""
+    """Returns the slots of a station with this option, which is started once for each of LIVES, and the first and the
+    last text flag of each life."""
     with concurrent.futures.ThreadPoolExecutor() as pool:
         lives = list(pool.map(lambda texts: fed(["--m", "4", option], texts)[1], LIVES))
     logs = [[line for line in encoded("".join(rows), 4).stdout.decode().splitlines() if line[0] != "#"]
@@ -64,7 +66,8 @@ def joined(option):
 
 
 def mixes(slots):
-    """What a radio with the flag bit alone shows of these slots that no station set."""
+    """Returns the texts that a radio with the flag bit alone shows although no station set them, and how many texts it
+    shows."""
     given = "".join(f"{line}\n" for line in slots).encode()
     words = [PROGRAM, "decode", "--pi", "C201", "--m", "65535"]
     shown = subprocess.run(words, input=given, stdout=subprocess.PIPE, stderr=subprocess.DEVNULL,
@@ -96,8 +99,7 @@ class Rows(Case):
             self.check(f"refused {words}", subprocess.run([STATION, *words], capture_output=True).returncode, 2)
 
     def test_a_text_is_taken_exactly_if_encode_takes_it(self):
-        """What the station takes as a character, the encoder takes too, and what it refuses is refused."""
-        rng = random.Random(20261125)
+        rng = random.Random(SEED)
         characters = [chr(it) for it in range(0x20, 0x180)] + [f"\\x{it:02X}" for it in range(256)] + ["€", "文"]
         texts = [rng.choice(characters) + "x" for _ in range(40)]
         with tempfile.NamedTemporaryFile() as file:
@@ -109,12 +111,12 @@ class Rows(Case):
                 words = [STATION, "--no-empty-first", "--at-once", "--slots", "2", "--m", "1", file.name]
                 rows = subprocess.run(words, capture_output=True, timeout=SECONDS).stdout.decode()
                 plain = f'-,,1,\ntext,"{text.replace(chr(34), chr(34) * 2)}",0,\n'
-                self.check(f"{text!r} beside encode", rows == plain, encoded(plain, 1).returncode == 0)
+                self.check(f"seed {SEED}, {text!r} beside encode", rows == plain, encoded(plain, 1).returncode == 0)
 
 
 class Live(Case):
     def test_no_text_of_a_live_station_is_refused_and_the_newest_counts(self):
-        """A row in each slot's time, and a text that changes while it runs: all are accepted, the newest counts."""
+        """A row comes in the time of each slot."""
         begins = time.monotonic()
         status, rows = fed(["--m", "4"], {2: "ONE", 14: "TWO", 16: "THREE"})
         took = time.monotonic() - begins

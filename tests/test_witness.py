@@ -19,7 +19,7 @@ def line(number, flag, address, data):
 
 
 def random_log(rng):
-    """Some slots of an encoder that keeps no rule: few short texts and names, in any order, with any flags."""
+    """Returns some slots of an encoder that keeps no rule: few short texts and names, in any order, with any flags."""
     texts = [[b"ABCD", b"EF\r "], [b"GHIJ", b"KL\r "], [b"XY\r "], [b"ABCD", b"KLMN", b"O\r  "]]
     text, flag, name, turn, slots = rng.choice(texts), 0, [b"JAZZ", b" FM "], 0, [ANNOUNCED]
     for _ in range(rng.randrange(4, 15)):
