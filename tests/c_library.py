@@ -1,28 +1,20 @@
-"""The C library as C programs use it: the archive, the examples of users as each compiler builds them, and an install.
-`cases` tests the library for this machine, `arm_cases` the one for 64-bit Arm under an emulator.
+"""The C library as C programs use it: the examples as each compiler builds them, what an archive has, and an install.
 
-tests/archive builds the archive first. Cases that need a missing program are skipped with a message.
+test_c_library has the tests for this machine, test_arm and test_microcontrollers those for other processors.
 """
 import os
 import random
 import re
-import shutil
-import subprocess
-import sys
-import tempfile
 
-import emulated
+from tests.support import ARCHIVE, output, path, ran, text_of
 
-ROOT = os.path.dirname(os.path.dirname(os.path.abspath(__file__)))
-ARCHIVE = os.path.join(ROOT, "crates/rds_ffi/out/librds_ffi.a")
-HEADER = os.path.join(ROOT, "include/rdsrt.h")
-CODES = os.path.join(ROOT, "crates/rds_ffi/specs/Codes.antt")
+HEADER, CODES = "include/rdsrt.h", "crates/rds_ffi/specs/Codes.antt"
 WARNINGS = ["-O1", "-Wall", "-Wextra", "-pedantic", "-Werror", "-pthread"]
 SANITIZED = ["-g", "-fsanitize=address,undefined", "-fno-sanitize-recover=all"]
 ARM_WAYS = [("gcc", ["-std=c11"]), ("g++", ["-std=c++17", "-x", "c++"])]
-WAYS = [("cc", ["-std=c11"]), ("c++", ["-std=c++17", "-x", "c++"]), ("clang", ["-std=c11"]), ("cc", ["-std=c11", *SANITIZED])]
-with open(HEADER, encoding="utf-8") as header:
-    ABI = int(re.search(r"#define RDSRT_ABI (\d+)", header.read()).group(1))
+WAYS = [("cc", ["-std=c11"]), ("c++", ["-std=c++17", "-x", "c++"]), ("clang", ["-std=c11"]),
+        ("cc", ["-std=c11", *SANITIZED])]
+ABI = int(re.search(r"#define RDSRT_ABI (\d+)", text_of(HEADER)).group(1))
 PROGRAMS = ["examples/c/decode.c", "examples/c/encode.c", "examples/c/audit.c", "examples/c/receive.c",
             "tests/c/calls.c", "tests/c/any_bytes.c", "tests/c/threads.c"]
 LIBC = {"memcpy", "memset", "memmove", "memcmp"}
@@ -42,37 +34,6 @@ target_link_libraries(static PRIVATE rdsrt::static)
 """
 ROWS, PIECES, ROUNDS = 100_000, 60, 3000
 DWELL, LATE = "16", "3"
-SECONDS = 300
-
-
-def text_of(path):
-    with open(path, encoding="utf-8") as file:
-        return file.read()
-
-
-def output(words, given=b"", **more):
-    """Status and standard output of these words over this input; what they have to say besides goes with it."""
-    done = subprocess.run(words, input=given, stdout=subprocess.PIPE, stderr=subprocess.STDOUT, timeout=SECONDS, **more)
-    return done.returncode, done.stdout
-
-
-def is_there(*tools):
-    """Whether the tools are installed; the first that is not is told."""
-    for tool in tools:
-        if shutil.which(tool) is None:
-            print(f"skipped: no {tool} here")
-            return False
-    return True
-
-
-# ---- what is written down
-
-def names(check):
-    """The header has the codes of the definitions, and declares what the archive exports."""
-    defined = {name: int(number) for name, number in re.findall(r"^(RDSRT_\w+) = (\d+)$", text_of(CODES), re.M)}
-    declared = {name: int(number) for name, number in re.findall(r"\b(RDSRT_[A-Z0-9_]+) = (\d+)", text_of(HEADER))}
-    declared["RDSRT_ABI"] = ABI
-    check("codes of the header", declared, defined)
 
 
 def header_version():
@@ -81,25 +42,16 @@ def header_version():
     return ".".join(macros[it] for it in ("MAJOR", "MINOR", "PATCH"))
 
 
-def versions(check, ran):
-    """The header has the version of the program."""
-    check("version of the header", f"rdsrt {header_version()}\n".encode(), ran(["--version"])[1])
-
-
 def stack(check, at, prefix, column):
-    """The header has the bytes of stack that each call takes: in column 1 on x86-64, in column 2 on 64-bit Arm."""
-    if not is_there(f"{prefix}objdump"):
-        return
+    """Checks the bytes of stack of each call in the header: in column 1 for x86-64, in column 2 for 64-bit Arm."""
     rows = re.findall(r"(rdsrt_\w+) +(\d+) +(\d+)", text_of(HEADER))
     written = "".join(f"{it[0]} {it[column]}\n" for it in sorted(rows))
-    check(f"stack of each call, column {column}", output([os.path.join(ROOT, "tools/stack"), at, f"{prefix}objdump"]),
+    check(f"stack of each call, column {column}", output([path("tools/stack"), at, f"{prefix}objdump"]),
           (0, written.encode()))
 
 
 def archive(check, at=ARCHIVE, prefix=""):
-    """What the archive exports, needs and holds."""
-    if not is_there(f"{prefix}nm", f"{prefix}readelf"):
-        return
+    """Checks what the archive exports, needs and holds."""
     symbols = output([f"{prefix}nm", at])[1].decode()
     exported = set(re.findall(r" T (\w+)$", symbols, re.M))
     declared = set(re.findall(r"\b(rdsrt_\w+)\(", re.sub(r"/\*.*?\*/", "", text_of(HEADER), flags=re.S)))
@@ -113,14 +65,13 @@ def archive(check, at=ARCHIVE, prefix=""):
     check("writable data of the archive", writable, [])
 
 
-# ---- scripts and logs
-
 def field(text):
+    """Returns a field of a record, between quotation marks if necessary."""
     return '"' + text.replace('"', '""') + '"' if set(text) & set(',"') else text
 
 
 def script(seed, rows):
-    """Rows of a script with texts, names, tags and restarts."""
+    """Gives rows of a script with texts, names, tags and restarts."""
     roll = random.Random(seed)
     for _ in range(rows):
         command = "-", ""
@@ -137,7 +88,7 @@ def script(seed, rows):
 
 
 def heard(seed, sent):
-    """The log with some of its slots lost, of another programme, or written in another way."""
+    """Gives the lines of the log with some slots lost, of another programme, or written in another way."""
     roll = random.Random(seed)
     for line in sent.splitlines(True):
         kind = roll.random()
@@ -154,7 +105,7 @@ def heard(seed, sent):
 
 
 def hostile(seed, log):
-    """A piece of the log with a few of its bytes changed to others that matter."""
+    """Returns a piece of the log with a few of its bytes changed to others that matter."""
     roll = random.Random(seed)
     start = roll.randrange(len(log))
     piece = bytearray(log[start:start + roll.randrange(4000)])
@@ -164,8 +115,8 @@ def hostile(seed, log):
 
 
 def timed(seed, log):
-    """The received groups of a log with their times in microseconds, and the time of its end; and the slots that they
-    came in, as a log."""
+    """Returns the received groups of a log with their times in microseconds and the time of its end, and the log of the
+    slots in which they came."""
     roll = random.Random(seed)
     groups, slots = b"", b""
     lines = [it for it in log.splitlines() if not it.startswith(b"#")]
@@ -180,8 +131,9 @@ def timed(seed, log):
     return groups + b"%d\n" % (len(lines) * 1_040_000_000 // 11_875 + 5), slots
 
 
-def inputs(ran):
-    """What each program is given, and what the program rdsrt answers: words, input, status and output."""
+def inputs():
+    """Returns inputs of the programs of C with the answers of the program rdsrt: arguments, input, status and
+    output."""
     rows = "".join(script(1, ROWS)).encode()
     options = ["--pi", "C201", "--m", DWELL]
     station = [*options, "--pty", "10", "--k", LATE]
@@ -198,19 +150,18 @@ def inputs(ran):
     return given
 
 
-# ---- programs
-
 def built(check, how, compiler, language, folder, library=ARCHIVE):
-    """The programs as this compiler builds them."""
+    """Builds the programs of C with this compiler."""
     for source in PROGRAMS:
         program = os.path.join(folder, os.path.basename(source)[:-2])
-        words = [compiler, *language, *WARNINGS, "-I", os.path.dirname(HEADER), os.path.join(ROOT, source), "-x", "none",
+        words = [compiler, *language, *WARNINGS, "-I", path("include"), path(source), "-x", "none",
                  library, "-o", program]
         check(f"{how}: {source} is built", output(words), (0, b""))
 
 
 def run_all(check, how, folder, given, runner=()):
-    """The programs do what rdsrt does, each call answers what it should, and any bytes and eight threads do no harm."""
+    """Checks that the programs do what rdsrt does, that each call answers as it should, and that any bytes and eight
+    threads do no harm."""
     def run(name, *words, text=b""):
         return output([*runner, os.path.join(folder, name), *words], text)
     for number, (name, words, text, wanted) in enumerate(given):
@@ -220,70 +171,38 @@ def run_all(check, how, folder, given, runner=()):
     check(f"{how}: eight threads", run("threads", "50000"), (0, b"ok\n"))
 
 
-def compilers(check, ran):
-    """Each compiler that is there, and one with sanitizers."""
-    given = inputs(ran)
-    for compiler, language in WAYS:
-        if not is_there(compiler):
-            continue
-        how = " ".join([compiler, *language])
-        with tempfile.TemporaryDirectory() as folder:
-            if SANITIZED[1] in language and not sanitizes(compiler, folder):
-                print(f"skipped: no sanitizers of {compiler} here")
-                continue
-            built(check, how, compiler, language, folder)
-            run_all(check, how, folder, given)
-
-
 def sanitizes(compiler, folder):
-    """Whether the compiler has its sanitizers."""
+    """Returns whether the compiler has its sanitizers."""
     words = [compiler, *SANITIZED, "-x", "c", "-", "-o", os.path.join(folder, "empty")]
     return output(words, b"int main(void) { return 0; }")[0] == 0
 
 
-# ---- an install
-
-def install(check):
-    """A fresh prefix has all of it, and a program finds the library there by pkg-config."""
-    if not is_there("cc", "pkg-config"):
-        return
-    with tempfile.TemporaryDirectory() as folder:
-        prefix = os.path.join(folder, "prefix")
-        check("./install", output([os.path.join(ROOT, "install"), prefix])[0], 0)
-        files = {os.path.relpath(os.path.join(at, it), prefix) for at, _, its in os.walk(prefix) for it in its}
-        check("what is installed", files, INSTALLED)
-        check("what lies beside the prefix", os.listdir(folder), ["prefix"])
-        hi = text_of(os.path.join(ROOT, "examples/hi.log")).encode()
-        # the files for pkg-config and CMake find the prefix where it is now
-        moved = os.path.join(folder, "moved")
-        os.rename(prefix, moved)
-        check("installed program", output([os.path.join(moved, "bin/rdsrt"), "decode", "--pi", "C201"], hi),
-              (0, b'0 text "HI"\n'))
-        readme(check, folder, moved)
-        if is_there("cmake"):
-            cmake(check, folder, moved)
-        python(check, os.path.join(moved, "lib/librdsrt.so"))
+def write_hi(folder):
+    """Writes README's lines of C into the folder. Returns the path."""
+    source = os.path.join(folder, "hi.c")
+    with open(source, "w", encoding="utf-8") as file:
+        file.write(re.search(r"```c\n(.*?)```", text_of("README.md"), re.S).group(1))
+    return source
 
 
 def readme(check, folder, prefix, compiler="cc", runner=()):
-    """README's lines of C, built by pkg-config, show HI. Leaves them in the folder."""
-    found = re.search(r"```c\n(.*?)```", text_of(os.path.join(ROOT, "README.md")), re.S)
-    check("README has lines of C", bool(found), True)
-    if not found:
-        return
-    source, program = os.path.join(folder, "hi.c"), os.path.join(folder, "hi")
-    with open(source, "w", encoding="utf-8") as file:
-        file.write(found.group(1))
+    """Checks that README's lines of C, built by pkg-config, show HI."""
+    source, program = write_hi(folder), os.path.join(folder, "hi")
     paths = dict(os.environ, PKG_CONFIG_PATH=os.path.join(prefix, "lib/pkgconfig"))
-    call = f"{compiler} -std=c11 -Wall -Wextra -pedantic -Werror {source} $(pkg-config --cflags --libs rdsrt) -o {program}"
+    warnings, found = "-Wall -Wextra -pedantic -Werror", "$(pkg-config --cflags --libs rdsrt)"
+    call = f"{compiler} -std=c11 {warnings} {source} {found} -o {program}"
     check("README's lines of C are built", output(["sh", "-c", call], env=paths), (0, b""))
     # the emulator gives the second one to the program
-    paths["QEMU_SET_ENV" if runner else "LD_LIBRARY_PATH"] = ("LD_LIBRARY_PATH=" if runner else "") + os.path.join(prefix, "lib")
+    paths["QEMU_SET_ENV" if runner else "LD_LIBRARY_PATH"] = ("LD_LIBRARY_PATH="
+                                                              if runner else "") + os.path.join(prefix, "lib")
     check("README's lines of C", output([*runner, program], env=paths), (0, b"HI\n"))
 
 
 def cmake(check, folder, prefix):
-    """CMake finds the library for the versions that fit, and README's lines of C show HI by either library."""
+    """Checks that CMake finds the library for the versions that fit, and that README's lines of C show HI by either
+    library.
+    """
+    write_hi(folder)
     with open(os.path.join(folder, "CMakeLists.txt"), "w", encoding="utf-8") as file:
         file.write(PROJECT)
     major, minor, patch = map(int, header_version().split("."))
@@ -299,59 +218,6 @@ def cmake(check, folder, prefix):
         check(f"README's lines of C by CMake, {name}", output([os.path.join(build, name)]), (0, b"HI\n"))
 
 
-def python(check, library):
-    """The Python package takes the library that is installed."""
-    code = "import rdsrt; print(rdsrt.library_version())"
-    version = output([os.path.join(ROOT, "crates/rdsrt/out/rdsrt"), "--version"])[1].split()[1]
-    names = dict(os.environ, PYTHONPATH=os.path.join(ROOT, "python/src"), RDSRT_LIBRARY=library, PYTHONDONTWRITEBYTECODE="1")
-    check("installed library in Python", output([sys.executable, "-c", code], env=names), (0, version + b"\n"))
-
-
-def cases(check, ran):
-    """Notes each case by check(name, got, wanted); ran(words, input) is the program rdsrt's status and output."""
-    names(check)
-    versions(check, ran)
-    built = subprocess.run([os.path.join(ROOT, "tests/archive")], stdout=subprocess.DEVNULL).returncode
-    check("the archive is built", built, 0)
-    if built:
-        return
-    archive(check)
-    stack(check, ARCHIVE, "", 1)
-    compilers(check, ran)
-    install(check)
-
-
-def arm_cases(check, ran):
-    """Notes each case of the library for 64-bit Arm, beside the program of this machine."""
-    if not emulated.is_there():
-        return
-    target, library = emulated.ARM, emulated.ARM.built("rds_ffi", "librds_ffi.a")
-    built_it = subprocess.run([os.path.join(ROOT, "tests/archive"), target.name], stdout=subprocess.DEVNULL).returncode
-    check("the archive for 64-bit Arm is built", built_it, 0)
-    if built_it:
-        return
-    archive(check, library, target.prefix)
-    stack(check, library, target.prefix, 2)
-    given = inputs(ran)
-    for compiler, language in ARM_WAYS:
-        compiler = target.prefix + compiler
-        if is_there(compiler):
-            how = " ".join([compiler, *language])
-            with tempfile.TemporaryDirectory() as folder:
-                built(check, how, compiler, language, folder, library)
-                run_all(check, how, folder, given, emulated.runner())
-
-
-def arm_install(check):
-    """An install for 64-bit Arm has the same files. Its program runs, and README's lines of C with its library."""
-    with tempfile.TemporaryDirectory() as folder:
-        prefix, runner = os.path.join(folder, "prefix"), emulated.runner()
-        words = [os.path.join(ROOT, "install"), prefix, "--target", emulated.ARM.name]
-        check("./install for 64-bit Arm", output(words)[0], 0)
-        files = {os.path.relpath(os.path.join(at, it), prefix) for at, _, its in os.walk(prefix) for it in its}
-        check("what is installed for 64-bit Arm", files, INSTALLED)
-        hi = text_of(os.path.join(ROOT, "examples/hi.log")).encode()
-        words = [*runner, os.path.join(prefix, "bin/rdsrt"), "decode", "--pi", "C201"]
-        check("installed program for 64-bit Arm", output(words, hi), (0, b'0 text "HI"\n'))
-        if is_there("pkg-config"):
-            readme(check, folder, prefix, emulated.COMPILER, runner)
+def installed_in(prefix):
+    """Returns the files in the prefix."""
+    return {os.path.relpath(os.path.join(at, it), prefix) for at, _, its in os.walk(prefix) for it in its}

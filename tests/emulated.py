@@ -3,10 +3,9 @@ import os
 import shlex
 import shutil
 import subprocess
-import sys
 
-ROOT = os.path.dirname(os.path.dirname(os.path.abspath(__file__)))
-sys.path.insert(1, os.path.join(ROOT, "tools"))
+# tests.support makes the folder of the next module known
+import tests.support
 import targets
 
 ARM = targets.ALL["aarch64"]
@@ -15,25 +14,25 @@ EMULATOR = "qemu-aarch64"
 LOADER = "ld-linux-aarch64.so.1"
 
 
-def is_there():
-    """Tells whether this machine can build and run programs for 64-bit Arm. Prints what is missing."""
+def why_missing():
+    """Returns what this machine lacks to build and run programs for 64-bit Arm, or None."""
     for tool in (COMPILER, EMULATOR):
         if shutil.which(tool) is None:
-            print(f"skipped: no {tool} here, so nothing is tested for 64-bit Arm")
-            return False
+            return f"no {tool} here"
     if not all(os.path.isabs(place_of(it)) for it in (LOADER, "crti.o")):
-        print("skipped: no C library for 64-bit Arm here (apt-get install libc6-dev-arm64-cross)")
-        return False
-    return True
+        return "no C library for 64-bit Arm here (apt-get install libc6-dev-arm64-cross)"
+    return None
 
 
 def place_of(file):
     """Returns the path of a file of that processor's C library. Without the file, the compiler prints its bare name."""
-    return subprocess.run([COMPILER, f"-print-file-name={file}"], capture_output=True, text=True, check=True).stdout.strip()
+    return subprocess.run([COMPILER, f"-print-file-name={file}"], capture_output=True, text=True,
+                          check=True).stdout.strip()
 
 
 def runner():
-    """Returns the words before a program for 64-bit Arm: the emulator, with the folder of that processor's libraries."""
+    """Returns the words before a program for 64-bit Arm: the emulator, with the folder of that processor's
+    libraries."""
     return [EMULATOR, "-L", os.path.dirname(os.path.dirname(os.path.realpath(place_of(LOADER))))]
 
 

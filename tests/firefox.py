@@ -14,7 +14,7 @@ import subprocess
 import tempfile
 import threading
 
-import browser
+from tests import browser
 
 NAMES = ("firefox-esr", "firefox")
 SECONDS = 60

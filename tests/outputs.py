@@ -4,7 +4,8 @@ import re
 
 
 def parts_of(output, is_encode):
-    """Replies as slot and what was told, and the groups by their slots; of `sim` what each receiver showed too."""
+    """Returns the replies with their slots, the groups by their slots, the changes of each receiver of `sim`, and how
+    many slots `encode` printed."""
     replies, groups, views, slot = [], {}, collections.defaultdict(list), 0
     for text in output.decode().splitlines():
         if is_encode and text[0] != "#":

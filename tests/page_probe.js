@@ -1,5 +1,5 @@
 "use strict";
-/* What tests/page_cases.py asks of the page, run in it. */
+/* What the tests of the page ask of it, run in it. */
 const probe = (() => {
   const at = (id) => document.getElementById(id);
 

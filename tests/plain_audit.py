@@ -12,7 +12,7 @@ class Broken(Exception):
 
 
 def segment_of(group):
-    """Service, flag, address and four bytes of a group 2A or 10A; None for any other."""
+    """Returns service, flag, address and the four bytes of a group 2A or 10A, or None for another group."""
     second, third, fourth = (int(block, 16) for block in group[1:])
     service = {4: "text", 20: "name"}.get(second >> 11)
     if service is None:
@@ -22,7 +22,7 @@ def segment_of(group):
 
 
 def tag_ends_of(group):
-    """Where the tags of a group 11A end, in characters; None for any other group."""
+    """Returns the ends of the tags of a group 11A, in characters, or None for another group."""
     second, third, fourth = (int(block, 16) for block in group[1:])
     if second >> 11 != 22:
         return None
@@ -33,16 +33,17 @@ def tag_ends_of(group):
 
 
 def return_place(segments):
-    """The place of the carriage return that was sent, in characters; None where none was."""
+    """Returns the place of the carriage return among these segments, in characters, or None."""
     return min((4 * a + data.index(RETURN) for a, data in segments.items() if RETURN in data), default=None)
 
 
 def is_name_segment(segments, address, data):
+    """Returns whether some name has the segment."""
     return all(byte >= 0x20 for byte in data)
 
 
 def is_text_segment(segments, address, data):
-    """Whether some text has the segment beside these."""
+    """Returns whether some text has the segment beside these segments."""
     head, _, tail = data.partition(bytes([RETURN]))
     if any(byte < 0x20 and byte not in CONTROLS for byte in head) or set(tail) - {0x20}:
         return False
@@ -59,7 +60,7 @@ class Reigns:
         self.dwell, self.is_segment, self.all = dwell, is_segment, []
 
     def start_of(self, slot, flag):
-        """Where a reign starts that is opened in the slot."""
+        """Returns the start of a reign that opens in the slot."""
         if not self.all:
             return 0
         last = self.all[-1]
@@ -71,6 +72,7 @@ class Reigns:
         return max(last["last"] + 1, before + self.dwell if before is not None else 0)
 
     def take(self, slot, flag, address, data):
+        """Takes a segment into the current reign or a new one."""
         current = self.all[-1] if self.all else None
         if current is None or flag != current["flag"] or slot - current["last"] >= self.dwell:
             start = self.start_of(slot, flag)
@@ -88,6 +90,7 @@ class Reigns:
         current["last"] = slot
 
     def take_tags(self, slot, ends):
+        """Takes the ends of tags into the current reign."""
         current = self.all[-1] if self.all else None
         if current is None or slot < current["start"] + self.dwell:
             raise Broken("EarlyTag")
@@ -99,7 +102,7 @@ class Reigns:
 
 
 def audit(slots, dwell):
-    """The answer line for these slots of one programme: four blocks each, or None where nothing was sent."""
+    """Returns the answer line for these slots of one programme: four blocks each, or None if nothing was sent."""
     services = {"text": Reigns(dwell, is_text_segment), "name": Reigns(dwell, is_name_segment)}
     for slot, group in enumerate(slots):
         if group is None:
@@ -117,10 +120,10 @@ def audit(slots, dwell):
 
 
 def is_dense(notes, slots, dwell):
-    """Whether each broadcast of an encoder's log is without a gap: each of its segments but the first comes less
-    than the dwell after a segment or a tag group of it, and its first tag group after a segment.
+    """Returns whether each broadcast of an encoder's log is without a gap. Then each segment except the first comes
+    less than the dwell after a segment or a tag group of the broadcast, and the first tag group comes after a segment.
 
-    The notes are the encoder's replies: slot, and what it answered there.
+    The notes are the encoder's replies: slot and answer.
     """
     begins = {"text": set(), "name": set()}
     for slot, answer in notes:

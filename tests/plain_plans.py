@@ -1,8 +1,7 @@
 """A plain search for plans beside the audit: all plans of some short logs are tried, slot by slot."""
 import collections
-import random
 
-import plain_audit
+from tests import plain_audit
 
 SLOTS, LOGS = 8, 2000
 # what a service is sent in a slot: a segment with its flag, or tags (no flag), and which of four values have them
@@ -16,10 +15,12 @@ ALL = frozenset(range(4))
 
 
 def text(flag, words, *values):
+    """Returns the letter of a text segment, with the texts that have it."""
     return Letter(f"C201 {0x2140 | flag << 4:04X} {words}".split(), Mark(flag, frozenset(values)), None)
 
 
 def name(flag, address, words, *values):
+    """Returns the letter of a name segment, with the names that have it."""
     return Letter(f"C201 {0xA140 | flag << 4 | address:04X} {words}".split(), None, Mark(flag, frozenset(values)))
 
 
@@ -42,15 +43,16 @@ LETTERS = (
 
 
 def may_begin(plan, dwell, slot, flag):
-    """Whether a broadcast may begin in the slot: the dwell after the second before, and after the one before where that
-    has its flag."""
+    """Returns whether a broadcast may begin in the slot: the dwell after the end of the one before the last, and also
+    after the last one if both have the same flag."""
     *_, second, last = (None, None, *plan.ended)
     is_apart = last is None or last[0] != flag or slot >= last[1] + dwell
     return is_apart and (second is None or slot >= second[1] + dwell)
 
 
 def followed(plan, dwell, slot):
-    """What a plan does in the slot: the broadcast goes on, or it ends, and one of either flag may begin."""
+    """Gives the plans that follow a plan in the slot. Its broadcast goes on, or it ends, and a broadcast of either flag
+    may begin."""
     if plan.now is not None:
         yield plan._replace(now=plan.now._replace(end=slot))
         plan = Plan(None, (*plan.ended, (plan.now.flag, plan.now.end))[-2:])
@@ -61,7 +63,8 @@ def followed(plan, dwell, slot):
 
 
 def has(plan, dwell, slot, mark):
-    """The plan after what was sent in the slot; None where that is not of its broadcast, or leaves a gap."""
+    """Returns the plan after the group that was sent in the slot, or None if the group is not of its broadcast or
+    leaves a gap."""
     if mark is None:
         return plan
     now = plan.now
@@ -75,7 +78,7 @@ def has(plan, dwell, slot, mark):
 
 
 def first_without_a_plan(dwell, marks):
-    """The first slot up to which no plan is lawful and dense; None where one is for all."""
+    """Returns the first slot up to which no plan is lawful and dense, or None if one plan is right for all slots."""
     plans = {Plan(None, ())}
     for slot, mark in enumerate(marks):
         plans = {has(after, dwell, slot, mark) for plan in plans for after in followed(plan, dwell, slot)} - {None}
@@ -84,22 +87,26 @@ def first_without_a_plan(dwell, marks):
     return None
 
 
-def cases(check, ran):
-    """The audit answers no in the first slot up to which no plan is found, as the rules say; each answer occurs."""
-    rng, answers = random.Random(20261124), collections.Counter()
-    for number in range(LOGS):
-        dwell, pool = rng.randrange(1, 5), rng.choices(LETTERS, k=3)
-        log = [NOTHING if rng.random() < 1 / 3 else rng.choice(pool) for _ in range(SLOTS)]
-        blocks = [it.line if it.line and it.line[0] == "C201" else None for it in log]
-        answer = plain_audit.audit(blocks, dwell)
-        # a service of which nothing was sent needs no broadcast
-        sent = [marks for marks in ([it.text for it in log], [it.name for it in log]) if any(marks)]
-        first = [first_without_a_plan(dwell, marks) for marks in sent]
-        planned = min((it for it in first if it is not None), default=None)
-        ruled = int(answer.split()[1]) if answer.startswith("no") else None
-        check(f"short log {number}: plans and rules", planned, ruled)
-        given = "".join(" ".join(it.line or ["----"] * 4) + "\n" for it in log).encode()
-        words, status = ["audit", "--pi", "C201", "--m", str(dwell)], 0 if answer.startswith("yes") else 1
-        check(f"short log {number}: the audit", ran(words, given), (status, answer.encode()))
-        answers[answer.split()[-1]] += 1
-    check("answers to short logs", (len(answers), min(answers.values()) > 9), (6, True))
+def random_log(rng):
+    """Returns a dwell and a short log of a few letters."""
+    dwell, pool = rng.randrange(1, 5), rng.choices(LETTERS, k=3)
+    return dwell, [NOTHING if rng.random() < 1 / 3 else rng.choice(pool) for _ in range(SLOTS)]
+
+
+def lines_of(log):
+    """Returns the log as the program reads it."""
+    return "".join(" ".join(it.line or ["----"] * 4) + "\n" for it in log).encode()
+
+
+def first_of_a_log(log, dwell):
+    """Returns the first slot up to which no plan is lawful and dense, or None."""
+    # a service of which nothing was sent needs no broadcast
+    sent = [marks for marks in ([it.text for it in log], [it.name for it in log]) if any(marks)]
+    first = [first_without_a_plan(dwell, marks) for marks in sent]
+    return min((it for it in first if it is not None), default=None)
+
+
+def answer_by_the_rules(log, dwell):
+    """Returns the answer of the plain audit, and the slot of its no or None."""
+    answer = plain_audit.audit([it.line if it.line and it.line[0] == "C201" else None for it in log], dwell)
+    return answer, int(answer.split()[1]) if answer.startswith("no") else None

@@ -1,7 +1,8 @@
 """Radios with the flag bit alone, looked up: radios by chance beside a diary of all that was on air.
 
-Such a radio keeps segments, and tags for them, until a segment with the other flag comes. It never forgets. `encode` sends
-the logs. A radio loses slots, restarts, gets groups late and counts slots wrong. What it shows is compared in two ways:
+Such a radio keeps segments, and tags for them, until a segment with the other flag comes. It never forgets. `encode`
+sends the logs. A radio loses slots, restarts, gets groups late and counts slots wrong. What it shows is compared in two
+ways:
 
 - with `decode --m 65535` over what it got. The law the_flag_alone_is_a_long_dwell says that both show the same.
 - with the diary. In each slot in which the premise of a promise holds, the promise holds too. Where the premise fails,
@@ -9,25 +10,22 @@ the logs. A radio loses slots, restarts, gets groups late and counts slots wrong
 
 The promises, where d is M + K:
 
-- text: the text shown is that of the broadcast in which the last segment heard was sent. Premise: of each 2 d slots in a
-  row of a text the radio heard a segment, and after each restart of the encoder the empty text came first.
-- tag: each tag shown was sent for the text shown. Premise: that of text, and of each d slots in a row of a text the radio
-  heard a segment.
-- behind: the broadcast of the text shown is the newest one or the one before, or the empty text came since. Premise: that
-  of text, up to the present slot.
+- text: the text shown is that of the broadcast in which the last segment heard was sent. Premise: of each 2 d slots in
+a row of a text the radio heard a segment, and after each restart of the encoder the empty text came first.
+- tag: each tag shown was sent for the text shown. Premise: that of text, and of each d slots in a row of a text the
+radio heard a segment.
+- behind: the broadcast of the text shown is the newest one or the one before, or the empty text came since. Premise:
+that of text, up to the present slot.
 - name: the same as text. Premise: the radio heard a segment of each name, and each name has another flag than the one
   before, or the same characters.
 """
 import collections
 import math
-import random
 
-import outputs
-import plain_worlds
-import random_scripts
-import witness
+from tests import outputs, plain_witness, plain_worlds, random_scripts
+from tests.support import ran
 
-WORLDS, RADIOS, SLOTS = 400, 5, 96
+SLOTS = 96
 LONG_DWELL = "65535"
 LOST = "---- ---- ---- ----"
 PROMISES = ("text", "tag", "behind", "name")
@@ -39,7 +37,8 @@ NOTHING, RESTART = "nothing", "restart"
 
 
 class Broadcast:
-    """A text or a name on air: its characters, its first and its last slot, its flag, and the tags that were sent for it."""
+    """A text or a name on air: its characters, its first and its last slot, its flag, and the tags that were sent for
+    it."""
 
     def __init__(self, value, start, number):
         self.value, self.start, self.end, self.flag, self.pieces = value, start, SLOTS, number % 2, set()
@@ -48,8 +47,8 @@ class Broadcast:
 
 
 def commands(rng, spacing, empty_first, same_name_first):
-    """What a station is told in each slot. After a restart the first text that is accepted is the empty one if
-    `empty_first`, and the first name the one before if `same_name_first`."""
+    """Gives the command of a station in each slot. After a restart the first text that is accepted is the empty one if
+    `empty_first`, and the first name is the one before if `same_name_first`."""
     silent, name, fresh = spacing, None, set()
     for slot in range(SLOTS):
         kind = rng.choices(("restart", "text", "name", "tags", "-"), weights=(2, 34, 12, 24, 24))[0]
@@ -70,7 +69,7 @@ def commands(rng, spacing, empty_first, same_name_first):
 
 
 def diary(rows, accepted):
-    """The broadcasts of texts and of names, oldest first."""
+    """Returns the broadcasts of texts and of names, oldest first."""
     found, on_air, counts = {"text": [], "name": []}, {}, collections.Counter()
     for slot, row in enumerate(rows):
         kind = row.command
@@ -89,8 +88,8 @@ def diary(rows, accepted):
     return found["text"], found["name"]
 
 
-def sent(rng, ran, dwell, late):
-    """The slots that an encoder sends, and the broadcasts of texts and of names."""
+def sent(rng, dwell, late):
+    """Returns the slots that an encoder sends, and the broadcasts of texts and of names."""
     rows = list(commands(rng, dwell + late, rng.random() < 3 / 4, rng.random() < 3 / 4))
     output = ran(["encode", "--pi", "C201", "--m", str(dwell), "--k", str(late)], plain_worlds.script(rows))[1]
     replies, groups, _, slots = outputs.parts_of(output, True)
@@ -101,7 +100,8 @@ def sent(rng, ran, dwell, late):
 
 
 def receptions(rng, may_lose):
-    """For each slot the slot whose group a radio gets, NOTHING or RESTART. It gets no group twice and none out of order."""
+    """Gives for each slot the slot whose group a radio gets, NOTHING or RESTART. A radio gets no group twice and none
+    out of order."""
     lossy, late = (rng.choice((0.05, 0.2, 0.4)), rng.choice((0, 0, 2, 6))) if may_lose else (0, 0)
     last, fading = -1, 0
     for slot in range(SLOTS):
@@ -117,8 +117,8 @@ def receptions(rng, may_lose):
 
 
 def lives(rng, got):
-    """The slots that a radio counts, in a list for each of its lives: the station's slot, and the slot whose group it gets
-    or None. It may count a slot three times, and a slot without a group not at all."""
+    """Gives the slots that a radio counts, in a list for each of its lives: the station's slot, and the slot whose
+    group it gets or None. It may count a slot three times, and may leave out a slot without a group."""
     miscounts, life = rng.choice((0, 0.2)), []
     for slot, source in enumerate(got):
         if source == RESTART:
@@ -139,6 +139,7 @@ class Radio:
         self.texts, self.names, self.tags, self.knows_tags, self.count = [], [], [], False, 0
 
     def hear(self, line):
+        """Takes a group."""
         self.count += 1
         second, data = int(line[5:9], 16), bytes.fromhex(line[10:])
         number, low = second >> 12, second & 0x1F
@@ -152,23 +153,25 @@ class Radio:
             self.tags.append((self.count, low << 32 | int.from_bytes(data, "big")))
 
     def view(self):
-        """What it shows, as part and value."""
-        run = witness.run_of(self.texts, math.inf, self.count)
-        text, name = witness.value_of(run, False), witness.value_of(witness.run_of(self.names, math.inf, self.count), True)
+        """Returns the parts that the radio shows, with their values."""
+        run = plain_witness.run_of(self.texts, math.inf, self.count)
+        text, name = plain_witness.value_of(run,
+                                            False), plain_witness.value_of(plain_witness.run_of(self.names, math.inf,
+                                                                                                self.count), True)
         shown = {part: value.decode() for part, value in (("text", text), ("name", name)) if value is not None}
         pair = next((bits for at, bits in reversed(self.tags) if run and at > run[-1][0]), None)
         return {**shown, **pieces(text.decode(), pair)} if text is not None and pair is not None else shown
 
 
 def pieces(text, pair):
-    """What the tags of a pair show of a text, as part and value."""
+    """Returns the pieces that the tags of a pair show of a text, by part."""
     tags = (pair >> 29 & 63, pair >> 23 & 63, pair >> 17 & 63), (pair >> 11 & 63, pair >> 5 & 63, pair & 31)
     return {part: f'{plain_worlds.CLASSES[kind]} "{text[start:start + extra + 1]}"'
             for part, (kind, start, extra) in zip(("tag1", "tag2"), tags) if kind and start + extra < len(text)}
 
 
-def decoded(ran, log):
-    """What `decode` shows in each slot of the log with a dwell as long as any log here; items are left out."""
+def decoded(log):
+    """Returns the view of `decode` in each slot of the log, without items. The dwell is longer than any log here."""
     given = "".join(f"{line}\n" for line in log).encode()
     output = ran(["decode", "--pi", "C201", "--m", LONG_DWELL], given)[1].decode()
     return [{part: value for part, value in view.items() if part != "item"}
@@ -179,7 +182,8 @@ def decoded(ran, log):
 
 
 def hears_one_in(count, broadcasts, heard, now):
-    """Whether a segment was heard of each so many slots in a row of a broadcast, up to now, once one was heard at all."""
+    """Returns whether a segment was heard of each so many slots in a row of a broadcast, up to now. Slots before the
+    first segment that was heard do not count."""
     for it in broadcasts if heard else ():
         missed = 0
         for slot in range(max(it.start, min(heard) + 1), min(it.end, now) + 1):
@@ -190,7 +194,8 @@ def hears_one_in(count, broadcasts, heard, now):
 
 
 def hears_each(broadcasts, heard, now):
-    """Whether a segment was heard of each broadcast that another has followed, once one was heard at all."""
+    """Returns whether a segment was heard of each broadcast that another has followed. Broadcasts before the first
+    segment that was heard do not count."""
     for it, after in zip(broadcasts, broadcasts[1:]):
         is_asked = after.start <= now and heard and min(heard) < it.start
         if is_asked and not any(it.start <= slot <= it.end for slot in heard):
@@ -199,12 +204,12 @@ def hears_each(broadcasts, heard, now):
 
 
 def is_emptied(texts, now):
-    """Whether the empty text came first after each restart."""
+    """Returns whether the empty text came first after each restart."""
     return all(it.value == "" for it in texts[1:] if it.is_first and it.start <= now)
 
 
 def turns(names, now):
-    """Whether each name has another flag than the one before, or the same characters."""
+    """Returns whether each name has another flag than the one before, or the same characters."""
     pairs = [(one, two) for one, two in zip(names, names[1:]) if two.start <= now]
     return all(one.flag != two.flag or one.value == two.value for one, two in pairs)
 
@@ -213,12 +218,13 @@ def turns(names, now):
 
 
 def on_air_in(broadcasts, slot):
-    """The number of the broadcast that was on air in the slot."""
+    """Returns the number of the broadcast that was on air in the slot."""
     return next(number for number, it in enumerate(broadcasts) if it.start <= slot <= it.end)
 
 
 class Judge:
-    """Looks at what one radio shows in each slot, by the broadcasts and by the slots in which what it heard was sent."""
+    """Looks at what one radio shows in each slot, by the broadcasts and by the slots in which what it heard was
+    sent."""
 
     def __init__(self, texts, names, spacing):
         self.texts, self.names, self.spacing = texts, names, spacing
@@ -228,10 +234,13 @@ class Judge:
         self.heard.get(line[5], []).append(sent_in)
 
     def is_heard(self, count, now):
+        """Returns whether the premise of a text holds: it was heard often enough, and the empty text came first after
+        restarts."""
         return hears_one_in(count, self.texts, self.heard["2"], now) and is_emptied(self.texts, now)
 
     def of_text(self, view, slot):
-        """Each promise on texts and tags that speaks of the view: its name, and whether premise and promise hold."""
+        """Gives each promise on texts and tags that speaks of the view: its name, whether its premise holds, and
+        whether it holds."""
         if "text" not in view:
             return
         last, tagged = self.heard["2"][-1], self.heard["B"][-1:]
@@ -247,7 +256,8 @@ class Judge:
         yield "behind", self.is_heard(2 * self.spacing, slot), len(since) <= 1 or "" in since
 
     def of_name(self, view):
-        """The same of names."""
+        """Gives the promise on names if it speaks of the view: its name, whether its premise holds, and whether it
+        holds."""
         if "name" in view:
             last = self.heard["A"][-1]
             premise = hears_each(self.names, self.heard["A"], last) and turns(self.names, last)
@@ -255,7 +265,7 @@ class Judge:
 
 
 def played(life, slots, judge):
-    """What a radio shows in each slot of its life, what was judged of it, and the log of what it got."""
+    """Plays a life of a radio. Returns its view in each slot, the judgements, and the log that it got."""
     radio, views, judgements, log = Radio(), [], [], []
     for slot, source in life:
         log.append(LOST if source is None else slots[source])
@@ -265,25 +275,3 @@ def played(life, slots, judge):
         views.append(radio.view())
         judgements += [(*it, slot, views[-1]) for it in (*judge.of_text(views[-1], slot), *judge.of_name(views[-1]))]
     return views, judgements, log
-
-
-def cases(check, ran):
-    """2,000 radios: each keeps the promises whose premises hold, and some break those whose premises fail."""
-    seen, mixed_alone = collections.Counter(), 0
-    for seed in range(WORLDS):
-        rng = random.Random(seed)
-        dwell, late = rng.choice((3, 4, 5)), rng.choice((0, 0, 1, 2))
-        slots, broadcasts = sent(rng, ran, dwell, late)
-        for number in range(RADIOS):
-            name, breaches = f"radio {number} of world {seed}, M {dwell}, K {late}", []
-            for life in lives(rng, receptions(rng, number > 0)):
-                views, judgements, log = played(life, slots, Judge(*broadcasts, dwell + late))
-                check(f"{name}: as decode --m {LONG_DWELL}", views == decoded(ran, log), True)
-                breaches += [it for it in judgements if it[1] and not it[2]]
-                seen.update(it[:3] for it in judgements)
-                mixed_alone += number == 0 and any(it[0] == "text" and not it[2] for it in judgements)
-            check(f"{name}: breaches", breaches[:3], [])
-    for promise in PROMISES:
-        check(f"radios: {promise}: the premise holds often", seen[promise, True, True] > 1000, True)
-        check(f"radios: {promise}: some break it without the premise", seen[promise, False, False] > 20, True)
-    check("radios: some mix that lose nothing, after a restart without the empty text", mixed_alone > 5, True)

@@ -7,8 +7,8 @@ import collections
 import itertools
 import random
 
-import outputs
-import random_scripts
+from tests import outputs, random_scripts
+from tests.support import ran
 
 DWELL, SLOTS, WORLDS = 4, 64, 200
 LOST = "---- ---- ---- ----"
@@ -20,7 +20,7 @@ TAGS = ((1, 0, 4), (4, 2, 2), (63, 0, 0), (0, 0, 0))
 
 
 def random_rows(rng):
-    """What a station is told, slot by slot, and which slots are free; no receiver is there."""
+    """Gives a command for each slot of a station, and whether the slot is free. No receiver is there."""
     for _ in range(SLOTS):
         command = rng.choices(("restart", "text", "name", "tags", "-"), weights=(3, 21, 8, 12, 20))[0]
         tags = " ".join(str(it) for tag in rng.choices(TAGS, k=2) for it in tag)
@@ -29,6 +29,7 @@ def random_rows(rng):
 
 
 def script(rows):
+    """Returns the rows as a script."""
     return b"".join(map(random_scripts.line, rows))
 
 
@@ -50,13 +51,13 @@ class Diary:
             self.slots.append(now)
 
     def numbers(self, service, value, slot, within):
-        """The broadcasts with these characters that were on air in so many slots up to this one."""
+        """Returns the broadcasts with these characters that were on air in so many slots up to this one."""
         lately = [it[service] for it in self.slots[max(0, slot + 1 - within):slot + 1] if service in it]
         return {number for number, sent in lately if sent == value}
 
     def wrongs(self, slot, within, views):
-        """What receivers show that was not on air lately, not sent for what is shown, or of two that are no neighbours.
-        """
+        """Returns the parts of views that were not on air lately, the tags that were not sent for the text, and the
+        texts of two broadcasts that are not neighbours."""
         found, texts = [], []
         for view in views:
             for service in ("text", "name"):
@@ -73,14 +74,14 @@ class Diary:
 
 
 def pieces(argument, text):
-    """What the tags of an argument show of a text, as it is printed."""
+    """Returns the pieces that the tags of an argument show of a text, as the program prints them."""
     numbers = [int(it) for it in argument.split()][2:]
     tags = (numbers[:3], numbers[3:])
     return {f'{CLASSES[kind]} "{text[start:start + extra + 1]}"' for kind, start, extra in tags if kind}
 
 
 def shown(lines, slots):
-    """What is shown at the end of each of so many slots, by lines of `decode`: part and value."""
+    """Returns the view at the end of each of so many slots, by lines of `decode`: part and value."""
     changes, view, views = collections.defaultdict(dict), {}, []
     for line in lines:
         slot, part, value = line.split(" ", 2)
@@ -92,60 +93,27 @@ def shown(lines, slots):
 
 
 def accepted_in(replies):
-    """The slots in which a text, a name or tags were accepted."""
+    """Returns the slots in which a text, a name or tags were accepted."""
     return {slot for slot, _, answer in replies if answer == "ok "}
 
 
-def worlds(check, ran):
-    """All that two receivers of a world show is right, whatever they lose, and however late they get it; and they show
-    something of each kind."""
-    seen = collections.Counter()
-    for seed in range(WORLDS):
-        rng, late = random.Random(seed), seed % 4
-        rows, lasts = [], [-1, -1]
-        for slot, row in enumerate(random_rows(rng)):
-            got = [random_scripts.reception(rng, slot, late, last) for last in lasts]
-            lasts = [last for _, last in got]
-            rows.append(row._replace(receptions="".join(it for it, _ in got)))
-        status, output = ran(["sim", "--pi", "C201", "--m", str(DWELL), "--k", str(late)], script(rows))
-        replies, _, changes, _ = outputs.parts_of(output, False)
-        diary = Diary(rows, accepted_in(replies))
-        views = [shown(changes[receiver], SLOTS) for receiver in range(2)]
-        found = [it for slot, pair in enumerate(zip(*views)) for it in diary.wrongs(slot, DWELL + late, pair)]
-        check(f"world {seed}: what is shown", (status, found), (0, []))
-        seen.update(part for pair in zip(*views) for view in pair for part in view)
-    check("worlds: slots with each part", min(seen[it] for it in ("text", "name", "item", "tag1", "tag2")) > 100, True)
-
-
-def encoded(rng, ran, late):
-    """The slots that an encoder sends, and the diary of it."""
+def encoded(rng, late):
+    """Returns the slots that an encoder sends, and their diary."""
     rows = list(random_rows(rng))
     output = ran(["encode", "--pi", "C201", "--m", str(DWELL), "--k", str(late)], script(rows))[1]
     replies, groups, _, slots = outputs.parts_of(output, True)
     return [groups.get(slot, LOST) for slot in range(slots)], Diary(rows, accepted_in(replies))
 
 
-def decoded(ran, dwell, log):
-    """What a receiver shows at the end of each of its slots."""
+def decoded(dwell, log):
+    """Returns the view of a receiver at the end of each of its slots."""
     lines = ran(["decode", "--pi", "C201", "--m", str(dwell)], "".join(f"{it}\n" for it in log).encode())[1]
     return shown(lines.decode().splitlines(), len(log))
 
 
-def twice_the_dwell_mixes(check, ran):
-    """The look can find a mix: some receivers of twice the encoder's dwell show one."""
-    found = []
-    for seed in range(WORLDS):
-        rng = random.Random(seed)
-        slots, diary = encoded(rng, ran, 0)
-        log = [LOST if rng.random() < 1 / 4 else it for it in slots]
-        for slot, view in enumerate(decoded(ran, 2 * DWELL, log)):
-            found += diary.wrongs(slot, 2 * DWELL, [view])
-    check("twice the dwell: some show what was not on air", {"text"} <= {part for _, part, _ in found}, True)
-
-
 def own_slots(rng, slots, may_lose):
-    """The slots as a clock of its own counts them, each with the station's: one is not counted, where fewer than it may
-    were lost within a dwell, or is counted twice, or its group is lost, or it is as it is."""
+    """Returns the slots as a clock of its own counts them, each with the station's slot. The clock loses a slot if it
+    lost fewer than `may_lose` within a dwell. Or it counts a slot twice, or the group is lost."""
     own, lost = [], []
     for slot, line in enumerate(slots):
         draw = rng.randrange(64)
@@ -158,32 +126,19 @@ def own_slots(rng, slots, may_lose):
     return own
 
 
-def shown_by_the_clock(rng, ran, slots, may_lose):
-    """What a receiver with a clock of its own shows at the end of each slot of the station."""
+def shown_by_the_clock(rng, slots, may_lose):
+    """Returns the view of a receiver with a clock of its own at the end of each slot of the station."""
     own = own_slots(rng, slots, may_lose)
-    views = dict(zip((slot for slot, _ in own), decoded(ran, DWELL, [line for _, line in own])))
+    views = dict(zip((slot for slot, _ in own), decoded(DWELL, [line for _, line in own])))
     # a slot that isn't counted leaves what is shown
     return list(itertools.accumulate(range(len(slots)), lambda view, slot: views.get(slot, view), initial={}))[1:]
 
 
-def clocks(ran, late, may_lose):
-    """All that is wrong in what receivers show whose clocks may lose so many slots within a dwell."""
+def clocks(late, may_lose):
+    """Gives all wrong views of receivers whose clocks may lose so many slots within a dwell."""
     for seed in range(WORLDS):
         rng = random.Random(seed)
-        slots, diary = encoded(rng, ran, late)
-        pair = [shown_by_the_clock(rng, ran, slots, may_lose) for _ in range(2)]
+        slots, diary = encoded(rng, late)
+        pair = [shown_by_the_clock(rng, slots, may_lose) for _ in range(2)]
         for slot, views in enumerate(zip(*pair)):
-            yield from diary.wrongs(slot, DWELL + late, views)
-
-
-def own_clocks(check, ran):
-    """Clocks that run fast, and lose up to K slots within a dwell, show what was on air; where they lose more, some do
-    not."""
-    for late in range(4):
-        check(f"clocks that lose up to {late} slots", list(clocks(ran, late, late)), [])
-    check("clocks that lose more: some are wrong", any(clocks(ran, 0, DWELL)), True)
-
-
-def cases(check, ran):
-    for part in (worlds, twice_the_dwell_mixes, own_clocks):
-        part(check, ran)
+            yield from ((f"seed {seed}", *it) for it in diary.wrongs(slot, DWELL + late, views))

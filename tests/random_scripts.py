@@ -19,11 +19,12 @@ Row = collections.namedtuple("Row", "command argument free receptions")
 
 
 def station(rng, dwell, late):
+    """Returns a station with this dwell and lateness."""
     return Station(f"{rng.randrange(1 << 16):04X}", dwell, late, rng.randrange(32), rng.random() < 0.5)
 
 
 def words(rng, command, asked):
-    """The command and its options in any order and spelling; one at its default may be left out."""
+    """Returns the command and its options in any order and spelling. An option at its default may be left out."""
     given = [("--pi", rng.choice((asked.pi, asked.pi.lower())))]
     numbers = [("--m", asked.dwell, 128)]
     numbers += [("--k", asked.late, 0)] if command not in ("decode", "witness") else []
@@ -44,7 +45,7 @@ def words(rng, command, asked):
 
 
 def refused_words(rng, command, asked):
-    """Words with one thing wrong."""
+    """Returns arguments with one thing wrong."""
     good = words(rng, command, asked)
     numbers = [("--m", it) for it in ("0", "65536", "", " 8", "8 ", "x", "0x8", "8.0", "-1", "99999999999999999999")]
     numbers += [("--k", "1025"), ("--k", "-1"), ("--pty", "32"), ("--pty", "256")]
@@ -58,22 +59,23 @@ def refused_words(rng, command, asked):
 
 
 def field(text):
-    """A field of a record: between quotation marks where it has to be."""
+    """Returns a field of a record, between quotation marks if necessary."""
     return '"' + text.replace('"', '""') + '"' if set(text) & set(',"\n') else text
 
 
 def line(row):
+    """Returns a row as a line."""
     return ",".join((row.command, field(row.argument), row.free, row.receptions)).encode() + b"\n"
 
 
 def value(rng, most, escapes):
-    """The printed form of a value of at most so many bytes."""
+    """Returns the printed form of a value of at most so many bytes."""
     count = rng.choice((0, 1, 2, most - 1, most, rng.randrange(most + 1)))
     return "".join(rng.choice(escapes) if rng.random() < 0.05 else rng.choice(CHARACTERS) for _ in range(count))
 
 
 def tag(rng, most_extra):
-    """Class, start and extra: a class of 0 has nothing more."""
+    """Returns class, start and extra. A class of 0 has nothing more."""
     kind = rng.randrange(64) if rng.random() < 0.8 else 0
     # most name a short piece near the front, so that some end in the text
     start, extra = (4, 4) if rng.random() < 0.8 else (64, most_extra + 1)
@@ -81,11 +83,13 @@ def tag(rng, most_extra):
 
 
 def tags(rng):
+    """Returns the argument of a command `tags`."""
     numbers = [rng.randrange(2), rng.randrange(2), *tag(rng, 63), *tag(rng, 31)]
     return " ".join(rng.choice((f"{it}", f"{it:02}", f"{it:03}")) for it in numbers)
 
 
 def argument(rng, command):
+    """Returns an argument of the command."""
     if command == "text":
         return value(rng, 64, TEXT_BYTES + VALUE_BYTES)
     if command == "name":
@@ -94,7 +98,8 @@ def argument(rng, command):
 
 
 def reception(rng, slot, late, last):
-    """What a receiver gets that was handed that of the slot `last` before, and the slot whose group it has got then."""
+    """Returns what a receiver gets, and the slot whose group it has got last. Before, it got that of the slot `last`.
+    """
     if rng.random() < 0.3:
         return rng.choice("LLR"), last
     oldest = max(last + 1, slot - late, 0)
@@ -105,8 +110,8 @@ def reception(rng, slot, late, last):
 
 
 def rows(rng, count, receivers, late):
-    """So many rows of so many receivers, the first of which gets each group in its slot; and after each row what each
-    receiver was handed last."""
+    """Gives so many rows of so many receivers, and after each row the slot that each receiver got last. The first
+    receiver gets each group in its slot."""
     lasts = [-1] * receivers
     often = rng.choice((0.05, 0.3, 0.9))
     for slot in range(count):
@@ -119,7 +124,7 @@ def rows(rng, count, receivers, late):
 
 
 def bad_receptions(slot, late, lasts):
-    """Receptions that no row may have after these."""
+    """Returns receptions that no row may have after these."""
     if not lasts:
         # the first row fixes the number
         return ["GGGGGGGGG", "X", "1", " "] + (["G"] if slot else [])
@@ -131,7 +136,7 @@ def bad_receptions(slot, late, lasts):
 
 
 def bad_line(rng, slot, late, lasts, is_encode):
-    """A record that is no row in this slot, after a row with these receptions."""
+    """Returns a record that is malformed in this slot, after a row with these receptions."""
     got = "" if is_encode else "L" * len(lasts)
     bad = [Row(command, it, "1", got) for command, it in (
         ("-", "x"), ("restart", "x"), ("TEXT", "HI"), ("", ""), (" text", "HI"), ("text ", "HI"), ("texts", "HI"),

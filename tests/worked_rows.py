@@ -101,19 +101,20 @@ C201 2140 4849 0D20
 
 
 def segment(sent, flag, address):
-    """The group of a text's four bytes at this address, programme type 10."""
+    """Returns the group of a text's four bytes at this address, programme type 10."""
     return b"C201 %04X %04X %04X" % (0x2140 + 16 * flag + address, *struct.unpack_from(">HH", sent, 4 * address))
 
 
 def sent_segments(text, flag, slots):
-    """The groups of a text of three segments in these slots, from its first segment on."""
+    """Gives the lines of a text of three segments in these slots, from its first segment on."""
     sent = (text + b"\r").ljust(12)
     for count, slot in enumerate(slots):
         yield slot, b"%d sent %s\n" % (slot, segment(sent, flag, count % 3))
 
 
 def three_songs(third):
-    """Three songs and what is shown of them: a segment in each second slot, and the announcement in slots 9 and 17."""
+    """Returns the script of three songs and its output: a segment in every other slot, and the announcement in slots 9
+    and 17."""
     songs = {**SONGS, 20: third}
     commands = [b"text," + songs[slot] if slot in songs else b"-," for slot in range(25)]
     receptions = [b"G" if slot in SONGS_RECEIVED else b"L" for slot in range(25)]
@@ -126,7 +127,7 @@ def three_songs(third):
 
 
 def in_order():
-    """Such a receiver of a station that is told nothing, and of one that restarts in each slot."""
+    """Gives the rows of such a receiver: of a station without commands, and of one that restarts in each slot."""
     for receptions, refused in IN_ORDER:
         each = receptions.encode().split()
         fault, played = (b"", len(each)) if refused is None else (b"fault row %d\n" % refused, refused - 1)
@@ -500,7 +501,7 @@ CLASSES = {
 
 
 def fitting_tags():
-    """Tags that end in the text, and those that end one character behind it."""
+    """Gives tags that end in the text, and tags that end one character behind it."""
     waterloo = b"ABBA - WATERLOO"
     rows = [
         (b"A" * 64, b"1 0 63 0 0 0", b"ok"), (b"A" * 63, b"1 0 63 0 0 0", b"outoftext 1"),
@@ -513,7 +514,7 @@ def fitting_tags():
 
 
 def second_name():
-    """The second name has flag 1, also where it is the same."""
+    """Returns a row in which the second name has flag 1, although it is the same."""
     script = b"-,,1,\nname,JAZZ FM,1,\n-,,1,\nname,JAZZ FM,1,\n" + b"-,,1,\n" * 7
     shown = b"""1 name ok
 2 sent C201 A140 4A41 5A5A
@@ -526,7 +527,8 @@ def second_name():
 
 
 def tags_after_the_dwell():
-    """At a dwell of 16 the tags of a text of slot 16 wait for slot 32; their turn is in slot 39."""
+    """Returns a row with a dwell of 16: the tags of a text of slot 16 wait until slot 32, and their turn is in slot 39.
+    """
     script = b"-,,1,\n" * 16 + b"text,HI,1,\ntags,0 1 1 0 1 0 0 0,1,\n" + b"-,,1,\n" * 22
     sent = {slot: b"2140 4849 0D20" for slot in range(16, 40, 2)}
     sent.update({slot: b"3156 0000 4BD7" for slot in range(21, 40, 8)})
@@ -537,7 +539,7 @@ def tags_after_the_dwell():
 
 
 def longest_dwell():
-    """Silent for the longest dwell, and held back for twice as long."""
+    """Returns a row with the longest dwell: silent for one dwell, and held for two."""
     none = b"-,,0,\n"
     script = (b"text,HI,0,\n" + none * 65533 + b"text,HI,0,\ntext,HI,1,\ntext,YO,0,\n" + none * 131067 + b"text,YO,0,\n"
               + none * 70000 + b"text,YO,0,\n" + b"-,,1,\n" * 2)
@@ -554,20 +556,20 @@ def longest_dwell():
 
 
 def silent_and_held_for_late_groups():
-    """With a dwell of four slots and groups up to two slots late: silent for six slots, held for twelve."""
+    """Returns a row with a dwell of 4 slots and groups up to 2 slots late: silent for 6 slots, held for 12."""
     script = b"-,,0,\n" * 5 + b"text,HI,0,\n" * 2 + b"-,,0,\n" * 10 + b"text,YO,0,\ntext,YO,1,\n"
     shown = b"5 text silent 1\n6 text ok\n17 text held 1\n18 text ok\n18 sent C201 2150 594F 0D20\n"
     return "silent and held for late groups", SIM_TWO_LATE, 0, script, shown
 
 
 def much_output():
-    """More output for one read than waits to be written at once."""
+    """Returns a row with more output for one read than the program writes at once."""
     shown = b"".join(b'%d text "%s"\n' % (slot, (b"HI", b"YO")[slot % 2]) for slot in range(2000))
     return "much output", DECODE, 0, (HI + b"C201 2150 594F 0D20\n") * 1000, shown
 
 
 def carriage_return_at_each_place():
-    """All sixteen segments, with a lone carriage return at one of the 64 places: it ends the text there."""
+    """Gives rows with all sixteen segments and a carriage return at one of the 64 places, which ends the text."""
     for place in range(64):
         sent = b"A" * place + b"\r" + b"A" * (63 - place)
         log = b"".join(segment(sent, 0, address) + b"\n" for address in range(16))
@@ -575,7 +577,7 @@ def carriage_return_at_each_place():
 
 
 def decoded_classes():
-    """The first tag has its class in bits 8 to 3 of the 37 bits' upper half: here on the text `HI`."""
+    """Gives rows with each class of a tag: bits 8 to 3 of the upper half of the 37 bits, on the text `HI`."""
     for number, name in CLASSES.items():
         second, third = 0xB148 | number >> 3, number << 13 & 0xE000 | 2
         log = b"C201 3156 0000 4BD7\n" + HI + b"C201 %04X %04X 0000\n" % (second, third)
@@ -583,7 +585,7 @@ def decoded_classes():
 
 
 def one_of_three_programmes():
-    """Each programme is decoded, and no other is heard with it."""
+    """Gives rows of a log with three programmes, of which one is decoded."""
     log = b"F000 2140 4849 0D20\nC201 2150 594F 0D20\n0000 2140 4142 0D20\n"
     rows = {"F000": b'0 text "HI"\n', "C201": b'1 text "YO"\n', "0000": b'2 text "AB"\n', "FFFF": b""}
     for pi, shown in rows.items():
@@ -591,7 +593,7 @@ def one_of_three_programmes():
 
 
 def faults_of_programmes():
-    """What is given as programme is not four hexadecimal digits."""
+    """Gives rows with a PI that does not have four hexadecimal digits."""
     for command, told in (("decode", b""), ("encode", b"# "), ("sim", b""), ("audit", b"")):
         for given in ("C20", "C2011", "C20G", "", "+201"):
             words = f"{command} --pi {shlex.quote(given)}"
@@ -599,7 +601,7 @@ def faults_of_programmes():
 
 
 def rows():
-    """All of them."""
+    """Gives all rows: name, arguments, status, input and output."""
     yield from (*DECODED, *SIMULATED, *ENCODED, *LATE, *AUDITED, *AUDITED_LATE)
     for row in REFUSED_ROWS:
         yield "refused row", "sim --pi C201 --pty 10", 1, row, b"fault row 1\n"
@@ -615,8 +617,3 @@ def rows():
     yield from decoded_classes()
     yield from one_of_three_programmes()
     yield from faults_of_programmes()
-
-
-def cases(check, ran):
-    for name, words, status, given, shown in rows():
-        check(f"row: {name}, {words}, {given[:80]!r}", ran(shlex.split(words), given), (status, shown))

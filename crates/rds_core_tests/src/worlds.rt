@@ -219,7 +219,7 @@ fn nothing_on_air_after_a_restart(rt: HostRuntime) -> Result<(), Fail> {
     Ok(())
 }
 
-/// A world takes memory, and says so if it is refused: `tests/cases` runs this test with each request refused in turn.
+/// A world takes memory, and says so if it is refused: `test_memory` runs this test with each request refused in turn.
 #[test]
 fn refused_memory(rt: HostRuntime) -> Result<(), Fail> {
     let events = [slot_event(Command::Quiet, true, &[LOST])?];

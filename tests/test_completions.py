@@ -1,14 +1,12 @@
 """The completions for bash, zsh and fish beside the help of the program: they offer the same commands and options."""
 import os
 import re
-import shutil
 import subprocess
 
-ROOT = os.path.dirname(os.path.dirname(os.path.abspath(__file__)))
-PROGRAM = os.path.join(ROOT, "crates/rdsrt/out/rdsrt")
-FOLDER = os.path.join(ROOT, "tools/completions")
+from tests.support import PROGRAM, SECONDS, Case, needs, path, text_of
+
+FOLDER = path("tools/completions")
 FILES = {"bash": "rdsrt.bash", "zsh": "_rdsrt", "fish": "rdsrt.fish"}
-SECONDS = 60
 # prints what bash would offer for the words
 BASH = """source "$1"; shift; COMP_WORDS=(rdsrt "$@"); COMP_CWORD=$#; _rdsrt; printf '%s\\n' "${COMPREPLY[@]}" """
 # zsh completes in a terminal alone. Here the functions that its file calls print the commands and options they get.
@@ -24,7 +22,8 @@ setopt extendedglob; ASKED=$2; words=($@[3,-1]); source $1; true"""
 
 def lines(words):
     """Returns the lines that these words print."""
-    done = subprocess.run(words, stdout=subprocess.PIPE, text=True, check=True, timeout=SECONDS, stdin=subprocess.DEVNULL)
+    done = subprocess.run(words, stdout=subprocess.PIPE, text=True, check=True, timeout=SECONDS,
+                          stdin=subprocess.DEVNULL)
     return {*done.stdout.split("\n")} - {""}
 
 
@@ -35,6 +34,7 @@ def summaries():
 
 
 def help_of(command):
+    """Returns the help of a command."""
     done = subprocess.run([PROGRAM, *command, "--help"], stdout=subprocess.PIPE, text=True, check=True, timeout=SECONDS)
     return done.stdout
 
@@ -48,16 +48,19 @@ def offered(command):
 
 
 def by_bash(command):
+    """Returns the commands and options that bash offers."""
     words = ["bash", "-c", BASH, "bash", os.path.join(FOLDER, FILES["bash"]), *command]
     return lines([*words, ""]) | lines([*words, "-"])
 
 
 def by_zsh(command):
+    """Returns the commands and options that zsh offers."""
     words = ["zsh", "-f", "-c", ZSH, "zsh", os.path.join(FOLDER, FILES["zsh"]), "option" if command else "command"]
     return lines([*words, *command]) - (set() if not command else {"-V", "--version"})
 
 
 def by_fish(command):
+    """Returns the commands and options that fish offers."""
     found = set()
     for begun in ("", "-", "--"):
         call = f"source {os.path.join(FOLDER, FILES['fish'])}; complete -C '{' '.join(['rdsrt', *command, begun])}'"
@@ -65,22 +68,32 @@ def by_fish(command):
     return found
 
 
-def run(check):
-    """Compares what each shell offers with the help, and the descriptions too. Bash offers the long options alone."""
-    for shell, by in (("bash", by_bash), ("zsh", by_zsh), ("fish", by_fish)):
-        if not shutil.which(shell):
-            print(f"skipped: no {shell} here, so its completions are not tested")
-            continue
+class Completions(Case):
+    def compare(self, shell, by, drop="$^", not_of_help=()):
+        """Compares what the shell offers with the help, except for the options that match `drop`."""
         for command in [[], *([it] for it in summaries())]:
-            wanted = offered(command)
-            if shell == "bash":
-                wanted = {it for it in wanted if not re.fullmatch(r"-\w", it)}
-            got = by(command)
-            if shell == "zsh" and command == ["help"]:
-                got -= {"-h", "--help"}
-            check(f"completions of {shell} after rdsrt {' '.join(command)}", got, wanted)
-    for shell in ("zsh", "fish"):
-        with open(os.path.join(FOLDER, FILES[shell]), encoding="utf-8") as file:
-            text = file.read()
+            wanted = {it for it in offered(command) if not re.fullmatch(drop, it)}
+            got = by(command) - {*(not_of_help if command == ["help"] else ())}
+            self.check(f"{shell} after rdsrt {' '.join(command)}", got, wanted)
+
+    def describe(self, shell):
+        """Looks for the line of help of each command in the file of the shell."""
+        text = text_of(f"tools/completions/{FILES[shell]}")
         for command, summary in summaries().items():
-            check(f"completions of {shell}: what {command} does", summary in text, True)
+            self.check(f"{shell}: what {command} does", summary in text, True)
+
+    @needs("bash")
+    def test_bash_offers_the_commands_and_the_long_options(self):
+        self.compare("bash", by_bash, drop=r"-\w")
+
+    @needs("zsh")
+    def test_zsh_offers_the_commands_and_options(self):
+        self.compare("zsh", by_zsh, not_of_help=("-h", "--help"))
+
+    @needs("fish")
+    def test_fish_offers_the_commands_and_options(self):
+        self.compare("fish", by_fish)
+
+    def test_zsh_and_fish_describe_each_command(self):
+        self.describe("zsh")
+        self.describe("fish")

@@ -11,10 +11,9 @@ EXCEPTIONS lists the names that no source has, each for a reason.
 import fnmatch
 import os
 import re
-import sys
 
-ROOT = os.path.dirname(os.path.dirname(os.path.abspath(__file__)))
-sys.path.insert(1, ROOT)
+from tests.support import ROOT, Case, text_of
+
 import crates
 
 CRATE = r"\b(?:rds_[a-z_]+|rdsrt)\b"
@@ -72,6 +71,7 @@ class Sources:
         self.words = {path: words_of(path, code) for path, code in self.code.items()}
         self.edits = {os.path.splitext(os.path.basename(it))[0] for it in self.files if it.endswith(".edit")}
         self.tests = set(re.findall(r"#\[test\]\s*fn (\w+)", "\n".join(self.code.values())))
+        self.tests |= {os.path.basename(it)[:-3] for it in self.files if re.fullmatch(r"tests/test_\w+\.py", it)}
         self.headings = {it: headings_of(it) for it in self.files if it.endswith(".md")}
 
     def among(self, names):
@@ -125,7 +125,7 @@ def files():
 
 def is_code(path):
     """Tells whether the test looks for names in the file. Pages, proofs and this file do not count."""
-    return not path.endswith((".md", ".png")) and "/proofs/" not in path and path != "tests/names.py"
+    return not path.endswith((".md", ".png")) and "/proofs/" not in path and path != "tests/test_names.py"
 
 
 def code_of(path):
@@ -299,11 +299,15 @@ def stale(sources, page, text):
     return found
 
 
-def run(check):
-    """Checks the names in all pages, and that the test finds each name of STALE."""
-    sources = Sources()
-    for page in sources.headings:
-        with open(os.path.join(ROOT, page), encoding="utf-8") as file:
-            check(f"{page}: names that do not exist", stale(sources, page, file.read()), [])
-    for text in STALE:
-        check(f"names: the test finds the stale one in {text!r}", bool(stale(sources, "README.md", text)), True)
+class Names(Case):
+    @classmethod
+    def setUpClass(cls):
+        cls.sources = Sources()
+
+    def test_each_name_in_a_page_exists(self):
+        for page in self.sources.headings:
+            self.check(f"{page}: names that do not exist", stale(self.sources, page, text_of(page)), [])
+
+    def test_a_stale_name_is_found(self):
+        for text in STALE:
+            self.check(f"{text!r}", bool(stale(self.sources, "README.md", text)), True)

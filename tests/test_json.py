@@ -4,14 +4,12 @@ import os
 import select
 import subprocess
 import sys
-import tempfile
 import time
 
-import python_package
+from tests.package import PackageCase
+from tests.support import PROGRAM, Case, path
 
-ROOT = os.path.dirname(os.path.dirname(os.path.abspath(__file__)))
-PROGRAM = os.path.join(ROOT, "crates/rdsrt/out/rdsrt")
-JSON = os.path.join(ROOT, "examples/json")
+JSON = path("examples/json")
 SECONDS = 120
 # in which an object is there: far more than the filter waits, for a busy machine
 PROMPT = 20
@@ -59,25 +57,6 @@ def ran(given, *words, **more):
     return done.returncode, [json.loads(it) for it in done.stdout.splitlines()], done.stderr.decode()
 
 
-def worked(check):
-    for name, given, wanted in WORKED:
-        check(f"json: {name}", ran(given), (int("fault" in given), wanted, ""))
-    check("json: the programme", ran('0 text "HI"\nfault read\n', "--pi", "c201"),
-          (1, [{"pi": "0xC201", "slot": 0, **HI}, {"pi": "0xC201", "fault": "read"}], ""))
-    ascii_alone = {**os.environ, "LC_ALL": "C", "PYTHONUTF8": "0", "PYTHONCOERCECLOCALE": "0"}
-    wanted = 0, [{"slot": 0, **HI, "radiotext": "ß"}], ""
-    check("json: UTF-8 in any locale", ran('0 text "\\x8D"\n', env=ascii_alone), wanted)
-    status, (it,), _ = ran('0 text "HI"\n', "--time")
-    check("json: the time", (status, it.pop("rx_time")[:2], it), (0, "20", {"slot": 0, **HI}))
-    check("json: a line of sim", ran('0 r0 text "HI"\n1 text "HI"\n'),
-          (1, [{"slot": 1, **HI}], "json: not a line of decode: 0 r0 text \"HI\"\n"))
-    for words in (["--pi", "C20"], ["log"], ["--pi"]):
-        check(f"json: refused {words}", ran("", *words)[:2], (2, []))
-    with open("/dev/full", "wb") as full:
-        done = subprocess.run([JSON], input=b'0 text "HI"\n', stdout=full, stderr=subprocess.PIPE, timeout=SECONDS)
-    check("json: full output", (done.returncode, done.stderr.startswith(b"json: ")), (1, True))
-
-
 def next_object(descriptor):
     """Returns the next object, or None if it is not there in time."""
     line = b""
@@ -88,54 +67,69 @@ def next_object(descriptor):
     return json.loads(line)
 
 
-def live(check):
-    """Each object is there while the pipe stays open, and a slot whose lines come in two writes is one object."""
-    names = {**os.environ, "PYTHONDONTWRITEBYTECODE": "1"}
-    with subprocess.Popen([JSON], stdin=subprocess.PIPE, stdout=subprocess.PIPE, bufsize=0, env=names) as program:
-        for pieces, wanted in (([b'0 text "HI"\n'], {"slot": 0, **HI}),
-                               ([b'9 text none\n9 na', b'me "POP     "\n'], {"slot": 9, **NOTHING, "ptyn": "POP"}),
-                               ([b"fault line 12\n"], {"fault": "line 12"})):
-            for piece in pieces:
-                program.stdin.write(piece)
-                # longer than the filter waits after a whole line
-                time.sleep(0.1)
-            check(f"json: live, {pieces}", next_object(program.stdout.fileno()), wanted)
-        program.stdin.close()
-        check("json: end of a live pipe", program.wait(SECONDS), 1)
-
-
-def live_beside_the_program(check):
-    """From a group to its object, and from the last lost slot of a dwell to its object."""
-    reads, writes = os.pipe()
-    names = {**os.environ, "PYTHONDONTWRITEBYTECODE": "1"}
-    words = [PROGRAM, "decode", "--pi", "C201", "--m", "3"]
-    with subprocess.Popen(words, stdin=reads, stdout=subprocess.PIPE) as decode:
-        os.close(reads)
-        with subprocess.Popen([JSON], stdin=decode.stdout, stdout=subprocess.PIPE, bufsize=0, env=names) as program:
-            decode.stdout.close()
-            for log, wanted in ((b"C201 2140 4849 0D20\n", {"slot": 0, **HI}),
-                                (b"---- ---- ---- ----\n" * 3, {"slot": 3, **NOTHING})):
-                os.write(writes, log)
-                check(f"json: live beside the program, {log[:4]}", next_object(program.stdout.fileno()), wanted)
-            os.close(writes)
-            check("json: end beside the program", (program.wait(SECONDS), decode.wait(SECONDS)), (0, 0))
-
-
 def changes(objects):
     """Returns the objects without those that differ from the one before in nothing but the slot."""
     bare = [{**it, "slot": None} for it in objects]
     return [it for at, it in enumerate(objects) if at == 0 or bare[at] != bare[at - 1]]
 
 
-def beside_the_package(check):
-    """Logs by chance through decode and the filter, and through the package; the last output is longer than a pipe."""
-    with tempfile.TemporaryDirectory() as folder:
-        library = python_package.shared_library(folder)
-        if library is None:
-            return
-        names = python_package.environment(library)
-        names["PYTHONPATH"] += os.pathsep + os.path.join(ROOT, "python/tests")
-        log = os.path.join(folder, "log")
+class Filter(Case):
+    def test_lines_become_objects(self):
+        for name, given, wanted in WORKED:
+            self.check(f"{name}", ran(given), (int("fault" in given), wanted, ""))
+        self.check("the programme", ran('0 text "HI"\nfault read\n', "--pi", "c201"),
+                   (1, [{"pi": "0xC201", "slot": 0, **HI}, {"pi": "0xC201", "fault": "read"}], ""))
+        ascii_alone = {**os.environ, "LC_ALL": "C", "PYTHONUTF8": "0", "PYTHONCOERCECLOCALE": "0"}
+        wanted = 0, [{"slot": 0, **HI, "radiotext": "ß"}], ""
+        self.check("UTF-8 in any locale", ran('0 text "\\x8D"\n', env=ascii_alone), wanted)
+        status, (it,), _ = ran('0 text "HI"\n', "--time")
+        self.check("the time", (status, it.pop("rx_time")[:2], it), (0, "20", {"slot": 0, **HI}))
+        self.check("a line of sim", ran('0 r0 text "HI"\n1 text "HI"\n'),
+                   (1, [{"slot": 1, **HI}], "json: not a line of decode: 0 r0 text \"HI\"\n"))
+        for words in (["--pi", "C20"], ["log"], ["--pi"]):
+            self.check(f"refused {words}", ran("", *words)[:2], (2, []))
+        with open("/dev/full", "wb") as full:
+            done = subprocess.run([JSON], input=b'0 text "HI"\n', stdout=full, stderr=subprocess.PIPE, timeout=SECONDS)
+        self.check("full output", (done.returncode, done.stderr.startswith(b"json: ")), (1, True))
+
+
+class Live(Case):
+    def test_an_object_comes_while_the_pipe_stays_open(self):
+        """A slot whose lines come in two writes is one object."""
+        names = {**os.environ, "PYTHONDONTWRITEBYTECODE": "1"}
+        with subprocess.Popen([JSON], stdin=subprocess.PIPE, stdout=subprocess.PIPE, bufsize=0, env=names) as program:
+            for pieces, wanted in (([b'0 text "HI"\n'], {"slot": 0, **HI}),
+                                   ([b'9 text none\n9 na', b'me "POP     "\n'], {"slot": 9, **NOTHING, "ptyn": "POP"}),
+                                   ([b"fault line 12\n"], {"fault": "line 12"})):
+                for piece in pieces:
+                    program.stdin.write(piece)
+                    # longer than the filter waits after a whole line
+                    time.sleep(0.1)
+                self.check(f"live, {pieces}", next_object(program.stdout.fileno()), wanted)
+            program.stdin.close()
+            self.check("end of a live pipe", program.wait(SECONDS), 1)
+
+    def test_an_object_comes_after_its_group_and_after_the_last_lost_slot_of_a_dwell(self):
+        reads, writes = os.pipe()
+        names = {**os.environ, "PYTHONDONTWRITEBYTECODE": "1"}
+        words = [PROGRAM, "decode", "--pi", "C201", "--m", "3"]
+        with subprocess.Popen(words, stdin=reads, stdout=subprocess.PIPE) as decode:
+            os.close(reads)
+            with subprocess.Popen([JSON], stdin=decode.stdout, stdout=subprocess.PIPE, bufsize=0, env=names) as program:
+                decode.stdout.close()
+                for log, wanted in ((b"C201 2140 4849 0D20\n", {"slot": 0, **HI}),
+                                    (b"---- ---- ---- ----\n" * 3, {"slot": 3, **NOTHING})):
+                    os.write(writes, log)
+                    self.check(f"live beside the program, {log[:4]}", next_object(program.stdout.fileno()), wanted)
+                os.close(writes)
+                self.check("end beside the program", (program.wait(SECONDS), decode.wait(SECONDS)), (0, 0))
+
+
+class BesideThePackage(PackageCase):
+    def test_logs_by_chance_through_decode_and_the_package(self):
+        """The last output is longer than a pipe holds."""
+        names, log = dict(self.names), os.path.join(self.folder, "log")
+        names["PYTHONPATH"] += os.pathsep + path("python/tests")
         for seed, (dwell, slots) in enumerate([(8, 2000), (16, 2000), (32, 2000)] * 3 + [(8, 30_000)]):
             words = [sys.executable, "-c", BY_CHANCE, str(seed), str(dwell), str(slots), log]
             done = subprocess.run(words, stdout=subprocess.PIPE, timeout=SECONDS, env=names, check=True)
@@ -145,9 +139,4 @@ def beside_the_package(check):
                                   timeout=SECONDS)
             got = changes([json.loads(it) for it in done.stdout.splitlines()])
             first = next((it for it in zip(got, wanted) if it[0] != it[1]), (len(got), len(wanted)))
-            check(f"json: log {seed} beside the package, {first}", (got == wanted, len(got) > 50), (True, True))
-
-
-def run(check):
-    for part in (worked, live, live_beside_the_program, beside_the_package):
-        part(check)
+            self.check(f"log {seed} beside the package, {first}", (got == wanted, len(got) > 50), (True, True))

@@ -1,0 +1,166 @@
+"""Runs the tests side by side. The last line is `N passed, M failed, K skipped`: methods of tests, not their checks.
+
+usage: python3 -m tests [--target aarch64] [NAME..]
+
+A NAME is a module, a class or a method: test_slots, test_slots.Live, test_slots.Live.test_full_output. Each class runs
+in a process of its own. If that ends in the middle of a test, this test has failed, and the next process runs the
+others.
+
+--target runs the tests of the program alone, with the program for 64-bit Arm under an emulator. All of them take about
+half an hour on 4 cores.
+"""
+import argparse
+import json
+import os
+import signal
+import subprocess
+import sys
+import tempfile
+import threading
+import unittest
+from concurrent.futures import ThreadPoolExecutor
+
+ROOT = os.path.dirname(os.path.dirname(os.path.abspath(__file__)))
+# seconds that one class may take
+LIMIT = 7200
+# the classes that take longest begin first
+LONGEST = ("PageBuild", "Microcontrollers", "Program", "Library", "Compilers", "ByChance", "GnuRadio", "Scripts",
+           "Radios",
+           "FailingCalls", "BesidePlainPlans", "BesideThePlainAudit", "Arguments", "Worlds", "Clocks", "Live",
+           "Restarts")
+running, printing = set(), threading.Lock()
+
+
+def asked():
+    """Returns the arguments. A target goes to the environment, which tests.support reads."""
+    words = argparse.ArgumentParser(prog="python3 -m tests", allow_abbrev=False)
+    words.add_argument("--target", choices=["aarch64"])
+    words.add_argument("names", nargs="*", metavar="NAME")
+    found = words.parse_args()
+    if found.target:
+        os.environ["RDSRT_TARGET"] = found.target
+    return found
+
+
+def flat(suite):
+    """Gives the tests of a suite."""
+    for it in suite:
+        yield from flat(it) if isinstance(it, unittest.TestSuite) else [it]
+
+
+def tests_of(names):
+    """Returns the tests of these names, or all tests."""
+    loader = unittest.defaultTestLoader
+    if names:
+        return list(flat(loader.loadTestsFromNames([f"tests.{it.removeprefix('tests.')}" for it in names])))
+    return list(flat(loader.discover(os.path.join(ROOT, "tests"), top_level_dir=ROOT)))
+
+
+def classes_of(tests):
+    """Returns the tests by class, those first that take longest."""
+    found = {}
+    for test in tests:
+        found.setdefault(type(test), []).append(test)
+    order = {name: place for place, name in enumerate(LONGEST)}
+    return sorted(found.values(), key=lambda its: order.get(type(its[0]).__name__, len(order)))
+
+
+def worker(names, folder):
+    """Runs these tests in a process. Returns the lines that it wrote, what it printed, and why it did not end well."""
+    with tempfile.TemporaryFile(dir=folder) as printed, tempfile.NamedTemporaryFile("r", dir=folder,
+                                                                                    encoding="utf-8") as lines:
+        words = [sys.executable, "-B", "-m", "tests.worker", lines.name, *names]
+        process = subprocess.Popen(words, cwd=ROOT, stdin=subprocess.DEVNULL, stdout=printed, stderr=subprocess.STDOUT,
+                                   start_new_session=True)
+        running.add(process)
+        try:
+            status = process.wait(LIMIT)
+            why = None if status == 0 else f"its process ended with status {status}"
+        except subprocess.TimeoutExpired:
+            os.killpg(process.pid, signal.SIGKILL)
+            process.wait()
+            why = f"its class took more than {LIMIT} s"
+        running.discard(process)
+        printed.seek(0)
+        return [json.loads(it) for it in lines], printed.read().decode(errors="replace"), why
+
+
+def outcomes_of(names, folder):
+    """Runs these tests of one class. Returns outcome, name and text of each, and what was printed."""
+    found, printed, left = [], "", list(names)
+    while left:
+        lines, more, why = worker(left, folder)
+        ended = [it for it in lines if it[0] != "started"]
+        found, printed = found + ended, printed + more
+        known = {name for _, name, _ in ended}
+        begun = [it[1] for it in lines if it[0] == "started" and it[1] not in known]
+        left = [it for it in left if it not in known]
+        if left:
+            # without a test that began, the class could not be set up
+            lost = begun or left
+            found += [("failed", name, f"{why or 'the test wrote no outcome'}\n{more[-2000:]}") for name in lost]
+            left = [it for it in left if it not in lost]
+    return found, printed
+
+
+def run_class(tests, folder):
+    """Runs the tests of one class and prints their reports. Returns the outcomes."""
+    found, printed = outcomes_of([it.id() for it in tests], folder)
+    with printing:
+        print(printed, end="")
+        for outcome, name, text in found:
+            if outcome != "passed":
+                print(f"{outcome.upper() if outcome == 'failed' else outcome}: {name.removeprefix('tests.')}: {text}")
+        sys.stdout.flush()
+    return [outcome for outcome, _, _ in found]
+
+
+def run_classes(classes, count, folder):
+    """Runs so many classes at a time. Returns the outcomes. An interrupt ends the processes of all."""
+    pool = ThreadPoolExecutor(count)
+    try:
+        return [it for found in pool.map(lambda its: run_class(its, folder), classes) for it in found]
+    finally:
+        pool.shutdown(wait=False, cancel_futures=True)
+        for process in list(running):
+            os.killpg(process.pid, signal.SIGKILL)
+
+
+def run_all(tests):
+    """Runs the tests, and prints the last line. Returns whether none failed."""
+    broken = [it for it in tests if isinstance(it, unittest.loader._FailedTest)]
+    for it in broken:
+        print(f"FAILED: {it._exception}")
+    classes = classes_of(it for it in tests if it not in broken)
+    outcomes = ["failed"] * len(broken)
+    with tempfile.TemporaryDirectory() as folder:
+        beside = [it for it in classes if not getattr(it[0], "alone", False)]
+        outcomes += run_classes(beside, os.cpu_count(), folder)
+        outcomes += run_classes([it for it in classes if it not in beside], 1, folder)
+    passed, failed, skipped = (outcomes.count(it) for it in ("passed", "failed", "skipped"))
+    print(f"{passed} passed, {failed} failed, {skipped} skipped")
+    return failed == 0
+
+
+def no_tests(why):
+    """Prints why no test can run. Returns the status."""
+    print(f"FAILED: {why}\n0 passed, 1 failed, 0 skipped")
+    return 1
+
+
+def main():
+    words = asked()
+    try:
+        from tests import support
+    except SystemExit as why:
+        return no_tests(why)
+    if not os.path.exists(support.PROGRAM):
+        return no_tests(f"there is no {support.PROGRAM}: `rt ci` or tools/build makes it")
+    tests = tests_of(words.names)
+    if words.target:
+        tests = [it for it in tests if isinstance(it, (support.ProgramCase, unittest.loader._FailedTest))]
+    return 0 if run_all(tests) else 1
+
+
+if __name__ == "__main__":
+    sys.exit(main())

@@ -1,0 +1,212 @@
+"""The tests of the page in real browsers: how they ask the page, and a base class for each browser.
+
+The page is page/out, or the folder that RDSRT_PAGE in the environment names. Each test loads it anew. After a test the
+console of the browser must be empty, and nothing may have been fetched but files of the page.
+"""
+import base64
+import json
+import os
+import re
+import subprocess
+import time
+import unittest
+import zlib
+
+from tests import browser, firefox
+from tests.support import PROGRAM, SECONDS, Case, bytes_of, path
+
+FOLDER = os.path.abspath(os.environ.get("RDSRT_PAGE") or path("page/out"))
+URL = f"file://{FOLDER}/index.html"
+EXAMPLES = path("examples")
+PROBE = path("tests/page_probe.js")
+SEED = 20261123
+TABS = ("log", "script", "dwell")
+SCHEMES = ("light", "dark")
+READY = "page.state.ready || !document.getElementById('no-engine').hidden"
+HI = "C201 2140 4849 0D20"
+NOTHING = "---- ---- ---- ----"
+GROUPS = [HI, "C201 2150 594F 0D20", "C201 2140 4A41 5A5A", "C201 2141 2046 4D0D", "C201 A140 504F 5020",
+          "C201 A141 4D49 5820", "C201 3156 0000 4BD7", "C201 B158 8012 0985", "F000 2140 4849 0D20", NOTHING]
+YO = "C201 2150 594F 0D20"
+# three texts of two segments, each for 100 slots
+EVERY_100 = "".join(f"C201 21{flag}0 {first}\nC201 21{flag}1 {second}\n" * 50 for flag, first, second in
+                    ((4, "4A41 5A5A", "2046 4D0D"), (5, "4E45 5753", "2031 320D"), (4, "504F 5020", "4D49 580D")))
+
+
+def example(name):
+    """Returns the bytes of an example."""
+    return bytes_of(f"examples/{name}")
+
+
+def run_program(words, data):
+    """Returns status, output and notes of the program."""
+    done = subprocess.run([PROGRAM, *words], input=data, capture_output=True, timeout=SECONDS)
+    return [done.returncode, done.stdout.decode(), re.findall("^rdsrt: (.*)$", done.stderr.decode(), re.M)]
+
+
+def program(words, data):
+    """Returns status and output of the program."""
+    return run_program(words, data)[:2]
+
+
+def idle(b):
+    """Waits until the page has all its answers."""
+    b.run("probe.idle()")
+
+
+def call(b, what, *given):
+    """Calls a function of the page with these values. Returns its value once the page is idle."""
+    got = b.run(f"{what}({', '.join(map(json.dumps, given))})")
+    idle(b)
+    return got
+
+
+def of(b, query, what):
+    """Returns a property of the first element that fits the query."""
+    return b.run(f"document.querySelector({json.dumps(query)}).{what}")
+
+
+def text_of(b, query):
+    """Returns the text of the first element that fits the query."""
+    return of(b, query, "textContent")
+
+
+def click(b, query):
+    """Clicks the first element that fits the query."""
+    b.run(f"document.querySelector({json.dumps(query)}).click()")
+    idle(b)
+
+
+def shown(b, radio):
+    """Returns the text on a receiver's display."""
+    return text_of(b, f"#{radio} .lcd .text")
+
+
+def settle(b):
+    """Waits as long as the page waits after a change of a field."""
+    b.run("new Promise(done => setTimeout(done, 250))")
+    idle(b)
+
+
+def visit(b, url):
+    """Opens the page. Returns whether it is ready in time."""
+    b.go(url)
+    with open(PROBE, encoding="utf-8") as probe:
+        b.run(probe.read() + ";window.probe = probe; undefined")
+    return b.until(READY)
+
+
+def reload(b):
+    """Loads the page anew from its address."""
+    visit(b, b.run("location.href"))
+
+
+def open_script(b, text, **options):
+    """Opens a script with these options in its tab."""
+    call(b, "page.tab", "script")
+    call(b, "scriptTab.open", text, options)
+
+
+def verdict_of(b, log, m):
+    """Opens a log, and returns its verdict."""
+    call(b, "page.tab", "log")
+    call(b, "logTab.open", log, {"pi": "C201", "m": m, "k": 0})
+    return settled_verdict(b)
+
+
+def settled_verdict(b):
+    """Returns the verdict once the page has looked for a witness."""
+    b.until("!document.querySelector('#verdict').textContent.includes('Looking for')")
+    return text_of(b, "#verdict")
+
+
+def printed(b):
+    """Returns the lines of the script's output."""
+    return text_of(b, "#script-lines")
+
+
+def hidden(b):
+    """Returns the tabs that are not open."""
+    return [name for name in TABS if of(b, f"#{name}", "hidden")]
+
+
+def first_examples(b):
+    """Opens the first example of each tab. Drops edits that are not saved."""
+    for name in ("log-example", "script-example"):
+        call(b, "probe.choose", name, 0)
+        b.run("document.querySelector('#ask').open && document.querySelector('#ask-yes').click()")
+        settle(b)
+
+
+def waited_for(path):
+    """Waits for a file that the browser saves. Returns its bytes."""
+    end = time.time() + SECONDS
+    while time.time() < end:
+        if os.path.exists(path) and os.path.getsize(path):
+            with open(path, "rb") as file:
+                return file.read()
+        time.sleep(0.05)
+    return b""
+
+
+def packed(script):
+    """Returns a script as a link holds it."""
+    deflate = zlib.compressobj(wbits=-15)
+    return base64.urlsafe_b64encode(deflate.compress(script) + deflate.flush()).decode().rstrip("=")
+
+
+# ---- the browsers
+
+
+def browsers():
+    """Returns the drivers of the browsers that this machine has."""
+    return [it for it in (browser, firefox) if it.program()]
+
+
+class PageCase(Case):
+    """A test of the page in one browser: `b` drives it."""
+
+    # the limits of time need a quiet machine
+    alone = True
+    # whether the console must stay empty, and nothing may be fetched
+    is_quiet = True
+    driver, package = None, None
+
+    @classmethod
+    def setUpClass(cls):
+        if not cls.driver.program():
+            raise unittest.SkipTest(f"no {cls.package} here (apt-get install {cls.package})")
+        if not os.path.isfile(os.path.join(FOLDER, "index.html")):
+            raise RuntimeError(f"no page in {FOLDER}: page/build makes it")
+        cls.b = cls.driver.Browser()
+        cls.addClassCleanup(cls.b.close)
+
+    def setUp(self):
+        self.b.size(1280, 900)
+        self.b.events.clear()
+        visit(self.b, URL)
+        self.check("the program runs in this browser", text_of(self.b, "#no-engine"), "")
+
+    def tearDown(self):
+        if self.is_quiet:
+            self.check("the browser's console is empty", self.b.complaints(), [])
+            self.nothing_fetched()
+
+    def nothing_fetched(self):
+        """Checks that only files of the page were fetched. Firefox does not note files from a disk."""
+        fetched, own = self.b.fetched(), (f"file://{FOLDER}/", "http://127.0.0.1:", "data:", "blob:", "about:")
+        self.check("nothing is fetched but the page's files", [it for it in fetched if not it.startswith(own)], [])
+        here = {re.sub("[?#].*", "", it).rsplit("/", 1)[-1] for it in fetched if it.startswith(("file:", "http:"))}
+        self.check("and these are in its folder", sorted(here - set(os.listdir(FOLDER))), [])
+
+
+class ChromiumCase(PageCase):
+    driver, package = browser, "chromium"
+
+    def setUp(self):
+        self.b.scheme("light")
+        super().setUp()
+
+
+class FirefoxCase(PageCase):
+    driver, package = firefox, "firefox-esr"

@@ -1,0 +1,85 @@
+"""The command `audit` beside two slow plain checks: plain_audit.py goes by the rules, plain_plans.py tries all
+plans."""
+import collections
+import random
+
+from tests import plain_audit, plain_plans
+from tests.calls import AUDIT
+from tests.support import ProgramCase, ran
+
+SEED, SEED_OF_PLANS = 20261122, 20261124
+
+
+def random_script(rng):
+    """Returns some dozens of rows: commands of each kind, and slots that are not free."""
+    texts = ["HI", "YO", "NEWS", "ABBA - WATERLOO", "Café €", "x" * 64]
+    commands = [("text", lambda: rng.choice(texts)), ("name", lambda: rng.choice(["JAZZ FM", "NEWS"])),
+                ("restart", str),
+                ("tags", lambda: f"1 1 4 0 {rng.randrange(4)} 1 {rng.randrange(3)} {rng.randrange(2)}")]
+    rows = []
+    for _ in range(rng.randrange(20, 90)):
+        command, argument = rng.choices(commands, weights=(10, 3, 1, 10))[0] if rng.random() < 0.3 else ("-", str)
+        rows.append(f"{command},{argument()},{int(rng.random() < 0.9)},\n")
+    return "".join(rows).encode()
+
+
+def changed(rng, slots):
+    """Returns the slots with one group's byte, flag or slot changed."""
+    changed = list(slots)
+    sent = [slot for slot, group in enumerate(slots) if group is not None]
+    if not sent:
+        return changed
+    tagged = [slot for slot in sent if plain_audit.tag_ends_of(slots[slot]) is not None]
+    slot = rng.choice(tagged if tagged and rng.random() < 0.3 else sent)
+    blocks = [int(block, 16) for block in slots[slot]]
+    kind = rng.choice(("byte", "flag", "slot"))
+    if kind == "byte":
+        place, shift = rng.choice((2, 3)), rng.choice((0, 8))
+        blocks[place] = blocks[place] & ~(0xFF << shift) | rng.choice((0x0D, 0x20, 0x41, rng.randrange(256))) << shift
+    elif kind == "flag":
+        blocks[1] ^= 0x10
+    changed[slot] = [f"{block:04X}" for block in blocks]
+    if kind == "slot":
+        other = rng.randrange(len(slots))
+        changed[slot], changed[other] = changed[other], changed[slot]
+    return changed
+
+
+class BesideThePlainAudit(ProgramCase):
+    def test_logs_of_our_encoder_and_each_with_one_change(self):
+        rng, answers, dense = random.Random(SEED), collections.Counter(), 0
+        for number in range(300):
+            dwell, late = rng.choice((1, 2, 4, 8, 16)), rng.choice((0, 0, 1, 3))
+            options = ["--m", str(dwell), "--k", str(late)]
+            _, log = ran(["encode", "--pi", "C201", *options], random_script(rng))
+            lines = log.decode().splitlines()
+            notes = [(int(slot), answer) for slot, _, answer in (it[2:].partition(" ") for it in lines if it[0] == "#")]
+            slots = [None if line[0] == "-" else line.split() for line in lines if line[0] != "#"]
+            logs = [slots] + [changed(rng, slots) for _ in range(7)]
+            wanted = [plain_audit.audit(log, dwell + late) for log in logs]
+            answers.update(line.split()[-1] if line.startswith("no") else "yes" for line in wanted)
+            if plain_audit.is_dense(notes, slots, dwell + late):
+                dense += 1
+                self.check(f"seed {SEED}, dense log {number} by the plain audit", wanted[0], f"yes {len(slots)}\n")
+            for at, (log, answer) in enumerate(zip(logs, wanted)):
+                given = "".join(" ".join(group or ["----"] * 4) + "\n" for group in log).encode()
+                status = 0 if answer.startswith("yes") else 1
+                self.check(f"seed {SEED}, log {at} of script {number}, {options}", ran([*AUDIT, *options], given),
+                           (status, answer.encode()))
+        self.check("dense logs", dense > 100, True)
+        kinds = {"yes", "Changed", "NotOneText", "EarlyFlag", "EarlyTag", "TagOutside"}
+        self.check("answers", (set(answers), min(answers.values()) > 4), (kinds, True))
+
+
+class BesidePlainPlans(ProgramCase):
+    def test_a_no_comes_in_the_first_slot_up_to_which_no_plan_exists(self):
+        rng, answers = random.Random(SEED_OF_PLANS), collections.Counter()
+        for number in range(plain_plans.LOGS):
+            dwell, log = plain_plans.random_log(rng)
+            answer, ruled = plain_plans.answer_by_the_rules(log, dwell)
+            name = f"seed {SEED_OF_PLANS}, short log {number}"
+            self.check(f"{name}: plans and rules", plain_plans.first_of_a_log(log, dwell), ruled)
+            words, status = ["audit", "--pi", "C201", "--m", str(dwell)], 0 if answer.startswith("yes") else 1
+            self.check(f"{name}: the audit", ran(words, plain_plans.lines_of(log)), (status, answer.encode()))
+            answers[answer.split()[-1]] += 1
+        self.check("answers to short logs", (len(answers), min(answers.values()) > 9), (6, True))

@@ -1,0 +1,103 @@
+"""The C library on this machine: the header, the archive, the examples as each compiler builds them, and an install."""
+import os
+import re
+import sys
+import tempfile
+
+from tests import c_library
+from tests.support import (ARCHIVE, INSTALL, Case, build_archive, bytes_of, missing, needs, output, path, ran,
+                           temporary_folder, text_of)
+
+
+class Header(Case):
+    def test_it_has_the_codes_of_the_definitions(self):
+        defined = dict(re.findall(r"^(RDSRT_\w+) = (\d+)$", text_of(c_library.CODES), re.M))
+        declared = dict(re.findall(r"\b(RDSRT_[A-Z0-9_]+) = (\d+)", text_of(c_library.HEADER)))
+        declared["RDSRT_ABI"] = str(c_library.ABI)
+        self.check("codes", declared, defined)
+
+    def test_it_has_the_version_of_the_program(self):
+        self.check("version", f"rdsrt {c_library.header_version()}\n".encode(), ran(["--version"])[1])
+
+
+class Archive(Case):
+    @classmethod
+    def setUpClass(cls):
+        build_archive()
+
+    @needs("nm", "readelf")
+    def test_it_exports_the_calls_of_the_header_and_needs_and_writes_nothing_else(self):
+        c_library.archive(self.check)
+
+    @needs("objdump")
+    def test_the_header_has_the_stack_of_each_call(self):
+        c_library.stack(self.check, ARCHIVE, "", 1)
+
+
+class Compilers(Case):
+    """The programs of C do what rdsrt does, as each compiler builds them."""
+
+    @classmethod
+    def setUpClass(cls):
+        build_archive()
+        cls.given = c_library.inputs()
+
+    def build_and_run(self, compiler, language):
+        if missing(compiler):
+            self.skipTest(missing(compiler))
+        folder, how = temporary_folder(self), " ".join([compiler, *language])
+        if c_library.SANITIZED[1] in language and not c_library.sanitizes(compiler, folder):
+            self.skipTest(f"no sanitizers of {compiler} here")
+        c_library.built(self.check, how, compiler, language, folder)
+        c_library.run_all(self.check, how, folder, self.given)
+
+    def test_c11(self):
+        self.build_and_run("cc", ["-std=c11"])
+
+    def test_cpp17(self):
+        self.build_and_run("c++", ["-std=c++17", "-x", "c++"])
+
+    def test_clang(self):
+        self.build_and_run("clang", ["-std=c11"])
+
+    def test_sanitizers(self):
+        self.build_and_run("cc", ["-std=c11", *c_library.SANITIZED])
+
+
+@needs("cc", "pkg-config")
+class Install(Case):
+    """A fresh prefix, which is moved before it is used: the files for pkg-config and CMake find the prefix where it
+    is."""
+
+    @classmethod
+    def setUpClass(cls):
+        build_archive()
+        cls.folder = temporary_folder(cls)
+        prefix, cls.prefix = os.path.join(cls.folder, "prefix"), os.path.join(cls.folder, "moved")
+        cls.status, cls.printed = output([INSTALL, prefix], seconds=3600)
+        cls.files, cls.beside = c_library.installed_in(prefix), os.listdir(cls.folder)
+        os.rename(prefix, cls.prefix)
+
+    def test_it_has_all_files_and_writes_none_beside_the_prefix(self):
+        self.check("./install", (self.status, self.status and self.printed), (0, 0))
+        self.check("what is installed", self.files, c_library.INSTALLED)
+        self.check("what lies beside the prefix", self.beside, ["prefix"])
+
+    def test_the_program_decodes(self):
+        words = [os.path.join(self.prefix, "bin/rdsrt"), "decode", "--pi", "C201"]
+        self.check("hi.log", output(words, bytes_of("examples/hi.log")), (0, b'0 text "HI"\n'))
+
+    def test_pkg_config_finds_the_library(self):
+        c_library.readme(self.check, self.folder, self.prefix)
+
+    @needs("cmake")
+    def test_cmake_finds_the_library_for_the_versions_that_fit(self):
+        with tempfile.TemporaryDirectory() as folder:
+            c_library.cmake(self.check, folder, self.prefix)
+
+    def test_python_takes_the_library(self):
+        code, library = "import rdsrt; print(rdsrt.library_version())", os.path.join(self.prefix, "lib/librdsrt.so")
+        version = ran(["--version"])[1].split()[1]
+        names = {**os.environ, "PYTHONPATH": path("python/src"), "RDSRT_LIBRARY": library,
+                 "PYTHONDONTWRITEBYTECODE": "1"}
+        self.check("version", output([sys.executable, "-c", code], env=names), (0, version + b"\n"))

@@ -1,0 +1,85 @@
+"""The programs of examples/gnuradio: what `rdsrt encode` sends is received over noise and fades, and decoded again.
+
+The log that is received has the line of each slot from the first group on, which is that slot's group or a lost one,
+and no text is shown that was never set. The same log without the lines of the lost slots shows such texts: so these
+tests can fail.
+"""
+import os
+import select
+import shlex
+import subprocess
+import time
+import unittest
+
+from tests import radio
+from tests.support import Case, temporary_folder
+
+
+@unittest.skipUnless(radio.is_there(), "no GNU Radio here (apt-get install gnuradio python3-numpy)")
+class GnuRadio(Case):
+    def test_no_fade(self):
+        self.loop(radio.Case("no fade", 600, 32, 10, 1, [], False))
+
+    def test_fades(self):
+        self.loop(radio.Case("fades", 1700, 32, 9, 2, radio.fades(2, 1700, 20, 130), False))
+
+    def test_another_station_in_the_fades(self):
+        self.loop(radio.Case("another station in the fades", 1200, 32, 12, 3, radio.fades(3, 1200, 30, 100), True))
+
+    def loop(self, case):
+        """Plays a station over the air, and compares the log that is received with the log that was sent."""
+        got = radio.heard(case, temporary_folder(self))
+        away = sum(last - first + 1 for first, last in case.fades)
+        groups = [line for line in got.lines if line != radio.LOST]
+        # the first slots and the last may be missing; what stands between is in its place
+        skipped = [at for at in range(4) if all(map(radio.is_of, got.lines, got.sent[at:]))]
+        self.check("each slot has its line", len(skipped), 1)
+        self.check("no line too many, or too few", case.slots - 4 <= len(got.lines) <= case.slots, True)
+        self.check("most that could be heard", len(groups) > 0.8 * (case.slots - away), True)
+        self.check("texts are shown", len(radio.shown(got.lines, case.dwell)) > 5, True)
+        self.check("none that was never set", radio.never_set(got.lines, case, got.texts), [])
+        if case.fades:
+            mixed = radio.never_set(groups, case, got.texts)
+            self.check("some without the lost lines", bool(mixed), True)
+
+    def test_lines_come_while_the_samples_come(self):
+        """They come in a fade too."""
+        log, _ = radio.encoded("C201", 1, 60, 8)
+        samples = subprocess.run([radio.TRANSMIT, "--pi", "C201"], input=log, stdout=subprocess.PIPE,
+                                 timeout=radio.SECONDS).stdout
+        samples = samples[:2 * 60 * radio.SAMPLES_A_SLOT]
+        pauses = samples, bytes(2 * 40 * radio.SAMPLES_A_SLOT)
+        with subprocess.Popen([radio.RECEIVE, "--pi", "C201"], stdin=subprocess.PIPE, stdout=subprocess.PIPE,
+                              bufsize=0) as program:
+            lines, given = b"", 0
+            for part in pauses:
+                program.stdin.write(part)
+                given += len(part) // (2 * radio.SAMPLES_A_SLOT)
+                until = time.monotonic() + radio.SECONDS / 5
+                while lines.count(b"\n") < given - 5 and time.monotonic() < until:
+                    if select.select([program.stdout], [], [], 0.1)[0]:
+                        lines += os.read(program.stdout.fileno(), 1 << 16)
+                self.check(f"live lines of {given} slots", given - 5 <= lines.count(b"\n") <= given, True)
+            program.stdin.close()
+            program.stdout.read()
+            self.check("end of a live pipe", program.wait(radio.SECONDS), 0)
+
+    def test_wrong_arguments_and_full_output_are_refused(self):
+        rows = [([radio.TRANSMIT], b"", 2), ([radio.TRANSMIT, "--pi", "C20"], b"", 2), ([radio.RECEIVE], b"", 2),
+                ([radio.RECEIVE, "--pi", "x"], b"", 2), ([radio.TRANSMIT, "--pi", "C201"], b"C201 2140 4849\n", 1),
+                ([radio.TRANSMIT, "--pi", "C201", "--name", "NINE CHAR"], b"", 2),
+                ([radio.RECEIVE, "--pi", "C201"], b"", 0), ([radio.TRANSMIT, "--help"], b"", 0),
+                ([radio.RECEIVE, "--help"], b"", 0)]
+        for words, given, status in rows:
+            done = subprocess.run(words, input=given, capture_output=True, timeout=radio.SECONDS)
+            self.check(f"{words[0][-8:]} {words[1:]}", done.returncode, status)
+        log, _ = radio.encoded("C201", 1, 60, 8)
+        with open("/dev/full", "wb") as full:
+            done = subprocess.run([radio.TRANSMIT, "--pi", "C201"], input=log, stdout=full, stderr=subprocess.PIPE,
+                                  timeout=radio.SECONDS)
+            self.check("transmit to full output", done.returncode, 1)
+            transmit, receive = (f"{shlex.quote(it)} --pi C201" for it in (radio.TRANSMIT, radio.RECEIVE))
+            call = f"{transmit} | {receive}; exit ${{PIPESTATUS[1]}}"
+            done = subprocess.run(["bash", "-c", call], input=log, stdout=full, stderr=subprocess.PIPE,
+                                  timeout=radio.SECONDS)
+            self.check("receive to full output", done.returncode, 1)

@@ -1,0 +1,107 @@
+"""docs/GUIDE.md beside the program: its tables are those that the scripts print, and its advice works."""
+import os
+import re
+import subprocess
+
+from tests.support import PROGRAM, ROOT, SECONDS, Case, bytes_of, needs, text_of
+
+# a station whose 11A is another application's: a text, that application announced, and its groups
+OTHER = "C201 2140 4849 0D20\nC201 3156 1234 ABCD\nC201 B140 2008 1234\n---- ---- ---- ----\n"
+
+LOST = "---- ---- ---- ----"
+HI, YO, HA = "C201 2140 4849 0D20", "C201 2150 594F 0D20", "C201 2140 4841 0D20"
+# the tag of the two characters from 0 on, and of three
+TWO, THREE = "C201 B148 2002 0000", "C201 B148 2004 0000"
+# each fault of docs/FORMATS.md at a dwell of 4: its cause as a log, the answer, and the log after the cure
+FAULTS = [
+    ("the flag comes back", [HI, YO, HA], "no 2 EarlyFlag", [*[HI] * 4, *[YO] * 4, HA]),
+    ("the flag turns at each repetition", [HI, HI.replace("2140", "2150"), HI], "no 2 EarlyFlag", [HI, HI, HI]),
+    ("other bytes at an address", [HI, HA], "no 1 Changed", [HI, HA.replace("2140", "2150")]),
+    ("a name with other bytes", ["C201 A140 4A41 5A5A", "C201 A140 4E45 5753"], "no 1 Changed",
+     ["C201 A140 4A41 5A5A", "C201 A150 4E45 5753"]),
+    ("behind the return", ["C201 2140 4849 0D58"], "no 0 NotOneText", [HI]),
+    ("a segment past the return", [HI, "C201 2141 4142 4344"], "no 1 NotOneText", [HI, HI]),
+    ("a control character", ["C201 2140 4802 0D20"], "no 0 NotOneText", [HI]),
+    ("tags at once", [HI, TWO], "no 1 EarlyTag", [HI, *[LOST] * 3, TWO]),
+    ("tags without a text", [TWO], "no 0 EarlyTag", [LOST]),
+    ("a tag that is too long", [HI, *[LOST] * 3, THREE], "no 4 TagOutside", [HI, *[LOST] * 3, TWO]),
+]
+
+
+def ran(call, given=b""):
+    """Returns the output of a line of the guide, with the built program as ./rdsrt."""
+    environment = {**os.environ, "RDSRT": PROGRAM}
+    words = ["bash", "-c", call.replace("./rdsrt", '"$RDSRT"')]
+    done = subprocess.run(words, cwd=ROOT, input=given, stdout=subprocess.PIPE, stderr=subprocess.DEVNULL,
+                          timeout=SECONDS,
+                          env=environment)
+    return done.stdout.decode()
+
+
+class Guide(Case):
+    def setUp(self):
+        self.text = text_of("docs/GUIDE.md")
+
+    def test_its_tables_are_those_that_the_scripts_print(self):
+        rows = {line.strip() for line in self.text.splitlines() if line.strip().startswith("|")}
+        for script in ("bench/guide", "bench/corrected"):
+            printed = {line for line in ran(script).splitlines() if line}
+            self.check(f"{script} prints a table", len(printed) > 5, True)
+            self.check(f"the tables of {script}", printed - rows, set())
+
+    def test_a_recording_with_times_becomes_a_log(self):
+        """The guide's line writes one slot line for each group, and the lost slots between them."""
+        call = re.search(r"^ +(examples/slots) < spy.log > station.log$", self.text, re.M)[1]
+        recorded = bytes_of("examples/accents.log")
+        slots = [line for line in ran(call, recorded).splitlines() if line[:1] not in ("", "#", "%", "<")]
+        groups = [line for line in recorded.decode().splitlines() if line.startswith("F201")]
+        self.check("a recording keeps its groups", [line for line in slots if line != LOST], groups)
+        self.check("it is a log", ran("./rdsrt audit --pi F201", "\n".join(slots).encode()).split()[0] in ("yes", "no"),
+                   True)
+
+    def test_less_than_m_plus_k_slots_for_a_text_is_a_fault(self):
+        for kept, answer in ((128, "yes 640\n"), (127, "yes 635\n"), (126, "no 252 EarlyFlag\n")):
+            log = "".join(f"{it}\n" * kept for it in (HI, YO, HI, YO, HI))
+            self.check(f"texts of {kept} slots at M = 128", ran("./rdsrt audit --pi C201", log.encode()), answer)
+        self.check("both prices", ("M + K slots for each text" in self.text, "2 (M + K)" in self.text), (True, True))
+
+    def test_a_log_without_a_group_of_the_pi_gets_a_yes(self):
+        self.check("no group of the programme", ran("./rdsrt audit --pi C202", f"{HI}\n".encode()), "yes 1\n")
+        self.check("it says so", "without a group of the PI gets a yes too" in " ".join(self.text.split()), True)
+
+    def test_groups_11a_of_another_application_are_emptied(self):
+        call = re.search(r"^    (sed .*)station\.log (\| .*)$", self.text, re.M)
+        self.check("11A of another application", ran('./rdsrt audit --pi C201', OTHER.encode()), "no 2 EarlyTag\n")
+        self.check("and emptied", ran(call[1] + call[2], OTHER.encode()), "yes 4\n")
+
+    def test_each_fault_has_a_cause_and_a_cure(self):
+        """The audit names each fault of FORMATS over a log with its cause, and answers yes after the cure."""
+        section = text_of("docs/FORMATS.md").split("### Faults of the audit\n")[1].split("\nNames (PTYN)")[0]
+        named = set(re.findall(r"^- `(\w+)`: ", section, re.M))
+        self.check("each fault is there", {answer.split()[2] for _, _, answer, _ in FAULTS}, named)
+        for name, log, answer, changed in FAULTS:
+            logs = ["".join(f"{it}\n" for it in lines).encode() for lines in (log, changed)]
+            got = [ran("./rdsrt audit --pi C201 --m 4", it) for it in logs]
+            self.check(f"{name}", got, [f"{answer}\n", f"yes {len(changed)}\n"])
+
+    def test_the_pipe_of_a_station(self):
+        """The log of the guide's pipe, for some slots, without the modulator behind it."""
+        call = re.search(r"^    (examples/station .*) \| modulator$", self.text, re.M)[1]
+        log = ran(call.replace("now.txt", "--at-once --slots 400 <(echo HI)")).splitlines()
+        slots = [line for line in log if line[0] != "#"]
+        replies = [line for line in log if line[0] == "#"]
+        self.check("rows of a station", (len(slots), replies), (400, ["# 128 text ok", "# 384 text ok"]))
+        self.check("its first group", [at for at, line in enumerate(slots) if line[0] != "-"][0], 128)
+
+    @needs("jq", package="jq")
+    def test_the_line_of_jq(self):
+        call = re.search(r"^- \*\*jq\*\*: `(.*)`$", self.text, re.M)[1]
+        log = f"{HI}\n" + f"{LOST}\n" * 128
+        self.check("jq", ran(call.replace("< station.log ", ""), log.encode()), "HI\nnull\n")
+
+    def test_each_example_program_has_help(self):
+        """test_gnuradio asks the programs of GNU Radio."""
+        for name in ("json", "many-logs", "monitor", "slots", "station"):
+            done = subprocess.run([os.path.join(ROOT, "examples", name), "--help"], capture_output=True,
+                                  timeout=SECONDS)
+            self.check(f"{name} --help", (done.returncode, name.encode() in done.stdout, done.stderr), (0, True, b""))

@@ -1,0 +1,83 @@
+"""Help and refusals: the texts in tests/shown, and calls that end without reading."""
+import os
+import subprocess
+import tempfile
+
+from tests.calls import ALL_OPTIONS, COMMANDS, DECODE
+from tests.support import PROGRAM, PROMPT, SECONDS, ProgramCase, bytes_of, ran
+from tests.worked_rows import HI
+
+# a file of tests/shown, the arguments that print it, and the status
+SHOWN = [
+    ("help", ["--help"], 0),
+    ("help_of_decode", ["decode", "--help"], 0),
+    ("help_of_encode", ["encode", "--help"], 0),
+    ("help_of_sim", ["sim", "--help"], 0),
+    ("help_of_audit", ["audit", "--help"], 0),
+    ("help_of_witness", ["witness", "--help"], 0),
+    ("help", ["help"], 0),
+    ("help_of_decode", ["help", "decode"], 0),
+    ("help_of_encode", ["help", "encode"], 0),
+    ("help_of_sim", ["help", "sim"], 0),
+    ("help_of_audit", ["help", "audit"], 0),
+    ("help_of_witness", ["help", "witness"], 0),
+    ("help", ["-h"], 0),
+    ("short_help_of_decode", ["decode", "-h"], 0),
+    ("short_help_of_encode", ["encode", "-h"], 0),
+    ("short_help_of_sim", ["sim", "-h"], 0),
+    ("short_help_of_audit", ["audit", "-h"], 0),
+    ("short_help_of_witness", ["witness", "-h"], 0),
+    ("help_of_no_command", ["help", "nonsense"], 2),
+    ("version", ["--version"], 0),
+    ("no_subcommand", [], 2),
+    ("wrong_subcommand", ["sing", "--pi", "C201"], 2),
+    ("no_programme", ["decode"], 2),
+    ("no_value", ["decode", "--pi"], 2),
+    ("extra_word", ["decode", "--pi", "C201", "C201"], 2),
+    ("no_dwell", ["decode", "--pi", "C201", "--m", "0"], 2),
+    ("large_programme_type", ["encode", "--pi", "C201", "--pty", "32"], 2),
+]
+# arguments that decide alone, and the status
+DECIDED = [
+    ([], 2), (["sing"], 2), (["decode"], 2), ([*DECODE, "--m", "0"], 2), ([*DECODE, ""], 2), (["", *DECODE], 2),
+    ([""], 2), ([" decode", "--pi", "C201"], 2), ([*DECODE, "--m", " 8"], 2), ([*ALL_OPTIONS, "C201"], 2),
+    ([*ALL_OPTIONS, "--", "C201"], 2), ([*ALL_OPTIONS, "--tp"], 2), (["--"] * 40, 2),
+    ([*DECODE, "-m", "0"], 2), ([*DECODE, "-k", "1"], 2), ([*DECODE, "--quiet", "--quiet"], 2),
+    ([*DECODE, *["C201"] * 1000], 2), (["help", "nonsense"], 2), (["help", "--pi"], 2),
+    (["--help"], 0), (["-h"], 0), (["help"], 0), (["--version"], 0), (["-V"], 0), ([*DECODE, "--help"], 0),
+    *((words, 0) for name in COMMANDS for words in ([name, "--help"], [name, "-h"], ["help", name])),
+    *(([name, "--pi", given], 2) for name in COMMANDS for given in ("", "C20", " C201", "C2011", "C20G")),
+]
+
+
+class Help(ProgramCase):
+    def test_help_and_refusals_are_the_texts_in_shown(self):
+        for name, words, status in SHOWN:
+            self.check(f"{words} beside tests/shown/{name}.txt", ran(words, HI),
+                       (status, bytes_of(f"tests/shown/{name}.txt")))
+
+
+class DecidedByArguments(ProgramCase):
+    """The program ends although the writer of its input waits, and it leaves the input as it is."""
+
+    def test_it_does_not_wait_for_a_pipe(self):
+        for words, wanted in DECIDED:
+            reads, writes = os.pipe()
+            try:
+                done = subprocess.run([PROGRAM, *words], stdin=reads, stdout=subprocess.PIPE, stderr=subprocess.DEVNULL,
+                                      timeout=PROMPT)
+                status = done.returncode
+            except subprocess.TimeoutExpired:
+                status = None
+            self.check(f"{words[:20]}", status, wanted)
+            os.close(reads)
+            os.close(writes)
+
+    def test_it_reads_nothing_of_a_file(self):
+        for words, wanted in DECIDED:
+            with tempfile.TemporaryFile() as file:
+                file.write(HI)
+                file.seek(0)
+                done = subprocess.run([PROGRAM, *words], stdin=file, stdout=subprocess.PIPE, stderr=subprocess.DEVNULL,
+                                      timeout=SECONDS)
+                self.check(f"{words[:20]}", (done.returncode, file.seek(0, os.SEEK_CUR)), (wanted, 0))

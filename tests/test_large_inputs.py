@@ -1,0 +1,60 @@
+"""Lines of any length, and bytes of any value."""
+import random
+import re
+
+from tests.calls import DECODE, ENCODE, SHOWS_HI, SIM
+from tests.support import ProgramCase, ran
+from tests.worked_rows import HI
+
+SEED = 20261122
+LONG = b"x" * 100_000_000
+
+
+def noise():
+    """Returns a megabyte of random bytes."""
+    return random.Random(SEED).randbytes(1 << 20)
+
+
+class Logs(ProgramCase):
+    def test_a_line_of_100_mb(self):
+        self.check("skipped line", ran(DECODE, b"#" + LONG + b"\n" + HI), (0, SHOWS_HI))
+        self.check("slot line", ran(DECODE, HI[:-1] + b" " + LONG + b"\n"), (0, SHOWS_HI))
+        self.check("bad line", ran(DECODE, HI + LONG), (1, SHOWS_HI + b"fault line 2\n"))
+
+    def test_a_megabyte_of_random_bytes(self):
+        lines = noise().split(b"\n")
+        bad = next(n for n, it in enumerate(lines, 1) if it not in (b"", b"\r") and it[:1] not in (b"<", b"#", b"%"))
+        self.check(f"seed {SEED}", ran(DECODE, noise()), (1, b"fault line %d\n" % bad))
+
+
+class Scripts(ProgramCase):
+    # arguments, the start of the line of a fault, and the output of a slot without a group
+    COMMANDS = (("sim", SIM, b"", b""), ("encode", ENCODE, b"# ", b"---- ---- ---- ----\n"))
+
+    def test_a_megabyte_of_random_bytes(self):
+        for name, words, mark, _ in self.COMMANDS:
+            status, output = ran(words, noise())
+            fault = re.fullmatch(rb"%sfault row [0-9]+\n" % mark, output)
+            self.check(f"{name}, seed {SEED}", (status, bool(fault)), (1, True))
+
+    def test_a_row_of_30_mb(self):
+        for name, words, mark, written in self.COMMANDS:
+            row = b"-,,1,\n-,,1," + LONG[:30_000_000]
+            self.check(name, ran(words, row), (1, written + mark + b"fault row 2\n"))
+
+    def test_a_text_of_10_000_000_lines(self):
+        for name, words, mark, _ in self.COMMANDS:
+            text = b'text,"' + b"\n" * 10_000_000 + b'",1,\n'
+            self.check(name, ran(words, text), (1, mark + b"fault row 1\n"))
+
+    def test_a_row_after_10_000_000_empty_lines(self):
+        for name, words, _, written in self.COMMANDS:
+            self.check(name, ran(words, b"\n" * 10_000_000 + b"-,,0,\n"), (0, written))
+
+    def test_100_000_random_rows_and_a_bad_one(self):
+        kinds = (b"-,,1,\n", b"restart,,0,\n", b"text,HI,1,\n", b"name,JAZZ FM,0,\n")
+        rows = b"".join(random.Random(SEED).choices(kinds, k=100_000))
+        for name, words, mark, _ in self.COMMANDS:
+            status, output = ran(words, rows + b"-,,1\n" + rows)
+            last = output.splitlines()[-1]
+            self.check(f"{name}, seed {SEED}", (status, last), (1, mark + b"fault row 100001"))

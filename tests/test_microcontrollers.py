@@ -1,0 +1,75 @@
+"""The C library on 32-bit processors, as experiments/microcontrollers compiles it, under emulators."""
+import os
+import sys
+import unittest
+
+from tests import c_library
+from tests.c_library import WARNINGS
+from tests.support import Case, missing, output, path, temporary_folder, text_of
+
+FOLDER = path("experiments/microcontrollers")
+sys.path.insert(1, FOLDER)
+import narrow
+
+MODULE = os.path.join(narrow.OUT, "module.ll")
+TOOLS = ("arm-none-eabi-gcc", "arm-linux-gnueabihf-gcc", "qemu-system-arm", "qemu-arm")
+# for each Cortex-M a board of the emulator, and the end of its RAM: 4 MB, and 16 KB
+BOARDS = {"cortex-m4": ("mps2-an386", 0x20400000), "cortex-m0plus": ("microbit", 0x20004000)}
+BARE = ["--specs=rdimon.specs", "-Wl,--section-start=.vectors=0", "-Wl,-Tdata=0x20000000", "-Wl,-z,noexecstack"]
+# forms that differ on 32 bits, and one that LLVM does not have
+UNKNOWN = ["@other = global i32 0, align 4", "@static.9 = private constant [1 x ptr] [ptr @static.0], align 8",
+           "  %x = alloca [2 x ptr], align 8", "  %x = load { i16, ptr }, ptr %y, align 8",
+           "  %x = load { ptr, ptr }, ptr %y, align 8", "  %x = load { i8, ptr }, ptr %y, align 8, !noundef !1",
+           "  %x = load i128, ptr %y, align 16", "  %x = ptrtoint ptr %y to i64",
+           "  %x = getelementptr ptr, ptr %y, i64 1", "  %x = nonsense i32 %y"]
+
+
+@unittest.skipIf(missing(*TOOLS), missing(*TOOLS))
+class Microcontrollers(Case):
+    def built(self, target):
+        """Builds the library for a target. Returns the words of its compiler, and the library."""
+        tools, machine = narrow.TARGETS[target]
+        compiler, library = f"{tools}-gcc", os.path.join(FOLDER, "out", target, "librdsrt.a")
+        libc = "librdimon.a" if target in BOARDS else "libc.a"
+        if not os.path.isabs(output([compiler, f"-print-file-name={libc}"])[1].decode()):
+            self.skipTest(f"no {libc} of {compiler} here")
+        status, printed = output([os.path.join(FOLDER, "narrow.py"), target], seconds=3600)
+        self.assertEqual((status, printed), (0, b""), f"{target}: the library is built")
+        return [compiler, *machine, "-std=c11", "-I", os.path.join(FOLDER, "out/include")], library
+
+    def on_a_board(self, target):
+        """Runs calls.c and any_bytes.c on a board without a system."""
+        (compiler, library), (board, top) = self.built(target), BOARDS[target]
+        folder = temporary_folder(self)
+        for name in ("calls", "any_bytes"):
+            program = os.path.join(folder, name)
+            words = [*compiler, *(it for it in WARNINGS if it != "-pthread"), *BARE, f"-Wl,--defsym=top_of_stack={top}",
+                     os.path.join(FOLDER, "board.c"), path(f"tests/c/{name}.c"), library, "-o", program]
+            self.check(f"{name}.c is built", output(words), (0, b""))
+            given = f"enable=on,target=native,arg={name},arg={c_library.ROUNDS}"
+            words = ["qemu-system-arm", "-M", board, "-display", "none", "-monitor", "none", "-serial", "none",
+                     "-semihosting-config", given, "-kernel", program]
+            self.check(name, output(words), (0, b"ok\n"))
+
+    def test_cortex_m4(self):
+        self.on_a_board("cortex-m4")
+
+    def test_cortex_m0plus(self):
+        self.on_a_board("cortex-m0plus")
+
+    def test_armv7(self):
+        (compiler, *language), library = self.built("armv7")
+        folder = temporary_folder(self)
+        c_library.built(self.check, "armv7", compiler, [*language, "-static"], folder, library)
+        c_library.run_all(self.check, "armv7", folder, c_library.inputs(), ["qemu-arm"])
+
+    def test_a_module_with_an_unknown_form_is_refused(self):
+        os.makedirs(narrow.OUT, exist_ok=True)
+        module, header = narrow.kept_module(), text_of(c_library.HEADER)
+        for line in ["", *UNKNOWN]:
+            try:
+                narrow.narrowed(f"{module}\n{line}\n", "", header)
+                stopped = ""
+            except SystemExit as why:
+                stopped = str(why)
+            self.check(f"'{line}'", "unknown form" in stopped, line != "")

@@ -1,0 +1,189 @@
+"""Cases of examples/monitor: several stations beside decode and examples/json, metrics, the unit file, GNU parallel."""
+import json
+import os
+import re
+import select
+import subprocess
+import sys
+import time
+
+from tests.package import PackageCase
+from tests.support import PROGRAM, needs, path, temporary_folder, text_of
+
+MONITOR, JSON = path("examples/monitor"), path("examples/json")
+SECONDS = 120
+# in which an object or a file is there, on a busy machine
+PROMPT = 20
+HI = "C201 2140 4849 0D20"
+# a name (PTYN) of two segments
+NAME = ("C201 A140 504F 5020", "C201 A141 2020 2020")
+# name, dwell and seed of the stations with a log by chance
+STATIONS = (("JAZZ", 8, 1), ("Ænglå", 16, 2), ('A"\\B', 32, 3), ("LATE", 300, 4))
+SLOTS = 3000
+BY_CHANCE = """
+import random, sys
+import by_chance
+rng = random.Random(int(sys.argv[1]))
+groups = by_chance.groups(rng, int(sys.argv[2]), int(sys.argv[3]))
+sys.stdout.buffer.write(by_chance.log_of(by_chance.heard(rng, groups)))
+"""
+
+
+def ran(folder, names, stations, lines, *words):
+    """Returns the status, the objects and the errors of the monitor."""
+    path = os.path.join(folder, "stations")
+    with open(path, "w", encoding="utf-8") as file:
+        file.write(stations)
+    done = subprocess.run([MONITOR, *words, path], input=lines.encode(), stdout=subprocess.PIPE, stderr=subprocess.PIPE,
+                          timeout=SECONDS, env=names)
+    return done.returncode, [json.loads(it) for it in done.stdout.splitlines()], done.stderr.decode()
+
+
+def log_by_chance(names, dwell, seed):
+    """Returns the lines of a log by chance."""
+    paths = os.pathsep.join((names["PYTHONPATH"], path("python/tests")))
+    words = [sys.executable, "-c", BY_CHANCE, str(seed), str(dwell), str(SLOTS)]
+    done = subprocess.run(words, stdout=subprocess.PIPE, timeout=SECONDS, env={**names, "PYTHONPATH": paths},
+                          check=True)
+    return done.stdout.decode().splitlines()
+
+
+def decoded(log, dwell):
+    """Returns the objects that decode and examples/json make of a log."""
+    call = '"$0" decode --pi C201 --m "$1" | "$2" --pi C201'
+    done = subprocess.run(["sh", "-c", call, PROGRAM, str(dwell), JSON], input="\n".join(log).encode(),
+                          stdout=subprocess.PIPE, timeout=SECONDS)
+    return [json.loads(it) for it in done.stdout.splitlines()]
+
+
+def series(metrics):
+    """Returns the values of a file of metrics by name and station, with the types; no other line may be in it."""
+    values, types = {}, {}
+    with open(metrics, encoding="utf-8") as file:
+        for line in file:
+            found = re.fullmatch(r'(\w+)\{station="((?:[^"\\]|\\.)*)",pi="([0-9A-F]{4})"\} (-?[\d.]+)\n', line)
+            head = re.fullmatch(r"# (?:HELP (\w+) .+|TYPE (\w+) (counter|gauge))\n", line)
+            if found:
+                values[found[1], re.sub(r"\\(.)", r"\1", found[2])] = float(found[4])
+            elif head and head[2]:
+                types[head[2]] = head[3]
+            elif not head:
+                types["unknown line"] = line
+    return values, types
+
+
+class Monitor(PackageCase):
+    def setUp(self):
+        self.folder = temporary_folder(self)
+
+    def test_the_objects_of_a_station_are_those_of_its_log_alone(self):
+        """The metrics count them."""
+        logs = {name: log_by_chance(self.names, dwell, seed) for name, dwell, seed in STATIONS}
+        # the lines of all stations in turns, and in the end one that is malformed
+        lines = "".join(f"{name} {log[slot]}\n" for slot in range(SLOTS) for name, log in logs.items()) + "JAZZ x\n"
+        table = "# stations\n\n" + "".join(f"{name} C201 {dwell}   # {seed}\n" for name, dwell, seed in STATIONS)
+        metrics = os.path.join(self.folder, "rdsrt.prom")
+        status, objects, errors = ran(self.folder, self.names, table, lines, "--metrics", metrics)
+        self.check("several stations", (status, errors), (0, ""))
+        values, types = series(metrics)
+        for name, dwell, _ in STATIONS:
+            wanted = decoded(logs[name], dwell)
+            own = [it for it in objects if it["station"] == name]
+            got = [{key: value for key, value in it.items() if key != "station"} for it in own]
+            self.check(f"{name}", (got == wanted, len(got) > 10), (True, True))
+            lost = sum("----" in it or not it.startswith("C201") for it in logs[name])
+            counts = {"slots": SLOTS, "lost": lost, "changes": len(wanted), "malformed": int(name == "JAZZ")}
+            self.check(f"counts of {name}", {it: values[f"rdsrt_{it}_total", name] for it in counts}, counts)
+            is_shown = wanted[-1]["radiotext"] is not None
+            self.check(f"text of {name}", values["rdsrt_text_shown", name], is_shown)
+            self.check(f"age of {name}", 0 <= values["rdsrt_text_age_seconds", name] < SECONDS, True)
+        self.check("no audit", [it for it in values if it[0] == "rdsrt_audit_fault"], [])
+        self.check("types", types, {**{f"rdsrt_{it}_total": "counter" for it in counts}, "rdsrt_text_shown": "gauge",
+                                        "rdsrt_text_age_seconds": "gauge", "rdsrt_audit_fault": "gauge"})
+        self.check("the new file is renamed", sorted(os.listdir(self.folder)), ["rdsrt.prom", "stations"])
+
+    def test_a_fault_of_the_audit_is_one_object_and_a_number(self):
+        """The number is in the metrics."""
+        metrics = os.path.join(self.folder, "rdsrt.prom")
+        lines = "".join(f"{name} {line}\n" for line in (HI, "C201 2140 4841 0D20", HI) for name in ("A", "B", "C"))
+        lines = lines.replace("B C201 2140 4841", "B C201 2150 4841") + "D x\nD x\n"
+        status, objects, errors = ran(self.folder, self.names, "A C201 audit\nB C201 1 audit\nC C201 8\n", lines,
+                                      "--metrics", metrics)
+        faults = [(it["station"], it["slot"], it["fault"]) for it in objects if "fault" in it]
+        self.check("audit", (status, faults, errors), (0, [("A", 1, "Changed")], "monitor: no station D\n"))
+        values, _ = series(metrics)
+        got = {name: it for (what, name), it in values.items() if what == "rdsrt_audit_fault"}
+        self.check("audit in the metrics", got, {"A": 17, "B": 0})
+
+    def test_an_object_comes_while_the_pipe_stays_open(self):
+        """The metrics are written anew while nothing comes."""
+        table, metrics = os.path.join(self.folder, "stations"), os.path.join(self.folder, "live.prom")
+        with open(table, "w", encoding="utf-8") as file:
+            file.write("A C201\n")
+        words = [MONITOR, "--metrics", metrics, "--every", "0.2", table]
+        with subprocess.Popen(words, stdin=subprocess.PIPE, stdout=subprocess.PIPE, bufsize=0,
+                              env=self.names) as program:
+            program.stdin.write(f"A {HI}\n".encode())
+            there = select.select([program.stdout], [], [], PROMPT)[0]
+            self.check("live", bool(there) and json.loads(program.stdout.readline())["radiotext"], "HI")
+            ages, end = set(), time.monotonic() + PROMPT
+            while len(ages) < 3 and time.monotonic() < end:
+                time.sleep(0.05)
+                values, _ = series(metrics)
+                if values["rdsrt_slots_total", "A"] == 1:
+                    ages.add(values["rdsrt_text_age_seconds", "A"])
+            self.check("the age of a text grows while nothing comes", len(ages), 3)
+            program.stdin.write("".join(f"A {it}\n" for it in NAME).encode())
+            while values["rdsrt_changes_total", "A"] < 2 and time.monotonic() < end:
+                time.sleep(0.05)
+                values, _ = series(metrics)
+            got = values["rdsrt_changes_total", "A"], values["rdsrt_text_age_seconds", "A"] >= max(ages)
+            self.check("a name does not change the age of a text", got, (2, True))
+            program.stdin.close()
+            self.check("end of a live pipe", program.wait(SECONDS), 0)
+
+    def test_wrong_tables_and_arguments_are_refused(self):
+        for table in ("A\n", "A C201 0\n", "A C20G\n", "A C201 8 9\n", "A C201\nA C201\n", "A 1C201\n",
+                      "A C201 audit 8\n"):
+            status, objects, errors = ran(self.folder, self.names, table, f"A {HI}\n")
+            line = table.count("\n")
+            self.check(f"refused {table!r}", (status, objects, f"line {line} is not" in errors), (2, [], True))
+        self.check("refused --every", ran(self.folder, self.names, "A C201\n", "", "--every", "0")[:2], (2, []))
+        self.check("no library", ran(self.folder, {**self.names, "RDSRT_LIBRARY": "/nowhere"}, "A C201\n", "")[0], 2)
+        done = subprocess.run([MONITOR, "/nowhere"], stdin=subprocess.DEVNULL, capture_output=True, timeout=SECONDS,
+                              env=self.names)
+        self.check("no file", (done.returncode, done.stderr.startswith(b"monitor: ")), (2, True))
+        self.check("metrics in no folder", ran(self.folder, self.names, "A C201\n", "", "--metrics", "/nowhere/m")[:2],
+                   (1, []))
+
+    @needs("parallel", package="parallel")
+    def test_the_guides_lines_share_stations_among_machines(self):
+        """This machine takes the place of two, and the feed prints a text of each station."""
+        split, share = re.search(r"^ +(split .*)\n +(parallel .*)$", text_of("docs/GUIDE.md"), re.M).groups()
+        self.check("the guide's hosts", "-S one,two" in share and "/opt/rdsrt/examples/monitor" in share, True)
+        place = os.path.join(self.folder, "share")
+        os.mkdir(place)
+        stations = [f"S{number}" for number in range(7)]
+        with open(os.path.join(place, "stations"), "w", encoding="utf-8") as file:
+            file.writelines(f"{name} C201\n" for name in stations)
+        feed = os.path.join(place, "feed")
+        with open(feed, "w", encoding="utf-8") as file:
+            file.write(f"#!/bin/sh\nwhile read name rest; do echo \"$name {HI}\"; done < \"$1\"\n")
+        os.chmod(feed, 0o755)
+        call = f"{split}\n{share}".replace("-S one,two", "-S :").replace("/opt/rdsrt/examples/monitor", MONITOR)
+        paths = {**self.names, "PATH": place + os.pathsep + self.names["PATH"], "HOME": place}
+        done = subprocess.run(["bash", "-c", call], cwd=place, capture_output=True, timeout=SECONDS, env=paths)
+        shown = sorted((it["station"], it["radiotext"]) for it in map(json.loads, done.stdout.splitlines()))
+        self.check("shared", (done.returncode, shown), (0, [(name, "HI") for name in stations]))
+        parts = len([it for it in os.listdir(place) if it.startswith("part.")])
+        self.check("two shares", parts, 2)
+
+    @needs("systemd-analyze")
+    def test_systemd_takes_the_unit(self):
+        """Its commands are there."""
+        place = os.path.join(self.folder, "rdsrt-monitor.service")
+        with open(place, "w", encoding="utf-8") as file:
+            file.write(text_of("examples/monitor.service"))
+        done = subprocess.run(["systemd-analyze", "verify", place], stdout=subprocess.PIPE, stderr=subprocess.STDOUT,
+                              timeout=SECONDS)
+        self.check("messages", [it for it in done.stdout.decode().splitlines() if "rdsrt-monitor" in it], [])

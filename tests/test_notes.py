@@ -1,0 +1,294 @@
+"""What the program tells a person on standard error, beside the built program: each note, and where there is none."""
+import os
+import pty
+import random
+import re
+import shlex
+import subprocess
+
+from tests import plain_audit, worked_rows
+from tests.support import PROGRAM, PROMPT, SECONDS, ProgramCase, bytes_of
+
+SEED = 20261126
+HI = worked_rows.HI
+LOST = worked_rows.NO_GROUP
+DECODE, AUDIT, WITNESS = (f"{it} --pi C201" for it in ("decode", "audit", "witness"))
+ENCODE, SIM = "encode --pi C201 --m 1", "sim --pi C201 --m 1"
+LOOKS = "; a log line looks like C201 2140 4849 0D20"
+NEXT = ". To look for lost slots that make a mix: rdsrt witness --pi C201 --m "
+# A line of a log and why it is none. Blocks are counted from 1.
+LINES = [
+    ("C201 21400 4849 0D20", "block 2 has 5 characters, expected 4"),
+    ("C2 2140 4849 0D20", "block 1 has 2 characters, expected 4"),
+    ("C201  2140 4849 0D20", "block 2 has 0 characters, expected 4"),
+    (" C201 2140 4849 0D20", "block 1 has 0 characters, expected 4"),
+    ("12:00:00 C201 2140 4849 0D20", "block 1 has 8 characters, expected 4"),
+    ("C201 2140 4849 0D20X", "block 4 has 5 characters, expected 4"),
+    ("C2012140 48490D20", "block 1 has 8 characters, expected 4"),
+    ("C201 2140 4849", "it ends after block 3"),
+    ("C201 2140", "it ends after block 2"),
+    ("C201 ", "block 2 has 0 characters, expected 4"),
+    ("C201 2140 48G9 0D20", "block 3 has a character that is not a hexadecimal digit"),
+    ("C201 2140 4849 --2-", "block 4 has a character that is not a hexadecimal digit"),
+    ("O201 2140 4849 0D20", "block 1 has a character that is not a hexadecimal digit"),
+    ("C201214048490D20", "it has no space"),
+    ("hello", "it has no space"),
+    ("text,HI,1,", "it looks like a row of a script, which encode and sim read"),
+    ("-,,1,GG", "it looks like a row of a script, which encode and sim read"),
+    ('{"pi":"0xC201"}', "it looks like JSON"),
+]
+ROWS = [
+    (ENCODE, "text,HI,1", "expected 4 fields (COMMAND,ARGUMENT,FREE,RECEPTIONS), found 3"),
+    (ENCODE, "TEXT,HI,1,", "COMMAND is not one of -, restart, text, name, tags (lower case)"),
+    (ENCODE, "command,argument,free,receptions", "COMMAND is not one of -, restart, text, name, tags (lower case)"),
+    (ENCODE, "-,HI,1,", "ARGUMENT: - and restart take none"),
+    (ENCODE, "text,Straße,1,", "ARGUMENT: 'ß' at character 5 is not in the RDS character table"),
+    (ENCODE, "name,’,1,", "ARGUMENT: '’' at character 1 is not in the RDS character table"),
+    (ENCODE, f"text,{'x' * 67},1,", "ARGUMENT: the text is too long by 3 (at most 64 characters)"),
+    (ENCODE, "name,POP MUSIC,1,", "ARGUMENT: the name is too long by 1 (at most 8 characters)"),
+    (ENCODE, "text,HI,2,", "FREE is not 0 or 1"),
+    (ENCODE, "text,HI,,", "FREE is not 0 or 1"),
+    (ENCODE, "text,HI,1,GG", "RECEPTIONS: encode takes none; leave the field empty, but keep the comma before it"),
+    (SIM, "text,HI,1,X", "RECEPTIONS: character 1 is not G, L or R"),
+    (SIM, "text,HI,1,GGGGGGGGG", "RECEPTIONS: more than 8 receivers"),
+    (SIM, "text,HI,1,G2", "RECEPTIONS: receiver 0: G2 is later than --k 0 allows"),
+    (ENCODE, "tags,0 0 64 0 0 0 0 0,1,", "ARGUMENT: class of tag 1 is 64, at most 63 is allowed"),
+    (ENCODE, "tags,0 0 1 0 0 0 0,1,", "ARGUMENT: tags takes 8 numbers with one space between them, found 7"),
+]
+# a log that breaks one rule at this slot and line, its M and K, and the sentence
+NOES = [
+    (HI + HI.replace(b"4849", b"594F"), 1, 2, 4, 0, "a text changed without a flip of the A/B flag"),
+    (b"# a comment\n" + worked_rows.FLAG_AFTER_FIVE, 5, 7, 8, 0,
+     "a text reused the A/B flag less than M + K = 8 slots after the last group of the text before the previous one, "
+     "in slot 0"),
+    (worked_rows.FLAG_AFTER_FIVE, 5, 6, 4, 2,
+     "a text reused the A/B flag less than M + K = 6 slots after the last group of the text before the previous one, "
+     "in slot 0"),
+    (worked_rows.TAGS_IN_TIME, 4, 5, 8, 0,
+     "RT+ tags came less than M + K = 8 slots after their text started, in slot 0"),
+    (b"C201 B148 2002 0000\n", 0, 1, 8, 0, "RT+ tags came before any text"),
+    (worked_rows.TAGS_AFTER_FOUR, 4, 5, 4, 0, "an RT+ tag ends past the end of its text"),
+    (b"C201 2140 4849 0D58\n", 0, 1, 4, 0, "the segments fit no text"),
+]
+
+
+def noted(words, given, **more):
+    """Returns status, output and notes of the program."""
+    done = subprocess.run([PROGRAM, *shlex.split(words)], input=given, capture_output=True, timeout=SECONDS, **more)
+    return done.returncode, done.stdout, done.stderr.decode()
+
+
+def note(text):
+    """Returns a note as the program prints it."""
+    return f"rdsrt: {text}\n"
+
+
+def earlier_of(slots, spacing):
+    """Returns the fault of the slots by the plain audit, whether it is of a name, and the earlier slot that it names or
+    None."""
+    services = {"text": plain_audit.Reigns(spacing, plain_audit.is_text_segment),
+                "name": plain_audit.Reigns(spacing, plain_audit.is_name_segment)}
+    for slot, group in enumerate(slots):
+        segment = group and plain_audit.segment_of(group)
+        reigns = services[segment[0] if segment else "text"].all
+        try:
+            if segment:
+                services[segment[0]].take(slot, *segment[1:])
+            elif group:
+                services["text"].take_tags(slot, plain_audit.tag_ends_of(group))
+        except plain_audit.Broken as fault:
+            earlier = {"EarlyFlag": lambda: reigns[-2]["last"],
+                       "EarlyTag": lambda: reigns[-1]["start"] if reigns else None}.get(str(fault), lambda: None)()
+            return str(fault), bool(segment) and segment[0] == "name", earlier
+    return None
+
+
+class Faults(ProgramCase):
+    def test_a_malformed_line_is_shown_with_its_number_and_its_cause(self):
+        for line, why in LINES:
+            for words in (DECODE, AUDIT, WITNESS):
+                for before in (b"", HI, b"# note\n\n" + HI + LOST):
+                    number = before.count(b"\n") + 1
+                    got = noted(words, before + line.encode() + b"\n")[2]
+                    self.check(f"note on {line!r} after {number - 1} lines: {words}", got,
+                               note(f'fault line {number}: "{line}": {why}{LOOKS}'))
+        shown = noted(DECODE, b"C201\t2140\t4849\t0D20\r\n")[2]
+        self.check("note on tabs", shown,
+                   note(f'fault line 1: "C201\\x092140\\x094849\\x090D20\\x0D": it has no space{LOOKS}'))
+        long = noted(DECODE, b"x" * 500 + b"\n")[2]
+        self.check("note on a long line", long, note(f'fault line 1: "{"x" * 60}": it has no space{LOOKS}'))
+        cut = subprocess.run(["bash", "-c",
+                              f"(printf C2; sleep 0.3; printf '01 21400 4849 0D20\\n') | {PROGRAM} {DECODE}"],
+                             capture_output=True, timeout=SECONDS).stderr.decode()
+        self.check("note on a line that comes in two reads", cut,
+                   note(f'fault line 1: "C201 21400 4849 0D20": block 2 has 5 characters, expected 4{LOOKS}'))
+
+    def test_a_malformed_row_has_its_number_and_its_cause(self):
+        for words, row, why in ROWS:
+            got = noted(words, row.encode() + b"\n")
+            self.check(f"note on {row!r}", got[2], note(f"fault row 1 (line 1): {why}"))
+            self.check(f"status and output at {row!r}", got[:2],
+                       (1, b"# fault row 1\n" if words == ENCODE else b"fault row 1\n"))
+        later = noted(SIM, b"-,,1,GG\n\n-,,1,G\n")[2]
+        self.check("note on receivers of another number", later,
+                   note("fault row 2 (line 3): RECEPTIONS: the number of receivers is 1, but the first row has 2"))
+        again = noted("sim --pi C201 --m 1 --k 2", b"-,,1,G\n-,,1,G1\n")[2]
+        self.check("note on a group that was handed over", again,
+                   note("fault row 2 (line 2): RECEPTIONS: receiver 0: it already has the slot of G1, or a newer one"))
+        first = noted(SIM, b"sing,HI,2,X\n")[2]
+        self.check("the first cause of three is told", first,
+                   note("fault row 1 (line 1): COMMAND is not one of -, restart, text, name, tags (lower case)"))
+
+    def test_a_failed_read_or_write_has_the_reason_of_the_system(self):
+        folder = os.open("/", os.O_RDONLY)
+        try:
+            for words in (DECODE, AUDIT, WITNESS, ENCODE, SIM):
+                done = subprocess.run([PROGRAM, *words.split()], stdin=folder, capture_output=True, timeout=SECONDS)
+                self.check(f"note on a failed read: {words}", done.stderr.decode(),
+                           note("fault read: reading standard input failed: Is a directory (os error 21)"))
+        finally:
+            os.close(folder)
+        with open("/dev/full", "wb") as full:
+            for words, given in ((DECODE, HI), (ENCODE, b"-,,1,\n"), (AUDIT, HI)):
+                done = subprocess.run([PROGRAM, *words.split()], input=given, stdout=full, stderr=subprocess.PIPE,
+                                      timeout=SECONDS)
+                self.check(f"note on a failed write: {words}", (done.returncode, done.stderr.decode()),
+                           (1, note("writing standard output failed: No space left on device (os error 28)")))
+        call = f"printf 'text,HI,1\\n' | {PROGRAM} encode --pi C201 | {PROGRAM} audit --pi C201 --quiet"
+        done = subprocess.run(["bash", "-c", call], capture_output=True, timeout=SECONDS)
+        self.check("a fault of encode is seen behind a pipe", done.stderr.decode(),
+                   note("fault row 1 (line 1): expected 4 fields (COMMAND,ARGUMENT,FREE,RECEPTIONS), found 3"))
+
+
+class Warnings(ProgramCase):
+    def test_a_pi_that_is_no_pi_or_that_no_group_has(self):
+        for given in ("C20", "0xC201", "C201 ", "", "GGGG", "C201C201"):
+            for words in ("decode", "audit", "witness", "encode", "sim"):
+                got = noted(f"{words} --pi '{given}'", HI)
+                self.check(f"note on --pi {given!r}", (got[0], got[2]), (2, note(
+                    f'fault pi: --pi "{given}": a PI code has four hexadecimal digits and no 0x, for example C201')))
+        flags = bytes_of("examples/flags.log")
+        slots = flags.count(b"C201 ")
+        told = f"no group of C202 in {slots} slots (C201: {slots})"
+        self.check("note on another programme: audit", noted("audit --pi C202", flags),
+                   (0, f"yes {slots}\n".encode(), note(f"{told}. The yes says nothing")))
+        self.check("note on another programme: decode", noted("decode --pi C202", flags), (0, b"", note(told)))
+        self.check("note on another programme: witness", noted("witness --pi C202", flags)[2], note(told))
+        self.check("note on an empty log", noted(AUDIT, b"")[2],
+                   note("no group of C201 in 0 slots. The yes says nothing"))
+        self.check("note on lost slots alone", noted(DECODE, LOST * 3)[2], note("no group of C201 in 3 slots"))
+        self.check("a single group of the programme is enough", noted(DECODE, flags + b"F000 2140 4849 0D20\n")[2], "")
+        draw = random.Random(SEED)
+        for _ in range(100):
+            groups = [draw.choice((0xC201, 0xF000, 0x1234, None)) for _ in range(draw.randrange(40))]
+            log = b"".join(b"%04X 0000 0000 0000\n" % it if it else LOST for it in groups)
+            heard = [it for it in groups if it]
+            told = f"no group of ABCD in {len(groups)} slots"
+            if heard:
+                others = len(heard) - heard.count(heard[0])
+                told += f" ({heard[0]:04X}: {heard.count(heard[0])}{f', others: {others}' if others else ''})"
+            self.check(f"programmes of a log, seed {SEED}", noted("decode --pi ABCD", log)[2], note(told))
+
+    def test_a_no_names_its_slot_its_line_and_the_rule(self):
+        for log, slot, line, m, k, rule in NOES:
+            got = noted(f"{AUDIT} --m {m} --k {k}", log)
+            self.check(f"note on a no: {rule}", (got[0], got[2]),
+                       (1, note(f"slot {slot} (line {line}): {rule}{NEXT}{m}")))
+        name = b"C201 A540 504F 5020\n"
+        changed = noted(f"{AUDIT} --m 4", name + name.replace(b"504F", b"4A41"))[2]
+        self.check("note on a no of a name", changed,
+                   note(f"slot 1 (line 2): a name (PTYN) changed without a flip of the A/B flag{NEXT}4"))
+
+    def test_the_earlier_slot_of_a_no_is_that_of_the_plain_audit(self):
+        """The earlier slot of a no, on logs by chance."""
+        draw = random.Random(SEED)
+        groups = ["C201 2140 4849 0D20", "C201 2150 594F 0D20", "C201 A540 504F 5020", "C201 A550 4A41 5A5A",
+                  "C201 B148 2002 0000", None]
+        early = 0
+        for _ in range(300):
+            m, k = draw.randrange(1, 6), draw.randrange(3)
+            slots = [draw.choices(groups, (4, 4, 2, 2, 1, 20))[0] for _ in range(60)]
+            wanted = earlier_of([it and it.split() for it in slots], m + k)
+            log = "".join(f"{it or '---- ---- ---- ----'}\n" for it in slots).encode()
+            told = noted(f"{AUDIT} --m {m} --k {k}", log)[2]
+            slot = re.search(r", in slot (\d+)\. To look", told)
+            got = slot and int(slot.group(1))
+            early += wanted is not None and wanted[2] is not None
+            self.check(f"earlier slot, M {m}, K {k}, seed {SEED}", (got, "name (PTYN)" in told),
+                       (wanted and wanted[2], bool(wanted) and wanted[1]))
+        self.check("some no of these logs has an earlier slot", early > 50, True)
+
+    def test_a_refused_set_has_the_slot_from_which_it_is_accepted(self):
+        silent = ("slot 0: text refused, the station is silent after a restart for 128 slots more; "
+                  "accepted from slot 128 on")
+        for words in ("encode", "sim"):
+            got = noted(f"{words} --pi C201", b"text,HI,1,\n" * 3)
+            self.check(f"note on the first refused set: {words}", (got[0], got[2]), (0, note(silent)))
+            self.check(f"accepted then: {words}",
+                       b"128 text ok\n" in noted(f"{words} --pi C201", b"-,,1,\n" * 128 + b"text,HI,1,\n")[1],
+                       True)
+        held = noted("sim --pi C201 --m 4",
+                     b"-,,1,\n" * 4 + b"text,HI,1,\nname,POP,1,\n-,,1,\nname,JAZZ,1,\ntext,YO,1,\n")[2]
+        wanted = "slot 7: name refused, the one before is still held for 6 slots more; accepted from slot 13 on"
+        self.check("note on what is held", held, note(wanted))
+        both = noted("encode --pi C201", b"text,HI,1,\nx\n")[2]
+        self.check("a warning and a fault", both, note(silent) + note(
+            "fault row 2 (line 2): expected 4 fields (COMMAND,ARGUMENT,FREE,RECEPTIONS), found 1"))
+
+
+class WhereNotesGo(ProgramCase):
+    def test_a_terminal_gets_a_hint_and_each_refusal_once(self):
+        for words, what in ((DECODE, "log"), (AUDIT, "log"), (WITNESS, "log"), (ENCODE, "script"), (SIM, "script")):
+            for quiet in ("", " --quiet"):
+                ours, theirs = pty.openpty()
+                with subprocess.Popen([PROGRAM, *(words + quiet).split()], stdin=theirs, stdout=subprocess.PIPE,
+                                      stderr=subprocess.PIPE) as program:
+                    os.close(theirs)
+                    os.write(ours, b"\x04")
+                    try:
+                        told = program.communicate(timeout=PROMPT)[1].decode()
+                    except subprocess.TimeoutExpired:
+                        program.kill()
+                        told = "no end"
+                    os.close(ours)
+                first = told.split("\n")[0]
+                wanted = "" if quiet else f"rdsrt: reading a {what} from the terminal; Ctrl-D ends it"
+                self.check(f"note on a terminal: {words}{quiet}", first, wanted)
+        for words in ("", "sing", "decode", "decode --pi C201 --m 0"):
+            got = noted(words, b"")
+            self.check(f"a refusal goes to both: {words}", (got[0], got[2]), (2, got[1].decode()))
+            ours, theirs = pty.openpty()
+            done = subprocess.run([PROGRAM, *words.split()], stdin=subprocess.DEVNULL, stdout=theirs,
+                                  stderr=subprocess.PIPE,
+                                  timeout=SECONDS)
+            os.close(theirs)
+            os.close(ours)
+            self.check(f"a refusal on a terminal goes there alone: {words}", done.stderr, b"")
+        self.check("help goes to standard output alone", noted("--help", b"")[2], "")
+
+    def test_quiet_drops_warnings_and_standard_output_never_changes(self):
+        """Warnings go, faults stay, and standard output does not change whatever becomes of standard error."""
+        warned = [(AUDIT, LOST), (f"{AUDIT} --m 4", worked_rows.CHANGED), (DECODE, b""),
+                  ("sim --pi C201", b"text,HI,1,\n")]
+        failed = [(DECODE, HI + b"x\n"), (ENCODE, b"x\n"), ("decode --pi C20", HI)]
+        for words, given in warned:
+            loud, still = noted(words, given), noted(f"{words} --quiet", given)
+            self.check(f"--quiet takes the warning away: {words}", (still, loud[2] == ""), ((*loud[:2], ""), False))
+        for words, given in failed:
+            self.check(f"--quiet leaves the fault: {words}", noted(f"{words} --quiet", given), noted(words, given))
+        for words, given in warned + failed:
+            wanted = noted(words, given)[:2]
+            for call in ("2>&-", "2>/dev/full", "2>/dev/null"):
+                done = subprocess.run(["bash", "-c", f'"$0" {words} {call}', PROGRAM], input=given,
+                                      stdout=subprocess.PIPE,
+                                      timeout=SECONDS)
+                self.check(f"output with {call}: {words}", (done.returncode, done.stdout), wanted)
+            done = subprocess.run(["bash", "-c", f'"$0" {words} >&- 2>&-', PROGRAM], input=given, timeout=SECONDS)
+            self.check(f"both closed: {words}", done.returncode in (wanted[0], 1), True)
+
+    def test_rows_that_end_well_have_no_note(self):
+        """Worked rows that end well and are of the programme that is asked for have no note."""
+        for name, words, status, given, shown in worked_rows.rows():
+            fine = status == 0 and b"C201 " in given and b"silent" not in shown and b"held" not in shown
+            if fine and "C201" in words and not words.startswith(("encode", "sim")):
+                self.check(f"no note on the row {name}: {words}", noted(words, given)[2], "")

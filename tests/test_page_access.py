@@ -1,0 +1,180 @@
+"""The page by key, to be heard and to be read: controls, contrast, colours, motion, and small windows."""
+from tests.page_support import (GROUPS, HI, SCHEMES, TABS, ChromiumCase, FirefoxCase, call, first_examples, hidden,
+                                of, settle, settled_verdict, verdict_of)
+
+# of texts, and of shapes without a text
+CONTRAST, GRAPHIC_CONTRAST = 4.5, 3
+# widths of windows: a phone, and 400 % zoom of 1,280 px
+NARROW = (390, 320)
+
+
+def tree(b):
+    """Returns role, name and value of each thing that a screen reader hears."""
+    nodes = [it for it in b.ask("Accessibility.getFullAXTree")["nodes"] if not it.get("ignored")]
+    return [tuple(it.get(key, {}).get("value") for key in ("role", "name", "value")) for it in nodes]
+
+
+class Access:
+    def test_the_tab_key_reaches_all_controls(self):
+        """Arrows choose the tabs."""
+        b = self.b
+        wanted = {
+            "log": ["tab-log", "log-example", "log-file", "log-pi", "log-m", "log-k", "log-share", "CANVAS",
+                    "log-click",
+                    "SUMMARY"],
+            "script": ["tab-script", "script-example", "script-file", "script-m", "script-n", "script-slots", "command",
+                       "free", "brush",
+                       "script-save", "script-share", "CANVAS", "SUMMARY"],
+            "dwell": ["tab-dwell", "m-range", "k-range", "f-range", "dwell-m", "dwell-k", "dwell-f", "dwell-s"],
+        }
+        first_examples(b)
+        for name in TABS:
+            call(b, "page.tab", name)
+            b.run("document.activeElement?.blur(); getSelection().removeAllRanges()")
+            reached = set()
+            for _ in range(40):
+                b.key("Tab", number=9)
+                reached |= set(b.run("(e => [e.id, e.name, e.tagName])(document.activeElement)"))
+            self.check(f"the tab key reaches all of {name}", [it for it in wanted[name] if it not in reached], [])
+        call(b, "page.tab", "log", True)
+        b.key("ArrowRight", number=39)
+        self.check("arrows choose the tab", (b.run("document.activeElement.id"), hidden(b)),
+                   ("tab-script", ["log", "dwell"]))
+        b.run("scriptTab.timeline.canvas.focus()")
+        b.key("Enter", number=13, text="\r")
+        self.check("Enter goes to the command", b.run("document.activeElement.id"), "command")
+
+
+class Chromium(Access, ChromiumCase):
+    def test_forced_colours_keep_all_differences(self):
+        """The canvas takes the colours of the system."""
+        b = self.b
+        grounds = "[...document.querySelectorAll('{}')].map(it => getComputedStyle(it).backgroundColor)"
+        for scheme in SCHEMES:
+            first_examples(b)
+            b.scheme(scheme, **{"forced-colors": "active"})
+            settle(b)
+            self.check("the canvas has the system's text colour", b.run("logTab.timeline.ink.text"),
+                       b.run("getComputedStyle(document.body).color"))
+            call(b, "page.tab", "log")
+            first, *others = b.run(grounds.format("nav button"))
+            self.check("the chosen tab", (first not in others, len(set(others))), (True, 1))
+            mixed, calm = b.run(grounds.format("#log-radio .lcd")), b.run(grounds.format("#script-air .lcd"))
+            self.check("a display that is red", (of(b, "#log-radio", "className"), mixed != calm),
+                       ("radio mixed", True))
+            call(b, "page.tab", "script")
+            first, *others = b.run(grounds.format(".brush label"))
+            self.check("the chosen brush", (first not in others, len(set(others))), (True, 1))
+            for tab in TABS[:2]:
+                call(b, "page.tab", tab)
+                drawn = b.run(f"[...document.querySelectorAll('#{tab} .legend canvas')].map(it => it.toDataURL())")
+                self.check(f"the swatches of {tab}", (len(drawn), len(set(drawn))), (8, 8))
+        edges = []
+        for log in (f"{HI}\n", f"{HI}\n{GROUPS[2]}\n", "", "bad\n"):
+            verdict_of(b, log, 8)
+            edges.append(b.run("getComputedStyle(document.querySelector('#verdict')).borderLeftStyle"))
+        self.check("the edges of verdicts", edges, ["solid", "double", "dotted", "dashed"])
+        b.scheme("light")
+        first_examples(b)
+
+    def test_nothing_moves_with_reduced_motion(self):
+        b = self.b
+        moves = """[...document.querySelectorAll('*')].filter(it => {
+            const { transitionDuration, animationName, scrollBehavior } = getComputedStyle(it);
+            return transitionDuration !== '0s' || animationName !== 'none' || scrollBehavior !== 'auto';
+        }).length"""
+        self.check("displays change softly", b.run(moves) > 0, True)
+        b.scheme("light", **{"prefers-reduced-motion": "reduce"})
+        self.check("nothing moves with reduced motion", b.run(moves), 0)
+        b.scheme("light")
+
+    def test_a_screen_reader_hears_slots_verdict_and_lines(self):
+        b = self.b
+        b.ask("Accessibility.enable")
+        call(b, "page.tab", "log")
+        first_examples(b)
+        settled_verdict(b)
+        nodes = tree(b)
+        self.check("it finds the tabs", [name for role, name, _ in nodes if role == "tab"],
+                   ["Look at a log", "Play a script", "Choose the dwell"])
+        self.check("and the slot",
+                   [value for role, name, value in nodes if role == "slider" and name == "Slot of the log"], [5])
+        told = of(b, "#log-time canvas", "ariaValueText")
+        self.check("and what is shown there", "The receiver shows “JAZZMIX”, which nobody sent" in told, True)
+        self.check("and the verdict",
+                   [role for role, name, _ in nodes if role == "heading" and "EarlyFlag" in (name or "")], ["heading"])
+        b.run("document.querySelector('#log details').open = true")
+        self.check("and the lines", any('5 text "JAZZMIX"' in (name or "") for _, name, _ in tree(b)), True)
+        controls = ("button", "slider", "textbox", "combobox", "spinbutton", "checkbox", "tab", "radio")
+        self.check("all controls have names", [role for role, name, _ in nodes if role in controls and not name], [])
+        b.ask("Accessibility.disable")
+
+    def test_contrast_and_narrow_windows(self):
+        b = self.b
+        first_examples(b)
+        for scheme in SCHEMES:
+            b.scheme(scheme)
+            for name in TABS:
+                call(b, "page.tab", name)
+                settle(b)
+                seen, low = call(b, "probe.contrasts", CONTRAST)
+                self.check(f"contrast of {name}, {scheme}", (seen > 10, low), (True, []))
+        b.scheme("light")
+        for width in NARROW:
+            b.size(width, 844, is_phone=False)
+            for name in TABS:
+                call(b, "page.tab", name)
+                settle(b)
+                self.check(f"{name} fits a window of {width} px", b.run("document.documentElement.scrollWidth"), width)
+        b.size(1280, 900)
+
+    def test_timeline_and_displays_take_the_whole_width(self):
+        """The timeline is in sight. Prose stays readable."""
+        b = self.b
+        first_examples(b)
+        box = "document.querySelector('{}').getBoundingClientRect()"
+        for width in (1920, 1280):
+            b.size(width, 900)
+            for tab in TABS[:2]:
+                call(b, "page.tab", tab)
+                settle(b)
+                for part in (f"#{tab} .look" if tab == "log" else "#script-time", f"#{tab} .stage"):
+                    self.check(f"{part} in {width} px", b.run(f"{box.format(part)}.width") >= width - 60, True)
+                self.check(f"the end of {tab}'s timeline in {width} px",
+                           b.run(f"scrollTo(0, 0), {box.format(f'#{tab}-time')}.bottom <= 900"), True)
+                prose = "document.querySelectorAll('.hint, .verdict p, .problem, footer p')"
+                wide = b.run(f"[...{prose}].filter(it => it.clientWidth > 46 * 16).length")
+                self.check(f"lines of prose in {width} px", wide, 0)
+        b.size(1280, 900)
+
+    def test_a_phone_has_verdict_and_timeline_first(self):
+        """The displays come after them. The tab key goes from top to bottom."""
+        b = self.b
+        b.size(390, 844)
+        first_examples(b)
+        call(b, "page.tab", "log")
+        settled_verdict(b)
+        box = "document.querySelector('{}').getBoundingClientRect()"
+        end = lambda query, side: b.run(f"scrollTo(0, 0), {box.format(query)}.{side}")
+        self.check("the verdict is in sight", (end("#verdict", "top") <= 500) or end("#verdict", "top"), True)
+        self.check("the timeline is near", (end("#log-time", "top") <= 1000) or end("#log-time", "top"), True)
+        for tab, places in (("log", "#verdict, #log-time, #log-radio"),
+                            ("script", "#script-count, #script-time, #script-air")):
+            call(b, "page.tab", tab)
+            settle(b)
+            tops = [end(query, "top") for query in places.split(", ")]
+            self.check(f"the order of {tab}", tops, sorted(tops))
+            b.run("document.activeElement?.blur(); getSelection().removeAllRanges()")
+            seen = []
+            for _ in range(30):
+                b.key("Tab", number=9)
+                bottom = "scrollY + document.activeElement.getBoundingClientRect().bottom"
+                seen.append(b.run(f"document.activeElement === document.body ? null : {bottom}"))
+            reached = [it for it in seen[:seen.index(None) if None in seen else None]]
+            self.check(f"the tab key goes down in {tab}",
+                       [it for it, after in zip(reached, reached[1:]) if after < it - 60], [])
+        b.size(1280, 900)
+
+
+class Firefox(Access, FirefoxCase):
+    pass

@@ -1,0 +1,151 @@
+"""Faults and warnings of the page, beside those of the program."""
+import random
+import re
+
+from tests.page_support import (EVERY_100, HI, NOTHING, SEED, ChromiumCase, FirefoxCase, call, click, first_examples,
+                                of, open_script, run_program, settle, shown, text_of, verdict_of)
+
+BAD_ROW = re.compile(r"fault row (\d+) \(line (\d+)\)")
+SOME_ROWS = ["-,,1,G"] * 6 + ['"-","",1,G', '""', "", "", '-,"a\n,b",1,G', '-,"a""b",1,G', '-,"a"b,1,G', '"a\n\nb"',
+                              "restart,,1,G"]
+
+
+def results(b, tab):
+    """Returns all that a tab shows of a result: texts, marks of a mix, lanes and lines."""
+    texts = b.run(f"[...document.querySelectorAll('#{tab} .lcd .text:not(.none)')].map(it => it.textContent)")
+    lanes = b.run(f"{tab}Tab.timeline.lanes.length")
+    return texts, b.run(f"document.querySelectorAll('#{tab} .mixed').length"), lanes, text_of(b, f"#{tab}-lines")
+
+
+class Faults:
+    def test_no_old_result_stays_beside_a_fault(self):
+        """A sentence names the input that the page does not play."""
+        b = self.b
+        nothing = [], 0, 0, ""
+        number = "{} must be a whole number from {} to {}."
+        rows = [("log", "m", "", number.format("Dwell M", 1, "65,535")),
+                ("log", "m", "1e2", number.format("Dwell M", 1, "65,535")),
+                ("log", "k", "1025", number.format("Late K", 0, "1,024")),
+                ("script", "m", "1e2", number.format("Dwell M", 1, "65,535")),
+                ("script", "k", "", number.format("Late K", 0, "1,024")),
+                ("script", "n", "9", number.format("Receivers", 0, 8)),
+                ("script", "slots", "0", number.format("Slots", 1, "200,000"))]
+        for tab, field, value, told in rows:
+            call(b, "page.tab", tab)
+            call(b, "probe.choose", f"{tab}-example", 0)
+            was, before = of(b, f"#{tab}-{field}", "value"), results(b, tab)
+            call(b, "probe.choose", f"{tab}-{field}", value)
+            settle(b)
+            said = text_of(b, "#verdict p" if tab == "log" else "#script-fault")
+            self.check(f"{tab}-{field} {value!r}", (said, results(b, tab), before != nothing), (told, nothing, True))
+            call(b, "probe.choose", f"{tab}-{field}", was)
+            settle(b)
+            self.check(f"{tab}-{field} {was!r} again", results(b, tab), before)
+        call(b, "probe.choose", "log-m", "")
+        call(b, "logTab.open", EVERY_100)
+        self.check("a log beside an empty M", (results(b, "log"), text_of(b, "#verdict h2")), (nothing, "No verdict"))
+        for text, told in (("-,,1,GGGGGGGGG\n", "The script has 9 receivers. The page plays at most 8."),
+                           ("-,,1,\n" * 200_001, "The script has 200,001 rows. The page plays at most 200,000.")):
+            call(b, "probe.choose", "script-example", 0)
+            call(b, "scriptTab.open", text)
+            self.check(told, (text_of(b, "#script-fault"), results(b, "script"), text_of(b, "#script-count")),
+                       (told, nothing, ""))
+        first_examples(b)
+
+    def test_a_malformed_line_or_row_is_named_and_shown(self):
+        b = self.b
+        said = verdict_of(b, f"# note\n{HI}\nC201 <b>40 4849\n", 8)
+        self.check("a bad line is named", said.partition("Show the line")[0],
+                   'Line 3 is malformedfault line 3: "C201 <b>40 4849": block 2 has 5 characters, expected 4; a log '
+                   f"line looks like {HI}. The page does not show the lines after it.")
+        self.check("and its text is no HTML", b.run("document.querySelectorAll('#verdict b').length"), 0)
+        b.run("[...document.querySelectorAll('#verdict button')].at(-1).click()")
+        self.check("and shown", call(b, "probe.chosenLine", "log-text"), "C201 <b>40 4849")
+        rows = [
+            ("-,,1,G\n\n-,,1\n", "row 2 (line 3): expected 4 fields (COMMAND,ARGUMENT,FREE,RECEPTIONS), found 3"),
+            ("-,,1,G\n-,,1,GG\n", "row 2 (line 2): RECEPTIONS: the number of receivers is 2, but the first row has 1"),
+            ("text,\u2603,1,G\n",
+             "row 1 (line 1): ARGUMENT: '\u2603' at character 1 is not in the RDS character table"),
+        ]
+        for text, why in rows:
+            open_script(b, text, m=8, k=0)
+            self.check(f"a bad row is named: {why}", text_of(b, "#script-fault"),
+                       f"fault {why}. The rows after it are not played. Show the line")
+        click(b, "#script-fault button")
+        self.check("and shown", call(b, "probe.chosenLine", "script-text"), "text,\u2603,1,G")
+        open_script(b, "text,HI,1,G\n" * 5 + "text,\u2603,1,G\n" + "-,,1,G\n" * 6, m=1, k=0)
+        b.run("scriptTab.timeline.move(3)")
+        self.check("a text is shown before a bad row", (shown(b, "script-radio"), shown(b, "script-alone")),
+                   ("HI", "HI"))
+        ends = b.run("scriptTab.timeline.lanes.map(lane => (lane.codes?.length ?? lane.runs?.at(-1)?.to ?? 0))")
+        self.check("no lane goes on behind it", [it for it in ends if it > 5], [])
+        for slot in (5, 11):
+            b.run(f"scriptTab.timeline.move({slot})")
+            all_shown = [shown(b, f"script-{it}") for it in ("air", "radio", "alone")]
+            self.check(f"slot {slot} behind it is not played", all_shown, ["— not played —"] * 3)
+
+    def test_the_row_of_a_fault_is_that_of_the_program(self):
+        """Also after rows of two quotation marks, empty lines, and each line end."""
+        b = self.b
+        dice, seen = random.Random(SEED), set()
+        scripts = ['-,,1,G\n""\n-,,1,G\n', '""\r-,,1,G\r', '-,,1,G\r-,,1,G\r\r-,,2,G\r', "-,,1,G\r-,x,1,G"]
+        for _ in range(60):
+            rows, end = [dice.choice(SOME_ROWS) for _ in range(dice.randrange(1, 12))], dice.choice(["\n", "\r\n", "\r",
+                                                                                                     None])
+            scripts.append("".join(row.replace("\n", end or "\n") + (end or dice.choice(["\n", "\r\n", "\r"]))
+                                   for row in rows))
+        for script in scripts:
+            # the program counts line feeds, so it is asked about the script with line feeds alone
+            plain = re.sub("\r\n?", "\n", script).rstrip("\n") + "\n"
+            told = BAD_ROW.search("".join(run_program(["sim", "--pi", "C201"], plain.encode())[2]))
+            open_script(b, script, m=128, k=0)
+            got = BAD_ROW.search(text_of(b, "#script-fault"))
+            self.check(f"seed {SEED}, the row of {script!r}", got and got[1], told and told[1])
+            if not told or not got:
+                continue
+            click(b, "#script-fault button")
+            self.check(f"seed {SEED}, the line of {script!r}", call(b, "probe.chosenLine", "script-text"),
+                       plain.split("\n")[int(told[2]) - 1])
+            seen.add(plain.split("\n")[int(told[2]) - 1])
+        self.check("several kinds of bad rows", len(seen) > 4 or seen, True)
+
+    def test_an_empty_yes_and_a_refused_set_have_a_warning(self):
+        b = self.b
+        means_nothing = "The program answers yes, and this yes means nothing."
+        rows = [
+            ("", "empty", f"Nothing to auditThe log has no slots. {means_nothing}"),
+            ("# a note\n", "empty", f"Nothing to auditThe log has no slots. {means_nothing}"),
+            (f"{NOTHING}\n" * 3, "empty", f"Nothing to auditThe log has no whole group in 3 slots. {means_nothing}"),
+            (f"{HI}\n", "",
+             "✓ Passes with M = 8 (0.70 s)The one slot keeps the rules. No receiver with this M shows a mix of two "
+             "texts, whichever groups it loses."),
+            (f"{HI}\n{NOTHING}\n", "",
+             "✓ Passes with M = 8 (0.70 s)The recorded slot keeps the rules. No receiver with this M shows a mix "
+             "of the recorded texts, whichever groups it loses.1 of 2 slots is missing (no whole group). The yes "
+             "covers only the others."),
+            (f"{HI}\n" * 1188 + f"{NOTHING}\n" * 1812, "",
+             "1,812 of 3,000 slots are missing (no whole group). The yes covers only the others."),
+        ]
+        for log, kind, wanted in rows:
+            said, colour = verdict_of(b, log,
+                                      8), b.run("getComputedStyle(document.querySelector('#verdict')).borderLeftColor")
+            ink = call(b, "probe.colour", "t4" if kind else "good")
+            self.check(f"a yes over {log[:20]!r}", (wanted in said and "undefined" not in said or said, colour),
+                       (True, ink))
+        open_script(b, "text,HI,1,G\n" * 3, m=8, k=0)
+        self.check("the first refused set", text_of(b, "#script-note"),
+                   "slot 0: text refused, the station is silent after a restart for 8 slots more; "
+                   "accepted from slot 8 on.")
+        open_script(b, "-,,1,G\n" * 8 + "text,HI,1,G\nname,POP,1,G\n-,,1,G\nname,JAZZ,1,G\n", m=8, k=0)
+        self.check("one that is held", text_of(b, "#script-note"),
+                   "slot 11: name refused, the one before is still held for 14 slots more; accepted from slot 25 on.")
+        open_script(b, "-,,1,G\n" * 8 + "text,HI,1,G\n", m=8, k=0)
+        self.check("no refused set", (text_of(b, "#script-note"), of(b, "#script-note", "hidden")), ("", True))
+
+
+class Chromium(Faults, ChromiumCase):
+    pass
+
+
+class Firefox(Faults, FirefoxCase):
+    pass

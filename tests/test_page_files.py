@@ -1,0 +1,199 @@
+"""Files that the page opens and saves, and edits that are not saved."""
+import os
+import struct
+import tempfile
+
+from tests.page_support import (EVERY_100, HI, NOTHING, TABS, ChromiumCase, FirefoxCase, call, click, example,
+                                first_examples, hidden, of, open_script, printed, program, run_program, settle,
+                                text_of, verdict_of, waited_for)
+
+TURNS = "\u061c\u200e\u200f\u202a\u202b\u202c\u202d\u202e\u2066\u2067\u2068\u2069"
+
+
+class Files:
+    def test_of_several_files_the_first_is_opened(self):
+        """The page says how many it left out."""
+        b = self.b
+        open_script(b, "")
+        script = example("tunnel.csv").decode()
+        told = "The page shows one file at a time. It opened {} and left out {}."
+        for names, left, tab in ((["a.csv", "b.log"], "1 other file", "script"),
+                                 (["<b>.log", "b.csv", "c"], "2 other files", "log"),
+                                 (["a.csv"], "", "script")):
+            call(b, "probe.dropAll", [[name, script if name.endswith(".csv") else HI] for name in names])
+            settle(b)
+            got = text_of(b, "#left-out"), hidden(b), text_of(b, f"#{tab}-file-name")
+            self.check(f"dropped: {names}", got,
+                       (told.format(names[0], left) if left else "", [it for it in TABS if it != tab], names[0]))
+
+    def test_a_long_field_is_printed_nowhere(self):
+        """A fault does not quote a field of 3 MB, and the form shows its begin."""
+        b = self.b
+        long = "A" * 3_000_000
+        for script, left in ((f"{long},,1,G\n", 0), (f"text,{long},1,G\n-,,1,G\n", 401), (f"-,,1,{long}\n", 0)):
+            call(b, "probe.drop", "own.csv", script)
+            settle(b)
+            both = "[document.body.textContent, document.body.innerText]"
+            sizes = b.run(f"{both}.map(text => text.includes('A'.repeat(500)))")
+            note = run_program(["sim", "--pi", "C201"], script.encode())[2][-1]
+            got = text_of(b, "#script-fault").partition(". The rows after")[0], sizes, of(b, "#argument",
+                                                                                          "value.length")
+            self.check(f"a field of 3 MB in {script[:8]}", got, (note, [False, False], left))
+        open_script(b, f"text,{long},1,G\n-,,1,G\n", m=8, k=0)
+        b.run("scriptTab.timeline.move(0)")
+        b.run("document.getElementById('free').click()")
+        row = b.run("(row => [row.argument.length, row.free])(scriptTab.state.rows[0])")
+        self.check("an edit keeps it", [*row, of(b, "#argument", "readOnly")], [len(long), "0", True])
+        b.run("scriptTab.timeline.move(1)")
+        self.check("and a short one can be typed", (of(b, "#argument", "readOnly"), of(b, "#argument", "value")),
+                   (False, ""))
+        call(b, "logTab.open", f"{long}\n", {"m": 8})
+        settle(b)
+        self.check("nor is a line of 3 MB", b.run("document.body.textContent.includes('A'.repeat(100))"), False)
+
+    def test_no_text_of_a_file_turns_the_words_around_it(self):
+        """It is isolated, and marks of direction are escapes."""
+        b = self.b
+        title = "RadioText, slot by slot"
+        for mark in [*TURNS, "\x1b", "\x85"]:
+            open_script(b, f"text,a{mark}b,1,G\n", m=8, k=0)
+            found = set(text_of(b, "#script-fault")) & set(TURNS + "\x1b\x85")
+            self.check(f"U+{ord(mark):04X} in a fault", (found, of(b, "#script-fault", "hidden")), (set(), False))
+        open_script(b, "text,\u0639,1,G\n", m=8, k=0)
+        self.check("a quoted letter is isolated", text_of(b, "#script-fault bdi"), "'\u0639'")
+        verdict_of(b, "C201 \u202e \u0639\n", 8)
+        quoted = text_of(b, "#verdict bdi")
+        self.check("a quoted line is isolated", (quoted[:6], set(quoted) & set(TURNS)), ('"C201 ', set()))
+        for name, wanted in (("a\u202egol.csv", "a\\u202Egol.csv"), ("\u0639.csv", "\u0639.csv")):
+            call(b, "probe.dropAll", [[name, "-,,1,G\n"], ["b", ""]])
+            settle(b)
+            got = [text_of(b, "#script-file-name bdi"), text_of(b, "#left-out bdi")]
+            isolated = wanted if wanted.isascii() else f"\u2068{wanted}\u2069"
+            self.check(f"a file's name {wanted}", (got, b.run("document.title")),
+                       ([wanted] * 2, f"{isolated} – {title}"))
+        first_examples(b)
+
+    def test_a_file_is_judged_at_the_defaults(self):
+        """Whatever the fields held. An example keeps its own M."""
+        b = self.b
+        heading = f"✗ {program(['audit', '--pi', 'C201'], EVERY_100.encode())[1].split()[2]} with M = 128 (11.2 s)"
+        for way in ("drop", "pick"):
+            for tab in ("log", "script"):
+                for field, value in (("m", "8" if way == "drop" else ""), ("k", "3")):
+                    call(b, "probe.choose", f"{tab}-{field}", value)
+            name = ["log-file"] if way == "pick" else []
+            call(b, f"probe.{way}", *name, "own.log", EVERY_100)
+            settle(b)
+            got = [text_of(b, "#verdict h2"), of(b, "#log-m", "value"), of(b, "#log-k", "value")]
+            self.check(f"a log by {way}", got, [heading, "128", "0"])
+            name = ["script-file"] if way == "pick" else []
+            call(b, f"probe.{way}", *name, "tunnel.csv", example("tunnel.csv").decode())
+            settle(b)
+            options = ["--pi", "C201", "--pty", "10"]
+            self.check(f"a script by {way}", printed(b), program(["sim", *options], example("tunnel.csv"))[1])
+        call(b, "page.tab", "log")
+        call(b, "probe.choose", "log-example", 2)
+        settle(b)
+        self.check("an example keeps its M", text_of(b, "#verdict h2"), "✓ Passes with M = 8 (0.70 s)")
+
+    def test_a_file_is_read_as_the_program_reads_its_bytes(self):
+        b = self.b
+        mark, log, script = b"\xef\xbb\xbf", example("hi.log"), example("tunnel.csv")
+        latin = "text,Édith,1,\n".encode("latin-1")
+        logs = [mark + log, log.decode().encode("utf-16"), log + b"\xff\xfe\n" + log,
+                "# Édith\n".encode("latin-1") + log,
+                log.replace(b"\n", b"\r\n")]
+        for data in logs:
+            call(b, "probe.drop", "own.log", list(data))
+            settle(b)
+            for name, words in (("log", ["decode", "--pi", "C201"]), ("audit", ["audit", "--pi", "C201"])):
+                self.check(f"{words[0]} over a file that begins with {data[:12]}", text_of(b, f"#{name}-lines"),
+                           program(words, data)[1])
+            b.run("logTab.lose([0])")
+            self.check("and once a slot is lost", text_of(b, "#audit-lines"),
+                       program(["audit", "--pi", "C201"], data)[1])
+        self.check("the last one passes, the first does not",
+                   (text_of(b, "#verdict")[:8], program(["audit", "--pi", "C201"], logs[0])),
+                   ("✓ Passes", [1, "fault line 1\n"]))
+        for data in (mark + script, script.decode().encode("utf-16"), latin, script + latin,
+                     script.replace(b"\n", b"\r\n\r\n")):
+            call(b, "probe.drop", "own.csv", list(data))
+            for m in (128, 8):
+                call(b, "probe.choose", "script-m", m)
+                settle(b)
+                self.check(f"sim over a file that begins with {data[:12]}, M {m}", printed(b),
+                           program(["sim", "--pi", "C201", "--pty", "10", "--m", str(m)], data)[1])
+
+    def test_the_name_of_a_file_is_shown_as_long_as_the_file(self):
+        """It is beside the field and in the title. The file can be chosen again."""
+        b = self.b
+        title = "RadioText, slot by slot"
+        for tab, name, text in (("log", "<b>own</b>.log", EVERY_100),
+                                ("script", "own.csv", example("tunnel.csv").decode())):
+            shows = lambda: (text_of(b, f"#{tab}-file-name"), b.run("document.title"),
+                             of(b, f"#{tab}-file", "files.length"))
+            call(b, "page.tab", tab)
+            for way in ("pick", "drop"):
+                call(b, f"probe.{way}", *([f"{tab}-file"] if way == "pick" else []), name, text)
+                settle(b)
+                # a field that still holds its file does not hear the same file again
+                self.check(f"{tab}: a file by {way}", shows(), (name, f"{name} – {title}", 0))
+                call(b, "probe.choose", f"{tab}-example", 1)
+                self.check(f"{tab}: an example after it", shows(), ("", title, 0))
+        call(b, "probe.drop", "own.csv", example("tunnel.csv").decode())
+        settle(b)
+        b.run("scriptTab.timeline.move(30)")
+        call(b, "probe.choose", "command", "restart")
+        self.check("an edited file", text_of(b, "#script-file-name"), "own.csv, edited")
+        click(b, "#script-undo")
+        self.check("and undone", text_of(b, "#script-file-name"), "own.csv")
+        call(b, "page.tab", "log")
+        self.check("the title is of the open tab", b.run("document.title"), title)
+        first_examples(b)
+
+    def test_an_edited_log_is_asked_about_until_it_is_saved(self):
+        b = self.b
+        first_examples(b)
+        b.run("document.querySelector('#log-text').closest('details').open = true")
+        call(b, "probe.choose", "log-text", f"{HI}\n")
+        settle(b)
+        self.check("an edited log is unsaved", b.run("logTab.isUnsaved()"), True)
+        call(b, "probe.drop", "own.log", EVERY_100)
+        settle(b)
+        self.check("the page asks", (of(b, "#ask", "open"), of(b, "#log-text", "value")), (True, f"{HI}\n"))
+        click(b, "#ask-no")
+        b.run("window.kept = picture.saveAs; picture.saveAs = () => {}")
+        click(b, "#log-save")
+        b.run("picture.saveAs = kept; undefined")
+        call(b, "probe.drop", "own.log", EVERY_100)
+        settle(b)
+        self.check("a saved one is not asked about", (of(b, "#ask", "open"), of(b, "#log-text", "value")),
+                   (False, EVERY_100))
+        b.run("document.querySelector('#log-text').closest('details').open = false")
+        first_examples(b)
+
+
+class Chromium(Files, ChromiumCase):
+    def test_files_are_dropped_and_saved(self):
+        b = self.b
+        rows = [("hi.log", example("hi.log").decode(), "log"), ("tunnel.csv", example("tunnel.csv").decode(), "script"),
+                ("a", f"{NOTHING}\n{HI}\n", "log"), ("tunnel.txt", example("tunnel.csv").decode(), "script")]
+        first_examples(b)
+        for name, text, tab in rows:
+            call(b, "page.tab", "dwell")
+            call(b, "probe.drop", name, text)
+            settle(b)
+            opened = of(b, "#script-text" if tab == "script" else "#log-text", "value")
+            self.check(f"{name} is dropped", (hidden(b), opened), ([it for it in TABS if it != tab], text))
+        with tempfile.TemporaryDirectory() as folder:
+            b.ask("Browser.setDownloadBehavior", behavior="allow", downloadPath=folder)
+            open_script(b, example("late.csv").decode(), m=4, k=2)
+            click(b, "#script-save")
+            self.check("a saved script", waited_for(os.path.join(folder, "script.csv")), example("late.csv"))
+            click(b, "#script-time [data-do=save]")
+            data = waited_for(os.path.join(folder, "timeline.png"))
+            self.check("a saved picture", (data[:8], struct.unpack(">I", data[16:20])), (b"\x89PNG\r\n\x1a\n", (2400,)))
+
+
+class Firefox(Files, FirefoxCase):
+    pass

@@ -1,0 +1,164 @@
+"""Links to a script or a log, which the page makes and opens."""
+import contextlib
+import os
+import random
+import re
+import tempfile
+import threading
+from http.server import SimpleHTTPRequestHandler, ThreadingHTTPServer
+
+from tests.page_support import (EVERY_100, FOLDER, SEED, URL, ChromiumCase, FirefoxCase, call, click, example, hidden,
+                                of, open_script, packed, printed, reload, settle, text_of, visit, waited_for)
+
+SIGHT = "[scriptTab.timeline.cursor, scriptTab.state.chosen, scriptTab.timeline.from, scriptTab.timeline.across]"
+LOG_STATE = ("(({ timeline: { cursor, from, across }, state: { lost } }) => "
+             "[document.getElementById('log-lines').textContent, [...lost].sort((a, b) => a - b), cursor, from, "
+             "across, ...['pi', 'm', 'k'].map(it => document.getElementById(`log-${it}`).value)])(logTab)")
+
+
+@contextlib.contextmanager
+def served(folder):
+    """Serves the page's folder. Gives the page's address."""
+    class Handler(SimpleHTTPRequestHandler):
+        def __init__(self, *given):
+            super().__init__(*given, directory=folder)
+
+        def log_message(self, *_):
+            pass
+
+    server = ThreadingHTTPServer(("127.0.0.1", 0), Handler)
+    threading.Thread(target=server.serve_forever, daemon=True).start()
+    try:
+        yield f"http://127.0.0.1:{server.server_port}/index.html"
+    finally:
+        server.shutdown()
+        server.server_close()
+
+
+def script_link(b):
+    """Returns the page's message on the script's link, whether the link is shown, whether the address has it, and the
+    chosen example."""
+    shows = of(b, "#script-link", "checkVisibility()"), b.run("location.hash.includes('script=')")
+    return [text_of(b, "#script-saved"), *shows, of(b, "#script-example", "value")]
+
+
+class Links:
+    def test_a_link_opens_its_script(self):
+        b = self.b
+        open_script(b, example("late.csv").decode(), m=4, k=2, pty="10")
+        click(b, "#script-share")
+        b.until("location.hash.includes('script=')")
+        link, before = b.run("location.href"), printed(b)
+        visit(b, link)
+        self.check("a link opens its script", (printed(b), hidden(b), len(link) < 2000),
+                   (before, ["log", "dwell"], True))
+        visit(b, f"{URL}#script=nonsense")
+        self.check("a link that holds none", text_of(b, "#script-saved"), "The link has no script.")
+        too_large = "The link holds a script of more than 4 MB. The page does not open it."
+        for size, told in ((4_000_000, ""), (4_000_001, too_large), (100_000_000, too_large)):
+            visit(b, f"{URL}#script={packed(b'-,,1,' + bytes(size - 5))}")
+            self.check(f"a link that holds {size} bytes", text_of(b, "#script-saved"), told)
+        visit(b, f"{URL}#script")
+        self.check("a tab by its name", (text_of(b, "#script-saved"), hidden(b)), ("", ["log", "dwell"]))
+        dice = random.Random(SEED)
+        open_script(b, "".join(f"text,{dice.random()},1,\n" for _ in range(20_000)))
+        click(b, "#script-share")
+        settle(b)
+        self.check("a script that is too long for one", text_of(b, "#script-saved"),
+                   "This script is too long for a link: save it as a file.")
+
+    def test_a_link_keeps_slot_receiver_and_zoom(self):
+        """It stays in the address as long as it is right, and goes with an edit."""
+        b = self.b
+        with served(FOLDER) as url:
+            visit(b, url)
+            fetched = [it for it in b.fetched() if it.startswith(url.removesuffix("index.html"))]
+            self.check("files of the page are fetched", len(fetched) > 3, True)
+            click(b, "#tab-script")
+            call(b, "probe.choose", "script-example", 1)
+            b.run("scriptTab.state.chosen = 1; scriptTab.timeline.zoom(0.3, 20)")
+            b.run("scriptTab.timeline.move(23, { keep: true })")
+            click(b, "#script-share")
+            b.until("document.querySelector('#script-saved').textContent !== ''")
+            self.check("a link is copied", script_link(b)[0] in ("The link was copied.", "This is the link: copy it."),
+                       True)
+            link, before, made = of(b, "#script-link", "value"), printed(b), script_link(b)
+            self.check("the address is the link", (b.run("location.href"), made[1:]), (link, [True, True, "1"]))
+            sight = b.run(f"{SIGHT}.map(Math.round)")
+            self.check("it was zoomed", (sight[:2], sight[3] < 30), ([23, 1], True))
+            call(b, "probe.choose", "command", "restart")
+            self.check("an edit drops the link", script_link(b), ["", False, False, ""])
+            click(b, "#script-undo")
+            self.check("an undo has it in the address again", script_link(b), ["", False, True, "1"])
+            call(b, "page.tab", "log")
+            self.check("another tab has its own address", b.run("location.hash"), "#log")
+            visit(b, link)
+            self.check("the link opens all that", [printed(b), b.run(SIGHT), hidden(b)],
+                       [before, sight, ["log", "dwell"]])
+            reload(b)
+            self.check("and a reload too", [printed(b), b.run(SIGHT), hidden(b)], [before, sight, ["log", "dwell"]])
+            for more in ("&slot=9999999&from=-1&across=0&receiver=9", "&slot=x&from=1e9&across=1e9&receiver="):
+                visit(b, re.sub("&slot=.*", "", link) + more)
+                self.check(f"a link with {more}", [printed(b), b.run(f"{SIGHT}[3] > 7 && {SIGHT}[1] < 2")],
+                           [before, True])
+
+    def test_a_link_of_a_log_keeps_its_options_and_lost_slots(self):
+        """It keeps the slot and the zoom too, and stays in the address."""
+        b = self.b
+        told, address = lambda: text_of(b, "#log-saved"), "location.hash.includes('log=')"
+        with served(FOLDER) as url:
+            visit(b, url)
+            call(b, "page.tab", "log")
+            call(b, "logTab.open", EVERY_100, {"pi": "C201", "m": 100, "k": 3, "lost": [2, 3, 4, 9, 100]})
+            settle(b)
+            b.run("logTab.timeline.zoom(0.1, 90); logTab.timeline.move(103, { keep: true })")
+            b.run("(it => { it.from = Math.round(it.from); it.across = Math.round(it.across); })(logTab.timeline)")
+            before = b.run(LOG_STATE)
+            click(b, "#log-share")
+            b.until("document.getElementById('log-saved').textContent !== ''")
+            link = of(b, "#log-link", "value")
+            self.check("the address is the link", (b.run("location.href"), len(link) < 1000, "lost=2-4.9.100" in link),
+                       (link, True, True))
+            b.run("logTab.lose([7])")
+            settle(b)
+            self.check("a lost slot drops the link", (told(), b.run(address), of(b, "#log-link", "hidden")),
+                       ("", False, True))
+            b.run("logTab.lose([7])")
+            settle(b)
+            self.check("and without it the address has it again", (told(), b.run(address)), ("", True))
+            visit(b, link)
+            self.check("the link opens all that", [b.run(LOG_STATE), hidden(b)], [before, ["script", "dwell"]])
+            for more in ("&lost=1-9999999.0-9999999", "&lost=1-&m=0&k=1025&pi=FFFF&slot=-1", "&lost=<b>"):
+                visit(b, re.sub("&.*", "", link) + more)
+                state = b.run(LOG_STATE)
+                self.check(f"a link with {more}", (told(), state[5:], len(state[1]) <= 100_000),
+                           ("", ["C201", "8", "0"], True))
+            visit(b, f"{url}#log=nonsense")
+            self.check("a link that holds none", told(), "The link has no log.")
+            dice = random.Random(SEED)
+            call(b, "logTab.open", "".join(f"# {dice.random()}\n" for _ in range(20_000)))
+            click(b, "#log-share")
+            b.until("document.getElementById('log-saved').textContent !== ''")
+            self.check("a log that is too long for one", told(), "This log is too long for a link: save it as a file.")
+
+
+class Chromium(Links, ChromiumCase):
+    def test_a_page_on_a_disk_offers_to_save_the_script(self):
+        """Its links are of no use to others, and the page says so."""
+        b = self.b
+        visit(b, URL)
+        open_script(b, example("late.csv").decode(), m=4, k=2)
+        click(b, "#script-share")
+        b.until("document.querySelector('#script-saved').textContent !== ''")
+        self.check("a link from disk", script_link(b)[:3],
+                   ["This page was opened from a disk, so its links are of no use to others. Save the file and share "
+                    "it. Save the script", False,
+                    True])
+        with tempfile.TemporaryDirectory() as saved:
+            b.ask("Browser.setDownloadBehavior", behavior="allow", downloadPath=saved)
+            click(b, "#script-saved button")
+            self.check("its script is saved", waited_for(os.path.join(saved, "script.csv")), example("late.csv"))
+
+
+class Firefox(Links, FirefoxCase):
+    pass

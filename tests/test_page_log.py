@@ -1,0 +1,301 @@
+"""The tab that looks at a log: its verdict, its list of changes, its words and its witnesses."""
+import os
+import random
+import re
+import subprocess
+
+from tests.page_support import (EVERY_100, EXAMPLES, GROUPS, HI, NOTHING, SEED, YO, ChromiumCase, FirefoxCase, call,
+                                click, example, first_examples, idle, of, program, settle, settled_verdict, shown,
+                                text_of, verdict_of)
+from tests.support import SECONDS
+
+DWELLS = (8, 16, 32, 64, 128, 256, 512, 1024)
+GROUP_WORDS = [
+    ("C201 2140 4849 0D20", "2A RadioText · flag A · segment 0 · “HI” · C201 2140 4849 0D20"),
+    ("C201 2153 6E63 8220", "2A RadioText · flag B · segment 3 · “ncé ” · C201 2153 6E63 8220"),
+    ("C201 A151 4D49 5820", "10A programme type name (PTYN) · flag B · segment 1 · “MIX ” · C201 A151 4D49 5820"),
+    ("C201 3156 0000 4BD7",
+     "3A announcement of a data service · AID 4BD7 (RadioText Plus) in group 11A · C201 3156 0000 4BD7"),
+    ("C201 0548 1234 5649", "0A station name (PS), not read · C201 0548 1234 5649"),
+    ("C201 E140 1234 5649", "14A, not read · C201 E140 1234 5649"),
+    ("F201 2140 4849 0D20", "2A · F201 2140 4849 0D20 · another programme"),
+    ("C201 ---- 4849 0D20", "C201 ---- 4849 0D20 · not whole, so it counts as lost"),
+    (NOTHING, "nothing received"),
+]
+EXPLAINED = [
+    ("EarlyFlag", [GROUPS[2], GROUPS[3], "C201 2150 4E45 5753", "C201 2151 2046 4D0D", "C201 2140 504F 5020"],
+     "First in slot 4 (line 5): a text reused the A/B flag less than M + K = 8 slots after the last group of the text "
+     "before the previous one, in slot 1. This slot is 0.35 s after the first.",
+     "Keep each text on air for at least M + K slots"),
+    ("EarlyFlag", ["C201 A140 504F 5020", "C201 A150 4A41 5A5A", "C201 A140 504F 5020"],
+     "First in slot 2 (line 3): a name (PTYN) reused the A/B flag", "flip the flag only for a new text"),
+    ("Changed", [HI, "C201 2140 594F 0D20"],
+     "First in slot 1 (line 2): a text changed without a flip of the A/B flag. This slot",
+     "Flip the flag with every change"),
+    ("NotOneText", ["C201 2140 4849 0D21"],
+     "First in slot 0 (line 1): the segments fit no text. This slot", "end the text with one carriage return"),
+    ("NotOneText", ["C201 A140 0148 4949"],
+     "First in slot 0 (line 1): the segments fit no name (PTYN). This slot", "A name has eight printable characters"),
+    ("EarlyTag", ["# note", "C201 B158 8012 0985"],
+     "First in slot 0 (line 2): RT+ tags came before any text. This slot", "If this 11A is not RT+, empty its lines"),
+    ("EarlyTag", [HI, YO, "C201 B158 8012 0985"],
+     "First in slot 2 (line 3): RT+ tags came less than M + K = 8 slots after their text started, in slot 1. This slot",
+     "Send the first tags M + K slots after"),
+    ("TagOutside", [HI, *[NOTHING] * 6, HI, "C201 B158 8012 0985"],
+     "First in slot 8 (line 9): an RT+ tag ends past the end of its text. This slot", "Count the start from 0"),
+]
+
+
+def lost(b):
+    """Returns the slots that the reader lost."""
+    return b.run("[...logTab.state.lost]")
+
+
+def with_times(dice):
+    """Returns a log of groups with times, as RDS Spy writes them or in seconds, with breaks, and lines without a
+    time."""
+    now, lines, spy = dice.randrange(10 ** 6) / 100, [], dice.random() < 0.6
+    breaks, odd = [0.0876, 0.09, 0.18, 1, 3.5, -50, 0, 0.11, 90_000], ["", " @2024/13/01 00:00:00.00", " -1", " x"]
+    for _ in range(dice.randrange(2, 40)):
+        now = max(0, now + dice.choice(breaks if dice.random() < 0.3 else [0.0876]))
+        day, rest = divmod(now, 86_400)
+        clock = f"{int(rest // 3600):02d}:{int(rest // 60 % 60):02d}:{rest % 60:05.2f}"
+        time_of_line = f" @2024/{6 + int(day) // 28:02d}/{1 + int(day) % 28:02d} {clock}" if spy else f" seen {now:.3f}"
+        time_of_line = time_of_line if dice.random() < 0.95 else dice.choice(odd)
+        lines.append(dice.choice(GROUPS[:8]) + time_of_line + dice.choice(["", "", "  "]))
+        if dice.random() < 0.1:
+            lines.append(dice.choice(["", "# note", "<x>"]))
+    return dice.choice(["\n", "\r\n"]).join(lines) + dice.choice(["\n", ""])
+
+
+def text_of_two_segments(slot):
+    """Returns two lines with a text of its own for this number, and the flag of every other text."""
+    second = f"C201 21{4 + slot % 2}"
+    return (f"{second}0 {0x4130 + slot // 100:04X} {0x2000 + 0x30 + slot // 10 % 10:04X}\n"
+            f"{second}1 {0x3000 + slot % 10 * 256 + 13:04X} 2020\n")
+
+
+def listed(b):
+    """Returns the rows of the list of changes: slot, time, part and text."""
+    parts = "[...it.children].map(part => part.textContent)"
+    return b.run(f"[...document.querySelectorAll('#log-changes button')].map(it => {parts})")
+
+
+class LogTab:
+    def test_the_first_log_shows_its_mix_and_its_verdict(self):
+        b = self.b
+        call(b, "page.tab", "log")
+        call(b, "probe.choose", "log-example", 0)
+        settled_verdict(b)
+        self.check("its verdict", text_of(b, "#verdict h2 code"), "EarlyFlag")
+        self.check("it shows the mix", (shown(b, "log-radio"), of(b, "#log-radio", "className")),
+                   ("JAZZMIX", "radio mixed"))
+        self.check("its lines", text_of(b, "#log-lines"), '1 text "JAZZ FM"\n5 text "JAZZMIX"\n')
+        b.run("logTab.timeline.canvas.focus()")
+        b.key("ArrowLeft", number=37)
+        self.check("a key moves a slot back", (b.run("logTab.timeline.cursor"), shown(b, "log-radio")), (4, "JAZZ FM"))
+        b.key("l", "KeyL", 76)
+        idle(b)
+        self.check("a key gives a lost slot back", lost(b), [2, 3])
+        told = of(b, "#log-time canvas", "ariaValueText").split(". ")
+        self.check("the slider tells slot and group", told[:2], ["slot 4 of 6 · 0.35 s", "text group"])
+        click(b, "#log-unlose")
+        self.check("all received again", text_of(b, "#log-lines").splitlines()[-1], '5 text "POP MIX"')
+        settled_verdict(b)
+        click(b, "#verdict .witness button")
+        self.check("the button loses the slots of the witness", (lost(b), shown(b, "log-radio")), ([2, 3], "POP  FM"))
+        click(b, "#log-click")
+        at = b.run("probe.place(logTab.timeline, 0, lane => lane.lost)")
+        b.drag(at, at)
+        self.check("a click loses a slot", lost(b), [2, 3, 0])
+        click(b, "#log-click")
+
+    def test_other_dwells_have_the_answers_of_the_program(self):
+        """Yes and no are not monotone in M."""
+        b = self.b
+        dice = random.Random(SEED)
+        logs = [EVERY_100, example("flags.log").decode(),
+                *("".join(f"{dice.choice(GROUPS[:8])}\n" for _ in range(20)) for _ in range(5))]
+        for number, log in enumerate(logs):
+            for k in (0, 3):
+                call(b, "logTab.open", log, {"pi": "C201", "m": 128, "k": k})
+                got = b.run("[...document.querySelectorAll('#dwells button')].map(it => it.textContent)")
+                answers = [program(["audit", "--pi", "C201", "--m", str(m), "--k", str(k)],
+                                   log.encode())[0] for m in DWELLS]
+                self.check(f"seed {SEED}, answers for log {number}, K {k}", got,
+                           [f"{m:,} {'✗' if no else '✓'}" for m, no in zip(DWELLS, answers)])
+        call(b, "logTab.open", EVERY_100, {"pi": "C201", "m": 128, "k": 0})
+        click(b, "#dwells [data-m='64']")
+        self.check("a button chooses its dwell", (of(b, "#log-m", "value"), text_of(b, "#verdict h2")),
+                   ("64", "✓ Passes with M = 64 (5.61 s)"))
+        call(b, "logTab.open", f"{NOTHING}\n", {"pi": "C201", "m": 8, "k": 0})
+        self.check("no answers without a group", of(b, "#dwells", "hidden"), True)
+
+    def test_lost_slots_by_time_are_added_as_by_examples_slots(self):
+        """Until then the verdict is not green."""
+        b = self.b
+        dice, offered = random.Random(SEED), 0
+        for number in range(60):
+            log, m = with_times(dice), dice.choice([8, 128])
+            call(b, "logTab.open", log, {"pi": "C201", "m": m, "k": 0})
+            done = subprocess.run([os.path.join(EXAMPLES, "slots"), "--m", str(m)], input=log.encode(),
+                                  capture_output=True, timeout=SECONDS)
+            has_more = len(done.stdout.splitlines()) > b.run("logTab.state.times.timed")
+            is_offered = "Add the lost slots" in text_of(b, "#verdict")
+            self.check(f"seed {SEED}, times {number}: offered", is_offered, has_more)
+            if not is_offered:
+                continue
+            offered += 1
+            self.check(f"seed {SEED}, times {number}: no green",
+                       of(b, "#verdict", "className") in ("verdict empty", "verdict no"),
+                       True)
+            buttons = "[...document.querySelectorAll('#verdict button')]"
+            b.run(f"{buttons}.find(it => it.textContent === 'Add the lost slots').click()")
+            idle(b)
+            self.check(f"seed {SEED}, times {number}: added as by examples/slots", of(b, "#log-text", "value"),
+                       done.stdout.decode())
+        self.check("lost slots were offered", offered > 20, True)
+        hour = f"{HI} @2026/11/26 10:00:00.00\nC201 2150 4A4F 0D20 @2026/11/26 11:00:00.00\n"
+        call(b, "logTab.open", hour, {"pi": "C201", "m": 128, "k": 0})
+        said = ("Lost slots: By the times of the lines, 41,105 slots are not in this log. "
+                "The audit takes the lines as slots without a gap, so this answer may be wrong. Add the lost slots")
+        self.check("an hour without a group", said in text_of(b, "#verdict") or text_of(b, "#verdict"), True)
+        b.run("logTab.timeline.move(1)")
+        self.check("the clock of a slot", "11:00:00" in text_of(b, "#log-time output") + text_of(b, "#log-changes"),
+                   True)
+
+    def test_lines_are_read_as_the_program_reads_them(self):
+        b = self.b
+        dice = random.Random(SEED)
+        odd = ["", "\r", " ", "#", "<x>", "%", "\ufeff", "hello", HI + " @x", HI + "\r", HI + "x", HI + "\r ", HI[:-1],
+               "C201  2140 4849 0D20",
+               "c201 a14F 4849 0d20", "C201 ---- 4849 0D20", NOTHING, "---- --- 4849 0D20", "C201-2140 4849 0D20",
+               " " + HI, "C201 21G0 4849 0D20"]
+        for number in range(150):
+            some = [dice.choice(odd) if dice.random() < 0.12 else dice.choice(GROUPS)
+                    for _ in range(dice.randrange(30))]
+            log = "\n".join(some) + dice.choice(["", "\n"])
+            call(b, "logTab.open", log, {"pi": "C201", "m": 8, "k": 0})
+            good = log.split("\n")
+            bad = re.search(r"^fault line (\d+)", program(["decode", "--pi", "C201", "--m", "1"], log.encode())[1],
+                            re.M)
+            before = "\n".join(good[:int(bad[1]) - 1]) + "\n" if bad else log
+            slots = program(["decode", "--pi", "C201", "--m", "1"], before.encode())[0]
+            count = sum(1 for line in before.split("\n") if line.strip("\r") and line[0] not in "<#%")
+            self.check(f"seed {SEED}, slots of odd log {number}", (b.run("logTab.state.log.count"), slots), (count, 0))
+
+    def test_the_list_has_each_change_and_can_be_filtered(self):
+        """A row goes to its slot."""
+        b = self.b
+        call(b, "probe.choose", "log-example", 1)
+        name = {"text": "text", "name": "name (PTYN)", "tag1": "tag", "tag2": "tag"}
+        wanted = []
+        for slot, part, rest in re.findall(r"^(\d+) (text|name|tag1|tag2) (.*)$", text_of(b, "#log-lines"), re.M):
+            if rest != "none":
+                kind, _, said = rest.partition(' "')
+                wanted.append([slot, name[part], said[:-1] if not kind.startswith('"') else rest[1:-1], kind])
+        got = listed(b)
+        self.check("the list of changes", [[slot, part] for slot, _, part, _ in got],
+                   [[slot, part] for slot, part, _, _ in wanted])
+        self.check("and what they are", [said in shown_there for (_, _, said, _),
+                                         (_, _, _, shown_there) in zip(wanted, got)], [True] * len(wanted))
+        call(b, "probe.choose", "log-find", "beyonc")
+        settle(b)
+        self.check("the field filters",
+                   ({"beyonc" in said.lower() for *_, said in listed(b)}, text_of(b, "#log-found")),
+                   ({True}, f"{len(listed(b))} of {len(wanted)} changes"))
+        click(b, "#log-changes li:last-child button")
+        self.check("a row goes to its slot", b.run("logTab.timeline.cursor"), int(listed(b)[-1][0]))
+        self.check("and is marked", b.run("document.querySelector('#log-changes [aria-current] .slot').textContent"),
+                   listed(b)[-1][0])
+        call(b, "probe.choose", "log-find", "")
+        settle(b)
+        call(b, "logTab.open", "".join(map(text_of_two_segments, range(1000))), {"pi": "C201", "m": 8, "k": 0})
+        rows = len(listed(b))
+        b.run("logTab.timeline.move(900)")
+        slot = b.run("document.querySelector('#log-changes [aria-current] .slot').textContent")
+        self.check("a long list is laid out in part, around the slot",
+                   (rows <= 100, len(listed(b)) <= 100, abs(int(slot.replace(",", "")) - 900) < 4), (True,) * 3)
+        first_examples(b)
+
+    def test_the_chosen_group_is_in_words(self):
+        """The words are its type, flag, segment, characters and blocks."""
+        b = self.b
+        call(b, "logTab.open", "".join(f"{line}\n" for line, _ in GROUP_WORDS), {"pi": "C201", "m": 8, "k": 0})
+        for slot, (line, words) in enumerate(GROUP_WORDS):
+            b.run(f"logTab.timeline.move({slot})")
+            self.check(f"the group {line}", text_of(b, "#log-group"), words)
+        first_examples(b)
+
+    def test_a_no_has_the_note_of_the_program_and_the_cure(self):
+        """It has no advice for a terminal."""
+        b = self.b
+        for fault, log, what, should in EXPLAINED:
+            said = verdict_of(b, "".join(f"{line}\n" for line in log), 8)
+            missing = [it for it in (what, should) if it not in said]
+            self.check(f"{fault}: {what}", (text_of(b, "#verdict h2 code"), missing, "rdsrt" in said),
+                       (fault, [], False))
+
+    def test_a_witness_is_that_of_the_program(self):
+        """Also far behind the no."""
+        b = self.b
+        dice, found = random.Random(SEED), 0
+        groups = GROUPS[:8] + ["C201 2150 4E45 5753", "C201 2151 2046 4D0D", "C201 A150 4A41 5A5A",
+                               "C201 A151 2046 4D20"]
+        for number in range(40):
+            m, log = dice.choice([2, 4, 8]), "".join(f"{dice.choice(groups)}\n" for _ in range(dice.randrange(4, 60)))
+            options, said = ["--pi", "C201", "--m", str(m)], verdict_of(b, log, m)
+            if program(["audit", *options], log.encode())[0] == 0:
+                self.check(f"seed {SEED}, log {number} passes", "✓ Passes with M = " in said, True)
+                continue
+            told = program(["witness", *options], log.encode())[1].splitlines()
+            its = b.run("logTab.state.witness")
+            slots = its["lost"] and "-".join(map(str, sorted(set(its["lost"]))))
+            self.check(f"seed {SEED}, witness of log {number}, M {m}",
+                       [f"lose {slots}: {line}" for line in its["shown"]]
+                       or ["no witness found with one burst lost"], told)
+            found += bool(its["shown"])
+        self.check("witnesses were found", found > 5, True)
+        verdict_of(b, example("flags.log").decode(), 8)
+        b.run("verdict.showWitness({ lost: null, shown: [], failure: 'no memory for this input' }, {})")
+        self.check("a search that fails", text_of(b, "#witness"),
+                   "No witness: no memory for this input. A no says that a rule was broken.")
+        # one text of one segment, whose flag turns each time, makes no mix
+        harmless = "".join(f"C201 21{flag}0 4849 0D20\n" for flag in (4, 5, 4)) + f"{NOTHING}\n" * 60
+        said = verdict_of(b, harmless + example("flags.log").decode(), 8)
+        self.check("a witness far behind the no",
+                   'loses slots 65 to 66 shows a text that nobody sent: 67 text "POP  FM"' in said, True)
+
+    def test_each_task_takes_at_most_four_clicks(self):
+        """Is my encoder safe, what M for 15 s, when did the text change?"""
+        b = self.b
+        def clicks(*steps):
+            for step in steps:
+                step()
+                settle(b)
+            return len(steps)
+
+        file = lambda: call(b, "probe.pick", "log-file", "own.log", EVERY_100)
+        used = clicks(file)
+        told = text_of(b, "#verdict")
+        wanted = ["✗ EarlyFlag with M = 128 (11.2 s)", "Keep each text on air for at least M + K slots", "64 ✓",
+                  "128 ✗"]
+        self.check("is my encoder safe, and what to change", (used <= 4, [it for it in wanted if it not in told]),
+                   (True, []))
+        used = clicks(lambda: click(b, "#tab-dwell"), lambda: call(b, "probe.choose", "dwell-s", 15),
+                      lambda: click(b, "#dwell button"))
+        self.check("what M for texts of 15 s", (used <= 4, of(b, "#dwell-m", "value")), (True, "171"))
+        used = clicks(lambda: click(b, "#tab-log"), file, lambda: call(b, "probe.choose", "log-find", "news"),
+                      lambda: click(b, "#log-changes button"))
+        self.check("when did the text change", (used <= 4, text_of(b, "#log-time output")),
+                   (True, "slot 101 of 300 · 8.85 s"))
+        call(b, "probe.choose", "log-find", "")
+        first_examples(b)
+
+
+class Chromium(LogTab, ChromiumCase):
+    pass
+
+
+class Firefox(LogTab, FirefoxCase):
+    pass

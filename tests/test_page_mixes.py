@@ -1,0 +1,126 @@
+"""Receivers of the page: mixes with the flag bit alone, and why a receiver shows no text."""
+import re
+
+from tests.page_support import (HI, NOTHING, ChromiumCase, FirefoxCase, call, click, example, of, open_script,
+                                program, reload, shown, text_of)
+
+
+def runs_of(b, view, part="text"):
+    """Returns the slots from which a view shows another value of a part, with the value."""
+    return b.run(f"{view}.parts.{part}.map(run => [run.from, run.value])")
+
+
+class Mixes:
+    def test_a_mix_of_tags_is_red(self):
+        """A receiver loses a text and gets its tags. The words name the tags."""
+        b = self.b
+        rows = ["-,,1,"] * 48
+        rows[8:10] = ['text,"Édith Piaf, Milord",1,', "tags,1 1 4 0 9 1 12 5,1,"]
+        rows[24:26] = ['text,"Kraftwerk, Model",1,', "tags,0 1 4 0 8 1 11 4,1,"]
+        script = "".join(f"{row}G\n" for row in rows)
+        sent = dict(re.findall("^(\\d+) sent (.*)$", program(["sim", "--pi", "C201", "--m", "8"], script.encode())[1],
+                               re.M))
+        lost = [slot for slot in range(24, 48) if sent.get(str(slot), "").startswith("C201 2")]
+        open_script(b, "".join(f"{row}{'L' if slot in lost else 'G'}\n" for slot, row in enumerate(rows)), m=8, k=0)
+        log = "".join(f"{sent.get(str(slot), NOTHING)}\n" for slot in range(48))
+        call(b, "logTab.open", log, {"pi": "C201", "m": 8, "k": 0, "lost": lost})
+        told = ("With the flag bit alone: “Édith Piaf, Milord”, artist: Édith Pia, which nobody sent, title:  Milo, "
+                "which nobody sent.")
+        for tab in ("script", "log"):
+            call(b, "page.tab", tab)
+            b.run(f"{tab}Tab.timeline.move(47)")
+            self.check(f"{tab}: a mix of tags is red",
+                       (of(b, f"#{tab}-alone", "className"), text_of(b, f"#{tab}-alone .led")),
+                       ("radio alone mixed", "nobody sent this tag"))
+            self.check(f"{tab}: and is in the words", told in of(b, f"#{tab}-time canvas", "ariaValueText") or told,
+                       True)
+            self.check(f"{tab}: with the dwell there is none", of(b, f"#{tab}-radio", "className"), "radio")
+            b.run(f"{tab}Tab.timeline.move(22)")
+            self.check(f"{tab}: tags that were sent are not red", of(b, f"#{tab}-alone", "className"), "radio alone")
+
+    def test_the_flag_bit_alone_is_the_program_with_the_longest_dwell(self):
+        b = self.b
+        for number, name in enumerate(("flags.log", "accents.log")):
+            call(b, "probe.choose", "log-example", number)
+            click(b, "#log-unlose")
+            words = ["decode", "--pi", of(b, "#log-pi", "value"), "--m", "65535"]
+            told = re.findall(r'^(\d+) text (?:"(.*)"|none)$', program(words, example(name))[1], re.M)
+            wanted = [[int(slot), text or None] for slot, text in told]
+            self.check(f"the flag bit alone over {name}", (runs_of(b, "logTab.state.alone"), len(wanted) > 0),
+                       (wanted, True))
+        open_script(b, "".join(f"text,HI,1,{letter}\n" for letter in "GGRGLR"), m=1, k=0)
+        self.check("it restarts with its receiver", runs_of(b, "scriptTab.state.alone[0]"),
+                   [[1, "HI"], [2, None], [3, "HI"], [5, None]])
+        for slot, word in ((2, "restarted"), (5, "restarted")):
+            b.run(f"scriptTab.timeline.move({slot})")
+            self.check(f"why no text is shown in slot {slot}", shown(b, "script-radio"), f"— {word} —")
+        call(b, "page.tab", "log")
+        many = f"{HI}\n" + f"{NOTHING}\n" * 65_535
+        for text, ends, told in ((many[:-20], 65_535, ""),
+                                 (many, 65_535, "The flag bit alone is shown for the first 65,535 slots only.")):
+            call(b, "logTab.open", text, {"pi": "C201", "m": 8})
+            got = b.run("logTab.state.alone.parts.text.map(run => [run.from, run.to])"), text_of(b, "#log-limit")
+            self.check(f"its end over {text.count(chr(10))} slots", got, ([[0, ends]], told))
+        b.run("logTab.timeline.move(65535)")
+        self.check("it is not shown behind that", shown(b, "log-alone"), "— not shown here —")
+        self.check("nor told", "With the flag bit alone: not shown here" in of(b, "#log-time canvas", "ariaValueText"),
+                   True)
+
+    def test_the_examples_say_why_no_text_is_shown(self):
+        """They open on a mix of the flag bit alone beside the dwell."""
+        b = self.b
+        reload(b)
+        lines = program(["sim", "--pi", "C201", "--m", "8"], example("mix.csv"))[1]
+        slot = re.search("^(\\d+) r1 text", lines, re.M)[1]
+        told = ("The receiver with the dwell has dropped its segments of the old text. It shows the next one when it "
+                f"is whole: in slot {slot}.")
+        for tab in ("log", "script"):
+            call(b, "page.tab", tab)
+            kinds = [of(b, f"#{tab}-{it}", "classList.contains('mixed')") for it in ("radio", "alone")]
+            self.check(f"the first of {tab}", (kinds, text_of(b, f"#{tab}-why")), ([False, True], told))
+            b.run(f"{tab}Tab.timeline.move({slot})")
+            self.check(f"and where {tab} shows it", (shown(b, f"{tab}-radio"), text_of(b, f"#{tab}-why")),
+                       ("B7: closed today", ""))
+
+    def test_each_cause_of_no_text_has_its_word(self):
+        """The next text begins, the encoder is silent, or nothing came for the dwell."""
+        b = self.b
+        rows = ["-,,1,G"] * 48
+        rows[8], rows[24] = "text,The first of two texts,1,G", "text,Another one of so many words,1,G"
+        rows[28] = "restart,,1,G"
+        silent = "".join(f"{row}\n" for row in rows)
+        # the dwell ends in slot 28, which brings a segment of the same text
+        rows = [f"-,,1,{'L' if 21 <= slot < 28 else 'G'}" for slot in range(48)]
+        rows[8] = "text,HELLO WORLD,1,G"
+        lost = "".join(f"{row}\n" for row in rows)
+        begins, silence = "the next begins", "the encoder is silent"
+        for script, wanted in ((silent, {24: begins, 27: begins, 28: silence, 46: silence}), (lost, {28: "forgotten"})):
+            open_script(b, script, m=8, k=0)
+            for slot, word in wanted.items():
+                b.run(f"scriptTab.timeline.move({slot})")
+                self.check(f"why no text is shown in slot {slot}", shown(b, "script-radio"), f"— {word} —")
+
+    def test_after_a_restart_only_the_empty_text_prevents_a_mix(self):
+        """The flag begins at 0 again."""
+        b = self.b
+        rows = b.run("RDSRT_EXAMPLES.script.at(-1).text").splitlines()
+        with_it, without = rows[:26] + rows[52:], rows[:52]
+        for name, script, mixes in (("without the empty text", without, ["Road B7: closed", "Road B7: opesed"]),
+                                    ("with the empty text", with_it, [])):
+            open_script(b, "".join(f"{row}\n" for row in script), m=8, k=0)
+            all_shown = [text for _, text in runs_of(b, "scriptTab.state.alone[0]") if text is not None]
+            told = ("With the flag bit alone, receivers show 2 texts that nobody sent. With the dwell none does."
+                    if mixes
+                    else "No receiver shows a mix here. Lose more slots: a whole text and the next flip of the flag.")
+            self.check(f"restart {name}: mixes", [it for it in all_shown if f"text,{it}" not in "\n".join(script)],
+                       mixes)
+            self.check(f"restart {name}: texts", len(all_shown) - len(mixes), 2 if mixes else 3)
+            self.check(f"restart {name}: count", text_of(b, "#script-count"), told)
+
+
+class Chromium(Mixes, ChromiumCase):
+    pass
+
+
+class Firefox(Mixes, FirefoxCase):
+    pass

@@ -1,0 +1,146 @@
+"""The tab that plays a script: its editor, its brush, and the lanes of names and tags."""
+from tests.page_support import (ChromiumCase, FirefoxCase, call, click, example, of, open_script, printed, program,
+                                settle, shown, text_of)
+
+
+def mouse(b, kind, at, buttons=1):
+    """Sends an event of the mouse at this place."""
+    b.ask("Input.dispatchMouseEvent", type=kind, x=at[0], y=at[1], button="left", buttons=buttons, clickCount=1)
+
+
+class ScriptTab:
+    def test_the_first_script_can_be_edited_and_undone(self):
+        b = self.b
+        click(b, "#tab-script")
+        both = shown(b, "script-alone"), shown(b, "script-radio")
+        self.check("one with the flag bit alone shows a mix", both, ("A1: closed today", "— no text —"))
+        self.check("the mix is counted", text_of(b, "#script-count"),
+                   "With the flag bit alone, receivers show a text that nobody sent. With the dwell none does.")
+        self.check("it is the example", of(b, "#script-text", "value"), example("mix.csv").decode())
+        before = printed(b)
+        b.run("scriptTab.timeline.move(30)")
+        call(b, "probe.choose", "command", "restart")
+        self.check("a command is edited", "30 restart\n" in printed(b), True)
+        click(b, "#script-undo")
+        self.check("undone", (printed(b), of(b, "#script-redo", "disabled")), (before, False))
+        b.run("scriptTab.timeline.canvas.focus()")
+        b.key("y", "KeyY", 89, modifiers=2)
+        self.check("and done again by key", "30 restart\n" in printed(b), True)
+        b.key("z", "KeyZ", 90, modifiers=2)
+        self.check("and undone by key", printed(b), before)
+        self.brush()
+        call(b, "probe.choose", "script-n", 8)
+        settle(b)
+        self.check("eight receivers", b.run("scriptTab.state.rows[0].receptions.length"), 8)
+
+    def brush(self):
+        """Paints with the brush over a receiver's lane, and undoes the stroke."""
+        b = self.b
+        got = "scriptTab.state.rows.slice(8, 17).map(row => row.receptions[0]).join('')"
+        click(b, "[name=brush][value=L]")
+        b.drag(*(b.run(f"probe.place(scriptTab.timeline, {slot}, lane => lane.group === 0)") for slot in (10, 14)))
+        self.check("the brush loses slots", b.run(got), "GGLLLLLGG")
+        click(b, "[name=brush][value=look]")
+        click(b, "#script-undo")
+        self.check("a stroke is undone as one", b.run(got), "GGGGGGGGG")
+
+    def test_a_typed_text_belongs_to_its_slot(self):
+        """Even if another slot is chosen before the page plays it."""
+        b = self.b
+        open_script(b, "-,,1,G\n" * 12, m=1, k=0)
+        b.run("scriptTab.timeline.move(3)")
+        call(b, "probe.choose", "command", "text")
+        settle(b)
+        call(b, "probe.typeAndLeave", "HELLO", 6)
+        settle(b)
+        rows = ["-,,1,G"] * 12
+        rows[3] = "text,HELLO,1,G"
+        script = "".join(f"{row}\n" for row in rows)
+        self.check("a typed text stays in its slot", of(b, "#script-text", "value"), script)
+        self.check("and is played there", printed(b),
+                   program(["sim", "--pi", "C201", "--m", "1", "--pty", "10"], script.encode())[1])
+        b.run("scriptTab.timeline.move(3)")
+        call(b, "probe.typeAndLeave", "HELLO YOU", 6)
+        click(b, "#script-undo")
+        settle(b)
+        self.check("an undo at once takes back what was typed last", of(b, "#script-text", "value"), script)
+        click(b, "#script-redo")
+        self.check("and it can be done again", of(b, "#script-text", "value"), script.replace("HELLO", "HELLO YOU"))
+
+    def test_an_edit_changes_its_row_alone(self):
+        """Malformed rows, quotes, empty lines and line ends stay as they were written."""
+        b = self.b
+        wanted = '-,,1,GG\r\n\n-,,1,GXG\n"-",,"1",GG\n\n-,"",1,GX'
+        open_script(b, f"{wanted}\n\n", m=8, k=0)
+        fault = text_of(b, "#script-fault")
+        b.run("scriptTab.timeline.move(0)")
+        call(b, "probe.choose", "command", "restart")
+        text = wanted.replace("-,,1,GG\r\n", "restart,,1,GG\n", 1)
+        self.check("an edit changes its row alone", of(b, "#script-text", "value"), f"{text}\n\n")
+        self.check("and the fault stays", (text_of(b, "#script-fault"), "row 2 (line 3)" in fault), (fault, True))
+        click(b, "#script-undo")
+        self.check("undone", b.run("scriptTab.state.text"), f"{wanted}\n\n")
+        call(b, "scriptTab.open", wanted.replace("\r", ""), {"m": 8, "k": 0})
+        call(b, "probe.choose", "script-slots", 5)
+        settle(b)
+        self.check("another slot changes no row", of(b, "#script-text", "value"),
+                   wanted.replace("\r", "") + "\n-,,1,GG\n")
+        b.run("scriptTab.timeline.move(1)")
+        call(b, "probe.choose", "command", "restart")
+        self.check("an edited row is written anew", of(b, "#script-text", "value").splitlines()[1], "restart,,1,GG")
+
+    def test_names_and_tags_have_lanes(self):
+        b = self.b
+        open_script(b, "".join(f"{line}GG\n" for line in example("chanson.csv").decode().splitlines()), m=8, k=0)
+        names = b.run("scriptTab.timeline.lanes.map(lane => lane.name.trim())")
+        self.check("names and tags have lanes", (names.count("its name"), names.count("its tags")), (5, 5))
+        views = "[...scriptTab.state.alone, ...scriptTab.state.said.views]"
+        last = b.run(f"{views}.map(view => view.parts.tag1.at(-1).value.text)")
+        self.check("tags of both kinds of receivers", last, ["Édith Piaf"] * 4)
+        self.check("nothing is taken for a mix", "No receiver shows a mix" in text_of(b, "#script-count"), True)
+        sent = "[...scriptTab.timeline.lanes[0].codes]"
+        self.check("tags have their colour", b.run(f"{sent}.includes(lines.TAGS)"), True)
+        open_script(b, example("mix.csv").decode(), m=8, k=0)
+        wanted = ["text" if "sent C201 2" in line else "other" for line in printed(b).splitlines() if " sent " in line]
+        kinds = "['', 'text', 'name', 'tags', 'other']"
+        got = b.run(f"{sent}.filter(code => code).map(code => {kinds}[code & lines.KIND])")
+        self.check("announcements of tags have not", (got, "other" in got), (wanted, True))
+
+
+class Chromium(ScriptTab, ChromiumCase):
+    def test_a_stroke_of_the_brush_is_shown_at_once(self):
+        """The lane shows it while the pointer is down, before the script is played. Escape ends the brush."""
+        b = self.b
+        open_script(b, "-,,1,GG\n" * 40, m=8, k=0)
+        lane = "scriptTab.timeline.lanes.find(lane => lane.kind === 'ticks' && lane.group === 1)"
+        codes, drawn = f"[...{lane}.codes.slice(8, 17)]", "scriptTab.timeline.canvas.toDataURL()"
+        pointer = "scriptTab.timeline.canvas.classList.contains('brushes')"
+        places = [b.run(f"probe.place(scriptTab.timeline, {slot}, lane => lane.group === 1)") for slot in (10, 14)]
+        mouse(b, "mouseMoved", places[0], 0)
+        self.check("no brush", (text_of(b, "#brush-on"), b.run(pointer)), ("", False))
+        click(b, "[name=brush][value=L]")
+        mouse(b, "mouseMoved", places[0], 0)
+        self.check("the brush is seen", (text_of(b, "#brush-on"), b.run(pointer)),
+                   ("A click or a drag on a receiver makes it lose the slots. Escape returns to “look”.", True))
+        settle(b)
+        before = b.run(drawn)
+        for kind, place, wanted in (("mousePressed", places[0], [4, 4, 0, 4, 4, 4, 4, 4, 4]),
+                                    ("mouseMoved", places[1], [4, 4, 0, 0, 0, 0, 0, 4, 4])):
+            mouse(b, kind, place)
+            settle(b)
+            got = b.run(codes), b.run(drawn) != before, of(b, "#script-undo", "disabled")
+            self.check(f"{kind}: the lane shows it", got, (wanted, True, True))
+            before = b.run(drawn)
+        mouse(b, "mouseReleased", places[1], 0)
+        self.check("and as well once it is played", (b.run(codes), of(b, "#script-undo", "disabled")),
+                   ([4, 4, 0, 0, 0, 0, 0, 4, 4], False))
+        b.key("Escape", number=27)
+        mouse(b, "mouseMoved", places[0], 0)
+        brushes = b.run("document.querySelector('[name=brush]:checked').value")
+        self.check("Escape ends it", (brushes, text_of(b, "#brush-on"), b.run(pointer)), ("look", "", False))
+        b.drag(*places)
+        self.check("and a drag changes nothing more", b.run(codes), [4, 4, 0, 0, 0, 0, 0, 4, 4])
+
+
+class Firefox(ScriptTab, FirefoxCase):
+    pass

@@ -1,0 +1,187 @@
+"""The pages that people meet first: commands, links, names, pictures, word counts, and the one wording of the
+faults."""
+import glob
+import os
+import re
+import shutil
+import subprocess
+
+from tests.support import PROGRAM, ROOT, SECONDS, Case, text_of
+
+MOST_WORDS = {"README.md": 850, "docs/GUIDE.md": 2000, "docs/FORMATS.md": 1500, "docs/TRUST.md": 700,
+              "docs/DECISIONS.md": 1800, "docs/PROVER.md": 900, "docs/ARCHITECTURE.md": 1900,
+              "docs/DEFINITIONS.md": 3000, "docs/PROMISES.md": 2500, "CONTRIBUTING.md": 800, "CHANGELOG.md": 150}
+# pages of which no command is shown
+WITHOUT_COMMANDS = ("docs/TRUST.md", "docs/DECISIONS.md", "docs/PROMISES.md", "docs/PROVER.md", "CONTRIBUTING.md",
+                    "CHANGELOG.md")
+MANUAL, HEADER, CURES = "docs/man/rdsrt.1", "include/rdsrt.h", "page/verdict.js"
+HELP = ["tests/shown/help.txt",
+        *(f"tests/shown/help_of_{it}.txt" for it in ("decode", "audit", "witness", "encode", "sim"))]
+FAULTS = {"EarlyFlag", "Changed", "NotOneText", "EarlyTag", "TagOutside"}
+REPLIES = ("ok", "silent", "held", "notext", "outoftext")
+FAULT_LINES = ("fault line", "fault row", "fault read", "fault too long", "fault memory", "fault pi")
+# each time is in one page
+TIMES = ("6 to 11 minutes", "20 to 30 minutes")
+
+
+def all_pages():
+    """Returns the paths of all Markdown pages."""
+    folders = ("", "docs", "crates", "examples", "python", "experiments/*")
+    found = [it for at in folders for it in glob.glob(os.path.join(ROOT, at, "*.md"))]
+    return sorted(os.path.relpath(it, ROOT) for it in found)
+
+
+def manual():
+    """Returns the man page as text, without its requests and escapes."""
+    lines = [re.sub(r"^\.[A-Za-z]{1,2} ?", "", line) for line in text_of(MANUAL).splitlines()]
+    return "\n".join(lines).replace(r"\e", "\\").replace(r"\-", "-")
+
+
+def shell_blocks(path):
+    """Returns the blocks of shell lines: the marked ones of a page, and the examples of the man page and of help."""
+    if path.endswith(".md"):
+        return re.findall(r"```sh\n(.*?)```", text_of(path), re.S)
+    if path == MANUAL:
+        return manual().split("EXAMPLES\n")[1].split("\nNOTES")[0].split("\n\n")
+    return re.findall(r"^Example:\n(.*?)(?:\n\n|\Z)", text_of(path), re.M | re.S)
+
+
+def commands_in(path):
+    """Gives each command that is shown, with the lines under it."""
+    for block in shell_blocks(path):
+        block = re.sub(r"^  ", "", block, flags=re.M).strip("\n") + "\n"
+        for shown in re.split(r"^\$ ", block, flags=re.M)[1:]:
+            command, _, output = shown.partition("\n")
+            yield command, output
+
+
+def slugs(path):
+    """Returns the anchors of a page's headings, as GitHub makes them."""
+    headings = re.findall(r"^#+ (.*)$", re.sub(r"```.*?```", "", text_of(path), flags=re.S), re.M)
+    return {re.sub(r"[^\w\- ]", "", it.lower()).replace(" ", "-") for it in headings}
+
+
+def plain(text):
+    """Returns only the words, without line ends and signs of comments, roff and code."""
+    joined = re.sub(r'"\s*\+\s*"', "", text)
+    return " ".join(re.findall(r"[A-Za-z0-9/]+|(?<=[A-Z] )\+(?= [A-Z])|(?<=RT)\+", re.sub(r"\n\s*\*? *", " ", joined)))
+
+
+class Pages(Case):
+    def test_each_command_prints_the_lines_under_it(self):
+        """Each command of the pages, of the man page and of help prints the lines under it."""
+        environment = {**os.environ, "PATH": os.path.dirname(PROGRAM) + os.pathsep + os.environ["PATH"]}
+        played = set()
+        for path in [*MOST_WORDS, MANUAL, *HELP]:
+            shown = list(commands_in(path))
+            if path not in WITHOUT_COMMANDS:
+                self.check(f"{path} has commands", len(shown) > 0, True)
+            for command, output in shown:
+                # ./rdsrt is the program once it is built
+                call = command.replace("./rdsrt", "rdsrt")
+                done = subprocess.run(["bash", "-c", call], cwd=ROOT, stdout=subprocess.PIPE, stderr=subprocess.DEVNULL,
+                                      timeout=SECONDS, env=environment)
+                self.check(f"{path}: {command}", done.stdout.decode(), output)
+                if path.endswith(".md"):
+                    played |= set(re.findall(r"examples/[\w.]+\.(?:csv|log)", command))
+        files = {os.path.relpath(it, ROOT) for kind in ("csv", "log")
+                 for it in glob.glob(os.path.join(ROOT, f"examples/*.{kind}"))}
+        self.check("a page plays each example", files - played, set())
+
+    def test_each_link_and_each_named_section_exists(self):
+        """Each relative link leads to a file, and each anchor to a heading; each section that is named is there."""
+        for path in all_pages():
+            text = re.sub(r"```.*?```", "", text_of(path), flags=re.S)
+            for target in re.findall(r"\]\(([^)\s]+)\)", text):
+                if target.startswith(("http:", "https:")):
+                    continue
+                name, _, anchor = target.partition("#")
+                to = os.path.normpath(os.path.join(os.path.dirname(path), name)) if name else path
+                there = os.path.exists(os.path.join(ROOT, to))
+                self.check(f"{path}: link to {target}", there and (not anchor or anchor in slugs(to)), True)
+        sources = [os.path.relpath(it, ROOT) for kind in ("md", "h", "c", "js", "py", "rt", "html")
+                   for it in glob.glob(os.path.join(ROOT, f"**/*.{kind}"), recursive=True) if "/out/" not in it]
+        named = r"\b(README|CONTRIBUTING|CHANGELOG|(?:docs/)?[A-Z]{5,})(?:\.md)?[)`]*, \"([A-Z][^\"\n]*)\""
+        for path in sources:
+            for page, section in re.findall(named, text_of(path)):
+                page = next((it for it in all_pages() if os.path.basename(it) == os.path.basename(page) + ".md"), None)
+                if page:
+                    self.check(f"{path}: section {section} of {page}",
+                               section in re.findall(r"^#+ (.*)$", text_of(page), re.M), True)
+
+    def test_readme_leads_to_each_page(self):
+        """README leads to each page."""
+        linked = {os.path.normpath(it.partition("#")[0]) for it in re.findall(r"\]\(([^)\s]+)\)", text_of("README.md"))}
+        self.check("README leads to each page", set(all_pages()) - linked - {"README.md"}, set())
+
+    def test_no_page_has_more_words_than_it_may(self):
+        for path, most in MOST_WORDS.items():
+            count = len(text_of(path).split())
+            self.check(f"{path} has at most {most} words", count if count > most else most, most)
+
+    def test_each_fault_of_the_audit_has_one_wording(self):
+        """Each fault of the audit has one wording, with cause and cure. The page has the cures alone, beside the
+        program's notes."""
+        section = text_of("docs/FORMATS.md").split("### Faults of the audit\n")[1].split("\n\nNames (PTYN)")[0]
+        wordings = dict(re.findall(r"^- `(\w+)`: (.*?)(?=\n- |\Z)", section.strip(), re.M | re.S))
+        self.check("FORMATS has the five faults", set(wordings), FAULTS)
+        places = {"audit --help": text_of("tests/shown/help_of_audit.txt"), MANUAL: manual(), HEADER: text_of(HEADER)}
+        for name, wording in wordings.items():
+            self.check(f"{name} has a cause and a cure", wording.count(".") >= 2, True)
+            for place, text in places.items():
+                self.check(f"{name} in {place}", plain(wording) in plain(text), True)
+            cure = wording.split(".", 1)[1]
+            self.check(f"the cure of {name} in {CURES}", plain(cure) in plain(text_of(CURES)), True)
+
+    def test_the_man_page_and_formats_are_complete(self):
+        text = manual()
+        for word in (*FAULTS, *REPLIES, "G3", "witness", *FAULT_LINES):
+            self.check(f"the man page has {word}", word in text, True)
+        formats = text_of("docs/FORMATS.md")
+        for word in (*REPLIES, "`G3`", *FAULT_LINES):
+            self.check(f"FORMATS has {word}", word in formats, True)
+
+    def test_the_kit_and_each_time_are_in_one_page(self):
+        texts = {path: text_of(path) for path in all_pages()}
+        lines = [(path, line) for path, text in texts.items() for line in re.findall(r"`(rattle-kit-[^`]*)`", text)]
+        self.check("the kit is named once", len(lines), 1)
+        if shutil.which("rt"):
+            version = subprocess.run(["rt", "version"], capture_output=True, text=True, timeout=SECONDS).stdout.strip()
+            self.check("the kit's line", [line for _, line in lines], [version])
+        for time in TIMES:
+            self.check(f"'{time}' is in one page", [sum(text.count(time) for text in texts.values())], [1])
+
+    def test_each_version_is_that_of_the_program(self):
+        """The program has the version; the other files repeat it. tests/c/calls.c compares the library and the header."""
+        version = subprocess.run([PROGRAM, "--version"], capture_output=True, text=True,
+                                 timeout=SECONDS).stdout.split()[1]
+        in_header = dict(re.findall(r"^#define RDSRT_VERSION_(\w+) (\d+)$", text_of(HEADER), re.M))
+        found = {
+            "CHANGELOG.md": re.findall(r"^## (\S+)", text_of("CHANGELOG.md"), re.M)[0],
+            "README.md": re.findall(r"Version (\S+?):", text_of("README.md"))[0],
+            MANUAL: re.findall(r'"rdsrt (\S+)"', text_of(MANUAL))[0],
+            HEADER: ".".join(in_header[it] for it in ("MAJOR", "MINOR", "PATCH")),
+            "python/src/rdsrt/__init__.py": re.findall(r'^__version__ = "(.*)"', text_of("python/src/rdsrt/__init__.py"),
+                                                       re.M)[0],
+        }
+        for path, it in found.items():
+            self.check(f"version in {path}", it, version)
+
+    def test_the_contracts_in_pages_are_in_the_sources(self):
+        """The lines of contracts that README and TRUST show are in the sources."""
+        sources = set()
+        for kind in ("src/*.rt", "specs/*.antt"):
+            for path in glob.glob(os.path.join(ROOT, "crates/*", kind)):
+                sources |= {line.strip() for line in text_of(os.path.relpath(path, ROOT)).splitlines()}
+        for path in ("README.md", "docs/TRUST.md"):
+            blocks = [it for it in re.findall(r"```text\n(.*?)```", text_of(path), re.S) if "pub record" in it]
+            self.check(f"{path} has a contract", len(blocks), 1)
+            shown = [line.strip() for line in blocks[0].splitlines() if line.strip()]
+            # two dots stand for the parameters
+            missing = [it for it in shown if it not in sources and not any(
+                line.startswith(it.partition(" .. ")[0] + " ") for line in sources if " .. " in it)]
+            self.check(f"{path}: the lines are in the sources", missing, [])
+
+    def test_the_picture_is_what_its_script_draws(self):
+        done = subprocess.run([os.path.join(ROOT, "docs/mix.py")], stdout=subprocess.PIPE, timeout=SECONDS)
+        self.check("docs/mix.svg is what docs/mix.py draws", done.stdout.decode() == text_of("docs/mix.svg"), True)

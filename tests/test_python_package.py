@@ -1,0 +1,98 @@
+"""The Python package: its own tests, its types, its wheel, and `slots` beside examples/slots."""
+import os
+import random
+import re
+import shutil
+import subprocess
+import sys
+import tempfile
+import zipfile
+
+from tests import c_library
+from tests.package import SOURCES, PackageCase
+from tests.support import ARCHIVE, ROOT, needs, path
+
+SECONDS = 300
+# the system's Python often has setuptools and wheel if the first does not
+PYTHONS = (sys.executable, "/usr/bin/python3")
+
+
+def output(words, given="", **more):
+    """Returns the status and the output of these words, with what they print on standard error."""
+    done = subprocess.run(words, input=given, stdout=subprocess.PIPE, stderr=subprocess.STDOUT, timeout=SECONDS,
+                          text=True, **more)
+    return done.returncode, done.stdout
+
+
+def with_wheel():
+    """Returns the first Python that has what makes a wheel, or None."""
+    there = [it for it in PYTHONS if os.path.exists(it)]
+    return next((it for it in there if output([it, "-c", "import setuptools, wheel, pip"])[0] == 0), None)
+
+
+class PythonPackage(PackageCase):
+    def test_its_own_tests_pass(self):
+        words = [sys.executable, "-m", "unittest", "discover", "-v", "-s", path("python/tests")]
+        _, printed = output(words, env=self.names)
+        found = re.findall(r"^(test_\w+) \(.*\.\.\. (.*)$", printed, re.M)
+        for name, result in found:
+            self.check(name, result, "ok")
+        self.check("each test has a result", re.findall(r"^Ran (\d+) tests", printed, re.M), [str(len(found))])
+        self.check("its last line", printed[-2000:].endswith("OK\n") or printed[-2000:], True)
+
+    @needs("mypy", package="mypy")
+    def test_mypy_finds_no_fault(self):
+        with tempfile.TemporaryDirectory() as cache:
+            status, printed = output(["mypy", "--strict", "--cache-dir", cache, SOURCES])
+        self.check(f"mypy --strict\n{printed}", status, 0)
+
+    def test_without_a_library_the_first_call_raises_no_library(self):
+        """The package can be imported without it."""
+        code = ("import rdsrt\ntry:\n    rdsrt.Receiver(1)\nexcept rdsrt.NoLibrary as fault:\n"
+                "    print(isinstance(fault, ImportError), 'RDSRT_LIBRARY' in str(fault))")
+        for library in ("/nowhere.so", "libc.so.6"):
+            got = output([sys.executable, "-c", code], env={**self.names, "RDSRT_LIBRARY": library})
+            self.check(f"{library} in place of the library", got, (0, "True True\n"))
+
+    def test_slots_counts_as_examples_slots(self):
+        """Over times by chance that go back now and then."""
+        code = ("import sys\nfrom rdsrt import *\n"
+                "pairs = ((float(line.split()[4]), next(read_log([line]))) for line in sys.stdin)\n"
+                "for it in slots(pairs, dwell=5):\n    print(format_group(it))")
+        rng, time, lines = random.Random(20261126), 1e9, []
+        for number in range(3000):
+            time += rng.choice([0.0876, 0.01, rng.random()]) if rng.random() < 0.99 else rng.choice([-50, -0.01,
+                                                                                                     86_401])
+            lines.append(f"C201 0000 0000 {number:04X} {time:.4f}\n")
+        wanted = output([os.path.join(ROOT, "examples/slots"), "--m", "5"], "".join(lines))[1]
+        wanted = [it[:19] for it in wanted.splitlines() if not it.startswith("slots:")]
+        got = output([sys.executable, "-c", code], "".join(lines), env=self.names)[1].splitlines()
+        self.check("seed 20261126", got == wanted and len(got) > 3000, True)
+
+    def test_a_wheel_made_twice_has_the_same_bytes_and_works_alone(self):
+        """It works without RDSRT_LIBRARY."""
+        python = with_wheel()
+        if not python or not shutil.which("x86_64-linux-gnu-gcc"):
+            self.skipTest("no Python here has setuptools and wheel (apt-get install python3-pip)")
+        with tempfile.TemporaryDirectory() as folder:
+            made = []
+            for place in ("one", "two"):
+                words = [os.path.join(ROOT, "python/wheel"), ARCHIVE, "x86_64", os.path.join(folder, place)]
+                status, printed = output(words, env={**os.environ, "PYTHON": python})
+                self.check(f"the wheel is made\n{printed}", status, 0)
+                if status:
+                    return
+                with open(printed.splitlines()[-1], "rb") as file:
+                    made.append(file.read())
+            self.check("the wheel made twice", made[0] == made[1], True)
+            inside = os.path.join(folder, "inside")
+            with zipfile.ZipFile(printed.splitlines()[-1]) as packed:
+                packed.extractall(inside)
+            inner = os.path.join(inside, f"rdsrt/librdsrt.so.{c_library.ABI}")
+            self.check("the library in the wheel", os.path.exists(inner), True)
+            alone = {name: it for name, it in self.names.items() if name != "RDSRT_LIBRARY"}
+            code = ("import rdsrt\nreceiver = rdsrt.Receiver(0xC201)\nreceiver.slot((0xC201, 0x2140, 0x4849, 0x0D20))\n"
+                    "print(receiver.view.text)")
+            got = output([sys.executable, "-c", code], env={**alone, "PYTHONPATH": inside})
+            self.check("a text by the wheel", got, (0, "HI\n"))
+            self.check("a wheel for no processor", output([words[0], ARCHIVE])[0], 2)
