@@ -1,5 +1,5 @@
-/* Does what `rdsrt audit` does: reads a log of all groups that some encoder sent, and tells whether they keep texts and
- * names apart, or the first slot that breaks a rule.
+/* Does what `rdsrt audit` does: reads a log of all groups of an encoder, and prints whether they keep the rules, or the
+ * first slot that breaks one.
  *
  *     cc audit.c $(pkg-config --cflags --libs rdsrt) -o audit
  *     ./audit C201 [DWELL [LATE]] < log */

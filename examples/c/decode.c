@@ -64,7 +64,7 @@ static bool same_item(const struct rdsrt_item *a, const struct rdsrt_item *b) {
     return a->is_shown == b->is_shown && (!a->is_shown || (a->toggle == b->toggle && a->running == b->running));
 }
 
-/* Tags are the same where their types and their pieces of the text are. */
+/* Two tags are the same if their types are, and their pieces of the text. */
 static bool same_tag(const struct rdsrt_tag *a, const uint8_t *a_text, const struct rdsrt_tag *b, const uint8_t *b_text) {
     return a->content_type == b->content_type && a->length == b->length
         && memcmp(a_text + a->start, b_text + b->start, a->length) == 0;

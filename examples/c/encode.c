@@ -1,5 +1,5 @@
-/* Does what `rdsrt encode` does, for scripts with no line feed in a field: reads one slot a row, and prints what a station
- * sends in it, with the replies to its commands as comments.
+/* Does what `rdsrt encode` does, for scripts without a line feed in a field: reads one slot a row, and prints the
+ * station's group in it, with the replies to the commands as comments.
  *
  *     cc encode.c $(pkg-config --cflags --libs rdsrt) -o encode
  *     ./encode C201 PTY [DWELL [LATE]] < script.csv */
@@ -16,8 +16,8 @@ struct station {
     uint8_t pty;
 };
 
-/* The next field of a row, which ends with a comma; NULL where there is none. Between quotation marks a comma is a byte
- * of the field, and two quotation marks are one. */
+/* Returns the next field of a row, up to a comma. NULL if there is none. Between quotation marks a comma is a byte of
+ * the field, and two quotation marks are one. */
 static char *field(char **row) {
     char *start = *row, *from = start, *to = start;
     bool quoted = *from == '"';
@@ -75,7 +75,7 @@ static uint32_t start(struct station *it) {
     return rdsrt_encoder_init(&it->encoder, it->pi, 0, it->pty, it->dwell, it->late);
 }
 
-/* Does what the row says of the slot's command, and prints the reply; false where it says nothing that can be done. */
+/* Runs the command of a row, and prints the reply. Returns false if the row is malformed. */
 static bool obey(struct station *it, unsigned long slot, const char *command, const char *argument) {
     uint8_t bytes[64];
     size_t length = 0;

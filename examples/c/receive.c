@@ -1,9 +1,9 @@
-/* A receive loop with a clock of slots. Groups come from a demodulator at times of its own clock; where none came, time
- * goes on all the same, and each slot that passes is one call. A text that is no longer heard goes after one dwell, though
- * nothing is received any more.
+/* A receive loop with a clock of slots. Groups come from a demodulator, at times of its own clock. Time goes on without
+ * them, and each slot that passes is one call. So the receiver drops a text one dwell after its last part, even if no
+ * more groups come.
  *
- * Each line of the input is a time in microseconds, and after it the four blocks of the group that was whole at that time.
- * A line with a time alone is a timer: nothing came up to then.
+ * Each line of the input has a time in microseconds, followed by the four blocks of the group that was complete then. A
+ * line with only a time is a timer: no group came up to then.
  *
  *     cc receive.c $(pkg-config --cflags --libs rdsrt) -o receive
  *     ./receive C201 [DWELL] < groups */
