@@ -2,7 +2,7 @@
 
 usage: python3 -m tests [--target aarch64] [NAME..]
 
-A NAME is a module, a class or a method: test_slots, test_slots.Live, test_slots.Live.test_full_output. Each class runs
+A NAME is a module, a class or a method: test_slots, test_slots.Live, test_slots.Live.test_full_output_is_noted. Each class runs
 in a process of its own. If that ends in the middle of a test, this test has failed, and the next process runs the
 others.
 
@@ -23,11 +23,10 @@ from concurrent.futures import ThreadPoolExecutor
 ROOT = os.path.dirname(os.path.dirname(os.path.abspath(__file__)))
 # seconds that one class may take
 LIMIT = 7200
-# the classes that take longest begin first
-LONGEST = ("PageBuild", "Microcontrollers", "Program", "Library", "Compilers", "ByChance", "GnuRadio", "Scripts",
-           "Radios",
-           "FailingCalls", "BesidePlainPlans", "BesideThePlainAudit", "Arguments", "Worlds", "Clocks", "Live",
-           "Restarts")
+# the modules that take longest begin first
+LONGEST = ("test_page_build", "test_arm", "test_microcontrollers", "test_witness", "test_c_library", "test_gnuradio",
+           "test_random_scripts", "test_radios", "test_failing_calls", "test_audit", "test_python_package", "test_json",
+           "test_worlds", "test_clocks", "test_monitor", "test_station")
 running, printing = set(), threading.Lock()
 
 
@@ -61,8 +60,8 @@ def classes_of(tests):
     found = {}
     for test in tests:
         found.setdefault(type(test), []).append(test)
-    order = {name: place for place, name in enumerate(LONGEST)}
-    return sorted(found.values(), key=lambda its: order.get(type(its[0]).__name__, len(order)))
+    order = {f"tests.{name}": place for place, name in enumerate(LONGEST)}
+    return sorted(found.values(), key=lambda its: order.get(type(its[0]).__module__, len(order)))
 
 
 def worker(names, folder):
@@ -150,6 +149,8 @@ def no_tests(why):
 
 def main():
     words = asked()
+    # the processes of the tests end with this one
+    signal.signal(signal.SIGTERM, lambda *_: sys.exit(1))
     try:
         from tests import support
     except SystemExit as why:
