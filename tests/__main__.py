@@ -2,9 +2,9 @@
 
 usage: python3 -m tests [--target aarch64] [NAME..]
 
-A NAME is a module, a class or a method: test_slots, test_slots.Live, test_slots.Live.test_full_output_is_noted. Each class runs
-in a process of its own. If that ends in the middle of a test, this test has failed, and the next process runs the
-others.
+A NAME is a module, a class or a method: test_slots, test_slots.Live, test_slots.Live.test_full_output_is_noted. Each
+class runs in a process of its own. If that ends in the middle of a test, this test has failed, and the next process
+runs the others.
 
 --target runs the tests of the program alone, with the program for 64-bit Arm under an emulator. All of them take about
 half an hour on 4 cores.
@@ -65,7 +65,7 @@ def classes_of(tests):
 
 
 def worker(names, folder):
-    """Runs these tests in a process. Returns the lines that it wrote, what it printed, and why it did not end well."""
+    """Runs these tests in a process. Returns its lines, its output, and why it did not end well."""
     with tempfile.TemporaryFile(dir=folder) as printed, tempfile.NamedTemporaryFile("r", dir=folder,
                                                                                     encoding="utf-8") as lines:
         words = [sys.executable, "-B", "-m", "tests.worker", lines.name, *names]
@@ -85,7 +85,7 @@ def worker(names, folder):
 
 
 def outcomes_of(names, folder):
-    """Runs these tests of one class. Returns outcome, name and text of each, and what was printed."""
+    """Runs these tests of one class. Returns outcome, name and text of each, and the output."""
     found, printed, left = [], "", list(names)
     while left:
         lines, more, why = worker(left, folder)

@@ -41,7 +41,7 @@ def bytes_of(name):
 
 
 def output(words, given=b"", seconds=300, **more):
-    """Returns the status and the output of any program, with what it prints on standard error."""
+    """Returns the status and the output of any program, standard error included."""
     done = subprocess.run(words, input=given, stdout=subprocess.PIPE, stderr=subprocess.STDOUT, timeout=seconds, **more)
     return done.returncode, done.stdout
 
@@ -87,8 +87,8 @@ def ran_by_shell(call, given=b"", **more):
 
 
 def build_archive(*target):
-    """Builds the archive of the C library if a source is newer. That takes minutes if it must be proved. Raises if it is
-    not built."""
+    """Builds the archive of the C library if a source is newer. That takes minutes if it must be proved. Raises if that
+    failed."""
     status, printed = output([BUILD_ARCHIVE, *target], seconds=3600)
     if status:
         raise RuntimeError(f"the archive of the C library is not built: {printed[-2000:].decode()}")

@@ -31,7 +31,7 @@ class GnuRadio(Case):
         got = radio.heard(case, temporary_folder(self))
         away = sum(last - first + 1 for first, last in case.fades)
         groups = [line for line in got.lines if line != radio.LOST]
-        # the first slots and the last may be missing; what stands between is in its place
+        # the first slots and the last may be missing; the slots between are in their places
         skipped = [at for at in range(4) if all(map(radio.is_of, got.lines, got.sent[at:]))]
         self.check("each slot has its line", len(skipped), 1)
         self.check("no line too many, or too few", case.slots - 4 <= len(got.lines) <= case.slots, True)

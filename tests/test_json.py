@@ -1,4 +1,4 @@
-"""Cases of examples/json: worked lines, live pipes, and the filter over the program beside the Python package."""
+"""examples/json: worked lines, live pipes, and the filter over the program beside the Python package."""
 import json
 import os
 import select
@@ -68,7 +68,7 @@ def next_object(descriptor):
 
 
 def changes(objects):
-    """Returns the objects without those that differ from the one before in nothing but the slot."""
+    """Returns the objects that differ from the one before in more than the slot."""
     bare = [{**it, "slot": None} for it in objects]
     return [it for at, it in enumerate(objects) if at == 0 or bare[at] != bare[at - 1]]
 

@@ -1,4 +1,4 @@
-"""Cases of examples/monitor: several stations beside decode and examples/json, metrics, the unit file, GNU parallel."""
+"""examples/monitor: several stations beside decode and examples/json, metrics, the unit file, GNU parallel."""
 import json
 import os
 import re

@@ -95,7 +95,7 @@ class Faults:
             scripts.append("".join(row.replace("\n", end or "\n") + (end or dice.choice(["\n", "\r\n", "\r"]))
                                    for row in rows))
         for script in scripts:
-            # the program counts line feeds, so it is asked about the script with line feeds alone
+            # the program counts line feeds, so it gets the script with only line feeds
             plain = re.sub("\r\n?", "\n", script).rstrip("\n") + "\n"
             told = BAD_ROW.search("".join(run_program(["sim", "--pi", "C201"], plain.encode())[2]))
             open_script(b, script, m=128, k=0)

@@ -1,4 +1,4 @@
-"""The program in the page prints what the program prints."""
+"""The program in the page prints the same as the program: status, output and notes."""
 import os
 import random
 

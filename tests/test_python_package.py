@@ -18,7 +18,7 @@ PYTHONS = (sys.executable, "/usr/bin/python3")
 
 
 def output(words, given="", **more):
-    """Returns the status and the output of these words, with what they print on standard error."""
+    """Returns the status and the output of these words, standard error included."""
     done = subprocess.run(words, input=given, stdout=subprocess.PIPE, stderr=subprocess.STDOUT, timeout=SECONDS,
                           text=True, **more)
     return done.returncode, done.stdout

@@ -1,4 +1,4 @@
-"""Cases of examples/slots: worked arrival times, and a line for each slot of a log with stamps.
+"""examples/slots: worked arrival times, and a line for each slot of a log with stamps.
 
 A slot is 104 / 1187.5 s, 0.08758 s, and the grain 0.02 s: n slots lie between two groups whose times are apart by more
 than 0.08758 (n - 1) + 0.02 s and by no more than 0.08758 n + 0.02 s.
@@ -44,7 +44,7 @@ JUMPS = [
     ("a hundredth back", ["9", "8.99", "9.08"], [0, 128, 0], BACK(128)),
     ("more than a day on", [SPY("06/01 00:00:00"), "@2024/06/02 00:00:00.01"], [0, 128], DAY),
 ]
-# lines that have no place in the count, and what is told of them
+# lines that have no place in the count, and the cause in the note
 ODD = [
     ("", ""), ("# note", ""), ('<recorder="balcony">', ""), ("% end", ""),
     ("C201 2140 4849 0D2 1", "no group"), ("C201  2140 4849 0D20 1", "no group"), ("hello", "no group"),
