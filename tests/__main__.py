@@ -102,14 +102,27 @@ def outcomes_of(names, folder):
     return found, printed
 
 
+def reports(found):
+    """Gives the lines on outcomes of one class. Tests that were skipped for the same reason share a line."""
+    skipped = {}
+    for outcome, name, text in found:
+        name = name.removeprefix("tests.")
+        if outcome == "failed":
+            yield f"FAILED: {name}: {text}"
+        elif outcome == "skipped":
+            skipped.setdefault(text, []).append(name)
+    for text, names in skipped.items():
+        name = names[0] if len(names) == 1 else f"{names[0].rpartition('.')[0]}, {len(names)} tests"
+        yield f"skipped: {name}: {text}"
+
+
 def run_class(tests, folder):
     """Runs the tests of one class and prints their reports. Returns the outcomes."""
     found, printed = outcomes_of([it.id() for it in tests], folder)
     with printing:
         print(printed, end="")
-        for outcome, name, text in found:
-            if outcome != "passed":
-                print(f"{outcome.upper() if outcome == 'failed' else outcome}: {name.removeprefix('tests.')}: {text}")
+        for line in reports(found):
+            print(line)
         sys.stdout.flush()
     return [outcome for outcome, _, _ in found]
 
