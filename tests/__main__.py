@@ -66,8 +66,8 @@ def classes_of(tests):
 
 def worker(names, folder):
     """Runs these tests in a process. Returns its lines, its output, and why it did not end well."""
-    with tempfile.TemporaryFile(dir=folder) as printed, tempfile.NamedTemporaryFile("r", dir=folder,
-                                                                                    encoding="utf-8") as lines:
+    with (tempfile.TemporaryFile(dir=folder) as printed,
+          tempfile.NamedTemporaryFile("r", dir=folder, encoding="utf-8") as lines):
         words = [sys.executable, "-B", "-m", "tests.worker", lines.name, *names]
         process = subprocess.Popen(words, cwd=ROOT, stdin=subprocess.DEVNULL, stdout=printed, stderr=subprocess.STDOUT,
                                    start_new_session=True)

@@ -192,9 +192,9 @@ def readme(check, folder, prefix, compiler="cc", runner=()):
     warnings, found = "-Wall -Wextra -pedantic -Werror", "$(pkg-config --cflags --libs rdsrt)"
     call = f"{compiler} -std=c11 {warnings} {source} {found} -o {program}"
     check("README's lines of C are built", output(["sh", "-c", call], env=paths), (0, b""))
-    # the emulator gives the second one to the program
-    paths["QEMU_SET_ENV" if runner else "LD_LIBRARY_PATH"] = ("LD_LIBRARY_PATH="
-                                                              if runner else "") + os.path.join(prefix, "lib")
+    libraries = os.path.join(prefix, "lib")
+    # the emulator gives the variable to the program
+    paths.update({"QEMU_SET_ENV": f"LD_LIBRARY_PATH={libraries}"} if runner else {"LD_LIBRARY_PATH": libraries})
     check("README's lines of C", output([*runner, program], env=paths), (0, b"HI\n"))
 
 

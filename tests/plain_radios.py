@@ -155,9 +155,8 @@ class Radio:
     def view(self):
         """Returns the parts that the radio shows, with their values."""
         run = plain_witness.run_of(self.texts, math.inf, self.count)
-        text, name = plain_witness.value_of(run,
-                                            False), plain_witness.value_of(plain_witness.run_of(self.names, math.inf,
-                                                                                                self.count), True)
+        run_of_name = plain_witness.run_of(self.names, math.inf, self.count)
+        text, name = plain_witness.value_of(run, False), plain_witness.value_of(run_of_name, True)
         shown = {part: value.decode() for part, value in (("text", text), ("name", name)) if value is not None}
         pair = next((bits for at, bits in reversed(self.tags) if run and at > run[-1][0]), None)
         return {**shown, **pieces(text.decode(), pair)} if text is not None and pair is not None else shown

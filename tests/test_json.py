@@ -76,7 +76,7 @@ def changes(objects):
 class Filter(Case):
     def test_lines_become_objects(self):
         for name, given, wanted in WORKED:
-            self.check(f"{name}", ran(given), (int("fault" in given), wanted, ""))
+            self.check(name, ran(given), (int("fault" in given), wanted, ""))
         self.check("the programme", ran('0 text "HI"\nfault read\n', "--pi", "c201"),
                    (1, [{"pi": "0xC201", "slot": 0, **HI}, {"pi": "0xC201", "fault": "read"}], ""))
         ascii_alone = {**os.environ, "LC_ALL": "C", "PYTHONUTF8": "0", "PYTHONCOERCECLOCALE": "0"}

@@ -90,8 +90,8 @@ class Faults:
         dice, seen = random.Random(SEED), set()
         scripts = ['-,,1,G\n""\n-,,1,G\n', '""\r-,,1,G\r', '-,,1,G\r-,,1,G\r\r-,,2,G\r', "-,,1,G\r-,x,1,G"]
         for _ in range(60):
-            rows, end = [dice.choice(SOME_ROWS) for _ in range(dice.randrange(1, 12))], dice.choice(["\n", "\r\n", "\r",
-                                                                                                     None])
+            rows = [dice.choice(SOME_ROWS) for _ in range(dice.randrange(1, 12))]
+            end = dice.choice(["\n", "\r\n", "\r", None])
             scripts.append("".join(row.replace("\n", end or "\n") + (end or dice.choice(["\n", "\r\n", "\r"]))
                                    for row in rows))
         for script in scripts:
