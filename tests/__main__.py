@@ -81,7 +81,8 @@ def worker(names, folder):
             why = f"its class took more than {LIMIT} s"
         running.discard(process)
         printed.seek(0)
-        return [json.loads(it) for it in lines], printed.read().decode(errors="replace"), why
+        whole = [json.loads(it) for it in lines if it.endswith("\n")]
+        return whole, printed.read().decode(errors="replace"), why
 
 
 def outcomes_of(names, folder):
@@ -99,6 +100,8 @@ def outcomes_of(names, folder):
             lost = begun or left
             found += [("failed", name, f"{why or 'the test wrote no outcome'}\n{more[-2000:]}") for name in lost]
             left = [it for it in left if it not in lost]
+        elif why:
+            found.append(("failed", names[0].rpartition(".")[0], f"after its tests {why}"))
     return found, printed
 
 
