@@ -2,9 +2,9 @@
 
 usage: python3 -m tests [--target aarch64] [NAME..]
 
-A NAME is a module, a class or a method: test_slots, test_slots.Live, test_slots.Live.test_full_output. Each class runs
-in a process of its own. If that ends in the middle of a test, this test has failed, and the next process runs the
-others.
+A NAME is a module, a class or a method: test_slots, test_slots.Live, test_slots.Live.test_full_output_is_noted. Each
+class runs in a process of its own. If that ends in the middle of a test, this test has failed, and the next process
+runs the others.
 
 --target runs the tests of the program alone, with the program for 64-bit Arm under an emulator. All of them take about
 half an hour on 4 cores.
@@ -23,11 +23,10 @@ from concurrent.futures import ThreadPoolExecutor
 ROOT = os.path.dirname(os.path.dirname(os.path.abspath(__file__)))
 # seconds that one class may take
 LIMIT = 7200
-# the classes that take longest begin first
-LONGEST = ("PageBuild", "Microcontrollers", "Program", "Library", "Compilers", "ByChance", "GnuRadio", "Scripts",
-           "Radios",
-           "FailingCalls", "BesidePlainPlans", "BesideThePlainAudit", "Arguments", "Worlds", "Clocks", "Live",
-           "Restarts")
+# the modules that take longest begin first
+LONGEST = ("test_page_build", "test_arm", "test_microcontrollers", "test_witness", "test_c_library", "test_gnuradio",
+           "test_random_scripts", "test_radios", "test_failing_calls", "test_audit", "test_python_package", "test_json",
+           "test_worlds", "test_clocks", "test_monitor", "test_station")
 running, printing = set(), threading.Lock()
 
 
@@ -61,14 +60,14 @@ def classes_of(tests):
     found = {}
     for test in tests:
         found.setdefault(type(test), []).append(test)
-    order = {name: place for place, name in enumerate(LONGEST)}
-    return sorted(found.values(), key=lambda its: order.get(type(its[0]).__name__, len(order)))
+    order = {f"tests.{name}": place for place, name in enumerate(LONGEST)}
+    return sorted(found.values(), key=lambda its: order.get(type(its[0]).__module__, len(order)))
 
 
 def worker(names, folder):
-    """Runs these tests in a process. Returns the lines that it wrote, what it printed, and why it did not end well."""
-    with tempfile.TemporaryFile(dir=folder) as printed, tempfile.NamedTemporaryFile("r", dir=folder,
-                                                                                    encoding="utf-8") as lines:
+    """Runs these tests in a process. Returns its lines, its output, and why it did not end well."""
+    with (tempfile.TemporaryFile(dir=folder) as printed,
+          tempfile.NamedTemporaryFile("r", dir=folder, encoding="utf-8") as lines):
         words = [sys.executable, "-B", "-m", "tests.worker", lines.name, *names]
         process = subprocess.Popen(words, cwd=ROOT, stdin=subprocess.DEVNULL, stdout=printed, stderr=subprocess.STDOUT,
                                    start_new_session=True)
@@ -82,11 +81,12 @@ def worker(names, folder):
             why = f"its class took more than {LIMIT} s"
         running.discard(process)
         printed.seek(0)
-        return [json.loads(it) for it in lines], printed.read().decode(errors="replace"), why
+        whole = [json.loads(it) for it in lines if it.endswith("\n")]
+        return whole, printed.read().decode(errors="replace"), why
 
 
 def outcomes_of(names, folder):
-    """Runs these tests of one class. Returns outcome, name and text of each, and what was printed."""
+    """Runs these tests of one class. Returns outcome, name and text of each, and the output."""
     found, printed, left = [], "", list(names)
     while left:
         lines, more, why = worker(left, folder)
@@ -100,7 +100,23 @@ def outcomes_of(names, folder):
             lost = begun or left
             found += [("failed", name, f"{why or 'the test wrote no outcome'}\n{more[-2000:]}") for name in lost]
             left = [it for it in left if it not in lost]
+        elif why:
+            found.append(("failed", names[0].rpartition(".")[0], f"after its tests {why}"))
     return found, printed
+
+
+def reports(found):
+    """Gives the lines on outcomes of one class. Tests that were skipped for the same reason share a line."""
+    skipped = {}
+    for outcome, name, text in found:
+        name = name.removeprefix("tests.")
+        if outcome == "failed":
+            yield f"FAILED: {name}: {text}"
+        elif outcome == "skipped":
+            skipped.setdefault(text, []).append(name)
+    for text, names in skipped.items():
+        name = names[0] if len(names) == 1 else f"{names[0].rpartition('.')[0]}, {len(names)} tests"
+        yield f"skipped: {name}: {text}"
 
 
 def run_class(tests, folder):
@@ -108,9 +124,8 @@ def run_class(tests, folder):
     found, printed = outcomes_of([it.id() for it in tests], folder)
     with printing:
         print(printed, end="")
-        for outcome, name, text in found:
-            if outcome != "passed":
-                print(f"{outcome.upper() if outcome == 'failed' else outcome}: {name.removeprefix('tests.')}: {text}")
+        for line in reports(found):
+            print(line)
         sys.stdout.flush()
     return [outcome for outcome, _, _ in found]
 
@@ -150,6 +165,8 @@ def no_tests(why):
 
 def main():
     words = asked()
+    # the processes of the tests end with this one
+    signal.signal(signal.SIGTERM, lambda *_: sys.exit(1))
     try:
         from tests import support
     except SystemExit as why:

@@ -1,4 +1,4 @@
-"""The C library as C programs use it: the examples as each compiler builds them, what an archive has, and an install.
+"""The C library as C programs use it: the examples as each compiler builds them, the archive, and an install.
 
 test_c_library has the tests for this machine, test_arm and test_microcontrollers those for other processors.
 """
@@ -51,7 +51,7 @@ def stack(check, at, prefix, column):
 
 
 def archive(check, at=ARCHIVE, prefix=""):
-    """Checks what the archive exports, needs and holds."""
+    """Checks the exported and needed symbols of the archive, and that it has no writable data."""
     symbols = output([f"{prefix}nm", at])[1].decode()
     exported = set(re.findall(r" T (\w+)$", symbols, re.M))
     declared = set(re.findall(r"\b(rdsrt_\w+)\(", re.sub(r"/\*.*?\*/", "", text_of(HEADER), flags=re.S)))
@@ -192,9 +192,9 @@ def readme(check, folder, prefix, compiler="cc", runner=()):
     warnings, found = "-Wall -Wextra -pedantic -Werror", "$(pkg-config --cflags --libs rdsrt)"
     call = f"{compiler} -std=c11 {warnings} {source} {found} -o {program}"
     check("README's lines of C are built", output(["sh", "-c", call], env=paths), (0, b""))
-    # the emulator gives the second one to the program
-    paths["QEMU_SET_ENV" if runner else "LD_LIBRARY_PATH"] = ("LD_LIBRARY_PATH="
-                                                              if runner else "") + os.path.join(prefix, "lib")
+    libraries = os.path.join(prefix, "lib")
+    # the emulator gives the variable to the program
+    paths.update({"QEMU_SET_ENV": f"LD_LIBRARY_PATH={libraries}"} if runner else {"LD_LIBRARY_PATH": libraries})
     check("README's lines of C", output([*runner, program], env=paths), (0, b"HI\n"))
 
 

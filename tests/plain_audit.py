@@ -1,9 +1,9 @@
-"""A plain slow audit: the rules, one after the other, over the whole list of what was sent.
+"""A plain slow audit: the rules, one after the other, over the whole list of slots.
 
-It keeps slot numbers and whole lists where the program keeps ages that stop at a limit, and shares no code with it.
+It keeps slot numbers and whole lists. The program keeps ages that stop at a limit. They share no code.
 """
 RETURN = 0x0D
-# control characters that stand in a text: preferred line break, end of headline, soft hyphen
+# control characters that a text may have: preferred line break, end of headline, soft hyphen
 CONTROLS = (0x0A, 0x0B, 0x1F)
 
 

@@ -4,7 +4,7 @@ import collections
 from tests import plain_audit
 
 SLOTS, LOGS = 8, 2000
-# what a service is sent in a slot: a segment with its flag, or tags (no flag), and which of four values have them
+# what a service gets in a slot: a segment with its flag, or tags (no flag), and the values that have it, of four
 Mark = collections.namedtuple("Mark", "flag values")
 # the broadcast that goes on: `values` have all that was sent in it, and `marked` is the last slot with some of it
 Broadcast = collections.namedtuple("Broadcast", "start end flag values marked")
@@ -25,8 +25,8 @@ def name(flag, address, words, *values):
 
 
 NOTHING = Letter(None, None, None)
-# The texts are HI, YO, ABCD and one of 64 bytes that begins with ABCD: where any text has some of these segments and
-# tags, one of the four has. The names are `JAZZ FM ` and `NEWS FM `.
+# The texts are HI, YO, ABCD and one of 64 bytes that begins with ABCD. If any text has some of these segments and tags,
+# one of the four has them. The names are `JAZZ FM ` and `NEWS FM `.
 LETTERS = (
     NOTHING,
     Letter("F000 2140 4849 0D20".split(), None, None),
@@ -100,7 +100,7 @@ def lines_of(log):
 
 def first_of_a_log(log, dwell):
     """Returns the first slot up to which no plan is lawful and dense, or None."""
-    # a service of which nothing was sent needs no broadcast
+    # a service without a group needs no broadcast
     sent = [marks for marks in ([it.text for it in log], [it.name for it in log]) if any(marks)]
     first = [first_without_a_plan(dwell, marks) for marks in sent]
     return min((it for it in first if it is not None), default=None)

@@ -1,21 +1,21 @@
-"""Radios with the flag bit alone, looked up: radios by chance beside a diary of all that was on air.
+"""Radios with the flag bit alone, by chance, beside a diary of all that was on air.
 
 Such a radio keeps segments, and tags for them, until a segment with the other flag comes. It never forgets. `encode`
-sends the logs. A radio loses slots, restarts, gets groups late and counts slots wrong. What it shows is compared in two
+sends the logs. A radio loses slots, restarts, gets groups late and counts slots wrong. Its views are compared in two
 ways:
 
-- with `decode --m 65535` over what it got. The law the_flag_alone_is_a_long_dwell says that both show the same.
-- with the diary. In each slot in which the premise of a promise holds, the promise holds too. Where the premise fails,
-  some radios break the promise: so the look can find a breach.
+- with `decode --m 65535` over the same slots. The law the_flag_alone_is_a_long_dwell says that both show the same.
+- with the diary. In each slot in which the premise of a promise holds, the promise holds too. If the premise fails,
+  some radios break the promise: so the test can find a breach.
 
-The promises, where d is M + K:
+The promises, with d = M + K:
 
 - text: the text shown is that of the broadcast in which the last segment heard was sent. Premise: of each 2 d slots in
-a row of a text the radio heard a segment, and after each restart of the encoder the empty text came first.
+  a row of a text the radio heard a segment, and after each restart of the encoder the empty text came first.
 - tag: each tag shown was sent for the text shown. Premise: that of text, and of each d slots in a row of a text the
-radio heard a segment.
+  radio heard a segment.
 - behind: the broadcast of the text shown is the newest one or the one before, or the empty text came since. Premise:
-that of text, up to the present slot.
+  that of text, up to the present slot.
 - name: the same as text. Premise: the radio heard a segment of each name, and each name has another flag than the one
   before, or the same characters.
 """
@@ -29,7 +29,7 @@ SLOTS = 96
 LONG_DWELL = "65535"
 LOST = "---- ---- ---- ----"
 PROMISES = ("text", "tag", "behind", "name")
-# what a radio gets in a slot that brings it no group
+# the reception of a slot without a group
 NOTHING, RESTART = "nothing", "restart"
 
 
@@ -96,7 +96,7 @@ def sent(rng, dwell, late):
     return [groups.get(slot, LOST) for slot in range(slots)], diary(rows, plain_worlds.accepted_in(replies))
 
 
-# ---- what a radio gets, and what it shows
+# ---- the receptions and the views of a radio
 
 
 def receptions(rng, may_lose):
@@ -155,9 +155,8 @@ class Radio:
     def view(self):
         """Returns the parts that the radio shows, with their values."""
         run = plain_witness.run_of(self.texts, math.inf, self.count)
-        text, name = plain_witness.value_of(run,
-                                            False), plain_witness.value_of(plain_witness.run_of(self.names, math.inf,
-                                                                                                self.count), True)
+        run_of_name = plain_witness.run_of(self.names, math.inf, self.count)
+        text, name = plain_witness.value_of(run, False), plain_witness.value_of(run_of_name, True)
         shown = {part: value.decode() for part, value in (("text", text), ("name", name)) if value is not None}
         pair = next((bits for at, bits in reversed(self.tags) if run and at > run[-1][0]), None)
         return {**shown, **pieces(text.decode(), pair)} if text is not None and pair is not None else shown
@@ -178,7 +177,7 @@ def decoded(log):
             for view in plain_worlds.shown(output.splitlines(), len(log))]
 
 
-# ---- the premises, of what was heard up to a slot
+# ---- the premises, up to a slot
 
 
 def hears_one_in(count, broadcasts, heard, now):
@@ -223,8 +222,7 @@ def on_air_in(broadcasts, slot):
 
 
 class Judge:
-    """Looks at what one radio shows in each slot, by the broadcasts and by the slots in which what it heard was
-    sent."""
+    """Judges the view of one radio in each slot, by the broadcasts and by the slots in which its groups were sent."""
 
     def __init__(self, texts, names, spacing):
         self.texts, self.names, self.spacing = texts, names, spacing

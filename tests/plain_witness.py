@@ -77,7 +77,7 @@ def first_mix(slots, dwell):
     for first in range(len(slots)):
         for last in range(first, len(slots)):
             received = slots[:first] + [LOST] * (last - first + 1) + slots[last + 1:]
-            # what comes behind the best slot is not asked
+            # a mix behind the best slot does not matter
             for slot, (things, _) in enumerate(views(received[:best], dwell)):
                 if things - known[slot]:
                     best = slot

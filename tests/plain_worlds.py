@@ -1,7 +1,7 @@
-"""The headline, looked up: worlds by chance beside a diary of all that was on air.
+"""Worlds by chance beside a diary of all that was on air.
 
-What was accepted and what is shown is read off the lines that the program prints. The diary keeps the whole list of
-slots where the receivers keep ages, and shares no code with them.
+The lines of the program say what was accepted and what is shown. The diary keeps the whole list of slots. The receivers
+keep ages. They share no code.
 """
 import collections
 import itertools
@@ -34,7 +34,7 @@ def script(rows):
 
 
 class Diary:
-    """What was on air at the end of each slot: for each service the number of its broadcast and its characters."""
+    """Keeps for each service, at the end of each slot, the number of the broadcast on air and its characters."""
 
     def __init__(self, rows, accepted):
         self.slots, self.pieces = [], collections.defaultdict(set)
@@ -130,7 +130,7 @@ def shown_by_the_clock(rng, slots, may_lose):
     """Returns the view of a receiver with a clock of its own at the end of each slot of the station."""
     own = own_slots(rng, slots, may_lose)
     views = dict(zip((slot for slot, _ in own), decoded(DWELL, [line for _, line in own])))
-    # a slot that isn't counted leaves what is shown
+    # a slot that isn't counted leaves the view as it is
     return list(itertools.accumulate(range(len(slots)), lambda view, slot: views.get(slot, view), initial={}))[1:]
 
 

@@ -1,13 +1,13 @@
-"""Words and scripts at random, by the rules of README.md and docs/FORMATS.md: what may stand there, and what may not.
+"""Arguments and scripts by chance, good ones and bad ones, by the rules of README.md and docs/FORMATS.md.
 
-Nothing here asks the program, and no reply or view is told: of a script so far only what each receiver was handed last
-is kept, since a row may not go back behind it.
+Nothing here asks the program, and nothing here knows a reply or a view. Of the rows so far it keeps only the slot that
+each receiver got last, since a row may not go back behind it.
 """
 import collections
 
 DWELLS = (1, 2, 10, 127, 128, 129, 1000, 65535)
 LATENESSES = (0, 1, 2, 10, 128, 1024)
-# characters of the table, each of which gives one byte; the backslash begins an escape
+# characters of the table that each give one byte; the backslash begins an escape
 CHARACTERS = [chr(it) for it in (*range(0x20, 0x5C), 0x5D, 0x5F, *range(0x61, 0x7E))] + list("áàéèñçÑ€£ÁÀâäôüÖÛ")
 # bytes of a text and not of a name, of both, and of neither
 TEXT_BYTES = (r"\x0A", r"\x0b", r"\x1F")
@@ -98,7 +98,7 @@ def argument(rng, command):
 
 
 def reception(rng, slot, late, last):
-    """Returns what a receiver gets, and the slot whose group it has got last. Before, it got that of the slot `last`.
+    """Returns a reception, and the slot whose group the receiver has got last. Before, it got that of the slot `last`.
     """
     if rng.random() < 0.3:
         return rng.choice("LLR"), last

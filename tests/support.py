@@ -43,7 +43,7 @@ def bytes_of(name):
 
 
 def output(words, given=b"", seconds=300, **more):
-    """Returns the status and the output of any program, with what it prints on standard error."""
+    """Returns the status and the output of any program, standard error included."""
     done = subprocess.run(words, input=given, stdout=subprocess.PIPE, stderr=subprocess.STDOUT, timeout=seconds, **more)
     return done.returncode, done.stdout
 
@@ -89,8 +89,8 @@ def ran_by_shell(call, given=b"", **more):
 
 
 def build_archive(target=None):
-    """Builds the archive of the C library if a source is newer. That takes minutes if it must be proved. Raises if it is
-    not built."""
+    """Builds the archive of the C library if a source is newer. That takes minutes if it must be proved. Raises if that
+    failed."""
     words = ["--target", target] if target else []
     status, printed = output([STATIC_LIBRARY, "rds_ffi", *words], seconds=3600)
     if status:

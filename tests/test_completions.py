@@ -70,7 +70,7 @@ def by_fish(command):
 
 class Completions(Case):
     def compare(self, shell, by, drop="$^", not_of_help=()):
-        """Compares what the shell offers with the help, except for the options that match `drop`."""
+        """Compares the offers of the shell with the help, except for the options that match `drop`."""
         for command in [[], *([it] for it in summaries())]:
             wanted = {it for it in offered(command) if not re.fullmatch(drop, it)}
             got = by(command) - {*(not_of_help if command == ["help"] else ())}

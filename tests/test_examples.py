@@ -6,7 +6,7 @@ import subprocess
 
 from tests.support import PROGRAM, ROOT, SECONDS, Case, text_of
 
-# file, what it shows, command, status, line of the output
+# file, its point, command, status, line of the output
 ROW = re.compile(r"^\| `([^`]+)` \| [^|]+ \| `([^`|]+)` \| ([0-2]) \| `([^`|]+)` \|$", re.M)
 # a set that the encoder refuses for now, in the output of sim or as a comment of encode's log
 REFUSED = re.compile(r"^(?:# )?\d+ (?:text|name|tags) (?:silent|held) \d+$", re.M)

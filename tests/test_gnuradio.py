@@ -31,16 +31,17 @@ class GnuRadio(Case):
         got = radio.heard(case, temporary_folder(self))
         away = sum(last - first + 1 for first, last in case.fades)
         groups = [line for line in got.lines if line != radio.LOST]
-        # the first slots and the last may be missing; what stands between is in its place
+        # the first slots and the last may be missing; the slots between are in their places
         skipped = [at for at in range(4) if all(map(radio.is_of, got.lines, got.sent[at:]))]
-        self.check("each slot has its line", len(skipped), 1)
-        self.check("no line too many, or too few", case.slots - 4 <= len(got.lines) <= case.slots, True)
-        self.check("most that could be heard", len(groups) > 0.8 * (case.slots - away), True)
-        self.check("texts are shown", len(radio.shown(got.lines, case.dwell)) > 5, True)
-        self.check("none that was never set", radio.never_set(got.lines, case, got.texts), [])
+        self.check(f"seed {case.seed}: each slot has its line", len(skipped), 1)
+        self.check(f"seed {case.seed}: no line too many, or too few", case.slots - 4 <= len(got.lines) <= case.slots,
+                   True)
+        self.check(f"seed {case.seed}: most that could be heard", len(groups) > 0.8 * (case.slots - away), True)
+        self.check(f"seed {case.seed}: texts are shown", len(radio.shown(got.lines, case.dwell)) > 5, True)
+        self.check(f"seed {case.seed}: none that was never set", radio.never_set(got.lines, case, got.texts), [])
         if case.fades:
             mixed = radio.never_set(groups, case, got.texts)
-            self.check("some without the lost lines", bool(mixed), True)
+            self.check(f"seed {case.seed}: some without the lost lines", bool(mixed), True)
 
     def test_lines_come_while_the_samples_come(self):
         """They come in a fade too."""

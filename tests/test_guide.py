@@ -82,7 +82,7 @@ class Guide(Case):
         for name, log, answer, changed in FAULTS:
             logs = ["".join(f"{it}\n" for it in lines).encode() for lines in (log, changed)]
             got = [ran("./rdsrt audit --pi C201 --m 4", it) for it in logs]
-            self.check(f"{name}", got, [f"{answer}\n", f"yes {len(changed)}\n"])
+            self.check(name, got, [f"{answer}\n", f"yes {len(changed)}\n"])
 
     def test_the_pipe_of_a_station(self):
         """The log of the guide's pipe, for some slots, without the modulator behind it."""

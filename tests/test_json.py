@@ -1,4 +1,4 @@
-"""Cases of examples/json: worked lines, live pipes, and the filter over the program beside the Python package."""
+"""examples/json: worked lines, live pipes, and the filter over the program beside the Python package."""
 import json
 import os
 import select
@@ -68,7 +68,7 @@ def next_object(descriptor):
 
 
 def changes(objects):
-    """Returns the objects without those that differ from the one before in nothing but the slot."""
+    """Returns the objects that differ from the one before in more than the slot."""
     bare = [{**it, "slot": None} for it in objects]
     return [it for at, it in enumerate(objects) if at == 0 or bare[at] != bare[at - 1]]
 
@@ -76,7 +76,7 @@ def changes(objects):
 class Filter(Case):
     def test_lines_become_objects(self):
         for name, given, wanted in WORKED:
-            self.check(f"{name}", ran(given), (int("fault" in given), wanted, ""))
+            self.check(name, ran(given), (int("fault" in given), wanted, ""))
         self.check("the programme", ran('0 text "HI"\nfault read\n', "--pi", "c201"),
                    (1, [{"pi": "0xC201", "slot": 0, **HI}, {"pi": "0xC201", "fault": "read"}], ""))
         ascii_alone = {**os.environ, "LC_ALL": "C", "PYTHONUTF8": "0", "PYTHONCOERCECLOCALE": "0"}

@@ -1,4 +1,4 @@
-"""Cases of examples/many-logs: one output a log, which is what the program prints for it, and the summary."""
+"""examples/many-logs: the output of the program for each log, and the summary."""
 import os
 import subprocess
 import tempfile

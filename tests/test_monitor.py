@@ -1,4 +1,4 @@
-"""Cases of examples/monitor: several stations beside decode and examples/json, metrics, the unit file, GNU parallel."""
+"""examples/monitor: several stations beside decode and examples/json, metrics, the unit file, GNU parallel."""
 import json
 import os
 import re
@@ -90,7 +90,7 @@ class Monitor(PackageCase):
             wanted = decoded(logs[name], dwell)
             own = [it for it in objects if it["station"] == name]
             got = [{key: value for key, value in it.items() if key != "station"} for it in own]
-            self.check(f"{name}", (got == wanted, len(got) > 10), (True, True))
+            self.check(name, (got == wanted, len(got) > 10), (True, True))
             lost = sum("----" in it or not it.startswith("C201") for it in logs[name])
             counts = {"slots": SLOTS, "lost": lost, "changes": len(wanted), "malformed": int(name == "JAZZ")}
             self.check(f"counts of {name}", {it: values[f"rdsrt_{it}_total", name] for it in counts}, counts)

@@ -1,4 +1,4 @@
-"""What the program tells a person on standard error, beside the built program: each note, and where there is none."""
+"""The notes of the program on standard error: each note, and the calls without one."""
 import os
 import pty
 import random
@@ -16,7 +16,7 @@ DECODE, AUDIT, WITNESS = (f"{it} --pi C201" for it in ("decode", "audit", "witne
 ENCODE, SIM = "encode --pi C201 --m 1", "sim --pi C201 --m 1"
 LOOKS = "; a log line looks like C201 2140 4849 0D20"
 NEXT = ". To look for lost slots that make a mix: rdsrt witness --pi C201 --m "
-# A line of a log and why it is none. Blocks are counted from 1.
+# a malformed line of a log, and the cause; blocks are counted from 1
 LINES = [
     ("C201 21400 4849 0D20", "block 2 has 5 characters, expected 4"),
     ("C2 2140 4849 0D20", "block 1 has 2 characters, expected 4"),

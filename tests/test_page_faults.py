@@ -90,12 +90,12 @@ class Faults:
         dice, seen = random.Random(SEED), set()
         scripts = ['-,,1,G\n""\n-,,1,G\n', '""\r-,,1,G\r', '-,,1,G\r-,,1,G\r\r-,,2,G\r', "-,,1,G\r-,x,1,G"]
         for _ in range(60):
-            rows, end = [dice.choice(SOME_ROWS) for _ in range(dice.randrange(1, 12))], dice.choice(["\n", "\r\n", "\r",
-                                                                                                     None])
+            rows = [dice.choice(SOME_ROWS) for _ in range(dice.randrange(1, 12))]
+            end = dice.choice(["\n", "\r\n", "\r", None])
             scripts.append("".join(row.replace("\n", end or "\n") + (end or dice.choice(["\n", "\r\n", "\r"]))
                                    for row in rows))
         for script in scripts:
-            # the program counts line feeds, so it is asked about the script with line feeds alone
+            # the program counts line feeds, so it gets the script with only line feeds
             plain = re.sub("\r\n?", "\n", script).rstrip("\n") + "\n"
             told = BAD_ROW.search("".join(run_program(["sim", "--pi", "C201"], plain.encode())[2]))
             open_script(b, script, m=128, k=0)

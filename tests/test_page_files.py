@@ -36,8 +36,8 @@ class Files:
             both = "[document.body.textContent, document.body.innerText]"
             sizes = b.run(f"{both}.map(text => text.includes('A'.repeat(500)))")
             note = run_program(["sim", "--pi", "C201"], script.encode())[2][-1]
-            got = text_of(b, "#script-fault").partition(". The rows after")[0], sizes, of(b, "#argument",
-                                                                                          "value.length")
+            fault = text_of(b, "#script-fault").partition(". The rows after")[0]
+            got = fault, sizes, of(b, "#argument", "value.length")
             self.check(f"a field of 3 MB in {script[:8]}", got, (note, [False, False], left))
         open_script(b, f"text,{long},1,G\n-,,1,G\n", m=8, k=0)
         b.run("scriptTab.timeline.move(0)")

@@ -1,4 +1,4 @@
-"""The program in the page prints what the program prints."""
+"""The program in the page prints the same as the program: status, output and notes."""
 import os
 import random
 
@@ -66,8 +66,8 @@ class Lines:
     def test_logs_and_scripts_by_chance(self):
         dice = random.Random(SEED)
         for number in range(120):
-            data, m, k = some_log(dice), str(dice.choice([1, 2, 5, 8, 128, 65535])), str(dice.choice([0, 0, 1, 7,
-                                                                                                      1024]))
+            data, m = some_log(dice), str(dice.choice([1, 2, 5, 8, 128, 65535]))
+            k = str(dice.choice([0, 0, 1, 7, 1024]))
             self.same(f"seed {SEED}, log {number}", ["decode", "--pi", "C201", "--m", m], data)
             self.same(f"seed {SEED}, log {number}", ["audit", "--pi", "C201", "--m", m, "--k", k], data)
         for number in range(120):

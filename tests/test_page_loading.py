@@ -20,6 +20,7 @@ class Loading:
                    "Firefox 134, or later. (no memory of 64 bits)")
         self.check("and nothing else", b.run(f"{IN_SIGHT}.map(e => e.id)"), ["no-engine"])
         undo()
+        self.nothing_fetched()
 
     def test_the_policy_lets_nothing_foreign_run_or_be_fetched(self):
         """A server sees no request."""

@@ -177,7 +177,7 @@ class Pages(Case):
             blocks = [it for it in re.findall(r"```text\n(.*?)```", text_of(path), re.S) if "pub record" in it]
             self.check(f"{path} has a contract", len(blocks), 1)
             shown = [line.strip() for line in blocks[0].splitlines() if line.strip()]
-            # two dots stand for the parameters
+            # two dots replace the parameters
             missing = [it for it in shown if it not in sources and not any(
                 line.startswith(it.partition(" .. ")[0] + " ") for line in sources if " .. " in it)]
             self.check(f"{path}: the lines are in the sources", missing, [])

@@ -18,7 +18,7 @@ PYTHONS = (sys.executable, "/usr/bin/python3")
 
 
 def output(words, given="", **more):
-    """Returns the status and the output of these words, with what they print on standard error."""
+    """Returns the status and the output of these words, standard error included."""
     done = subprocess.run(words, input=given, stdout=subprocess.PIPE, stderr=subprocess.STDOUT, timeout=SECONDS,
                           text=True, **more)
     return done.returncode, done.stdout
@@ -55,14 +55,14 @@ class PythonPackage(PackageCase):
             self.check(f"{library} in place of the library", got, (0, "True True\n"))
 
     def test_slots_counts_as_examples_slots(self):
-        """Over times by chance that go back now and then."""
+        """The times come by chance, and go back now and then."""
         code = ("import sys\nfrom rdsrt import *\n"
                 "pairs = ((float(line.split()[4]), next(read_log([line]))) for line in sys.stdin)\n"
                 "for it in slots(pairs, dwell=5):\n    print(format_group(it))")
         rng, time, lines = random.Random(20261126), 1e9, []
         for number in range(3000):
-            time += rng.choice([0.0876, 0.01, rng.random()]) if rng.random() < 0.99 else rng.choice([-50, -0.01,
-                                                                                                     86_401])
+            jumps = rng.random() >= 0.99
+            time += rng.choice([-50, -0.01, 86_401]) if jumps else rng.choice([0.0876, 0.01, rng.random()])
             lines.append(f"C201 0000 0000 {number:04X} {time:.4f}\n")
         wanted = output([os.path.join(ROOT, "examples/slots"), "--m", "5"], "".join(lines))[1]
         wanted = [it[:19] for it in wanted.splitlines() if not it.startswith("slots:")]

@@ -1,5 +1,4 @@
-"""Cases of examples/station: `rdsrt encode` takes its rows and refuses no text, and a restart shows no mix to old
-radios.
+"""examples/station: `rdsrt encode` takes its rows and refuses no text, and a restart shows no mix to old radios.
 
 The expected rows follow from the rules: nothing for the first M + K slots, then the empty text, and 2 (M + K) slots at
 least between texts.

@@ -56,7 +56,7 @@ def decoded(slots, dwell):
 
 
 def thing_of(line):
-    """Returns what a line of `decode` shows, without its slot; of a tag without its place."""
+    """Returns a line of `decode` without its slot, and without the place of a tag."""
     return re.sub("^tag[12]", "tag", line.partition(" ")[2])
 
 

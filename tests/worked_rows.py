@@ -1,4 +1,4 @@
-"""The worked rows: words, the status, what is given and what is printed, over the built program."""
+"""The worked rows: name, arguments, status, input and output."""
 import shlex
 import struct
 
@@ -32,7 +32,7 @@ TWO_SKIPPED_FLAGS = (NO_GROUP * 6 + b"C201 2141 5420 534F\n" + NO_GROUP + b"C201
                      + b"C201 2142 4E47 0D20\n")
 # two texts at one address with one flag
 CHANGED = HI + b"C201 2140 594F 0D20\n"
-# a text, its tags in good time, with four slots before and where another group would be
+# a text and its tags in good time, with four slots before them, and a lost slot for each other group
 TAGGED_LOG = b"""---- ---- ---- ----
 ---- ---- ---- ----
 ---- ---- ---- ----
@@ -88,7 +88,7 @@ SONGS_RECEIVED = {6, 8, *range(20, 25)}
 # a name in two segments, between which the receiver loses a slot or restarts
 NAME_ROWS = b"-,,1,G\n" * 4 + b"name,JAZZ FM,1,G\n-,,1,G\n-,,1,%s\n-,,1,G\n"
 NAME_SENT = b"4 name ok\n5 sent C201 A140 4A41 5A5A\n7 sent C201 A141 2046 4D20\n"
-# what a receiver gets slot by slot where groups come up to two slots late, and the first row that is refused: one from
+# the receptions of a receiver if groups come up to two slots late, and the first row that is refused: a group from
 # before slot 0, one more than two slots late, the same again, also after the receiver restarted, and an earlier one
 IN_ORDER = [("G G G", None), ("L L G2 G2", None), ("G1", 1), ("L L L G3", 4), ("G G1", 2), ("L G R G2", 4),
             ("L G R G1", None), ("L L G G2", 4), ("G L L L L G2", None)]
@@ -344,7 +344,7 @@ tags,0 1 1 0 1 0 0 0,1,
 5 tags ok
 5 sent C201 2140 4849 0D20
 """),
-    # what a record is, is the definition of csv, from here on
+    # from here on: csv defines a record
     ("byte order mark", SIM, 0, b"\xEF\xBB\xBFtext,HI,1,\n", b"0 text silent 4\n"),
     ("lines end with a carriage return too", SIM, 0, b"text,HI,1,\r\ntext,HI,1,\r\n", b"""0 text silent 4
 1 text silent 3
@@ -472,7 +472,7 @@ AUDITED_LATE = [
     ("lawful and not dense, two late", AUDIT_TWO_LATE, 1, TAGS_AFTER_A_GAP, b"no 5 EarlyTag\n"),
 ]
 
-# each alone as a script is no row of `sim`
+# each alone is a malformed script of `sim`
 REFUSED_ROWS = [
     b"text,HI,1\n", b"-,,1,,\n", b"-,x,1,\n", b"restart,x,1,\n", b"Text,HI,1,\n", b"text,HI,2,\n", b"text,HI,,\n",
     b"tags,1 1 0 0 1 0 0 0,1,\n", b"tags,1 1 256 0 0 0 0 0,1,\n", b"tags,2 1 1 0 0 0 0 0,1,\n",
@@ -480,7 +480,7 @@ REFUSED_ROWS = [
     b"name,123456789,1,\n", b"-,,1,GGGGGGGGG\n", b"-,,1,g\n", b'text,"HI',
 ]
 
-# logs with a bad line, and what is printed
+# logs with a bad line, and the output
 BAD_LINES = [
     (b"x\n", b"fault line 1\n"),
     (b"C201 2140 4849 0D2", b"fault line 1\n"),
@@ -585,7 +585,7 @@ def decoded_classes():
 
 
 def one_of_three_programmes():
-    """Gives rows of a log with three programmes, of which one is decoded."""
+    """Gives rows of a log with three programmes. One of them is decoded."""
     log = b"F000 2140 4849 0D20\nC201 2150 594F 0D20\n0000 2140 4142 0D20\n"
     rows = {"F000": b'0 text "HI"\n', "C201": b'1 text "YO"\n', "0000": b'2 text "AB"\n', "FFFF": b""}
     for pi, shown in rows.items():

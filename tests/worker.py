@@ -12,7 +12,7 @@ MOST_REPORTS = 10
 
 
 class Outcomes(unittest.TestResult):
-    """Writes the lines. Keeps the outcome of the set-up of the class, which stands for the tests that it prevents."""
+    """Writes the lines. Keeps the outcome of the set-up of the class, for the tests that it prevents."""
 
     def __init__(self, file):
         super().__init__()
