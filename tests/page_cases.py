@@ -197,7 +197,7 @@ def same_help_and_refusals(b):
 
 def large_addresses(b):
     """The memory of a run has room for inputs beyond 32 bits."""
-    at = call(b, "rdsrt.layout", 100, 3_000_000_000, 5_000_000_000, 1000)
+    at = dict(call(b, "((...sizes) => Object.entries(rdsrt.layout(...sizes)))", 100, 3_000_000_000, 5_000_000_000, 1000))
     check("addresses of a large input", [at[name] > at[before] for before, name in zip(list(at), list(at)[1:])], [True] * (len(at) - 1))
     check("each in its place", (at["output"] - at["input"] >= 3_000_000_000, at["notes"] - at["output"] >= 5_000_000_000), (True, True))
 
@@ -392,7 +392,7 @@ def kinds_of_groups(b):
     for scheme in SCHEMES:
         b.scheme(scheme)
         settle(b)
-        legend = call(b, "probe.swatches", "log")
+        legend = dict(call(b, "probe.swatches", "log"))
         check(f"the legend, {scheme}", list(legend), ["text, flag A", "text, flag B", "name (PTYN)", "tags", "other", "lost", "never sent", "stale"])
         shapes = list(legend.values())[:6]
         check(f"shapes differ, {scheme}", (len(set(shapes)), [it for it in shapes if "#" not in it]), (6, []))
