@@ -1745,7 +1745,8 @@ def in_firefox(folder):
         b.close()
 
 
-BROWSERS = {"Chromium": (browser.program, in_chromium, "chromium"), "Firefox": (firefox.program, in_firefox, "firefox-esr")}
+BROWSERS = {"Chromium": (browser.program, in_chromium, browser.PACKAGES),
+            "Firefox": (firefox.program, in_firefox, "firefox-esr")}
 
 
 def main():
