@@ -1,7 +1,7 @@
 """A headless Firefox, driven by WebDriver BiDi over a WebSocket: no package beyond the browser itself.
 
 https://w3c.github.io/webdriver-bidi says what its methods take and give. It has the calls of browser.Browser that most
-cases need.
+cases need. Debian has no geckodriver, so Selenium cannot drive it.
 """
 import base64
 import json
@@ -18,12 +18,7 @@ from tests import browser
 
 NAMES = ("firefox-esr", "firefox")
 SECONDS = 60
-KEYS = {"ArrowLeft": "\ue012", "ArrowRight": "\ue014", "ArrowUp": "\ue013", "ArrowDown": "\ue015", "Tab": "\ue004", "Enter": "\ue006",
-        "Escape": "\ue00c", "Home": "\ue011", "End": "\ue010", "PageUp": "\ue00e", "PageDown": "\ue00f"}
 PREFERENCES = {"ui.prefersReducedMotion": 1, "browser.shell.checkDefaultBrowser": False}
-CONTROL, SHIFT = "\ue009", "\ue008"
-# as in the Chromium protocol
-WITH_CONTROL, WITH_SHIFT = 2, 8
 
 
 def program():
@@ -105,9 +100,10 @@ class Browser(browser.Driven):
         self.folder = tempfile.mkdtemp(prefix="rdsrt-page-")
         self.number, self.events = 0, []
         with open(os.path.join(self.folder, "user.js"), "w", encoding="utf-8") as prefs:
-            prefs.writelines(f"user_pref({json.dumps(name)}, {json.dumps(value)});\n" for name, value in PREFERENCES.items())
-        self.process = subprocess.Popen([program(), "--headless", "--remote-debugging-port", "0", "--profile", self.folder],
-                                        stdout=subprocess.DEVNULL, stderr=subprocess.PIPE)
+            prefs.writelines(f"user_pref({json.dumps(name)}, {json.dumps(value)});\n"
+                             for name, value in PREFERENCES.items())
+        words = [program(), "--headless", "--remote-debugging-port", "0", "--profile", self.folder]
+        self.process = subprocess.Popen(words, stdout=subprocess.DEVNULL, stderr=subprocess.PIPE)
         self.socket = Socket(*self.address(), "/session")
         # a full pipe would stop the browser
         threading.Thread(target=self.process.stderr.read, daemon=True).start()
@@ -150,27 +146,14 @@ class Browser(browser.Driven):
         self.ask("browsingContext.navigate", context=self.context, url=url, wait="complete")
 
     def run(self, text):
-        got = self.ask("script.evaluate", expression=text, target={"context": self.context}, awaitPromise=True, userActivation=True,
-                       serializationOptions={"maxObjectDepth": 99})
+        got = self.ask("script.evaluate", expression=text, target={"context": self.context}, awaitPromise=True,
+                       userActivation=True, serializationOptions={"maxObjectDepth": 99})
         if got["type"] == "exception":
             raise RuntimeError(got["exceptionDetails"]["text"])
         return value_of(got["result"])
 
-    def act(self, kind, actions, **more):
-        self.ask("input.performActions", context=self.context, actions=[{"type": kind, "id": kind, "actions": actions, **more}])
-
-    def key(self, key, code=None, number=0, text=None, modifiers=0):
-        held = [it for bit, it in ((WITH_CONTROL, CONTROL), (WITH_SHIFT, SHIFT)) if modifiers & bit]
-        pressed = [*held, KEYS.get(key, key)]
-        self.act("key", [{"type": "keyDown", "value": it} for it in pressed] + [{"type": "keyUp", "value": it} for it in reversed(pressed)])
-
-    def drag(self, start, end, held=lambda: None, clicks=1):
-        """Presses the pointer at the first place, moves it to the second and lets it go, and calls `held` before that."""
-        move = lambda place: {"type": "pointerMove", "x": round(place[0]), "y": round(place[1])}
-        down, up = {"type": "pointerDown", "button": 0}, {"type": "pointerUp", "button": 0}
-        self.act("pointer", [move(start), *[down, up] * (clicks - 1), down, move(end)])
-        held()
-        self.act("pointer", [up])
+    def act(self, kind, actions):
+        self.ask("input.performActions", context=self.context, actions=[{"type": kind, "id": kind, "actions": actions}])
 
     def picture(self, path):
         """A picture of the whole page."""

@@ -86,10 +86,10 @@ const probe = (() => {
     return [0, 4].some((i) => data[i] === r && data[i + 1] === g && data[i + 2] === b);
   }
 
-  /* The shapes of the swatches of a tab's legend, by their words. */
+  /* The words of each swatch of a tab's legend, and its shape. */
   function swatches(tab) {
     const all = [...at(tab).querySelectorAll(".legend span")].filter((it) => it.querySelector("canvas"));
-    return Object.fromEntries(all.map((it) => [it.textContent.trim(), column(it.querySelector("canvas"), 7, 0, 20)]));
+    return all.map((it) => [it.textContent.trim(), column(it.querySelector("canvas"), 7, 0, 20)]);
   }
 
   /* The shapes of the slots of a timeline's first lane from one to before another. */

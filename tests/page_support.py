@@ -170,12 +170,12 @@ class PageCase(Case):
     alone = True
     # whether the console must stay empty, and nothing may be fetched
     is_quiet = True
-    driver, package = None, None
+    driver, name, packages = None, None, None
 
     @classmethod
     def setUpClass(cls):
         if not cls.driver.program():
-            raise unittest.SkipTest(f"no {cls.package} here (apt-get install {cls.package})")
+            raise unittest.SkipTest(f"{cls.name} cannot be driven here (apt-get install {cls.packages})")
         if not os.path.isfile(os.path.join(FOLDER, "index.html")):
             raise RuntimeError(f"no page in {FOLDER}: page/build makes it")
         cls.b = cls.driver.Browser()
@@ -201,7 +201,7 @@ class PageCase(Case):
 
 
 class ChromiumCase(PageCase):
-    driver, package = browser, "chromium"
+    driver, name, packages = browser, "Chromium", browser.PACKAGES
 
     def setUp(self):
         self.b.scheme("light")
@@ -209,4 +209,4 @@ class ChromiumCase(PageCase):
 
 
 class FirefoxCase(PageCase):
-    driver, package = firefox, "firefox-esr"
+    driver, name, packages = firefox, "Firefox", "firefox-esr"

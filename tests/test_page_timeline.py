@@ -120,7 +120,7 @@ class Chromium(Timeline, ChromiumCase):
         for scheme in SCHEMES:
             b.scheme(scheme)
             settle(b)
-            legend = call(b, "probe.swatches", "log")
+            legend = dict(call(b, "probe.swatches", "log"))
             self.check(f"the legend, {scheme}", list(legend),
                        ["text, flag A", "text, flag B", "name (PTYN)", "tags", "other", "lost", "never sent", "stale"])
             shapes = list(legend.values())[:6]
