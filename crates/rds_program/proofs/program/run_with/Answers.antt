@@ -1,5 +1,5 @@
 use Rattle.std.proofs.Common.{map}
-use Rattle.rds_program.proofs.Words.{ReadAs, by_words}
+use Rattle.rds_program.proofs.ByWords.{ReadAs, by_words}
 use Rattle.rds_program.proofs.program.run_with.Goals as goal
 
 pub returns : goal.returns

@@ -1,5 +1,5 @@
 use Rattle.std.proofs.Common.{map}
-use Rattle.rds_program.proofs.Words.{ReadAs, ends_by}
+use Rattle.rds_program.proofs.ByWords.{ReadAs, ends_by}
 use Rattle.rds_program.proofs.terminal.run_buffered.Goals as goal
 
 pub returns : goal.returns
