@@ -4,6 +4,8 @@
 mod answer;
 mod slice_reader;
 
+ghost use Rattle.std.specs.Prelude.{◌≡◌, []};
+ghost use Rattle.rds_charset.specs.Told.{failures_of, inner_of};
 ghost use Rattle.rds_wasm.specs.Page.{Begun, RunsInPage};
 
 use answer::answer;
@@ -37,15 +39,30 @@ pub extern "C" fn rdsrt_run(
     ensures { RunsInPage words.now input.now output.new notes.new
         result.length result.failures result.noted result.status }
 {
-    let mut printed = Told::new(Vec::new(alloc));
-    let mut screen = Told::new(Vec::new(alloc));
+    let mut printed = empty(alloc);
+    let mut screen = empty(alloc);
     let status = answer(alloc, words, input, &mut printed, &mut screen);
     Ended {
-        length: copy_front(printed.inner().as_slice(), output),
+        length: copy_front(bytes_of(&printed), output),
         failures: printed.failures(),
-        noted: copy_front(screen.inner().as_slice(), notes),
+        noted: copy_front(bytes_of(&screen), notes),
         status,
     }
+}
+
+/// Makes a writer into memory, with nothing written.
+fn empty(alloc: Global) -> Told<Vec<u8>>
+    ensures empty { (inner_of result).items ≡ [] }
+    ensures unfailed { failures_of result ≡ 0 }
+{
+    Told::new(Vec::new(alloc))
+}
+
+/// Returns the bytes that were written.
+fn bytes_of(printed: &Told<Vec<u8>>) -> &[u8]
+    ensures { result.now ≡ (inner_of printed.now).items }
+{
+    printed.inner().as_slice()
 }
 
 /// Copies as many bytes as there is room for, and returns how many there are.
