@@ -170,6 +170,7 @@ impl<'a, W> BufferedWriter<'a, W> {
 }
 
 impl<W: Write> Write for BufferedWriter<'_, W> {
+    #[inline]
     fn write(&mut self, buf: &[u8]) -> io::Result<usize> {
         let Ok(mut output) = self.output.try_borrow_mut() else {
             return Err(no_write());
