@@ -11,9 +11,6 @@ from tests.support import ARCHIVE, output, path, ran, text_of
 HEADER, CODES = "include/rdsrt.h", "crates/rds_ffi/specs/Codes.antt"
 WARNINGS = ["-O1", "-Wall", "-Wextra", "-pedantic", "-Werror", "-pthread"]
 SANITIZED = ["-g", "-fsanitize=address,undefined", "-fno-sanitize-recover=all"]
-ARM_WAYS = [("gcc", ["-std=c11"]), ("g++", ["-std=c++17", "-x", "c++"])]
-WAYS = [("cc", ["-std=c11"]), ("c++", ["-std=c++17", "-x", "c++"]), ("clang", ["-std=c11"]),
-        ("cc", ["-std=c11", *SANITIZED])]
 ABI = int(re.search(r"#define RDSRT_ABI (\d+)", text_of(HEADER)).group(1))
 PROGRAMS = ["examples/c/decode.c", "examples/c/encode.c", "examples/c/audit.c", "examples/c/receive.c",
             "tests/c/calls.c", "tests/c/any_bytes.c", "tests/c/threads.c"]

@@ -155,12 +155,6 @@ class Browser(browser.Driven):
     def act(self, kind, actions):
         self.ask("input.performActions", context=self.context, actions=[{"type": kind, "id": kind, "actions": actions}])
 
-    def picture(self, path):
-        """A picture of the whole page."""
-        shot = self.ask("browsingContext.captureScreenshot", context=self.context, origin="document")
-        with open(path, "wb") as file:
-            file.write(base64.b64decode(shot["data"]))
-
     def complaints(self):
         """What the browser's console has of errors and warnings."""
         return [it["text"] for it in self.told("log.entryAdded") if it["level"] in ("error", "warn")]

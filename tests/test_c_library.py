@@ -16,9 +16,6 @@ class Header(Case):
         declared["RDSRT_ABI"] = str(c_library.ABI)
         self.check("codes", declared, defined)
 
-    def test_it_has_the_version_of_the_program(self):
-        self.check("version", f"rdsrt {c_library.header_version()}\n".encode(), ran(["--version"])[1])
-
 
 class Archive(Case):
     @classmethod

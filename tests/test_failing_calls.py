@@ -1,10 +1,9 @@
 """Reads and writes that fail in the middle of a stream, and how many reads and writes there are."""
 import itertools
-import tempfile
 
 from tests import preload
 from tests.calls import AUDIT, DECODE, ENCODE, ENGINES, SIM, WITNESS
-from tests.support import ProgramCase, ran
+from tests.support import ProgramCase, ran, temporary_folder
 from tests.worked_rows import CHANGED, ENCODED_SCRIPT, HI, MIXED_LOG, TAGGED_LOG, TAGS_ON_AIR
 
 # how fail_calls.c lets a write take no byte: it fails, or it answers 0
@@ -15,9 +14,7 @@ PI = ["--pi", "C20"]
 class FailingCalls(ProgramCase):
     @classmethod
     def setUpClass(cls):
-        folder = tempfile.TemporaryDirectory()
-        cls.addClassCleanup(folder.cleanup)
-        cls.library = preload.made("fail_calls.c", folder.name)
+        cls.library = preload.made("fail_calls.c", temporary_folder(cls))
 
     def failing(self, words, given, **names):
         return preload.failing(self.library, words, given, **names)

@@ -1,9 +1,8 @@
 """examples/many-logs: the output of the program for each log, and the summary."""
 import os
 import subprocess
-import tempfile
 
-from tests.support import PROGRAM, SECONDS, Case, path
+from tests.support import PROGRAM, SECONDS, Case, path, temporary_folder
 
 MANY = path("examples/many-logs")
 HI = "C201 2140 4849 0D20\n"
@@ -41,10 +40,8 @@ def notes(folder, outputs, *words):
 
 class ManyLogs(Case):
     def setUp(self):
-        place = tempfile.TemporaryDirectory()
-        self.addCleanup(place.cleanup)
-        self.place, self.folder = place.name, os.path.join(place.name, "some logs")
-        self.outputs = os.path.join(place.name, "outputs")
+        self.place = temporary_folder(self)
+        self.folder, self.outputs = (os.path.join(self.place, it) for it in ("some logs", "outputs"))
         os.mkdir(self.folder)
         for name, log in LOGS.items():
             with open(os.path.join(self.folder, name + ".log"), "w", encoding="ascii") as file:

@@ -1,11 +1,10 @@
 """Requests for memory that are refused, each in turn: refuse_memory.c is loaded with the program."""
 import os
 import subprocess
-import tempfile
 
 from tests import preload
 from tests.calls import AUDIT, DECODE, ENCODE, FLAGS, SHOWS_HI, SIM, WITNESS
-from tests.support import PROGRAM, SECONDS, Case, ProgramCase, path, ran
+from tests.support import PROGRAM, SECONDS, Case, ProgramCase, path, ran, temporary_folder
 from tests.worked_rows import ENCODED_SCRIPT, HI, TAGS_ON_AIR
 
 LONG_ROW = b"-,,1,\ntext,HI,1,\n-,,1," + b"x" * 10_000
@@ -31,9 +30,7 @@ TESTS_OF_CRATES = [("rds_core_tests", "worlds::refused_memory"),
 
 def library_for(test):
     """Builds the library in a folder that goes with the test."""
-    folder = tempfile.TemporaryDirectory()
-    test.addCleanup(folder.cleanup)
-    return preload.made("refuse_memory.c", folder.name)
+    return preload.made("refuse_memory.c", temporary_folder(test))
 
 
 class Program(ProgramCase):

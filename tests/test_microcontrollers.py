@@ -11,7 +11,6 @@ FOLDER = path("experiments/microcontrollers")
 sys.path.insert(1, FOLDER)
 import narrow
 
-MODULE = os.path.join(narrow.OUT, "module.ll")
 TOOLS = ("arm-none-eabi-gcc", "arm-linux-gnueabihf-gcc", "qemu-system-arm", "qemu-arm")
 # for each Cortex-M a board of the emulator, and the end of its RAM: 4 MB, and 16 KB
 BOARDS = {"cortex-m4": ("mps2-an386", 0x20400000), "cortex-m0plus": ("microbit", 0x20004000)}

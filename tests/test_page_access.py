@@ -33,15 +33,15 @@ class Access:
             b.run("document.activeElement?.blur(); getSelection().removeAllRanges()")
             reached = set()
             for _ in range(40):
-                b.key("Tab", number=9)
+                b.key("Tab")
                 reached |= set(b.run("(e => [e.id, e.name, e.tagName])(document.activeElement)"))
             self.check(f"the tab key reaches all of {name}", [it for it in wanted[name] if it not in reached], [])
         call(b, "page.tab", "log", True)
-        b.key("ArrowRight", number=39)
+        b.key("ArrowRight")
         self.check("arrows choose the tab", (b.run("document.activeElement.id"), hidden(b)),
                    ("tab-script", ["log", "dwell"]))
         b.run("scriptTab.timeline.canvas.focus()")
-        b.key("Enter", number=13, text="\r")
+        b.key("Enter")
         self.check("Enter goes to the command", b.run("document.activeElement.id"), "command")
 
 
@@ -167,7 +167,7 @@ class Chromium(Access, ChromiumCase):
             b.run("document.activeElement?.blur(); getSelection().removeAllRanges()")
             seen = []
             for _ in range(30):
-                b.key("Tab", number=9)
+                b.key("Tab")
                 bottom = "scrollY + document.activeElement.getBoundingClientRect().bottom"
                 seen.append(b.run(f"document.activeElement === document.body ? null : {bottom}"))
             reached = [it for it in seen[:seen.index(None) if None in seen else None]]

@@ -35,7 +35,6 @@ class Timeline:
         call(b, "page.tab", "script")
         sight, said = "(t => [t.from, t.across])(scriptTab.timeline)", lambda: text_of(b, "#script-time output")
         axis = lambda slot: call(b, "((slot) => probe.axis(scriptTab.timeline, slot))", slot)
-        press = lambda key: b.key(key, f"Key{key.upper()}" if key.isalpha() else "", ord(key.upper()))
         count, held = b.run("scriptTab.timeline.count"), []
         call(b, "scriptTab.timeline.move", 10)
         b.drag(axis(20), axis(39), lambda: held.extend([b.run("scriptTab.timeline.span"), said()]))
@@ -44,7 +43,7 @@ class Timeline:
         got = b.run(sight), b.run("scriptTab.timeline.span"), said()
         self.check("and all in sight once it is not", got, ([20, 20], None, f"slot 10 of {count} · 0.88 s"))
         for key, wanted in (("d", [25, 20]), ("a", [20, 20]), ("w", [25, 10]), ("s", [20, 20]), ("0", [0, count])):
-            press(key)
+            b.key(key)
             self.check(f"the key {key}", b.run(sight), wanted)
         b.drag(axis(31), axis(29))
         self.check("a short selection shows eight slots", b.run(sight), [26.5, 8])
@@ -54,19 +53,19 @@ class Timeline:
                    ([0, count], 29))
         texts = b.run("scriptTab.state.air.parts.text.filter(run => run.value !== null).map(run => run.from)")
         call(b, "scriptTab.timeline.move", texts[0])
-        press("n")
+        b.key("n")
         self.check("N goes to the next text", b.run("scriptTab.timeline.cursor"), texts[1])
-        press("p")
+        b.key("p")
         at = b.run("scriptTab.timeline.cursor")
         self.check("P goes to the one before", at, texts[0])
         changes = b.run("[...scriptTab.timeline.changes]")
-        b.key("N", "KeyN", 78, modifiers=8)
+        b.key("N", modifiers=8)
         self.check("Shift and N go to the next change of any part", b.run("scriptTab.timeline.cursor"),
                    min(it for it in changes if it > at))
-        b.key("P", "KeyP", 80, modifiers=8)
+        b.key("P", modifiers=8)
         self.check("Shift and P go back", b.run("scriptTab.timeline.cursor"), at)
         for key in "lgr":
-            press(key)
+            b.key(key)
             self.check(f"{key} edits a reception",
                        b.run(f"scriptTab.state.rows[{at}].receptions[scriptTab.state.chosen]"), key.upper())
         first_examples(b)
@@ -94,12 +93,12 @@ class Timeline:
         self.check("the frame is dragged", abs(b.run(f"{box}.from") - 450) < 5, True)
         self.check("the pointer is on the strip", b.run("document.activeElement.className"), "scroll")
         before = b.run(f"{box}.from")
-        b.key("ArrowRight", number=39)
+        b.key("ArrowRight")
         self.check("a key moves it", b.run(f"{box}.from") > before, True)
         self.check("a reader is told the slots", of(b, "#log-time .scroll", "ariaValueText").endswith(" of 1,000"),
                    True)
-        b.key("Tab", number=9, modifiers=8)
-        b.key("Tab", number=9)
+        b.key("Tab", modifiers=8)
+        b.key("Tab")
         outline = "getComputedStyle(document.querySelector('#log-time .overview')).outlineStyle"
         focus = b.run(f"[document.activeElement.className, {outline}]")
         # the window of a headless Firefox has no focus, so it shows none

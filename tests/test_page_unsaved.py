@@ -16,10 +16,10 @@ def asked(b, does):
         settle(b)
         got.append(b.run("document.activeElement.id"))
         if key == "Enter":
-            b.key("Tab", number=9)
-            b.key("Enter", number=13, text="\r")
+            b.key("Tab")
+            b.key("Enter")
         else:
-            b.key("Escape", number=27)
+            b.key("Escape")
         settle(b)
         got.append(of(b, "#script-text", "value") == before)
     return [*got, of(b, "#ask", "open")]

@@ -6,6 +6,7 @@ import re
 import shutil
 import subprocess
 
+from tests import c_library
 from tests.support import PROGRAM, ROOT, SECONDS, Case, text_of
 
 MOST_WORDS = {"README.md": 850, "docs/GUIDE.md": 2000, "docs/FORMATS.md": 1500, "docs/TRUST.md": 700,
@@ -15,6 +16,7 @@ MOST_WORDS = {"README.md": 850, "docs/GUIDE.md": 2000, "docs/FORMATS.md": 1500, 
 WITHOUT_COMMANDS = ("docs/TRUST.md", "docs/DECISIONS.md", "docs/PROMISES.md", "docs/PROVER.md", "CONTRIBUTING.md",
                     "CHANGELOG.md")
 MANUAL, HEADER, CURES = "docs/man/rdsrt.1", "include/rdsrt.h", "page/verdict.js"
+PACKAGE = "python/src/rdsrt/__init__.py"
 HELP = ["tests/shown/help.txt",
         *(f"tests/shown/help_of_{it}.txt" for it in ("decode", "audit", "witness", "encode", "sim"))]
 FAULTS = {"EarlyFlag", "Changed", "NotOneText", "EarlyTag", "TagOutside"}
@@ -152,17 +154,16 @@ class Pages(Case):
             self.check(f"'{time}' is in one page", [sum(text.count(time) for text in texts.values())], [1])
 
     def test_each_version_is_that_of_the_program(self):
-        """The program has the version; the other files repeat it. tests/c/calls.c compares the library and the header."""
+        """The program has the version, and the other files repeat it. tests/c/calls.c compares the library with the
+        header."""
         version = subprocess.run([PROGRAM, "--version"], capture_output=True, text=True,
                                  timeout=SECONDS).stdout.split()[1]
-        in_header = dict(re.findall(r"^#define RDSRT_VERSION_(\w+) (\d+)$", text_of(HEADER), re.M))
         found = {
             "CHANGELOG.md": re.findall(r"^## (\S+)", text_of("CHANGELOG.md"), re.M)[0],
             "README.md": re.findall(r"Version (\S+?):", text_of("README.md"))[0],
             MANUAL: re.findall(r'"rdsrt (\S+)"', text_of(MANUAL))[0],
-            HEADER: ".".join(in_header[it] for it in ("MAJOR", "MINOR", "PATCH")),
-            "python/src/rdsrt/__init__.py": re.findall(r'^__version__ = "(.*)"', text_of("python/src/rdsrt/__init__.py"),
-                                                       re.M)[0],
+            HEADER: c_library.header_version(),
+            PACKAGE: re.findall(r'^__version__ = "(.*)"', text_of(PACKAGE), re.M)[0],
         }
         for path, it in found.items():
             self.check(f"version in {path}", it, version)
