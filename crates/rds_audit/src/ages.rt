@@ -99,8 +99,9 @@ impl Ages {
 
 /// Returns the age one slot later, at most the limit.
 fn one_more(age: u32, limit: u32) -> u32
-    requires { limit ≤ 2 * 66559 }
+    requires some { 0 < limit }
+    requires most { limit ≤ 2 * 66559 }
     ensures { result ≡ min (age + 1) limit }
 {
-    if age < limit { age + 1 } else { limit }
+    age.min(limit - 1) + 1
 }

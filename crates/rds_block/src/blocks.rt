@@ -4,6 +4,7 @@ ghost use Rattle.std.specs.Int.{from_bool};
 
 use crate::Group;
 use std::marker::Model;
+use std::simd::prelude::*;
 
 /// A received group: its four blocks in one number, block 1 in the highest bits. Contracts see it as a `Group`.
 ///
@@ -35,9 +36,9 @@ impl Blocks {
         ensures words { AreWordsOf words result }
     {
         let [pi, second, c, d] = words;
-        Blocks {
-            bits: u64::from(pi) << 48 | u64::from(second) << 32 | u64::from(c) << 16 | u64::from(d),
-        }
+        let lowest_first = u16x4::from_array([d, c, second, pi]).to_le_bytes();
+        let [bits] = u64x1::from_le_bytes(lowest_first).to_array();
+        Blocks { bits }
     }
 
     /// Returns the group with its fields unpacked.

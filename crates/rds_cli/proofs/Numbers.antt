@@ -111,3 +111,15 @@ late_between n (Some d) none value = rw (le-leb 0 n (omega arith), le-leb n 1024
           cc
       | inr h ↦ h
     ]
+
+-- a grain is a number of milliseconds below 88
+pub grain_between : (n : ℕ) (o : Option ℕ) → IsSome o ↔ (n < 88) → IfSome o (λ d. d ≡ n) → o ≡ between 0 87 n
+grain_between n None some value = elim (cases_lt n 88) [
+  | inl h ↦
+      let here : IsSome {T = ℕ} None = some.1 h in
+      cc
+  | inr h ↦ sym (above 0 87 n h)
+]
+grain_between n (Some d) some value =
+    let small = some.0 refl in
+    rw (le-leb 0 n (omega arith), le-leb n 87 (omega (arith, small))) (ap Some value)

@@ -19,7 +19,7 @@ use Rattle.clap.specs.declared.error.kind.ErrorKind.TheVariants.{DisplayHelp, Di
 use Rattle.rds_charset.specs.Digits.{HasWord}
 use Rattle.rds_cli.specs.declared.request.Programme.{Programme}
 use Rattle.rds_cli.specs.declared.request.Task.{Task}
-use Rattle.rds_cli.specs.declared.request.Task.TheVariants.{Audit, Decode, Encode, Simulate, Witness}
+use Rattle.rds_cli.specs.declared.request.Task.TheVariants.{Audit, Decode, Encode, Simulate, Slots, Witness}
 
 -- ---- the command line
 
@@ -72,6 +72,14 @@ log_app name = with_rule (with_rule (with_rule (new_app name) pi_rule) dwell_rul
 unfoldable pub late_app : Text → App
 late_app name = with_rule (log_app name) late_rule
 
+-- `--grain N`, from 0 to 87
+abbrev pub grain_rule : Rule
+grain_rule = number_rule (codes "grain") (Signed (pos 0) (pos 87)) (codes "20")
+
+-- the subcommand that fills a log with times
+unfoldable pub slots_app : Text → App
+slots_app name = with_rule (with_rule (with_rule (new_app name) grain_rule) dwell_rule) quiet_rule
+
 -- a subcommand with a station of its own
 unfoldable pub station_app : Text → App
 station_app name = with_rule (with_rule (late_app name) pty_rule) tp_rule
@@ -87,13 +95,15 @@ decoder_app = with_subcommand top_app (log_app (codes "decode")).top
 -- with the subcommands that read a log
 unfoldable pub log_readers_app : App
 log_readers_app =
-    with_subcommand (with_subcommand decoder_app (late_app (codes "audit")).top) (log_app (codes "witness")).top
+    with_subcommand
+    (with_subcommand (with_subcommand decoder_app (late_app (codes "audit")).top) (log_app (codes "witness")).top)
+    (slots_app (codes "slots")).top
 
 -- with all subcommands except `sim`
 abbrev pub without_sim_app : App
 without_sim_app = with_subcommand log_readers_app (station_app (codes "encode")).top
 
--- with all five subcommands
+-- with all six subcommands
 abbrev pub whole_app : App
 whole_app = with_subcommand without_sim_app (station_app (codes "sim")).top
 
@@ -131,6 +141,10 @@ late_in rows = option_and_then (number_from_to 0 1024) (one_of (codes "k") rows)
 abbrev pub pty_in : List Row → Option ℕ
 pty_in rows = option_and_then (number_from_to 0 31) (one_of (codes "pty") rows)
 
+-- the grain in milliseconds
+abbrev pub grain_in : List Row → Option ℕ
+grain_in rows = option_and_then (number_from_to 0 87) (one_of (codes "grain") rows)
+
 -- a flag is given
 abbrev pub flag_in : Text → List Row → Bool
 flag_in name rows = option_map_or (λ text. bytes_eq text (codes "true")) (first_of name rows) false
@@ -155,15 +169,20 @@ task_in name rows =
     else if bytes_eq name (codes "sim") then with_station Simulate rows
     else if bytes_eq name (codes "audit") then option_map Audit (late_in rows)
     else if bytes_eq name (codes "witness") then Some Witness
+    else if bytes_eq name (codes "slots") then option_map Slots (grain_in rows)
     else None
 
 abbrev pub asked : Option Task → Option Text → Option ℕ → Bool → Option Requested
 asked (Some task) (Some pi) (Some dwell) quiet = Some (record { task = task; pi = pi; dwell = dwell; quiet = quiet })
 asked _ _ _ _ = None
 
+-- the argument of `--pi`; `slots` has none, and takes the groups of each programme
+abbrev pub pi_in : Text → List Row → Option Text
+pi_in name rows = if bytes_eq name (codes "slots") then Some (codes "0000") else first_of (codes "pi") rows
+
 -- the request of a subcommand and its options
 abbrev pub asked_of : Text × List Row → Option Requested
-asked_of p = asked (task_in p.0 p.1) (first_of (codes "pi") p.1) (dwell_in p.1) (quiet_in p.1)
+asked_of p = asked (task_in p.0 p.1) (pi_in p.0 p.1) (dwell_in p.1) (quiet_in p.1)
 
 -- the request of the arguments, as `clap`'s definition reads them
 abbrev pub asked_in : List Text → Option Requested

@@ -3,7 +3,7 @@ use Rattle.std.specs.Prelude.{◌≡◌, ◌==◌, ◌∷◌, ℕ, Bool, List, [
 use Rattle.clap.specs.Words.{Text, fault_of, takes}
 use Rattle.clap.specs.declared.error.kind.ErrorKind.TheVariants.{DisplayHelp, InvalidSubcommand}
 use Rattle.rds_cli.specs.CommandLine.{AreRefused, Requested, whole_app}
-use Rattle.rds_cli.specs.declared.request.Task.TheVariants.{Audit, Decode, Encode, Simulate, Witness}
+use Rattle.rds_cli.specs.declared.request.Task.TheVariants.{Audit, Decode, Encode, Simulate, Slots, Witness}
 
 abbrev pub in_front : ℕ → List Text → List Text
 in_front c [] = (c ∷ []) ∷ []
@@ -40,6 +40,9 @@ witnessing dwell = record { task = Witness; pi = codes "C201"; dwell = dwell; qu
 
 abbrev pub auditing : ℕ → ℕ → Requested
 auditing dwell late = record { task = Audit late; pi = codes "C201"; dwell = dwell; quiet = false }
+
+abbrev pub filling : ℕ → ℕ → Requested
+filling dwell grain = record { task = Slots grain; pi = codes "0000"; dwell = dwell; quiet = false }
 
 -- the same without warnings
 abbrev pub quietly : Requested → Requested

@@ -2,8 +2,8 @@
 ghost use Rattle.std.specs.Prelude.{◌≡◌, IfOk, codes, false};
 ghost use Rattle.clap.specs.Words.{App, app_of, rule_of, with_subcommand};
 ghost use Rattle.clap.specs.declared.builder.command.Command.TheViews.{out-Command};
-ghost use Rattle.rds_cli.specs.CommandLine.{dwell_rule, flag_rule, late_app, late_rule, log_app, number_rule};
-ghost use Rattle.rds_cli.specs.CommandLine.{pi_rule, pty_rule, quiet_rule, station_app, top_app, tp_rule, whole_app};
+ghost use Rattle.rds_cli.specs.CommandLine.{dwell_rule, flag_rule, grain_rule, late_app, late_rule, log_app, number_rule};
+ghost use Rattle.rds_cli.specs.CommandLine.{pi_rule, pty_rule, quiet_rule, slots_app, station_app, top_app, tp_rule, whole_app};
 
 use clap::builder::ValueParser;
 use clap::{Arg, ArgAction, Command, value_parser};
@@ -67,6 +67,16 @@ fn late<'a>(alloc: Global) -> Arg<'a>
          through a buffer or a network. Late groups must stay in their order. The station\n\
          spaces its texts by M + K slots; a receiver needs M alone.",
     )
+}
+
+/// Makes the option `--grain`.
+fn grain<'a>(alloc: Global) -> Arg<'a>
+    ensures rule { rule_of result ≡ grain_rule }
+    ensures local { result.global ≡ false }
+{
+    let parser = value_parser!(u8).range(0..88);
+    let help = "By how many milliseconds the times may be off, 0 to 87";
+    number(alloc, "grain", parser, "20", help)
 }
 
 /// Makes the option `--pty`.
@@ -224,6 +234,30 @@ fn witness<'a>(alloc: Global) -> Result<Command<'a>, AllocError>
     log_reader(alloc, "witness", page)
 }
 
+/// Makes the subcommand `slots`.
+#[tactic(auto, unfolding(crate::specs::CommandLine::slots_app))]
+fn slots<'a>(alloc: Global) -> Result<Command<'a>, AllocError>
+    ensures app { IfOk result (λ c. app_of c ≡ slots_app (codes "slots")) }
+    ensures local { IfOk result (λ c. (out-Command c).has_globals ≡ false) }
+{
+    Command::new(alloc, "slots")
+        .about("Reads a log of received groups with times and adds a line for each lost slot")
+        .after_long_help(
+            "Most receivers print only the groups that they received. The other commands need a\n\
+             line for each slot, so put this one before them. Give it their M.\n\n\
+             A time stands after the group: @2024/06/01 07:58:12.08, 2024-06-01T07:58:12.08Z, or\n\
+             seconds such as 12.5. A group without a time is left out. If a time is earlier than\n\
+             the one before it, or more than a day later, M lost slots are added.\n\n\
+             No slot is missing if the delay of the groups varies by less than a slot (87.5 ms)\n\
+             less the grain. None is added in vain if it varies by at most the grain.\n\n\
+             Example:\n  \
+               $ rdsrt slots < spy.log | rdsrt decode --pi C201",
+        )
+        .arg(grain(alloc))?
+        .arg(dwell(alloc))?
+        .arg(quiet(alloc))
+}
+
 /// Makes a subcommand that has a station of its own.
 #[tactic(auto, unfolding(crate::specs::CommandLine::station_app))]
 fn station<'a>(alloc: Global, name: &'a str, page: Page<'a>) -> Result<Command<'a>, AllocError>
@@ -318,6 +352,7 @@ pub fn whole<'a>(alloc: Global) -> Result<Command<'a>, AllocError>
     let with_decode = with(top(alloc), decode(alloc))?;
     let with_audit = with(with_decode, audit(alloc))?;
     let with_witness = with(with_audit, witness(alloc))?;
-    let with_encode = with(with_witness, encode(alloc))?;
+    let with_slots = with(with_witness, slots(alloc))?;
+    let with_encode = with(with_slots, encode(alloc))?;
     with(with_encode, simulate(alloc))
 }

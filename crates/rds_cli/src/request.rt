@@ -3,7 +3,7 @@ ghost use Rattle.std.specs.Prelude.{◌≡◌, ◌⊎◌, ℕ, IfErr, IfNone, If
 ghost use Rattle.clap.specs.Words.{FailsBy, fault_of, found_of, kind_of, rows_of};
 ghost use Rattle.rds_cli.specs.Asks.{asked_by};
 ghost use Rattle.rds_cli.specs.CommandLine.{AreRefused, AskForHelp, IsPi, TakesWords, asked_in, asked_of};
-ghost use Rattle.rds_cli.specs.CommandLine.{dwell_in, flag_in, is_shown, late_in, programme_in, task_in, whole_app};
+ghost use Rattle.rds_cli.specs.CommandLine.{dwell_in, flag_in, grain_in, is_shown, late_in, pi_in, programme_in, task_in, whole_app};
 
 use crate::command_line::whole;
 use clap::error::ErrorKind;
@@ -35,6 +35,8 @@ pub enum Task {
     Audit(Late),
     /// Print which slots of such a log a receiver has to lose to show a mix.
     Witness,
+    /// Print a log with times, and a line for each slot that it lacks. Its times are off by at most so many milliseconds.
+    Slots(Place<88>),
 }
 
 /// A command with its options.
@@ -93,7 +95,7 @@ fn request_of<'a>(name: &'a str, inner: &ArgMatches<'a>) -> Option<Request<'a>>
 {
     Some(Request {
         task: task_of(name, inner)?,
-        pi: inner.get_str("pi")?,
+        pi: pi_of(name, inner)?,
         dwell: dwell_of(inner)?,
         quiet: is_given(inner, "quiet"),
     })
@@ -109,8 +111,26 @@ fn task_of(name: &str, inner: &ArgMatches<'_>) -> Option<Task>
         "sim" => Some(Task::Simulate(programme_of(inner)?, late_of(inner)?)),
         "audit" => Some(Task::Audit(late_of(inner)?)),
         "witness" => Some(Task::Witness),
+        "slots" => Some(Task::Slots(grain_of(inner)?)),
         _ => None,
     }
+}
+
+/// Reads the argument of `--pi`. `slots` has none.
+fn pi_of<'a>(name: &str, inner: &ArgMatches<'a>) -> Option<&'a str>
+    ensures { option_map (λ s. s.now) result ≡ pi_in name.now (rows_of (found_of inner.now)) }
+{
+    if name == "slots" {
+        return Some("0000");
+    }
+    inner.get_str("pi")
+}
+
+/// Reads the grain.
+fn grain_of(inner: &ArgMatches<'_>) -> Option<Place<88>>
+    ensures { result ≡ grain_in (rows_of (found_of inner.now)) }
+{
+    Place::new(inner.get_one::<u8>("grain")?)
 }
 
 /// Reads the dwell.

@@ -27,4 +27,6 @@ mod stored_encoder;
 #[cfg(test)]
 mod stored_receiver;
 #[cfg(test)]
+mod twice;
+#[cfg(test)]
 mod worlds;

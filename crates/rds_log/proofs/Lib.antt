@@ -13,3 +13,4 @@ pub mod WholeBytes
 pub mod OneOutput
 pub mod Meaning
 pub mod OneVerdict
+pub mod Filled

@@ -4,3 +4,4 @@ pub mod Cutter
 pub mod Source
 pub mod ViewLines
 pub mod Decoder
+pub mod Filler

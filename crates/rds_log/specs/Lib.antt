@@ -8,6 +8,7 @@ pub mod LogWrites
 pub mod Reads
 pub mod Decode
 pub mod Audit
+pub mod Fill
 pub mod Gather
 pub mod Notes
 -- The state of the crate's objects, a file for each. Callers do not need them.

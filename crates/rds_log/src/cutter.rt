@@ -6,7 +6,7 @@ ghost use Rattle.rds_log.specs.LogLines.{EndsAt, IsLine, Line};
 ghost use Rattle.rds_log.specs.Notes.{IsNoteOn};
 
 use crate::line_cause::cause_of;
-use crate::log_line::{DECIDING, LogLine, said_by};
+use crate::log_line::{DECIDING, LineStart, LogLine, said_by};
 use crate::notes::BadStart;
 use arrayvec::ArrayVec;
 use memchr::memchr;
@@ -66,6 +66,17 @@ impl Cutter {
         self.lines += 1;
         self.kept.clear();
         Ok(said)
+    }
+
+    /// Copies the first bytes of the line that ends with these bytes.
+    pub(crate) fn copy_start(&self, last: &[u8], start: &mut LineStart)
+        ensures { start.new.items ≡ take deciding (self.now.kept.items ++ last.now) }
+    {
+        start.clear();
+        start.try_extend_from_slice(self.kept.as_slice()).unwrap();
+        let room = start.remaining_capacity();
+        let count = last.len().min(room);
+        start.try_extend_from_slice(&last[..count]).unwrap();
     }
 
     /// Returns the first bytes of a malformed line, and why it is malformed.

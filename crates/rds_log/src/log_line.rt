@@ -7,6 +7,7 @@ ghost use Rattle.rds_log.specs.LogLines.{content_length};
 ghost use Rattle.rds_log.specs.LineSays.{Carry, HasDashes, IsBad, IsBlock, IsLaidOut};
 ghost use Rattle.rds_log.specs.LineSays.{IsSkipped, LineSays, SaysSlot, block_word};
 
+use arrayvec::ArrayVec;
 use rds_block::Blocks;
 use rds_charset::{four_words, word_at};
 
@@ -16,6 +17,9 @@ const BLOCKS: usize = 19;
 /// The most bytes that are kept of a line: as many as a note on a malformed line shows. The first 21 of them decide the
 /// meaning: the blocks, the byte after them, and one more, since a carriage return counts only at the end of a line.
 pub(crate) const DECIDING: usize = 60;
+
+/// The first bytes of a line.
+pub(crate) type LineStart = ArrayVec<u8, DECIDING>;
 
 /// The meaning of a line.
 #[derive(Clone, Copy)]

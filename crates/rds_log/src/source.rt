@@ -7,7 +7,7 @@ ghost use Rattle.rds_log.specs.Reads.{MadeReads, to_come};
 ghost use Rattle.rds_view_lines.specs.declared.fault.LogFault.TheVariants as faults;
 
 use crate::cutter::{Cutter, line_end};
-use crate::log_line::LogLine;
+use crate::log_line::{LineStart, LogLine};
 use crate::notes::BadStart;
 use rds_charset::TellingRead;
 use rds_view_lines::{BadLine, LogFault};
@@ -107,6 +107,48 @@ impl Source {
         }
     }
 
+    /// Reads the next line as `next` does, and copies its first bytes.
+    ///
+    /// # Errors
+    ///
+    /// A malformed line, a failed read, or no end within the reads that are left.
+    pub(crate) fn next_with_start<R: TellingRead>(
+        &mut self,
+        reader: &mut R,
+        said: &mut LogLine,
+        start: &mut LineStart,
+    ) -> Result<bool, LogFault>
+        ensures budget { IfOk result (λ given. given ≡ true → budget self.new < budget self.old) }
+        ensures there { self.old.line ≢ None → MatchResult result (λ given. given ≡ true) IsBadLineFault }
+        ensures reads { WhereItReads self.old (state_of R.remaining R.failures R.reads reader.old)
+            (λ most start _. MadeReads most start.reads (R.reads reader.new) result) }
+        ensures gives { WhereItReads self.old (state_of R.remaining R.failures R.reads reader.old)
+            (λ most start lines. MatchResult result
+            (λ given. GivesNext self.new most start (state_of R.remaining R.failures R.reads reader.new) lines
+            (given_if given said.new))
+            (HasNoNext most start (state_of R.remaining R.failures R.reads reader.new) lines
+            self.new.cutter.kept.items)) }
+    {
+        loop {
+            if let Some(count) = self.line {
+                self.copy_start(count, start);
+                *said = self.close(count)?;
+                return Ok(true);
+            }
+            if self.ended {
+                return Ok(false);
+            }
+            if !self.read(reader)? {
+                self.cutter.copy_start(&[], start);
+                let Some(last) = self.last()? else {
+                    return Ok(false);
+                };
+                *said = last;
+                return Ok(true);
+            }
+        }
+    }
+
     /// Returns how many lines were read, including skipped ones.
     pub(crate) fn lines(&self) -> u64 {
         self.cutter.lines
@@ -126,6 +168,15 @@ impl Source {
             | LogFault::TooLong
             | LogFault::Memory => None,
         }
+    }
+
+    /// Copies the first bytes of the line with this many of the unread bytes.
+    fn copy_start(&self, count: usize, start: &mut LineStart)
+        requires { self.now.line ≡ Some count }
+    {
+        let end = self.at + count;
+        let chunk: &[u8] = &self.chunk;
+        self.cutter.copy_start(&chunk[self.at..end], start);
     }
 
     /// Returns the meaning of the line with this many of the unread bytes.

@@ -8,7 +8,7 @@ use Rattle.rds_view_lines.specs.declared.fault.LogFault.{LogFault}
 use Rattle.rds_receiver.specs.Receipts.{Tuning}
 use Rattle.rds_cli.specs.declared.request.Request.{Request}
 use Rattle.rds_cli.specs.declared.request.Task.{Task}
-use Rattle.rds_cli.specs.declared.request.Task.TheVariants.{Audit, Decode, Encode, Simulate, Witness}
+use Rattle.rds_cli.specs.declared.request.Task.TheVariants.{Audit, Decode, Encode, Simulate, Slots, Witness}
 use Rattle.rds_program.specs.Run.{EndsRead, EndsWith, RunsRead, TaskRuns, verdict_status, witness_status}
 
 -- an engine ends with 0 or 1
@@ -31,6 +31,7 @@ engine_status (Encode programme late) t r ReadFailed w status ran = ended_status
 engine_status (Simulate programme late) t r ReadFailed w status ran = ended_status _ (Simulate programme late) ran.outcome _ status (λ _. omega arith) ran.ended
 engine_status (Audit late) t r ReadFailed w status ran = ended_status _ (Audit late) ran.outcome _ status verdict_few ran.ended
 engine_status Witness t r ReadFailed w status ran = ended_status _ Witness ran.outcome _ status witness_few ran.ended
+engine_status (Slots grain) t r ReadFailed w status ran = ended_status _ (Slots grain) ran.outcome _ status (λ _. omega arith) ran.ended
 
 -- so it does where not all could be written
 pub still_few : (was_read all_out : Bool) (status result : ℕ) → (all_out ≡ true → result ≡ status) → (was_read ≡ false → result ≡ status)

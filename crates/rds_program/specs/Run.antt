@@ -25,7 +25,7 @@ use Rattle.rds_cli.specs.CommandLine.{AreRefused, AskFor, AskForHelp, Requested,
 use Rattle.rds_cli.specs.declared.request.Programme.{Programme}
 use Rattle.rds_cli.specs.declared.request.Request.{Request}
 use Rattle.rds_cli.specs.declared.request.Task.{Task}
-use Rattle.rds_cli.specs.declared.request.Task.TheVariants.{Audit, Decode, Encode, Simulate, Witness}
+use Rattle.rds_cli.specs.declared.request.Task.TheVariants.{Audit, Decode, Encode, Simulate, Slots, Witness}
 
 -- the traffic of a call begins with these bytes and this number of failures
 pub record StartsFrom (t : Traffic) (bytes : Option (List ℕ)) (failures : ℕ) : Type 0 where
@@ -45,13 +45,14 @@ pub record IsUntouched {X : Type 0} (remaining : X → Option (List ℕ)) (failu
 abbrev pub PutsLine : List ℕ → Traffic → Type 0
 PutsLine line w = (r : Result (Unit {0}) WriteFault) × Puts w line r
 
--- the mark before the line of a fault: in the log that `encode` writes, the line is a comment
+-- the mark before the line of a fault: in the log that `encode` or `slots` writes, the line is a comment
 abbrev pub mark_of : Task → List ℕ
 mark_of Decode = []
 mark_of (Encode programme late) = codes "# "
 mark_of (Simulate programme late) = []
 mark_of (Audit late) = []
 mark_of Witness = []
+mark_of (Slots grain) = codes "# "
 
 abbrev pub TellsFault : Task → List ℕ → Traffic → Type 0
 TellsFault task text w = PutsLine (mark_of task ++ text ++ codes "\n") w
@@ -107,6 +108,10 @@ script_in r ReadFailed = record { known = r.before; Failed = ReadFailed }
 
 -- ---- the whole program
 
+-- `slots` ran. Open: that it wrote `Fills` of rds_log `specs/Fill`
+abbrev pub RunsSlots : Traffic → Result (Unit {0}) LogFault → Type 0
+RunsSlots w result = Unit {0}
+
 -- the engine of the task ran, with receivers that are tuned so; ReadFailed says that a read of the reader failed
 abbrev pub TaskRuns : Task → Tuning → Traffic → Type 0 → Traffic → ℕ → Type 0
 TaskRuns Decode t r ReadFailed w status = Runs (Decodes t (2 ^ 32) r) done Decode w status
@@ -119,6 +124,7 @@ TaskRuns (Simulate programme late) t r ReadFailed w status =
 TaskRuns (Audit late) t r ReadFailed w status =
     Runs (Audits t.programme (t.dwell + late) (2 ^ 32) r) verdict_status (Audit late) w status
 TaskRuns Witness t r ReadFailed w status = Runs (Witnesses t r) witness_status Witness w status
+TaskRuns (Slots grain) t r ReadFailed w status = Runs RunsSlots done (Slots grain) w status
 
 -- the programme identification is refused
 pub record RefusesPi (task : Task) (w : Traffic) (status : ℕ) : Type 0 where

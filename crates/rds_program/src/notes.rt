@@ -3,7 +3,7 @@
 use arrayvec::ArrayVec;
 use rds_cli::Task;
 use rds_fields::Dwell;
-use rds_log::LogNotes;
+use rds_log::{LogNotes, SlotNotes};
 use rds_script::ScriptNotes;
 use rds_view_lines::LogFault;
 
@@ -47,6 +47,8 @@ pub struct RunNotes {
     pub refused: ArrayVec<u8, REFUSED_ROOM>,
     /// Notes on the log of `decode`, `audit` and `witness`.
     pub log: LogNotes,
+    /// Notes on the times of a log, of `slots`.
+    pub slots: SlotNotes,
     /// Notes on the script of `encode` and `sim`.
     pub script: ScriptNotes,
 }
@@ -60,6 +62,7 @@ impl RunNotes {
             pi: ArrayVec::new(),
             refused: ArrayVec::new(),
             log: LogNotes::new(0),
+            slots: SlotNotes::new(),
             script: ScriptNotes::new(),
         }
     }

@@ -15,10 +15,11 @@ use crate::status::{FAULT, NO, OK, REFUSED, write_no_memory};
 use crate::tell::tell_run;
 use clap::Error;
 use clap::error::ErrorKind;
+use rds_arrivals::Grain;
 use rds_charset::{Lines, TellingRead, TellingWrite, put};
 use rds_cli::{Programme, Request, Task, identification_of, read_words};
 use rds_fields::{Dwell, Head, Late};
-use rds_log::{audit_with_notes, decode_with_notes};
+use rds_log::{audit_with_notes, decode_with_notes, fill_with_notes};
 use rds_script::{encode_with_notes, simulate_with_notes};
 use rds_view_lines::LogFault;
 use rds_witness::witness_with_notes;
@@ -216,6 +217,11 @@ fn run_task<R: TellingRead, W: TellingWrite>(
                 Err(fault) => fail_with(asked, fault, writer, &mut notes.end),
             }
         }
+        Task::Slots(grain) => {
+            let grain = Grain::of_milliseconds(grain);
+            let filled = fill_with_notes(reader, writer, grain, dwell, &mut notes.slots);
+            end_with(asked, filled, writer, &mut notes.end)
+        }
         Task::Witness => {
             match witness_with_notes(alloc, reader, writer, pi, dwell, &mut notes.log) {
                 Ok(found) => answer_by(found, NO, OK, &mut notes.end),
@@ -316,13 +322,13 @@ fn tell_fault_text<W: TellingWrite>(task: Task, text: &[u8], writer: &mut W)
     tell(line.bytes(), writer);
 }
 
-/// Returns the mark before the line of a fault: in the log that `encode` writes, the line is a comment.
+/// Returns the mark before the line of a fault: in the log that `encode` or `slots` writes, the line is a comment.
 fn mark(task: Task) -> &'static [u8]
     ensures mark { result.now ≡ mark_of task }
     ensures short { length result.now ≤ 2 }
 {
     match task {
-        Task::Encode(..) => b"# ",
+        Task::Encode(..) | Task::Slots(_) => b"# ",
         Task::Decode | Task::Simulate(..) | Task::Audit(_) | Task::Witness => b"",
     }
 }

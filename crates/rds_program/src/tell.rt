@@ -42,6 +42,10 @@ pub(crate) fn tell_run<N: TellingWrite>(notes: &RunNotes, reason: &Reason, scree
 fn tell_warnings<N: TellingWrite>(task: Task, notes: &RunNotes, screen: &mut N) {
     tell_wait(notes, screen);
     tell_no(notes, screen);
+    tell_slots(notes, screen);
+    if let Task::Slots(_) = task {
+        return;
+    }
     // Prover: a value is copied by a new name before its second use (docs/PROVER.md, "Workarounds").
     let asked = task;
     if notes.end == End::Done && notes.log.no.is_none() && !reads_script(asked) {
@@ -99,6 +103,28 @@ fn tell_no_group<N: TellingWrite>(task: Task, notes: &RunNotes, screen: &mut N) 
         let _ = write!(note, ". The yes says nothing");
     }
     print(note, screen);
+}
+
+/// Prints how many lines had no time, and how often nobody knows how many slots were lost.
+fn tell_slots<N: TellingWrite>(notes: &RunNotes, screen: &mut N) {
+    let untimed = notes.slots.untimed;
+    if untimed > 0 {
+        let mut note = begun();
+        let _ = write!(
+            note,
+            "groups without a time, left out: {untimed}. A time looks like @2024/06/01 07:58:12.08 or 12.5"
+        );
+        print(note, screen);
+    }
+    let breaks = notes.slots.breaks;
+    if breaks > 0 {
+        let mut note = begun();
+        let _ = write!(
+            note,
+            "times that went back, or on by more than a day: {breaks}. M lost slots stand for each"
+        );
+        print(note, screen);
+    }
 }
 
 /// Prints which rule the log breaks first, and what to try next.
@@ -176,7 +202,7 @@ fn tell_fault<N: TellingWrite>(
     }
     let mut note = begun();
     match fault {
-        LogFault::BadLine(number) => push_bad_line(number, &notes.log.bad, &mut note),
+        LogFault::BadLine(number) => push_bad_line(number, bad_of(notes), &mut note),
         LogFault::BadRow(number) => push_bad_row(number, notes, &mut note),
         LogFault::Read => push_failed(
             "fault read: reading standard input failed",
@@ -190,6 +216,14 @@ fn tell_fault<N: TellingWrite>(
         }
     }
     print(note, screen);
+}
+
+/// Returns the note on the malformed line.
+fn bad_of(notes: &RunNotes) -> &Option<BadStart> {
+    if notes.slots.bad.is_some() {
+        return &notes.slots.bad;
+    }
+    &notes.log.bad
 }
 
 /// Returns whether the reader of a pipe has gone.
@@ -265,7 +299,7 @@ fn push_shown(bytes: &[u8], note: &mut Note) {
 fn reads_script(task: Task) -> bool {
     match task {
         Task::Encode(..) | Task::Simulate(..) => true,
-        Task::Decode | Task::Audit(_) | Task::Witness => false,
+        Task::Decode | Task::Audit(_) | Task::Witness | Task::Slots(_) => false,
     }
 }
 

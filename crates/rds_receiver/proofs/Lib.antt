@@ -5,3 +5,4 @@ pub mod Longest
 pub mod Shows
 pub mod WorkedRows
 pub mod Alike
+pub mod TwiceSteps

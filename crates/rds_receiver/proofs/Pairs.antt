@@ -28,7 +28,7 @@ before_below : (m n s : ℕ) (f : Bool) (segs : List Segment) → AllBelow n seg
 before_below m n s f [] all = tt
 before_below m n s f (g ∷ older) all = below_if n (is_same f g.fragment.flag && nat_lt s (g.slot + m)) (g ∷ run_before m f g.slot older) (all.0, before_below m n g.slot f older all.1)
 
-run_below : (m n t : ℕ) (segs : List Segment) → AllBelow n segs → AllBelow n (run m t segs)
+pub run_below : (m n t : ℕ) (segs : List Segment) → AllBelow n segs → AllBelow n (run m t segs)
 run_below m n t [] all = tt
 run_below m n t (g ∷ older) all = below_if n (nat_lt t (g.slot + m)) (g ∷ run_before m g.fragment.flag g.slot older) (all.0, before_below m n g.slot g.fragment.flag older all.1)
 
@@ -36,7 +36,7 @@ with_below : (slot n : ℕ) (o : Option Fragment) (segs : List Segment) → slot
 with_below slot n None segs h all = below_later slot n segs (omega arith) all
 with_below slot n (Some p) segs h all = (h, below_later slot n segs (omega arith) all)
 
-segments_below : (pick : Message → Option Fragment) (first : ℕ) (heard : List (Option Message)) → AllBelow (first + length heard) (segments pick first heard)
+pub segments_below : (pick : Message → Option Fragment) (first : ℕ) (heard : List (Option Message)) → AllBelow (first + length heard) (segments pick first heard)
 segments_below pick first [] = tt
 segments_below pick first (x ∷ before) = with_below (first + length before) (first + length (x ∷ before)) (picked pick x) (segments pick first before) (omega arith) (segments_below pick first before)
 

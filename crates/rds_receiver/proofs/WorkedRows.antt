@@ -9,6 +9,7 @@ use Rattle.rds_fields.specs.Tag.{PairFields}
 use Rattle.rds_receiver.specs.Receipts.{Segment, name_fragment, text_fragment}
 use Rattle.rds_receiver.specs.Run.{begins_in, cells_of, run_at}
 use Rattle.rds_receiver.specs.Tags.{is_known, item_of, pair_held, tag_of}
+use Rattle.rds_receiver.specs.Twice.{confirmed}
 
 abbrev Heard : Type 0
 Heard = List (Option Message)
@@ -120,3 +121,33 @@ foreign_12_text = refl
 
 foreign_12_name : run_at name_fragment 4 0 foreign_12 ≡ segment 12 true 0 (74 ∷ 13 ∷ 90 ∷ 90 ∷ []) ∷ segment 11 true 1 (32 ∷ 70 ∷ 77 ∷ 32 ∷ []) ∷ []
 foreign_12_name = refl
+
+-- heard twice: in a window of 4 slots the segment of slot 0 is confirmed in slot 3, not in slot 4
+again_in_3 : confirmed 4 4 0 (Some (Text false 0 hi) ∷ None ∷ None ∷ Some (Text false 0 hi) ∷ []) ≡ Some (Text false 0 hi) ∷ None ∷ None ∷ None ∷ []
+again_in_3 = refl
+
+again_in_4 : confirmed 4 4 0 (Some (Text false 0 hi) ∷ None ∷ None ∷ None ∷ Some (Text false 0 hi) ∷ []) ≡ None ∷ None ∷ None ∷ None ∷ None ∷ []
+again_in_4 = refl
+
+-- other bytes at its address in slot 1 delay it to slot 3; another flag does too
+abbrev ho : List ℕ
+ho = 72 ∷ 79 ∷ 13 ∷ 32 ∷ []
+
+delayed : confirmed 4 4 0 (Some (Text false 0 hi) ∷ Some (Text false 0 hi) ∷ Some (Text false 0 ho) ∷ Some (Text false 0 hi) ∷ []) ≡ Some (Text false 0 hi) ∷ None ∷ None ∷ None ∷ []
+delayed = refl
+
+delayed_by_flag : confirmed 4 4 0 (Some (Text false 0 hi) ∷ Some (Text true 0 hi) ∷ Some (Text false 0 hi) ∷ []) ≡ None ∷ None ∷ None ∷ []
+delayed_by_flag = refl
+
+-- other bytes at another address do not
+not_delayed : confirmed 4 4 0 (Some (Text false 0 hi) ∷ Some (Text false 1 ho) ∷ Some (Text false 0 hi) ∷ []) ≡ Some (Text false 0 hi) ∷ None ∷ None ∷ []
+not_delayed = refl
+
+-- the run of texts begins in slot 1. Tags of slots 2 and 3 are confirmed in slot 3; those of slots 0 and 2 are not
+tags_in_run : confirmed 4 4 0 (Some (Tags title) ∷ Some (Tags title) ∷ Some (Text false 0 hi) ∷ Some (Text false 0 hi) ∷ [])
+    ≡ Some (Tags title) ∷ None ∷ Some (Text false 0 hi) ∷ None ∷ []
+tags_in_run = refl
+
+tags_before_run : confirmed 5 4 0 (Some (Tags title) ∷ Some (Text false 0 hi) ∷ Some (Tags title) ∷ Some (Text false 0 hi) ∷ [])
+    ≡ None ∷ Some (Text false 0 hi) ∷ None ∷ None ∷ []
+tags_before_run = refl

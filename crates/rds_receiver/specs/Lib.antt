@@ -9,3 +9,5 @@ pub mod Codes
 pub mod Borrowed
 pub mod StandsAt
 pub mod OneView
+pub mod Twice
+pub mod TwiceState

@@ -13,12 +13,15 @@
 #![tactic(auto)]
 
 mod held;
+mod last;
 mod laws;
 mod receiver;
 mod stored;
+mod twice;
 mod view;
 
 pub use laws::{one_view, run_is_the_longest};
 pub use receiver::{Receiver, heard};
 pub use stored::{StoredReceiver, StoredSegments};
+pub use twice::TwiceReceiver;
 pub use view::View;

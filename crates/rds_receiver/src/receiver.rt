@@ -227,9 +227,30 @@ impl Receiver {
         self.pair
     }
 
+    /// Returns the programme (PI).
+    pub(crate) fn pi(&self) -> u16
+        ensures { result ≡ self.now.programme }
+    {
+        self.pi
+    }
+
+    /// Returns whether segments of a text are held.
+    pub(crate) fn holds_text(&self) -> bool
+        ensures { IsTrue result ↔ (self.now.text.age < self.now.dwell) }
+    {
+        self.text.is_held(self.dwell.get())
+    }
+
+    /// Returns whether the segments of a text have this flag.
+    pub(crate) fn has_flag(&self, flag: bool) -> bool
+        ensures { IsTrue result ↔ (self.now.text.flag ≡ flag) }
+    {
+        self.text.has_flag(flag)
+    }
+
     /// Ages the segments by one slot. Drops the pair if no segment of a text is held any more. If it returns false, all
     /// that is shown stays the same.
-    fn grow_older(&mut self) -> bool
+    pub(crate) fn grow_older(&mut self) -> bool
         ensures programme { self.new.programme ≡ self.old.programme }
         ensures holds { (m first : ℕ) (heard : List (Option Message))
             → HoldsAt m (newest_slot first heard) first self.old heard
@@ -248,7 +269,7 @@ impl Receiver {
 
     /// Handles a message of the programme. If it returns false, all that is shown stays the same.
     #[inline(always)]
-    fn hear(&mut self, message: Message) -> bool
+    pub(crate) fn hear(&mut self, message: Message) -> bool
         ensures programme { self.new.programme ≡ self.old.programme }
         ensures holds { HearsMore self.old self.new message }
         ensures same { IsFalse result → ShowsAlike self.old self.new }

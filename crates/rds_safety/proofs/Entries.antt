@@ -1,8 +1,9 @@
 -- Lemmas about entries of lists by their slots, and about the slots in which entries were sent.
-use Rattle.std.proofs.Common.{◌≡◌, ◌+◌, ◌<◌, ℕ, suc, List, [], ◌∷◌, length, Option, Some, None, refl, sym, ap, ◌∙◌, inl, inr, arith}
+use Rattle.std.proofs.Common.{◌≡◌, ◌+◌, ◌<◌, ℕ, suc, List, [], ◌∷◌, length, Option, Some, None, refl, sym, ap, ◌∙◌, subst, inl, inr, arith}
 use Rattle.rds_fields.specs.declared.message.Message.{Message}
-use Rattle.rds_safety.specs.Late.{CameFrom, HasEntry, Input, InputOf, IsHeardInOrder, SentIn}
+use Rattle.rds_safety.specs.Late.{CameFrom, HasEntry, Input, InputOf, IsHeardInOrder, IsOfItsOrigin, SentIn}
 use Rattle.rds_safety.specs.Marks.{IsMarkIn, Mark, marks}
+use Rattle.rds_safety.specs.Near.{IsHeard, IsOfItsOriginIfMarked, IsUnmarked}
 
 -- an entry's slot comes before the end of the list
 pub before_end : {X : Type 0} (first : ℕ) (entries : List X) (t : ℕ) (x : X) → HasEntry first entries t x → t < first + length entries
@@ -41,12 +42,20 @@ pub record Arrival (log : List (Option Message)) (input : Input) (t : ℕ) (mess
   pub from : CameFrom input t slot
   pub sent : SentIn log slot (Some message)
 
-pub arrival : (log : List (Option Message)) (input : Input) (t : ℕ) (message : Message) → IsHeardInOrder log input → HasEntry input.first input.heard t (Some message) → Arrival log input t message
-arrival log input t message order a = by (entry_beside input.first input.heard input.origins t (Some message) order.beside a)
+pub arrival : (log : List (Option Message)) (input : Input) (t : ℕ) (message : Message) → IsHeard log input → (IsUnmarked (Some message) → ⊥) → HasEntry input.first input.heard t (Some message) → Arrival log input t message
+arrival log input t message hears marked a = by (entry_beside input.first input.heard input.origins t (Some message) hears.beside a)
   where
     by : (origin : Option ℕ) × HasEntry input.first input.origins t origin → Arrival log input t message
-    by (None, o) = (let none : Some message ≡ None = order.each t None (Some message) o a in absurd (cc))
-    by (Some s, o) = record { slot = s; from = o; sent = order.each t (Some s) (Some message) o a }
+    by (None, o) = absurd (marked (hears.each t None (Some message) o a))
+    by (Some s, o) = record { slot = s; from = o; sent = hears.each t (Some s) (Some message) o a }
+
+-- in order, each entry is that of its origin
+pub in_order_is_heard : (log : List (Option Message)) (input : Input) → IsHeardInOrder log input → IsHeard log input
+in_order_is_heard log input order = record { beside = order.beside; each = λ t origin entry o a. by origin entry (order.each t origin entry o a) }
+  where
+    by : (origin : Option ℕ) (entry : Option Message) → IsOfItsOrigin log origin entry → IsOfItsOriginIfMarked log origin entry
+    by None entry none = subst IsUnmarked (sym none) record { text = refl; name = refl }
+    by (Some s) entry sent = sent
 
 -- an entry has one origin
 pub one_origin : {X : Type 0} (input : InputOf X) (t r s : ℕ) → CameFrom input t r → CameFrom input t s → r ≡ s

@@ -15,7 +15,7 @@ use Rattle.rds_safety.specs.Late.{CameFrom, Input, InputOf, IsHeardInOrder}
 use Rattle.rds_safety.specs.Lawful.{IsLawful, Kind}
 use Rattle.rds_safety.specs.Laws.{PlanLaws}
 use Rattle.rds_safety.specs.Marks.{Mark, marks}
-use Rattle.rds_safety.proofs.Entries.{one_origin}
+use Rattle.rds_safety.proofs.Entries.{in_order_is_heard, one_origin}
 use Rattle.rds_safety.proofs.Hearing.{AreFalling, IsPicked, all_picked, segments_fall}
 use Rattle.rds_safety.proofs.HeldWhole.{IsIn, came_in, in_below, in_segments}
 use Rattle.rds_safety.proofs.OneBroadcast.{PicksWhatIsMarked, all_of_any}
@@ -138,7 +138,7 @@ pub run_is_of_one_value : PlanLaws → EachNumberNamesOne → (d now : ℕ) (kin
     → RunIsOfOneValue kind plan input (run_by_flag pick input)
 run_is_of_one_value laws names_one d now kind pick of plan log input alike law turns order past each =
     by (segments pick input.first input.heard) (segments_fall pick input.first input.heard) (all_picked pick input.first input.heard)
-    (all_of_any d kind pick of plan log input (segments pick input.first input.heard) alike law order (all_picked pick input.first input.heard)) (λ x is_in. is_in)
+    (all_of_any d kind pick of plan log input (segments pick input.first input.heard) alike law (in_order_is_heard log input order) (all_picked pick input.first input.heard)) (λ x is_in. is_in)
   where
     by : (gs : List Segment) → AreFalling (input.first + length input.heard) gs → AllByRecursion (IsPicked pick input.first input.heard) gs → AllByRecursion (IsOfAny kind plan input) gs
         → ((x : Segment) → IsIn (segments pick input.first input.heard) x → IsIn gs x) → RunIsOfOneValue kind plan input (flag_run gs)

@@ -30,12 +30,13 @@ use Rattle.rds_safety.specs.OwnClock.{IsHeardByOwnClock}
 use Rattle.rds_safety.specs.Safe.{Listener, NamesPiece, ShowsNoTags}
 use Rattle.rds_safety.specs.Source.{IsSource}
 use Rattle.rds_safety.proofs.Bytes.{IsService, cell_is, get-put, name_service, text_service}
-use Rattle.rds_safety.proofs.Entries.{arrival, before_end, mark_sent, one_origin}
+use Rattle.rds_safety.proofs.Entries.{arrival, before_end, in_order_is_heard, mark_sent, one_origin}
 use Rattle.rds_safety.proofs.FlagRuns.{IsOfOneValue, RunIsOfOneValue, all_before, came_earlier, heard_from, none_passes, run_is_of_one_value}
 use Rattle.rds_safety.proofs.Hearing.{AreFalling, IsPicked, all_picked, segments_fall}
 use Rattle.rds_safety.proofs.HeldWhole.{IsIn, all_in, came_in, in_below, in_segments, one_covers}
 use Rattle.rds_safety.proofs.OneBroadcast.{PicksWhatIsMarked, RunLiesInOne, heard_run_lies}
-use Rattle.rds_safety.proofs.Pairs.{names_piece, was_heard}
+use Rattle.rds_safety.proofs.OwnClocks.{own_is_near}
+use Rattle.rds_safety.proofs.Pairs.{names_piece, tags_are_marked, was_heard}
 use Rattle.rds_safety.proofs.Safety.{name_fragments_marked, text_fragments_marked}
 use Rattle.rds_safety.proofs.Told.{IsSegmentLike}
 
@@ -218,7 +219,7 @@ module _ (laws : PlanLaws) (d : ℕ) (plan : List Broadcast) (log : List (Option
   sent_for_text (g ∷ older) n x pair falls picks holds v e whole =
       let b = begins_like texts text_fragment plan input v.broadcast g (flag_run_before g.fragment.flag older) (picks.0, all_before (IsPicked text_fragment input.first input.heard) g.fragment.flag older picks.1) v.all in
       let f = was_heard input.first b.since input.heard pair (rw b.begins at e) in
-      let came = arrival log input f.slot (Tags pair) order f.came in
+      let came = arrival log input f.slot (Tags pair) (in_order_is_heard log input order) (tags_are_marked pair) f.came in
       let tagged : IsMarkIn (marks text_mark log) came.slot (Tagged pair) = mark_sent text_mark log came.slot (Some (Tags pair)) came.sent in
       let lies = law.tags came.slot pair tagged in
       let covers : Covers lies.broadcast came.slot = record { from = omega (arith, lies.is.lasted); to = lies.is.to } in
@@ -311,7 +312,7 @@ new_source laws names_one d now pick plan log input spaced order past each k l a
 dwell_is_new : PlanLaws → (d m now : ℕ) (kind : Kind) (pick : Message → Option Fragment) (of : Option Message → Mark) (plan : List Broadcast) (log : List (Option Message)) (input : Input)
     → PicksWhatIsMarked pick of → IsLawful d kind plan (marks of log) → IsHeardByOwnClock d m now log input → HasNewSource plan now input (run_at pick m input.first input.heard)
 dwell_is_new laws d m now kind pick of plan log input alike law hears k l a b source planned begun =
-    by (run_at pick m input.first input.heard) (heard_run_lies laws d m now kind pick of plan log input alike law hears) source
+    by (run_at pick m input.first input.heard) (heard_run_lies laws d m now kind pick of plan log input alike law (own_is_near d m now log input hears)) source
   where
     by : (gs : List Segment) → RunLiesInOne d now kind plan input gs → IsSource plan input gs k a → (l ≤ k + 1) ⊎ (b.bytes ≡ [])
     by [] lies is = absurd is.sent

@@ -21,7 +21,8 @@ use Rattle.rds_safety.specs.Laws.{PlanLaws}
 use Rattle.rds_safety.specs.Marks.{marks, text_mark}
 use Rattle.rds_safety.specs.OwnClock.{next_slot}
 use Rattle.rds_safety.specs.Safe.{Listener}
-use Rattle.rds_safety.proofs.Entries.{arrival, entry_beside, mark_sent, one_entry, one_origin}
+use Rattle.rds_safety.proofs.Entries.{arrival, entry_beside, in_order_is_heard, mark_sent, one_entry, one_origin}
+use Rattle.rds_safety.proofs.Pairs.{tags_are_marked}
 use Rattle.rds_safety.proofs.Hearing.{AreFalling, segments_fall}
 use Rattle.rds_safety.proofs.HeldWhole.{one_covers}
 
@@ -35,7 +36,7 @@ hears_each d n now pick plan input spaced lasts often k b next t r p q some hear
 pub hears_text_before_tags : PlanLaws → (d now : ℕ) (plan : List Broadcast) (log : List (Option Message)) (r : Listener) → IsLawful d texts plan (marks text_mark log) → ListensByFlag now log r
     → HearsOneIn d text_fragment plan now r.input → HearsTextBeforeTags plan r.input
 hears_text_before_tags laws d now plan log r law listens often t s u q k pair b came from planned covers heard before =
-    let w = arrival log r.input t (Tags pair) listens.order came in
+    let w = arrival log r.input t (Tags pair) (in_order_is_heard log r.input listens.order) (tags_are_marked pair) came in
     let slot : w.slot ≡ s = one_origin r.input t w.slot s w.from from in
     let lies = law.tags w.slot pair (mark_sent text_mark log w.slot (Some (Tags pair)) w.sent) in
     let mine : Covers b w.slot = record { from = omega (arith, covers.from, slot); to = omega (arith, covers.to, slot) } in

@@ -14,14 +14,14 @@ use Rattle.rds_receiver.specs.Shown.{IsShown}
 use Rattle.rds_safety.specs.Late.{CameFrom, HasEntry, Input, IsHeardLate}
 use Rattle.rds_safety.specs.Lawful.{IsLawful, Kind}
 use Rattle.rds_safety.specs.Marks.{Mark, marks}
-use Rattle.rds_safety.specs.OwnClock.{IsHeardByOwnClock}
+use Rattle.rds_safety.specs.Near.{IsHeardNear}
 use Rattle.rds_safety.specs.Flags.{is_same_flag}
 use Rattle.rds_safety.proofs.Bytes.{IsService, bytes_of_run, get-put}
 use Rattle.rds_safety.proofs.Entries.{arrival, mark_sent}
 use Rattle.rds_safety.proofs.Hearing.{AreFalling, IsPicked, all_picked, segments_fall}
 use Rattle.rds_safety.specs.Laws.{PlanLaws}
-use Rattle.rds_safety.proofs.OwnClocks.{late_hears}
-use Rattle.rds_safety.proofs.OneBroadcast.{PicksWhatIsMarked, RunLiesInOne, heard_run_lies}
+use Rattle.rds_safety.proofs.OwnClocks.{late_hears, own_is_near}
+use Rattle.rds_safety.proofs.OneBroadcast.{PicksWhatIsMarked, RunLiesInOne, heard_run_lies, is_marked}
 use Rattle.rds_safety.proofs.Told.{AreOf, IsSegmentOf}
 
 -- one of the segments
@@ -130,12 +130,9 @@ pub record CameSince (gs : List Segment) (s address : ℕ) : Type 0 where
   pub at : segment.fragment.address ≡ address
   pub is_in : IsIn gs segment
 
-module _ (laws : PlanLaws) (m t s : ℕ) (kind : Kind) (pick : Message → Option Fragment) (of : Option Message → Mark) (plan : List Broadcast) (log : List (Option Message)) (input : Input) (number : ℕ) (b : Broadcast)
-    (alike : PicksWhatIsMarked pick of) (k : ℕ) (law : IsLawful (m + k) kind plan (marks of log)) (late : IsHeardLate k log input) (now : input.first + length input.heard ≡ t + 1)
+module _ (laws : PlanLaws) (d m t s : ℕ) (kind : Kind) (pick : Message → Option Fragment) (of : Option Message → Mark) (plan : List Broadcast) (log : List (Option Message)) (input : Input) (number : ℕ) (b : Broadcast)
+    (alike : PicksWhatIsMarked pick of) (law : IsLawful d kind plan (marks of log)) (hears : IsHeardNear d m t log input) (now : input.first + length input.heard ≡ t + 1)
     (fresh : (u r : ℕ) → s ≤ u → CameFrom input u r → s ≤ r) (planned : HasNumber plan number b) (from : b.start ≤ s) (to : t ≤ b.end) (soon : t < s + m) where
-  hears : IsHeardByOwnClock (m + k) m t log input
-  hears = late_hears k m t log input late now
-
   abbrev pub its_segments : List Segment
   its_segments = segments pick input.first input.heard
 
@@ -145,11 +142,11 @@ module _ (laws : PlanLaws) (m t s : ℕ) (kind : Kind) (pick : Message → Optio
     where
       flag : s ≤ g.slot → g.fragment.flag ≡ b.flag
       flag since =
-          let came = arrival log input g.slot all.0.message hears.order all.0.came in
-          let sent = rw (alike all.0.message g.fragment all.0.fragment) at (mark_sent of log came.slot (Some all.0.message) came.sent) in
+          let came = arrival log input g.slot all.0.message hears.heard (is_marked pick of all.0.message g.fragment alike all.0.fragment) all.0.came in
+          let sent = rw (alike.picked all.0.message g.fragment all.0.fragment) at (mark_sent of log came.slot (Some all.0.message) came.sent) in
           let lies = law.fragments came.slot g.fragment sent in
           let mine : Covers b came.slot = record { from = omega (arith, from, fresh g.slot came.slot since came.from); to = omega (arith, to, hears.past g.slot came.slot came.from) } in
-          let same : lies.broadcast ≡ b = one_covers laws (m + k) plan lies.number number lies.broadcast b came.slot law.spaced lies.planned planned lies.is.covers mine in
+          let same : lies.broadcast ≡ b = one_covers laws d plan lies.number number lies.broadcast b came.slot law.spaced lies.planned planned lies.is.covers mine in
           lies.is.flag ∙ ap (λ (x : Broadcast). x.flag) same
 
   run_is : (heard : List (Option Message)) → input.first + length heard ≡ t + 1 → run_at pick m input.first heard ≡ run m t (segments pick input.first heard)
@@ -161,7 +158,7 @@ module _ (laws : PlanLaws) (m t s : ℕ) (kind : Kind) (pick : Message → Optio
       kept m t s b.flag soon its_segments g (subst (λ (n : ℕ). AreFalling n its_segments) now (segments_fall pick input.first input.heard)) (flags its_segments (all_picked pick input.first input.heard)) since is_in
 
   -- the value shown for a run that lies in one broadcast and has all its segments
-  shown_of : (IsWhole : Cells → List ℕ → Type 0) → IsService kind IsWhole → (the_run : List Segment) → RunLiesInOne (m + k) t kind plan input the_run → ((g : Segment) → s ≤ g.slot → IsIn its_segments g → IsIn the_run g)
+  shown_of : (IsWhole : Cells → List ℕ → Type 0) → IsService kind IsWhole → (the_run : List Segment) → RunLiesInOne d t kind plan input the_run → ((g : Segment) → s ≤ g.slot → IsIn its_segments g → IsIn the_run g)
       → ((cells : Cells) → AreAllHeld (kind.body b.bytes) cells → IsWhole cells b.bytes) → 0 < segment_count (kind.body b.bytes)
       → ((a : ℕ) → a < segment_count (kind.body b.bytes) → CameSince its_segments s a) → (shown : Option (List ℕ)) → IsShown IsWhole (cells_of the_run) shown → shown ≡ Some b.bytes
   shown_of IsWhole service [] lies holds all some each shown is = absurd (holds (each 0 some).segment (each 0 some).since (each 0 some).is_in)
@@ -173,7 +170,7 @@ module _ (laws : PlanLaws) (m t s : ℕ) (kind : Kind) (pick : Message → Optio
           let g = w.segment in
           let own : IsSegmentOf kind input g lies.broadcast = all_in (λ (x : Segment). IsSegmentOf kind input x lies.broadcast) (h ∷ older) g lies.all (holds g w.since w.is_in) in
           let mine : Covers b own.slot = record { from = omega (arith, from, fresh g.slot own.slot w.since own.from); to = omega (arith, to, hears.past g.slot own.slot own.from) } in
-          one_covers laws (m + k) plan lies.number number lies.broadcast b own.slot law.spaced lies.planned planned own.has.covers mine
+          one_covers laws d plan lies.number number lies.broadcast b own.slot law.spaced lies.planned planned own.has.covers mine
 
       own_run : AreOf kind input b (h ∷ older)
       own_run = subst (λ (x : Broadcast). AreOf kind input x (h ∷ older)) same lies.all
@@ -186,12 +183,22 @@ module _ (laws : PlanLaws) (m t s : ℕ) (kind : Kind) (pick : Message → Optio
 
       by : (shown : Option (List ℕ)) → IsShown IsWhole (cells_of (h ∷ older)) shown → shown ≡ Some b.bytes
       by None is = absurd (is b.bytes (all (cells_of (h ∷ older)) record { held = held }))
-      by (Some x) is = ap Some (bytes_of_run (m + k) t kind IsWhole plan input h older x service law.values lies is ∙ ap (λ (y : Broadcast). y.bytes) same)
+      by (Some x) is = ap Some (bytes_of_run d t kind IsWhole plan input h older x service law.values lies is ∙ ap (λ (y : Broadcast). y.bytes) same)
 
-  pub shown_whole : (IsWhole : Cells → List ℕ → Type 0) → IsService kind IsWhole → ((cells : Cells) → AreAllHeld (kind.body b.bytes) cells → IsWhole cells b.bytes) → 0 < segment_count (kind.body b.bytes)
+  pub shown_near : (IsWhole : Cells → List ℕ → Type 0) → IsService kind IsWhole → ((cells : Cells) → AreAllHeld (kind.body b.bytes) cells → IsWhole cells b.bytes) → 0 < segment_count (kind.body b.bytes)
       → ((a : ℕ) → a < segment_count (kind.body b.bytes) → CameSince its_segments s a) → (shown : Option (List ℕ)) → IsShown IsWhole (cells_of (run_at pick m input.first input.heard)) shown → shown ≡ Some b.bytes
-  shown_whole IsWhole service all some each shown is =
+  shown_near IsWhole service all some each shown is =
       let the_run : run_at pick m input.first input.heard ≡ run m t its_segments = run_is input.heard now in
       shown_of IsWhole service (run m t its_segments)
-      (subst (λ (xs : List Segment). RunLiesInOne (m + k) t kind plan input xs) the_run (heard_run_lies laws (m + k) m t kind pick of plan log input alike law hears))
+      (subst (λ (xs : List Segment). RunLiesInOne d t kind plan input xs) the_run (heard_run_lies laws d m t kind pick of plan log input alike law hears))
       in_run all some each shown (subst (λ (xs : List Segment). IsShown IsWhole (cells_of xs) shown) the_run is)
+
+-- the same if the input is at most k slots late
+pub shown_whole : PlanLaws → (m t s : ℕ) (kind : Kind) (pick : Message → Option Fragment) (of : Option Message → Mark) (plan : List Broadcast) (log : List (Option Message)) (input : Input) (number : ℕ) (b : Broadcast)
+    → PicksWhatIsMarked pick of → (k : ℕ) → IsLawful (m + k) kind plan (marks of log) → IsHeardLate k log input → input.first + length input.heard ≡ t + 1
+    → ((u r : ℕ) → s ≤ u → CameFrom input u r → s ≤ r) → HasNumber plan number b → b.start ≤ s → t ≤ b.end → t < s + m
+    → (IsWhole : Cells → List ℕ → Type 0) → IsService kind IsWhole → ((cells : Cells) → AreAllHeld (kind.body b.bytes) cells → IsWhole cells b.bytes) → 0 < segment_count (kind.body b.bytes)
+    → ((a : ℕ) → a < segment_count (kind.body b.bytes) → CameSince (segments pick input.first input.heard) s a) → (shown : Option (List ℕ))
+    → IsShown IsWhole (cells_of (run_at pick m input.first input.heard)) shown → shown ≡ Some b.bytes
+shown_whole laws m t s kind pick of plan log input number b alike k law late now =
+    shown_near laws (m + k) m t s kind pick of plan log input number b alike law (own_is_near (m + k) m t log input (late_hears k m t log input late now)) now

@@ -5,13 +5,16 @@ pub mod OneBroadcast
 pub mod Bytes
 pub mod Sources
 pub mod Pairs
+pub mod Twice
 pub mod Safety
 pub mod OnTime
 pub mod OwnClocks
 pub mod Groups
 pub mod Least
+pub mod LeastTwice
 pub mod LooserClocks
 pub mod HeldWhole
+pub mod TwiceDelivery
 pub mod FlagRuns
 pub mod FlagSafety
 pub mod FlagSlots

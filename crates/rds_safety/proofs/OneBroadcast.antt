@@ -1,5 +1,5 @@
 -- Lemmas: a run lies in one broadcast. A receiver knows only one bit of a broadcast, but any two neighbours of a run
--- have one flag and were sent less than d slots apart, by whatever clock they came.
+-- have one flag and were sent less than d slots apart, in whatever order and by whatever clock they came.
 use Rattle.std.proofs.Common.{◌≡◌, ◌+◌, ◌<◌, ◌≤◌, ℕ, Bool, List, [], ◌∷◌, length, Option, Some, ◌&&◌, refl, sym, ap, ◌∙◌, subst, inl, inr, arith}
 use Rattle.std.specs.Prelude.{nat_lt}
 use Rattle.std.specs.List.{AllByRecursion}
@@ -9,11 +9,11 @@ use Rattle.rds_encoder.specs.Plan.{Broadcast, Covers, HasNumber}
 use Rattle.rds_encoder.specs.Spaced.{IsSpaced}
 use Rattle.rds_receiver.specs.Receipts.{Fragment, Segment, segments}
 use Rattle.rds_receiver.specs.Run.{is_same, run, run_at, run_before}
-use Rattle.rds_safety.specs.Late.{CameFrom, Input, IsHeardInOrder}
+use Rattle.rds_safety.specs.Late.{CameFrom, Input}
 use Rattle.rds_safety.specs.Lawful.{IsLawful, Kind}
 use Rattle.rds_safety.specs.Laws.{PlanLaws}
-use Rattle.rds_safety.specs.Marks.{Mark, Sends, marks}
-use Rattle.rds_safety.specs.OwnClock.{IsHeardByOwnClock}
+use Rattle.rds_safety.specs.Marks.{Mark, Nothing, Sends, marks}
+use Rattle.rds_safety.specs.Near.{IsHeard, IsHeardNear, IsUnmarked}
 use Rattle.rds_safety.proofs.Entries.{arrival, mark_sent}
 use Rattle.rds_safety.specs.Flags.{same_flag}
 use Rattle.rds_safety.proofs.Hearing.{AreFalling, IsPicked, all_picked, segments_fall}
@@ -31,17 +31,26 @@ one_number laws d plan k l a b s r spaced p q u v after before e =
       ]
     ]
 
--- the fragment picked from a message is that of its mark
-abbrev pub PicksWhatIsMarked : (Message → Option Fragment) → (Option Message → Mark) → Type 0
-PicksWhatIsMarked pick of = (message : Message) (p : Fragment) → pick message ≡ Some p → of (Some message) ≡ Sends p
+-- the fragment picked from a message is that of its mark, and an entry that is neither a segment nor tags has no mark
+pub record PicksWhatIsMarked (pick : Message → Option Fragment) (of : Option Message → Mark) : Type 0 where
+  pub picked : (message : Message) (p : Fragment) → pick message ≡ Some p → of (Some message) ≡ Sends p
+  pub unmarked : (entry : Option Message) → IsUnmarked entry → of entry ≡ Nothing
+
+-- so what is picked from is marked
+pub is_marked : (pick : Message → Option Fragment) (of : Option Message → Mark) (message : Message) (p : Fragment) → PicksWhatIsMarked pick of → pick message ≡ Some p → IsUnmarked (Some message) → ⊥
+is_marked pick of message p alike picks none = no_fragment p (sym (alike.picked message p picks) ∙ alike.unmarked (Some message) none)
+  where
+    no_fragment : (p : Fragment) → Sends p ≡ Nothing → ⊥
+    no_fragment p e = cc
 
 -- each segment that was picked is of some broadcast
 pub all_of_any : (d : ℕ) (kind : Kind) (pick : Message → Option Fragment) (of : Option Message → Mark) (plan : List Broadcast) (log : List (Option Message)) (input : Input) (gs : List Segment)
-    → PicksWhatIsMarked pick of → IsLawful d kind plan (marks of log) → IsHeardInOrder log input → AllByRecursion (IsPicked pick input.first input.heard) gs → AllByRecursion (IsOfAny kind plan input) gs
-all_of_any d kind pick of plan log input [] alike law order all = tt
-all_of_any d kind pick of plan log input (g ∷ gs) alike law order all =
-    let came = arrival log input g.slot all.0.message order all.0.came in
-    let sent = rw (alike all.0.message g.fragment all.0.fragment) at (mark_sent of log came.slot (Some all.0.message) came.sent) in
+    → PicksWhatIsMarked pick of → IsLawful d kind plan (marks of log) → IsHeard log input → AllByRecursion (IsPicked pick input.first input.heard) gs → AllByRecursion (IsOfAny kind plan input) gs
+all_of_any d kind pick of plan log input [] alike law hears all = tt
+all_of_any d kind pick of plan log input (g ∷ gs) alike law hears all =
+    let message = all.0.message in
+    let came = arrival log input g.slot message hears (is_marked pick of message g.fragment alike all.0.fragment) all.0.came in
+    let sent = rw (alike.picked message g.fragment all.0.fragment) at (mark_sent of log came.slot (Some message) came.sent) in
     let lies = law.fragments came.slot g.fragment sent in (
       record {
         number = lies.number;
@@ -49,7 +58,7 @@ all_of_any d kind pick of plan log input (g ∷ gs) alike law order all =
         planned = lies.planned;
         is = record { slot = came.slot; from = came.from; has = lies.is };
       },
-      all_of_any d kind pick of plan log input gs alike law order all.1,
+      all_of_any d kind pick of plan log input gs alike law hears all.1,
     )
 
 -- the run lies in one broadcast, and its last segment was sent in the d slots up to slot t
@@ -72,13 +81,13 @@ all_before P m f s [] all = tt
 all_before P m f s (g ∷ older) all =
     cond_both (is_same f g.fragment.flag && nat_lt s (g.slot + m)) (g ∷ run_before m f g.slot older) [] (AllByRecursion P) (λ _. (all.0, all_before P m f g.slot older all.1)) (λ _. tt)
 
-module _ (laws : PlanLaws) (d m t : ℕ) (kind : Kind) (plan : List Broadcast) (log : List (Option Message)) (input : Input) (spaced : IsSpaced d plan) (hears : IsHeardByOwnClock d m t log input) where
+module _ (laws : PlanLaws) (d m t : ℕ) (kind : Kind) (plan : List Broadcast) (log : List (Option Message)) (input : Input) (spaced : IsSpaced d plan) (hears : IsHeardNear d m t log input) where
   -- the flag separates broadcasts less than d slots apart
   told : (g h : Segment) → h.slot < g.slot → g.slot < h.slot + m → (r s : ℕ) → CameFrom input h.slot r → CameFrom input g.slot s → IsTold (λ x y. x ≡ y) plan r s
   told g h falls near r s from to k l a b p q u v flag =
-      let later = hears.order.rising h.slot g.slot r s from to falls in
-      let soon = hears.between h.slot g.slot r s from to near in
-      let same = one_number laws d plan k l a b r s spaced p q u v soon (omega (arith, later)) flag in
+      let after = hears.between h.slot g.slot r s from to near in
+      let before = hears.between g.slot h.slot s r to from (omega (arith, falls)) in
+      let same = one_number laws d plan k l a b r s spaced p q u v after before flag in
       laws.one plan l a b (subst (λ (n : ℕ). HasNumber plan n a) {x = k} same p) q
 
   -- so a run is joined
@@ -114,7 +123,7 @@ module _ (laws : PlanLaws) (d m t : ℕ) (kind : Kind) (plan : List Broadcast) (
 
 -- the run of what was heard lies in one broadcast
 pub heard_run_lies : PlanLaws → (d m t : ℕ) (kind : Kind) (pick : Message → Option Fragment) (of : Option Message → Mark) (plan : List Broadcast) (log : List (Option Message)) (input : Input)
-    → PicksWhatIsMarked pick of → IsLawful d kind plan (marks of log) → IsHeardByOwnClock d m t log input
+    → PicksWhatIsMarked pick of → IsLawful d kind plan (marks of log) → IsHeardNear d m t log input
     → RunLiesInOne d t kind plan input (run_at pick m input.first input.heard)
 heard_run_lies laws d m t kind pick of plan log input alike law hears = by input.heard refl
   where
@@ -123,7 +132,7 @@ heard_run_lies laws d m t kind pick of plan log input alike law hears = by input
     by (newest ∷ before) e =
         let n : ℕ = input.first + length before in
         let next : input.first + length input.heard ≡ n + 1 = ap (λ (h : List (Option Message)). input.first + length h) e ∙ omega arith in
-        let of_any = all_of_any d kind pick of plan log input (segments pick input.first input.heard) alike law hears.order (all_picked pick input.first input.heard) in
+        let of_any = all_of_any d kind pick of plan log input (segments pick input.first input.heard) alike law hears.heard (all_picked pick input.first input.heard) in
         let falls = segments_fall pick input.first input.heard in
         run_lies laws d m t kind plan log input law.spaced hears n (segments pick input.first (newest ∷ before)) next
         (subst (λ (h : List (Option Message)). AreFalling (n + 1) (segments pick input.first h)) e (subst (λ (i : ℕ). AreFalling i (segments pick input.first input.heard)) next falls))

@@ -2,10 +2,11 @@
 use Rattle.std.proofs.Common.{◌≡◌, ◌↔◌, ◌+◌, ◌<◌, ℕ, List, Option, Some, subst, inl, inr, arith}
 use Rattle.std.proofs.lemmas.Bool.{cases_order}
 use Rattle.rds_fields.specs.declared.message.Message.{Message}
-use Rattle.rds_safety.specs.Late.{CameFrom, InputOf, IsHeardInOrder, IsHeardLate}
+use Rattle.rds_safety.specs.Late.{CameFrom, Input, InputOf, IsHeardInOrder, IsHeardLate}
+use Rattle.rds_safety.specs.Near.{IsHeardNear, ListensNear}
 use Rattle.rds_safety.specs.OwnClock.{IsHeardByOwnClock, IsTrueClock, ListensByOwnClock, ListensBySlowClock, LosesAtMost, next_slot}
 use Rattle.rds_safety.specs.Safe.{Listener, ListensTo}
-use Rattle.rds_safety.proofs.Entries.{before_end, one_origin}
+use Rattle.rds_safety.proofs.Entries.{before_end, in_order_is_heard, one_origin}
 
 -- a receiver that gets groups at most k slots late counts at most k slots too few
 pub late_is_slow : {X : Type 0} (k m now : ℕ) (log : List (Option X)) (input : InputOf X) → IsHeardLate k log input → next_slot input ≡ now + 1 → IsHeardInOrder log input × LosesAtMost k m now input
@@ -41,7 +42,20 @@ slow_is_own k m now log input order loses = record {
 pub late_hears : {X : Type 0} (k m now : ℕ) (log : List (Option X)) (input : InputOf X) → IsHeardLate k log input → next_slot input ≡ now + 1 → IsHeardByOwnClock (m + k) m now log input
 late_hears k m now log input late next = (let slow = late_is_slow k m now log input late next in slow_is_own k m now log input slow.0 slow.1)
 
+-- an input by an own clock is near the log
+pub own_is_near : (d m now : ℕ) (log : List (Option Message)) (input : Input) → IsHeardByOwnClock d m now log input → IsHeardNear d m now log input
+own_is_near d m now log input hears = record {
+  heard = in_order_is_heard log input hears.order;
+  between = hears.between;
+  since = hears.since;
+  past = hears.past;
+  tags = λ t u r s pair begins later came p q. hears.order.rising t u r s p q later;
+}
+
 -- the same of receivers
+pub own_listens : (d m now : ℕ) (log : List (Option Message)) (r : Listener) → ListensByOwnClock d m now log r → ListensNear d m now log r
+own_listens d m now log r listens = record { near = own_is_near d m now log r.input listens.heard; shows = listens.shows }
+
 pub slow_listens : (k m now : ℕ) (log : List (Option Message)) (r : Listener) → ListensBySlowClock k m now log r → ListensByOwnClock (m + k) m now log r
 slow_listens k m now log r listens = record { heard = slow_is_own k m now log r.input listens.order listens.clock; shows = listens.shows }
 

@@ -1,6 +1,6 @@
 -- Lemmas: the pair of tags that is held was sent in the source of the text, after the first segment of its run and
 -- before any later text had lasted for d slots.
-use Rattle.std.proofs.Common.{◌≡◌, ◌⊎◌, ◌+◌, ◌<◌, ◌≤◌, ◌&&◌, ◌||◌, ◌==◌, ℕ, Bool, true, false, List, [], ◌∷◌, length, Option, Some, None, refl, sym, ap, subst, inl, inr, arith}
+use Rattle.std.proofs.Common.{◌≡◌, ◌⊎◌, ◌+◌, ◌<◌, ◌≤◌, ◌&&◌, ◌||◌, ◌==◌, ℕ, Bool, true, false, List, [], ◌∷◌, length, Option, Some, None, refl, sym, ap, ◌∙◌, subst, inl, inr, arith}
 use Rattle.std.specs.Prelude.{IfSome, nat_le, nat_lt, option_map, take, drop}
 use Rattle.std.proofs.lemmas.Bool.{and_parts, cases_order, cond_both, eqb-true, leb-true, ltb-true}
 use Rattle.rds_fields.specs.declared.message.Message.{Message}
@@ -17,8 +17,8 @@ use Rattle.rds_receiver.specs.Tags.{cut_by, is_known, item_of, pair_from, pair_h
 use Rattle.rds_safety.specs.Late.{CameFrom, HasEntry, Input}
 use Rattle.rds_safety.specs.Lawful.{IsLawful, Kind, texts}
 use Rattle.rds_safety.specs.Laws.{PlanLaws}
-use Rattle.rds_safety.specs.Marks.{IsMarkIn, Tagged, marks, text_mark}
-use Rattle.rds_safety.specs.OwnClock.{IsHeardByOwnClock}
+use Rattle.rds_safety.specs.Marks.{IsMarkIn, Nothing, Tagged, marks, text_mark}
+use Rattle.rds_safety.specs.Near.{IsHeardNear, IsUnmarked}
 use Rattle.rds_safety.specs.Safe.{NamesPiece, ShowsNoTags, ShowsTagsOf}
 use Rattle.rds_safety.specs.Source.{text_run}
 use Rattle.rds_safety.proofs.Bytes.{bytes_of_run, text_service}
@@ -79,17 +79,23 @@ record WasSentFor (d : ℕ) (log : List (Option Message)) (b : Broadcast) (pair 
   lasted : b.start + d ≤ slot
   to : slot ≤ b.end
 
+-- tags are marked
+pub tags_are_marked : (pair : PairFields) → IsUnmarked (Some (Tags pair)) → ⊥
+tags_are_marked pair none = (let e : Tagged pair ≡ Nothing = none.text in absurd (cc))
+
 sent_for : PlanLaws → (d m t : ℕ) (plan : List Broadcast) (log : List (Option Message)) (input : Input) (g : Segment) (older : List Segment) (pair : PairFields)
-    → IsLawful d texts plan (marks text_mark log) → IsHeardByOwnClock d m t log input
-    → (l : LiesInOne d t texts plan input g older) → pair_from input.first (begins_in (g ∷ older)) input.heard ≡ Some pair → WasSentFor d log l.broadcast pair
-sent_for laws d m t plan log input g older pair law hears l e =
+    → IsLawful d texts plan (marks text_mark log) → IsHeardNear d m t log input
+    → (l : LiesInOne d t texts plan input g older) → g ∷ older ≡ text_run m input
+    → pair_from input.first (begins_in (g ∷ older)) input.heard ≡ Some pair → WasSentFor d log l.broadcast pair
+sent_for laws d m t plan log input g older pair law hears l is_run e =
     let b = begins texts input l.broadcast g older l.all in
     let f = was_heard input.first b.since input.heard pair (rw b.begins at e) in
-    let came = arrival log input f.slot (Tags pair) hears.order f.came in
+    let came = arrival log input f.slot (Tags pair) hears.heard (tags_are_marked pair) f.came in
     let tagged : IsMarkIn (marks text_mark log) came.slot (Tagged pair) = mark_sent text_mark log came.slot (Some (Tags pair)) came.sent in
     let lies = law.tags came.slot pair tagged in
     let last = l.all.0 in
-    let sent_later = hears.order.rising b.since f.slot b.slot came.slot b.from came.from f.later in
+    let first : begins_in (text_run m input) ≡ Some b.since = ap begins_in (sym is_run) ∙ b.begins in
+    let sent_later = hears.tags b.since f.slot b.slot came.slot pair first f.later f.came b.from came.from in
     let by_now = hears.past f.slot came.slot came.from in
     elim (cases_order lies.number l.number) [
       | inl same ↦
@@ -133,19 +139,19 @@ names_piece tag x bytes shown same e =
 
 -- the tags shown were sent in the source of the text
 pub shows_tags : PlanLaws → (d m t : ℕ) (plan : List Broadcast) (log : List (Option Message)) (input : Input) (view : ShownView)
-    → IsLawful d texts plan (marks text_mark log) → IsHeardByOwnClock d m t log input
+    → IsLawful d texts plan (marks text_mark log) → IsHeardNear d m t log input
     → RunLiesInOne d t texts plan input (text_run m input) → ShowsView m input.first input.heard view
     → ShowsNoTags view ⊎ ShowsTagsOf d plan (marks text_mark log) input (text_run m input) view
 shows_tags laws d m t plan log input view law hears lies shows = by view.text (pair_held m input.first input.heard) refl refl shows.item shows.one shows.two
   where
-    of : (the_run : List Segment) (x : List ℕ) (pair : PairFields) → IsWholeText (cells_of the_run) x → RunLiesInOne d t texts plan input the_run
+    of : (the_run : List Segment) (x : List ℕ) (pair : PairFields) → IsWholeText (cells_of the_run) x → RunLiesInOne d t texts plan input the_run → the_run ≡ text_run m input
         → pair_from input.first (begins_in the_run) input.heard ≡ Some pair → view.item ≡ item_of (Some x) (Some pair)
         → view.one ≡ tag_of One (Some x) (Some pair) → view.two ≡ tag_of Two (Some x) (Some pair)
         → ShowsTagsOf d plan (marks text_mark log) input the_run view
-    of [] x pair whole l e item one two = absurd (no_text_of_none x whole)
-    of (g ∷ older) x pair whole l e item one two =
+    of [] x pair whole l is_run e item one two = absurd (no_text_of_none x whole)
+    of (g ∷ older) x pair whole l is_run e item one two =
         let same = bytes_of_run d t texts IsWholeText plan input g older x text_service law.values l whole in
-        let sent = sent_for laws d m t plan log input g older pair law hears l e in
+        let sent = sent_for laws d m t plan log input g older pair law hears l is_run e in
         record {
           number = l.number;
           broadcast = l.broadcast;
@@ -165,4 +171,4 @@ shows_tags laws d m t plan log input view law hears lies shows = by view.text (p
         → ShowsNoTags view ⊎ ShowsTagsOf d plan (marks text_mark log) input (text_run m input) view
     by None pair et ep item one two = inl record { item = item; one = one; two = two }
     by (Some x) None et ep item one two = inl record { item = item; one = one; two = two }
-    by (Some x) (Some pair) et ep item one two = inr (of (text_run m input) x pair (rw et at shows.text) lies ep item one two)
+    by (Some x) (Some pair) et ep item one two = inr (of (text_run m input) x pair (rw et at shows.text) lies refl ep item one two)

@@ -1,51 +1,60 @@
 -- Lemmas: lawful plans make each slot safe for any number of receivers.
-use Rattle.std.proofs.Common.{◌≡◌, ◌+◌, ℕ, List, Option, slice_index_or, sym, ap, subst, arith}
+use Rattle.std.proofs.Common.{◌≡◌, ◌+◌, ℕ, List, Option, Some, slice_index_or, sym, ap, subst, arith}
 use Rattle.std.specs.List.{All}
 use Rattle.rds_fields.specs.declared.message.Message.{Message}
 use Rattle.rds_fields.specs.declared.message.Message.TheVariants.{Text, Name, Announce, Tags, Other}
 use Rattle.rds_assembly.specs.Whole.{IsWholeName, IsWholeText}
-use Rattle.rds_receiver.specs.Receipts.{name_fragment, text_fragment}
+use Rattle.rds_receiver.specs.Receipts.{Fragment, name_fragment, text_fragment}
 use Rattle.rds_safety.specs.Lawful.{names, texts}
 use Rattle.rds_safety.specs.Laws.{PlanLaws}
 use Rattle.rds_safety.specs.Marks.{Sends, name_mark, text_mark}
+use Rattle.rds_safety.specs.Near.{ListensNear}
 use Rattle.rds_safety.specs.OwnClock.{ListensByOwnClock, ListensBySlowClock}
 use Rattle.rds_safety.specs.Plans.{AreLawful, Plans}
 use Rattle.rds_safety.specs.Safe.{AreNeighbours, AreSafe, Listener, ListensTo}
 use Rattle.rds_safety.specs.Source.{name_run, text_run}
 use Rattle.rds_safety.proofs.Bytes.{name_service, text_service}
 use Rattle.rds_safety.proofs.OneBroadcast.{PicksWhatIsMarked, RunLiesInOne, heard_run_lies}
-use Rattle.rds_safety.proofs.OwnClocks.{late_listens, slow_listens}
+use Rattle.rds_safety.proofs.OwnClocks.{late_listens, own_listens, slow_listens}
 use Rattle.rds_safety.proofs.Pairs.{shows_tags}
+use Rattle.rds_safety.specs.Twice.{ListensTwice, lateness_of_two}
 use Rattle.rds_safety.proofs.Sources.{near_sources, shown_on_air}
+use Rattle.rds_safety.proofs.Twice.{twice_listens}
 
 pub text_fragments_marked : PicksWhatIsMarked text_fragment text_mark
-text_fragments_marked (Text f a b) p e = (let same : record { flag = f; address = a; bytes = b } ≡ p = cc in ap Sends same)
-text_fragments_marked (Name f a b) p e = absurd (cc)
-text_fragments_marked (Announce code bits aid) p e = absurd (cc)
-text_fragments_marked (Tags pair) p e = absurd (cc)
-text_fragments_marked Other p e = absurd (cc)
+text_fragments_marked = record { picked = picks; unmarked = λ entry none. none.text }
+  where
+    picks : (message : Message) (p : Fragment) → text_fragment message ≡ Some p → text_mark (Some message) ≡ Sends p
+    picks (Text f a b) p e = (let same : record { flag = f; address = a; bytes = b } ≡ p = cc in ap Sends same)
+    picks (Name f a b) p e = absurd (cc)
+    picks (Announce code bits aid) p e = absurd (cc)
+    picks (Tags pair) p e = absurd (cc)
+    picks Other p e = absurd (cc)
 
 pub name_fragments_marked : PicksWhatIsMarked name_fragment name_mark
-name_fragments_marked (Text f a b) p e = absurd (cc)
-name_fragments_marked (Name f a b) p e = (let same : record { flag = f; address = a; bytes = b } ≡ p = cc in ap Sends same)
-name_fragments_marked (Announce code bits aid) p e = absurd (cc)
-name_fragments_marked (Tags pair) p e = absurd (cc)
-name_fragments_marked Other p e = absurd (cc)
+name_fragments_marked = record { picked = picks; unmarked = λ entry none. none.name }
+  where
+    picks : (message : Message) (p : Fragment) → name_fragment message ≡ Some p → name_mark (Some message) ≡ Sends p
+    picks (Text f a b) p e = absurd (cc)
+    picks (Name f a b) p e = (let same : record { flag = f; address = a; bytes = b } ≡ p = cc in ap Sends same)
+    picks (Announce code bits aid) p e = absurd (cc)
+    picks (Tags pair) p e = absurd (cc)
+    picks Other p e = absurd (cc)
 
 module _ (laws : PlanLaws) (d m t : ℕ) (plans : Plans) (log : List (Option Message)) (law : AreLawful d plans log) where
-  text_lies : (r : Listener) → ListensByOwnClock d m t log r → RunLiesInOne d t texts plans.text r.input (text_run m r.input)
-  text_lies r h = heard_run_lies laws d m t texts text_fragment text_mark plans.text log r.input text_fragments_marked law.text h.heard
+  text_lies : (r : Listener) → ListensNear d m t log r → RunLiesInOne d t texts plans.text r.input (text_run m r.input)
+  text_lies r h = heard_run_lies laws d m t texts text_fragment text_mark plans.text log r.input text_fragments_marked law.text h.near
 
-  name_lies : (r : Listener) → ListensByOwnClock d m t log r → RunLiesInOne d t names plans.name r.input (name_run m r.input)
-  name_lies r h = heard_run_lies laws d m t names name_fragment name_mark plans.name log r.input name_fragments_marked law.name h.heard
+  name_lies : (r : Listener) → ListensNear d m t log r → RunLiesInOne d t names plans.name r.input (name_run m r.input)
+  name_lies r h = heard_run_lies laws d m t names name_fragment name_mark plans.name log r.input name_fragments_marked law.name h.near
 
-  neighbours : (x y : Listener) → ListensByOwnClock d m t log x → ListensByOwnClock d m t log y → AreNeighbours m plans x y
+  neighbours : (x y : Listener) → ListensNear d m t log x → ListensNear d m t log y → AreNeighbours m plans x y
   neighbours x y h i = record {
     texts = near_sources laws d t texts plans.text x.input (text_run m x.input) y.input (text_run m y.input) law.text.spaced (text_lies x h) (text_lies y i);
     names = near_sources laws d t names plans.name x.input (name_run m x.input) y.input (name_run m y.input) law.name.spaced (name_lies x h) (name_lies y i);
   }
 
-  pub are_safe : (receivers : List Listener) → All (ListensByOwnClock d m t log) receivers → AreSafe d m t plans log receivers
+  pub are_safe : (receivers : List Listener) → All (ListensNear d m t log) receivers → AreSafe d m t plans log receivers
   are_safe receivers all = record {
     texts = λ i o h.
         let r = slice_index_or receivers i o in
@@ -55,15 +64,27 @@ module _ (laws : PlanLaws) (d m t : ℕ) (plans : Plans) (log : List (Option Mes
         shown_on_air d t names IsWholeName plans.name r.input (name_run m r.input) r.view.name name_service law.name.values (name_lies r (all i o h)) (all i o h).shows.name;
     tags = λ i o h.
         let r = slice_index_or receivers i o in
-        shows_tags laws d m t plans.text log r.input r.view law.text (all i o h).heard (text_lies r (all i o h)) (all i o h).shows;
+        shows_tags laws d m t plans.text log r.input r.view law.text (all i o h).near (text_lies r (all i o h)) (all i o h).shows;
     neighbours = λ i o h j e g. neighbours (slice_index_or receivers i o) (slice_index_or receivers j e) (all i o h) (all j e g);
   }
+
+-- if fewer than m slots of each receiver's clock are fewer than d of the station
+pub are_safe_by_own_clocks : PlanLaws → (d m t : ℕ) (plans : Plans) (log : List (Option Message)) (receivers : List Listener)
+    → AreLawful d plans log → All (ListensByOwnClock d m t log) receivers → AreSafe d m t plans log receivers
+are_safe_by_own_clocks laws d m t plans log receivers law all =
+    are_safe laws d m t plans log law receivers (λ i o h. own_listens d m t log (slice_index_or receivers i o) (all i o h))
+
+-- if all receivers show only what they heard twice, plans that are lawful for the lateness of two receipts are enough
+pub are_safe_twice : PlanLaws → (w k m t : ℕ) (plans : Plans) (log : List (Option Message)) (receivers : List Listener)
+    → AreLawful (m + lateness_of_two w k) plans log → All (ListensTwice w k m t log) receivers → AreSafe (m + lateness_of_two w k) m t plans log receivers
+are_safe_twice laws w k m t plans log receivers law all =
+    are_safe laws (m + lateness_of_two w k) m t plans log law receivers (λ i o h. twice_listens w k m t log (slice_index_or receivers i o) (all i o h))
 
 -- if all clocks count at most k slots too few within m, plans that are lawful for m + k are enough
 pub are_safe_by_slow_clocks : PlanLaws → (m k t : ℕ) (plans : Plans) (log : List (Option Message)) (receivers : List Listener)
     → AreLawful (m + k) plans log → All (ListensBySlowClock k m t log) receivers → AreSafe (m + k) m t plans log receivers
 are_safe_by_slow_clocks laws m k t plans log receivers law all =
-    are_safe laws (m + k) m t plans log law receivers (λ i o h. slow_listens k m t log (slice_index_or receivers i o) (all i o h))
+    are_safe_by_own_clocks laws (m + k) m t plans log receivers law (λ i o h. slow_listens k m t log (slice_index_or receivers i o) (all i o h))
 
 -- the same if all inputs are at most k slots late
 pub are_safe_late : PlanLaws → (m k t : ℕ) (plans : Plans) (log : List (Option Message)) (receivers : List Listener)

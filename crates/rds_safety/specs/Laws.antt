@@ -12,6 +12,7 @@ use Rattle.rds_encoder.specs.Spaced.{IsSpaced}
 use Rattle.rds_receiver.specs.Receipts.{AreHeard, Segment}
 use Rattle.rds_receiver.specs.Shown.{IsView, ShownView}
 use Rattle.rds_safety.specs.Late.{Input, InputOf, IsHeardInOrder, IsHeardLate, IsHeardOnTime, own_origins}
+use Rattle.rds_safety.specs.Near.{ListensNear}
 use Rattle.rds_safety.specs.OwnClock.{IsHeardByOwnClock, IsTrueClock, ListensByOwnClock}
 use Rattle.rds_safety.specs.OwnClock.{ListensBySlowClock, LosesAtMost, next_slot}
 use Rattle.rds_safety.specs.Plans.{AreLawful, Plans}
@@ -26,6 +27,13 @@ pub record PlanLaws : Type 0 where
   pub order : SpacedAreInOrder
   pub far : SpacedAreFarApart
   pub one_flag : SpacedOfOneFlagAreFarApart
+
+-- if the input of each receiver is near the log, in whatever order, plans that are lawful for d make each slot safe for
+-- any number of receivers of dwell m
+abbrev pub LawfulPlansAreSafeNear : Type 0
+LawfulPlansAreSafeNear =
+    (d m now : ℕ) (plans : Plans) (log : List (Option Message)) (receivers : List Listener)
+    → AreLawful d plans log → All (ListensNear d m now log) receivers → AreSafe d m now plans log receivers
 
 -- if fewer than m slots of each receiver's own clock are fewer than d of the station, plans that are lawful for d make
 -- each slot safe for any number of receivers of dwell m

@@ -7,7 +7,10 @@ pub mod Plans
 pub mod Source
 pub mod Safe
 pub mod OwnClock
+pub mod Near
+pub mod Twice
 pub mod Laws
+pub mod TwiceLaws
 pub mod ClockBounds
 pub mod FlagAlone
 pub mod FlagLaws

@@ -11,10 +11,13 @@ ghost use Rattle.rds_safety.specs.FlagLaws.{WhoHearsOneInHearsEach};
 ghost use Rattle.rds_safety.specs.FlagLaws.{WhoHearsOneInHearsTextBeforeTags, WhoLosesFewGetsSome};
 ghost use Rattle.rds_safety.specs.Laws.{ARunHasOneSource, ASlowClockIsAnOwnClock, LateGroupsAreLateMessages};
 ghost use Rattle.rds_safety.specs.Laws.{LateIsBySlowClock, LawfulPlansAreSafe, LawfulPlansAreSafeByOwnClocks};
-ghost use Rattle.rds_safety.specs.Laws.{LawfulPlansAreSafeForSlowClocks, LawfulPlansAreSafeOnTime};
+ghost use Rattle.rds_safety.specs.Laws.{LawfulPlansAreSafeForSlowClocks, LawfulPlansAreSafeNear, LawfulPlansAreSafeOnTime};
 ghost use Rattle.rds_safety.specs.Laws.{NoSlotLateIsOnTime, OnTimeIsNoSlotLate, OneSlotLessMixes};
 ghost use Rattle.rds_safety.specs.Laws.{OneSlotLessMixesByOwnClock, OneSlotLessMixesForSlowClocks};
 ghost use Rattle.rds_safety.specs.Laws.{OneSlotLessMixesOnTime, PlanLaws, TheTrueClockIsNoSlotLate};
+ghost use Rattle.rds_safety.specs.TwiceLaws.{LawfulPlansAreSafeTwice, OneSlotLessMixesTwice};
+ghost use Rattle.rds_safety.specs.TwiceLaws.{OneWrongMessageMixes, WhoHearsTwiceListensNear};
+ghost use Rattle.rds_safety.specs.TwiceLaws.{WhoHearsEachSegmentTwiceShowsTheText, WhoIsHandedWrongGroupsListens};
 ghost use Rattle.rds_safety.specs.Laws.{WhoIsHandedGroupsListens, WhoIsHandedGroupsListensByOwnClock};
 
 use rds_encoder::{broadcasts_are_spaced, numbers_name_broadcasts};
@@ -27,6 +30,7 @@ use rds_fields::one_message;
 /// - plans lawful for d, if fewer than M slots of each receiver's own clock are fewer than d slots of the station.
 // Prover: `on_time` is a clause of its own, since `M + 0` does not compute to `M` (docs/PROVER.md, "Workarounds").
 pub fn safe_by_plans()
+    ensures near { LawfulPlansAreSafeNear }
     ensures own_clocks { LawfulPlansAreSafeByOwnClocks }
     ensures slow_clocks { LawfulPlansAreSafeForSlowClocks }
     ensures late { LawfulPlansAreSafe }
@@ -88,6 +92,20 @@ pub fn the_dwell_is_the_least()
     ensures own_clock { OneSlotLessMixesByOwnClock }
     ensures slow_clock { OneSlotLessMixesForSlowClocks }
 {}
+
+/// States that receivers that get wrong groups are safe if they show only what they heard twice within w slots, and if
+/// nothing was wrong twice within w. Plans lawful for M + K + w - 1 are needed; one slot less is not enough. For
+/// receivers that show what they heard once, nothing is enough. A text is shown if each of its segments came twice.
+pub fn safe_if_heard_twice()
+    ensures listens { WhoIsHandedWrongGroupsListens }
+    ensures near { WhoHearsTwiceListensNear }
+    ensures safe { LawfulPlansAreSafeTwice }
+    ensures shows { WhoHearsEachSegmentTwiceShowsTheText }
+    ensures least { OneSlotLessMixesTwice }
+    ensures once { OneWrongMessageMixes }
+{
+    plan_laws();
+}
 
 /// States that none of the three bounds of a receiver's own clock can be one slot looser. With one slot more between
 /// two entries, a receiver shows a text of no broadcast. With one slot more since an entry, or an entry one slot ahead

@@ -323,6 +323,7 @@ pub(crate) fn reception_of(byte: u8, digits: &[u8]) -> Option<Reception>
         → HasDigits reception digits.now → ⊥) }
 {
     match byte {
+        b'G' if digits.is_empty() => Some(Reception::Got(0)),
         b'G' => Some(Reception::Got(lateness_of(digits)?)),
         b'L' if digits.is_empty() => Some(Reception::Lost),
         b'R' if digits.is_empty() => Some(Reception::Restart),

@@ -10,7 +10,7 @@ use Rattle.rds_script.specs.declared.form.Form.TheVariants.{Log, Simulation}
 use Rattle.rds_receiver.specs.Receipts.{Tuning}
 use Rattle.rds_world.specs.declared.world.Config.{Config}
 use Rattle.rds_cli.specs.declared.request.Task.{Task}
-use Rattle.rds_cli.specs.declared.request.Task.TheVariants.{Audit, Decode, Encode, Simulate, Witness}
+use Rattle.rds_cli.specs.declared.request.Task.TheVariants.{Audit, Decode, Encode, Simulate, Slots, Witness}
 use Rattle.rds_program.specs.Run.{Runs, TaskRuns, done, station_of}
 
 -- no call fails that leaves the number of failures at none
@@ -38,6 +38,7 @@ pub calm_task : {P Q : Type 0} → (P → Q) → (task : Task) (t : Tuning) (r w
 calm_task says Decode t r w status ran = ran
 calm_task says (Audit late) t r w status ran = ran
 calm_task says Witness t r w status ran = ran
+calm_task says (Slots grain) t r w status ran = ran
 calm_task says (Encode programme late) t r w status ran =
     calm_script says Log (station_of t programme late) (Encode programme late) r.before w status ran
 calm_task says (Simulate programme late) t r w status ran =

@@ -7,6 +7,7 @@ pub mod State
 pub mod Replies
 pub mod StandsAt
 pub mod Station
+pub mod TwiceStation
 pub mod SafeSlots
 pub mod Delivery
 pub mod FlagStation

@@ -1,6 +1,6 @@
 //! How far back a receiver may get a message.
 ghost use Rattle.std.specs.Prelude.{◌≡◌, ◌<◌, ◌≤◌, ◌+◌, ◌↔◌, ◌∷◌};
-ghost use Rattle.std.specs.Prelude.{ℕ, List, Option, IsTrue, IfOk, IfSome, MatchResult, length, take};
+ghost use Rattle.std.specs.Prelude.{ℕ, List, Option, IsSome, IfOk, IfSome, MatchResult, length, take};
 ghost use Rattle.rds_world.specs.Due.{IsDue, IsDueToAll, IsFirstLate, named, reach_of};
 ghost use Rattle.rds_world.specs.Event.{Event};
 ghost use Rattle.rds_world.specs.StandsAt.{HaveReaches};
@@ -36,30 +36,22 @@ impl Reach {
         Reach { slots: 1 }
     }
 
-    /// Returns whether the reception is due.
-    pub(crate) fn allows(self, reception: Reception) -> bool
-        ensures { (k slot : ℕ) (last : Option ℕ) → self ≡ reach_of k slot last
-            → IsTrue result ↔ IsDue k slot last reception }
-    {
-        match reception {
-            Reception::Got(back) => back < self.slots,
-            Reception::Lost | Reception::Restart => true,
-        }
-    }
-
-    /// Returns the reach in the slot after this reception. A restart counts as `Lost`.
-    pub(crate) fn after(self, reception: Reception, late: Late) -> Reach
-        ensures { (slot : ℕ) (last : Option ℕ) → IfSome last (λ s. s < slot)
-            → self ≡ reach_of late slot last → IsDue late slot last reception
-            → result ≡ reach_of late (slot + 1) (named reception slot last) }
+    /// Returns the reach in the slot after this reception. A restart counts as `Lost`. None if the reception is not due.
+    pub(crate) fn after(self, reception: Reception, late: Late) -> Option<Reach>
+        ensures due { (slot : ℕ) (last : Option ℕ) → self ≡ reach_of late slot last
+            → IsSome result ↔ IsDue late slot last reception }
+        ensures reach { (slot : ℕ) (last : Option ℕ) → IfSome last (λ s. s < slot)
+            → self ≡ reach_of late slot last
+            → IfSome result (λ next. next ≡ reach_of late (slot + 1) (named reception slot last)) }
     {
         let back = match reception {
-            Reception::Got(back) => back,
+            Reception::Got(back) if back < self.slots => back,
+            Reception::Got(_) => return None,
             Reception::Lost | Reception::Restart => self.slots,
         };
-        Reach {
+        Some(Reach {
             slots: back.min(late.get()) + 1,
-        }
+        })
     }
 }
 
@@ -81,12 +73,10 @@ pub(crate) fn reaches_after(
     let receptions = event.receptions.as_slice();
     let mut next = [Reach::new(); MOST_RECEIVERS];
     for i in 0..receptions.len() {
-        let reach = reaches[i];
-        let reception = receptions[i];
-        if !reach.allows(reception) {
+        let Some(reach) = reaches[i].after(receptions[i], late) else {
             return Err(i);
-        }
-        next[i] = reach.after(reception, late);
+        };
+        next[i] = reach;
     }
     Ok(next)
 }

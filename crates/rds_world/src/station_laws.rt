@@ -8,13 +8,14 @@ ghost use Rattle.rds_world.specs.FlagStation.{TheStationKeepsEach, TheStationSen
 ghost use Rattle.rds_world.specs.FlagStation.{WhoGetsSomeShowsTextsOfTheirSource, WhoLosesFewShowsTextsOfTheirSource};
 ghost use Rattle.rds_world.specs.SafeSlots.{EveryWorldShowsOnlyWhatWasOnAir};
 ghost use Rattle.rds_world.specs.Station.{TheEncoderIsLawful};
+ghost use Rattle.rds_world.specs.TwiceStation.{WhoHearsAStationTwiceIsSafe};
 
 use rds_encoder::{
     broadcasts_are_spaced, even_turns_are_the_texts, numbers_name_broadcasts,
     on_air_from_its_start_on, on_air_is_sent_whole, on_air_is_what_covers_the_slot,
     planned_is_what_was_on_air, sent_is_of_what_is_on_air,
 };
-use rds_safety::{often_is_enough, safe_by_plans, safe_by_the_flag};
+use rds_safety::{often_is_enough, safe_by_plans, safe_by_the_flag, safe_if_heard_twice};
 
 /// States that the messages of an encoder are lawful for its plans.
 pub fn the_encoder_is_lawful()
@@ -32,6 +33,14 @@ pub fn only_what_was_on_air_is_shown()
 {
     the_encoder_is_lawful();
     safe_by_plans();
+}
+
+/// States the headline for receivers that get wrong groups and show only what they heard twice.
+pub fn a_station_heard_twice_is_safe()
+    ensures { WhoHearsAStationTwiceIsSafe }
+{
+    the_encoder_is_lawful();
+    safe_if_heard_twice();
 }
 
 /// States that a receiver shows a broadcast if it got on time each free one of some slots of it, at most M slots. For a

@@ -1,6 +1,6 @@
 use Rattle.std.proofs.Common.{◌≡◌, ◌∙◌, IfOk, Ok, Result, ap, codes, subst}
 use Rattle.clap.specs.Words.{App, Shape, app_of, with_subcommand}
-use Rattle.rds_cli.specs.CommandLine.{decoder_app, late_app, log_app, log_readers_app, station_app, without_sim_app}
+use Rattle.rds_cli.specs.CommandLine.{decoder_app, late_app, log_app, log_readers_app, slots_app, station_app, without_sim_app}
 use Rattle.rds_cli.proofs.command_line.whole.Goals as goal
 
 -- a command that has one subcommand more than the one that was known
@@ -20,13 +20,16 @@ returns c =
     let audited : app_of c.in_ok-with_audit.with_audit ≡ with_subcommand decoder_app (late_app (codes "audit")).top =
     one_more app_of _ _ _ _ _ c.in_ok-with_audit.was
     (c.with-2.ensures (late_app (codes "audit")) c.audit.ensures.app c.audit.ensures.local) decoder in
-    let log_readers : app_of c.in_ok-with_witness.with_witness ≡ log_readers_app =
+    let witnessed : app_of c.in_ok-with_witness.with_witness ≡ with_subcommand (with_subcommand decoder_app (late_app (codes "audit")).top) (log_app (codes "witness")).top =
     one_more app_of _ _ _ _ _ c.in_ok-with_witness.was
     (c.with-3.ensures (log_app (codes "witness")) c.witness.ensures.app c.witness.ensures.local) audited in
+    let log_readers : app_of c.in_ok-with_slots.with_slots ≡ log_readers_app =
+    one_more app_of _ _ _ _ _ c.in_ok-with_slots.was
+    (c.with-4.ensures (slots_app (codes "slots")) c.slots.ensures.app c.slots.ensures.local) witnessed in
     let without_sim : app_of c.in_ok-with_encode.with_encode ≡ without_sim_app =
     one_more app_of _ _ _ _ _ c.in_ok-with_encode.was
-    (c.with-4.ensures (station_app (codes "encode")) c.encode.ensures.app c.encode.ensures.local) log_readers in
+    (c.with-5.ensures (station_app (codes "encode")) c.encode.ensures.app c.encode.ensures.local) log_readers in
     record {
-      app = subst (λ a. IfOk c.with-5.result (λ m. app_of m ≡ with_subcommand a (station_app (codes "sim")).top)) without_sim
-          (c.with-5.ensures (station_app (codes "sim")) c.simulate.ensures.app c.simulate.ensures.local);
+      app = subst (λ a. IfOk c.with-6.result (λ m. app_of m ≡ with_subcommand a (station_app (codes "sim")).top)) without_sim
+          (c.with-6.ensures (station_app (codes "sim")) c.simulate.ensures.app c.simulate.ensures.local);
     }

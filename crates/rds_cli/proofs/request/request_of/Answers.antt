@@ -3,7 +3,7 @@ use Rattle.std.specs.Prelude.{ℕ, Bool, option_map}
 use Rattle.clap.specs.Words.{Text, first_of, found_of, rows_of}
 use Rattle.clap.proofs.WalkLemmas.{first_value-rows}
 use Rattle.rds_cli.specs.Asks.{asked_by}
-use Rattle.rds_cli.specs.CommandLine.{asked, dwell_in, quiet_in, task_in}
+use Rattle.rds_cli.specs.CommandLine.{asked, dwell_in, pi_in, quiet_in, task_in}
 use Rattle.rds_cli.specs.declared.request.Task.{Task}
 use Rattle.rds_cli.proofs.request.request_of.Goals as goal
 
@@ -11,17 +11,17 @@ no_text : (task : Option Task) (dwell : Option ℕ) (quiet : Bool) → asked tas
 no_text None dwell quiet = refl
 no_text (Some task) dwell quiet = refl
 
-pub returns-in_err-get_str : goal.returns-in_err-get_str
-returns-in_err-get_str c =
+pub returns-in_err-pi_of : goal.returns-in_err-pi_of
+returns-in_err-pi_of c =
     let rows = rows_of (found_of c.args.inner.now) in
-    let pi : first_of (codes "pi") rows ≡ None = sym (c.get_str.ensures ∙ first_value-rows (found_of c.args.inner.now) (codes "pi")) ∙ ap (option_map (λ s. s.now)) c.in_err-get_str.was in
+    let pi : pi_in c.args.name.now rows ≡ None = sym c.pi_of.ensures ∙ ap (option_map (λ s. s.now)) c.in_err-pi_of.was in
     let none = ap (λ (x : Option Text). asked (task_in c.args.name.now rows) x (dwell_in rows) (quiet_in rows)) pi ∙ no_text (task_in c.args.name.now rows) (dwell_in rows) (quiet_in rows) in
-    ap (option_map asked_by) c.from_residual-in_err-get_str.ensures ∙ sym none
+    ap (option_map asked_by) c.from_residual-in_err-pi_of.ensures ∙ sym none
 
 pub returns : goal.returns
 returns c =
     let rows = rows_of (found_of c.args.inner.now) in
-    let pi : first_of (codes "pi") rows ≡ Some c.in_ok-get_str.field-0.now = sym (c.get_str.ensures ∙ first_value-rows (found_of c.args.inner.now) (codes "pi")) ∙ ap (option_map (λ s. s.now)) c.in_ok-get_str.was in
+    let pi : pi_in c.args.name.now rows ≡ Some c.in_ok-pi_of.field-0.now = sym c.pi_of.ensures ∙ ap (option_map (λ s. s.now)) c.in_ok-pi_of.was in
     let task = sym c.task_of.ensures ∙ c.in_ok-task_of.was in
     let dwell = sym c.dwell_of.ensures ∙ c.in_ok-dwell_of.was in
     let quiet : quiet_in rows ≡ c.is_given.result = sym c.is_given.ensures in

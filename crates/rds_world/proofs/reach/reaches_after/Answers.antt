@@ -13,17 +13,17 @@ use Rattle.rds_world.proofs.reach.reaches_after.Goals as goal
 pub loop-i-init : goal.loop-i-init
 loop-i-init c = record { due = λ before have k less. absurd (omega (arith, less)); done = λ before have k reach less e. absurd (omega (arith, less)) }
 
-pub returns-then-not-allows-clause-due : goal.returns-then-not-allows-clause-due
-returns-then-not-allows-clause-due c before have =
+pub returns-in_default-clause-due : goal.returns-in_default-clause-due
+returns-in_default-clause-due c before have =
     let i = c.loop-i.i in
     let late = c.args.late in
     let told : c.as_slice-receptions.result.now ≡ c.args.event.now.receptions = c.as_slice-receptions.ensures.value ∙ ap (λ (e : Event). e.receptions) c.event.view_is in
     let many = ap (λ (xs : List Reception). length xs) told in
     let at : slice_get c.args.reaches.now i ≡ Some c.index-reaches-i.result = slice_get_read c.args.reaches.now (length c.args.reaches.now) i c.index-reaches-i.result refl (omega (arith, c.loop-i-test.true, c.requires.same, many)) c.index-reaches-i.is in
-    let exact = c.if-not-allows.ensures late (length before) (last_named i before) (have.each i c.index-reaches-i.result at) in
+    let exact = c.after.ensures.due (length before) (last_named i before) (have.each i c.index-reaches-i.result at) in
     record {
       there = omega (arith, c.loop-i-test.true, many);
-      late = λ due. (let bad = exact.1 (subst (λ (r : Reception). IsDue late (length before) (last_named i before) r) (sym (same_reception c.args.event.now c.as_slice-receptions.result.now i told c.loop-i-test.true)) due) in cc);
+      late = λ due. (let some = rw c.in_default.is at (exact.1 (subst (λ (r : Reception). IsDue late (length before) (last_named i before) r) (sym (same_reception c.args.event.now c.as_slice-receptions.result.now i told c.loop-i-test.true)) due)) in cc);
       first = c.loop-i.invariant.due before have;
     }
 
@@ -31,7 +31,7 @@ pub loop-i-preserved : goal.loop-i-preserved
 loop-i-preserved c =
     let i = c.loop-i.i in
     let late = c.args.late in
-    let new = c.after.result in
+    let new = c.in-Some.reach in
     let told : c.as_slice-receptions.result.now ≡ c.args.event.now.receptions = c.as_slice-receptions.ensures.value ∙ ap (λ (e : Event). e.receptions) c.event.view_is in
     let many = ap (λ (xs : List Reception). length xs) told in
     let same = same_reception c.args.event.now c.as_slice-receptions.result.now i told c.loop-i-test.true in
@@ -41,8 +41,8 @@ loop-i-preserved c =
         | inl earlier ↦ c.loop-i.invariant.due before have k earlier
         | inr later ↦ (
             let here : k ≡ i = omega (arith, less, later) in
-            let exact = c.if-not-allows.ensures late (length before) (last_named i before) (have.each i c.index-reaches-i.result at) in
-            subst (λ n. IsDueTo late c.args.event.now before n) (sym here) (subst (λ (r : Reception). IsDue late (length before) (last_named i before) r) same (exact.0 refl))
+            let exact = c.after.ensures.due (length before) (last_named i before) (have.each i c.index-reaches-i.result at) in
+            subst (λ n. IsDueTo late c.args.event.now before n) (sym here) (subst (λ (r : Reception). IsDue late (length before) (last_named i before) r) same (exact.0 (rw c.in-Some.is refl)))
             )
       ];
       done = λ before have k reach less e. elim (cases_lt k i) [
@@ -51,8 +51,7 @@ loop-i-preserved c =
             let here : k ≡ i = omega arith in
             let is_new : new ≡ reach = written c.loop-i.next i new reach (subst (λ n. slice_get (slice_set c.loop-i.next i new) n ≡ Some reach) here e) in
             let old = have.each i c.index-reaches-i.result at in
-            let exact = c.if-not-allows.ensures late (length before) (last_named i before) old in
-            let next = c.after.ensures (length before) (last_named i before) (named_past i before) old (exact.0 refl) in
+            let next = rw c.in-Some.is at (c.after.ensures.reach (length before) (last_named i before) (named_past i before) old) in
             let of_event : reach ≡ reach_of late (length before + 1) (named (slice_index_or c.args.event.now.receptions i Lost) (length before) (last_named i before)) =
             sym is_new ∙ next ∙ ap (λ (r : Reception). reach_of late (length before + 1) (named r (length before) (last_named i before))) same in
             subst (λ n. reach ≡ reach_of late (length before + 1) (named (slice_index_or c.args.event.now.receptions n Lost) (length before) (last_named n before))) (sym here) of_event

@@ -1,0 +1,6 @@
+-- Lemmas of filled logs.
+pub mod Counting
+pub mod Digits
+pub mod Filling
+pub mod SafeViews
+pub mod WorkedRows

@@ -1,0 +1,91 @@
+-- Worked examples of the definitions, calculated by hand. A slot is 87,578 and 18/19 µs. Lists have the newest first.
+use Rattle.std.proofs.Common.{◌≡◌, ℕ, List, [], ◌∷◌, ◌++◌, Option, Some, None, codes, refl}
+use Rattle.rds_arrivals.specs.Arrivals.{Arrival, filled, lost_between, lost_within}
+use Rattle.rds_arrivals.specs.Stamps.{days_to, stamp_in}
+
+-- a grain of 20,000 µs: one slot and the grain are 107,578 and 18/19 µs
+one_slot : lost_within 20000 87600 ≡ 0
+one_slot = refl
+
+at_once : lost_within 20000 0 ≡ 0
+at_once = refl
+
+a_slot_and_the_grain : lost_within 20000 107578 ≡ 0
+a_slot_and_the_grain = refl
+
+a_microsecond_more : lost_within 20000 107579 ≡ 1
+a_microsecond_more = refl
+
+two_slots_and_the_grain : lost_within 20000 195157 ≡ 1
+two_slots_and_the_grain = refl
+
+more_than_two : lost_within 20000 195158 ≡ 2
+more_than_two = refl
+
+-- 19 slots are 1,664,000 µs exactly, without a grain
+nineteen : lost_within 0 1664000 ≡ 18
+nineteen = refl
+
+and_a_microsecond : lost_within 0 1664001 ≡ 19
+and_a_microsecond = refl
+
+-- a minute has 685.1 slots; less the grain 684.9
+a_minute : lost_within 20000 60000000 ≡ 684
+a_minute = refl
+
+-- a day has 986,538 and a part
+a_day : lost_between 20000 128 0 86400000000 ≡ 986538
+a_day = refl
+
+more_than_a_day : lost_between 20000 128 0 86400000001 ≡ 128
+more_than_a_day = refl
+
+back : lost_between 20000 128 9000000 8999999 ≡ 128
+back = refl
+
+abbrev at : ℕ → ℕ → Arrival ℕ
+at x time = record { entry = Some x; time = time }
+
+-- three groups, each 0.15 s after the one before it, of a receiver of dwell 2; then the time goes back
+three : filled 20000 2 (at 4 1000 ∷ at 3 300000 ∷ at 2 150000 ∷ at 1 0 ∷ []) ≡ Some 4 ∷ None ∷ None ∷ Some 3 ∷ None ∷ Some 2 ∷ None ∷ Some 1 ∷ []
+three = refl
+
+-- ---- times
+
+-- a second after midnight of a leap day; 29 February 2024 is 739,310 days after the first day of the year 0
+leap_day : days_to 2024 2 29 ≡ Some 739310
+leap_day = refl
+
+first_of_march : days_to 2024 3 1 ≡ Some 739311
+first_of_march = refl
+
+no_leap_day : days_to 2023 2 29 ≡ None
+no_leap_day = refl
+
+new_year : days_to 2024 1 1 ≡ Some 739251
+new_year = refl
+
+spy : stamp_in (codes "@2024/02/29 00:00:01.25 x") ≡ Some (record { time = 63876384001250000; end = 23 })
+unfolding stamp_in
+spy = refl
+
+-- the same in ISO 8601, in another zone
+iso : stamp_in (codes "2024-02-29T02:30:01.25+02:30") ≡ Some (record { time = 63876384001250000; end = 28 })
+unfolding stamp_in
+iso = refl
+
+seconds : stamp_in (codes "12.5") ≡ Some (record { time = 12500000; end = 4 })
+unfolding stamp_in
+seconds = refl
+
+whole_seconds : stamp_in (codes "1717228692") ≡ Some (record { time = 1717228692000000; end = 10 })
+unfolding stamp_in
+whole_seconds = refl
+
+no_hour_24 : stamp_in (codes "@2024/02/29 24:00:00.00") ≡ None
+unfolding stamp_in
+no_hour_24 = refl
+
+word : stamp_in (codes "12.5s") ≡ None
+unfolding stamp_in
+word = refl

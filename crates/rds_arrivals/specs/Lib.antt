@@ -1,0 +1,6 @@
+-- The slots that a log of received groups lacks, by the times of arrival.
+pub mod Arrivals
+pub mod Delivered
+pub mod Breaks
+pub mod Stamps
+pub mod Laws

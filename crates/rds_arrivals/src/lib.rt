@@ -1,0 +1,23 @@
+//! The slots that a log of received groups lacks, by their times of arrival.
+//!
+//! Many receivers print only the groups that they received, each with a time. `lost_between` counts the slots that were
+//! lost between two times. A log with a line for each of them (`filled`) is heard by a clock that counts no slot too
+//! few, if the delay of the groups varies by less than a slot less the grain. So the laws of rds_safety hold for it.
+//!
+//! ```text
+//! lost_between(7_000_000, 15_750_000, Grain::new(20_000)?) == Ok(99)
+//! ```
+#![tactic(auto)]
+
+mod calendar;
+mod grain;
+mod laws;
+mod lost;
+mod stamp;
+
+pub use grain::Grain;
+pub use laws::{
+    a_slot_is_too_much, filled_logs_are_on_time, filled_logs_are_safe, lost_slots_are_counted,
+};
+pub use lost::{Break, lost_between};
+pub use stamp::{Stamp, stamp_in};

@@ -1,0 +1,42 @@
+//! The slots that are lost between two times.
+ghost use Rattle.std.specs.Prelude.{◌≡◌, ◌-◌, MatchResult};
+ghost use Rattle.rds_arrivals.specs.Arrivals.{IsBreak, lost_within};
+ghost use Rattle.rds_arrivals.specs.Breaks.{IsBreakOf};
+
+use crate::grain::Grain;
+
+/// The microseconds of 19 slots.
+const NINETEEN_SLOTS: u64 = 1_664_000;
+
+/// The microseconds of a day.
+const DAY: u64 = 86_400_000_000;
+
+/// Why nobody knows how many slots passed from one time to the next.
+#[derive(Clone, Copy, Debug, PartialEq, Eq)]
+pub enum Break {
+    /// The time went back.
+    Back,
+    /// The time went on by more than a day.
+    Day,
+}
+
+/// Returns how many slots were lost between groups that arrived at these times, in microseconds.
+///
+/// # Errors
+///
+/// The time went back, or on by more than a day.
+pub fn lost_between(earlier: u64, later: u64, grain: Grain) -> Result<u32, Break>
+    ensures lost { MatchResult result
+        (λ lost. (IsBreak earlier later → ⊥) × (lost ≡ lost_within grain (later - earlier)))
+        (IsBreakOf earlier later) }
+{
+    if later < earlier {
+        return Err(Break::Back);
+    }
+    let apart = later - earlier;
+    if apart > DAY {
+        return Err(Break::Day);
+    }
+    let passed = 19 * apart.saturating_sub(u64::from(grain.get()));
+    Ok((passed.saturating_sub(1) / NINETEEN_SLOTS) as u32)
+}

@@ -1,0 +1,258 @@
+//! The time in the text after a group.
+ghost use Rattle.rds_arrivals.specs.Stamps as specs;
+ghost use Rattle.std.specs.Prelude.{◌≡◌, ◌≤◌, ◌<◌, ◌+◌, ◌^◌, ℕ, IfSome, IsTrue, length, slice_index};
+
+use crate::calendar::days_to;
+
+/// A time in microseconds, and the place after it in the text.
+#[derive(Clone, Copy, Debug, PartialEq, Eq)]
+pub struct Stamp {
+    pub time: u64,
+    pub end: usize,
+}
+
+/// The microseconds of a second.
+const SECOND: u64 = 1_000_000;
+
+/// Returns the time that the text begins with: `@YYYY/MM/DD HH:MM:SS.CC`, `YYYY-MM-DDTHH:MM:SS.CC+HH:MM`, or seconds
+/// such as `12.5`. None if it does not begin with one, or if the time does not end with a space or the line.
+#[tactic(auto, unfolding(crate::specs::Stamps::stamp_in))]
+pub fn stamp_in(text: &[u8]) -> Option<Stamp>
+    requires { length text.now ≤ 64 }
+    ensures value { result ≡ specs.stamp_in text.now }
+    ensures within { IfSome result (λ stamp. stamp.end ≤ length text.now) }
+{
+    let stamp = match dated(text) {
+        Some(stamp) => stamp,
+        None => in_seconds(text)?,
+    };
+    if is_over(text, stamp.end) {
+        Some(stamp)
+    } else {
+        None
+    }
+}
+
+/// Returns whether the time ends here: with the text, a space or a carriage return.
+fn is_over(text: &[u8], place: usize) -> bool
+    ensures value { result ≡ specs.is_over text.now place }
+    ensures within { IsTrue result → place ≤ length text.now }
+{
+    place == text.len() || has(text, place, b' ') || has(text, place, b'\r')
+}
+
+/// Returns whether this byte is at this place.
+fn has(text: &[u8], place: usize, byte: u8) -> bool
+    ensures { result ≡ specs.has text.now place byte }
+{
+    place < text.len() && text[place] == byte
+}
+
+/// Returns whether one of these two bytes is at this place.
+fn has_either(text: &[u8], place: usize, one: u8, other: u8) -> bool
+    ensures { result ≡ specs.has_either text.now place one other }
+{
+    has(text, place, one) || has(text, place, other)
+}
+
+/// Returns the digit at this place.
+fn digit_at(text: &[u8], place: usize) -> Option<u64>
+    ensures value { result ≡ specs.digit_at text.now place }
+    ensures small { IfSome result (λ digit. digit ≤ 9) }
+    ensures within { IfSome result (λ digit. place < length text.now) }
+{
+    if place >= text.len() || text[place] < b'0' || text[place] > b'9' {
+        return None;
+    }
+    Some(u64::from(text[place] - b'0'))
+}
+
+/// Returns the number of two digits at this place.
+fn two_at(text: &[u8], place: usize) -> Option<u64>
+    requires { place ≤ 1000 }
+    ensures value { result ≡ specs.two_at text.now place }
+    ensures small { IfSome result (λ number. number ≤ 99) }
+{
+    let tens = digit_at(text, place)?;
+    let ones = digit_at(text, place + 1)?;
+    Some(10 * tens + ones)
+}
+
+/// Returns the number of two digits at this place, if it is not above `most`.
+fn two_up_to(text: &[u8], place: usize, most: u64) -> Option<u64>
+    requires { place ≤ 1000 }
+    ensures value { result ≡ specs.up_to most (specs.two_at text.now place) }
+    ensures small { IfSome result (λ number. number ≤ most) }
+{
+    let number = two_at(text, place)?;
+    if number > most {
+        return None;
+    }
+    Some(number)
+}
+
+/// Returns the time of a date and a time of day.
+fn dated(text: &[u8]) -> Option<Stamp>
+    requires { length text.now ≤ 64 }
+    ensures { result ≡ specs.dated text.now }
+{
+    let at = usize::from(has(text, 0, b'@'));
+    let days = date_at(text, at)?;
+    if !has_either(text, at + 10, b' ', b'T') {
+        return None;
+    }
+    let second = second_of_day_at(text, at + 11)?;
+    let fraction = fraction_at(text, at + 19);
+    let local = (days * 86_400 + second) * SECOND + fraction.time;
+    zoned(text, local, fraction.end)
+}
+
+/// Returns the day of a date at this place, such as `2024/06/01` or `2024-06-01`.
+fn date_at(text: &[u8], place: usize) -> Option<u64>
+    requires { place ≤ 1 }
+    ensures value { result ≡ specs.date_at text.now place }
+    ensures small { IfSome result (λ days. days ≤ 4000000) }
+{
+    let century = two_at(text, place)?;
+    let year = two_at(text, place + 2)?;
+    let month = two_at(text, place + 5)?;
+    let day = two_at(text, place + 8)?;
+    if !has_either(text, place + 4, b'/', b'-') || !has_either(text, place + 7, b'/', b'-') {
+        return None;
+    }
+    days_to(100 * century + year, month, day)
+}
+
+/// Returns the second of a time of day at this place, such as `07:58:12`. A leap second is the one after it.
+fn second_of_day_at(text: &[u8], place: usize) -> Option<u64>
+    requires { place ≤ 12 }
+    ensures value { result ≡ specs.second_of_day_at text.now place }
+    ensures small { IfSome result (λ second. second ≤ 86400) }
+{
+    let hour = two_up_to(text, place, 23)?;
+    let minute = two_up_to(text, place + 3, 59)?;
+    let second = two_up_to(text, place + 6, 60)?;
+    if !has(text, place + 2, b':') || !has(text, place + 5, b':') {
+        return None;
+    }
+    Some((hour * 60 + minute) * 60 + second)
+}
+
+/// Returns the microseconds of a fraction at this place, such as `.25`. There may be none. Its first six digits count.
+fn fraction_at(text: &[u8], place: usize) -> Stamp
+    requires { place ≤ 64 }
+    ensures value { result ≡ specs.fraction_at text.now place }
+    ensures small { result.time ≤ 999999 }
+    ensures end { result.end ≤ 65 + length text.now }
+{
+    if !has(text, place, b'.') {
+        return Stamp {
+            time: 0,
+            end: place,
+        };
+    }
+    let first = place + 1;
+    let end = after_digits(text, first);
+    let thousands = 100 * digit_before(text, first, end)
+        + 10 * digit_before(text, first + 1, end)
+        + digit_before(text, first + 2, end);
+    let ones = 100 * digit_before(text, first + 3, end)
+        + 10 * digit_before(text, first + 4, end)
+        + digit_before(text, first + 5, end);
+    Stamp {
+        time: 1000 * thousands + ones,
+        end,
+    }
+}
+
+/// Returns the digit at this place, or 0 if the digits end before.
+fn digit_before(text: &[u8], place: usize, end: usize) -> u64
+    ensures value { result ≡ specs.digit_before text.now place end }
+    ensures small { result ≤ 9 }
+{
+    if place >= end {
+        return 0;
+    }
+    match digit_at(text, place) {
+        Some(digit) => digit,
+        None => 0,
+    }
+}
+
+/// Returns the first place from this one on that has no digit.
+fn after_digits(text: &[u8], place: usize) -> usize
+    ensures value { result ≡ specs.after_digits text.now place }
+    ensures start { place ≤ result }
+    ensures end { result ≤ place + length text.now }
+{
+    let mut end = place;
+    while end < text.len() && text[end] >= b'0' && text[end] <= b'9' {
+        end += 1;
+    }
+    end
+}
+
+/// Returns a local time with its time zone at this place: `Z`, `+01:00`, `-0330` or nothing.
+fn zoned(text: &[u8], local: u64, place: usize) -> Option<Stamp>
+    requires place { place ≤ 200 }
+    requires local { local < 2 ^ 60 }
+    ensures { result ≡ specs.zoned text.now local place }
+{
+    if has(text, place, b'Z') {
+        return Some(Stamp {
+            time: local,
+            end: place + 1,
+        });
+    }
+    if !has_either(text, place, b'+', b'-') {
+        return Some(Stamp {
+            time: local,
+            end: place,
+        });
+    }
+    let minutes_at = place + 3 + usize::from(has(text, place + 3, b':'));
+    let hours = two_at(text, place + 1)?;
+    let minutes = two_up_to(text, minutes_at, 59)?;
+    let offset = (hours * 60 + minutes) * 60 * SECOND;
+    let time = if has(text, place, b'+') {
+        local.checked_sub(offset)?
+    } else {
+        local + offset
+    };
+    Some(Stamp {
+        time,
+        end: minutes_at + 2,
+    })
+}
+
+/// Returns the time of seconds with a fraction, such as `12.5`. There are at most twelve digits before the point.
+fn in_seconds(text: &[u8]) -> Option<Stamp>
+    requires { length text.now ≤ 64 }
+    ensures value { result ≡ specs.in_seconds text.now }
+{
+    let end = after_digits(text, 0);
+    if end == 0 || end > 12 {
+        return None;
+    }
+    let whole = number_of(text, end);
+    let rest = fraction_at(text, end);
+    Some(Stamp {
+        time: SECOND * whole + rest.time,
+        end: rest.end,
+    })
+}
+
+/// Returns the number of the digits before this place.
+fn number_of(text: &[u8], end: usize) -> u64
+    requires few { end ≤ 12 }
+    requires within { end ≤ length text.now }
+    requires digits { (k : ℕ) → k < end → IsTrue (specs.is_digit (slice_index text.now k)) }
+    ensures value { result ≡ specs.number_of text.now end }
+    ensures small { result < 10 ^ 12 }
+{
+    let mut number: u64 = 0;
+    for place in 0..end {
+        number = 10 * number + u64::from(text[place] - b'0');
+    }
+    number
+}
