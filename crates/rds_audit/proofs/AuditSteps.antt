@@ -1,5 +1,5 @@
 -- Lemmas: how the state of an audit changes with the log.
-use Rattle.std.proofs.Common.{◌≡◌, ◌∷◌, ℕ, List, Option, Some, None, Ok, Err, refl, sym, ◌∙◌, subst, inl, inr}
+use Rattle.std.proofs.Common.{◌≡◌, ◌∷◌, ◌<◌, [], ℕ, List, Option, Some, None, Ok, Err, refl, sym, ◌∙◌, subst, inl, inr}
 use Rattle.std.specs.Prelude.{IfErr, IfOk, MatchOption, Result}
 use Rattle.rds_block.specs.declared.group.Group.{Group}
 use Rattle.rds_fields.specs.declared.message.Message.{Message}
@@ -7,12 +7,15 @@ use Rattle.rds_fields.specs.Tag.{PairFields}
 use Rattle.rds_receiver.specs.Receipts.{Hears}
 use Rattle.rds_audit.specs.declared.audit.AuditFault.{AuditFault}
 use Rattle.rds_audit.specs.Ages.{aged}
+use Rattle.rds_audit.specs.declared.log_start.LogStart.{LogStart}
 use Rattle.rds_audit.specs.AuditStandsAt.{AuditStandsAt, HoldsLog, HoldsMarks, HoldsNewest, HoldsSlot, Judges}
 use Rattle.rds_audit.specs.AuditState.{AuditState, ReignsState}
 use Rattle.rds_audit.specs.Lengths.{Gauge, name_gauge, text_gauge}
 use Rattle.rds_safety.specs.Marks.{IsMarkIn, Mark, Nothing, Tagged, marks, name_mark, text_mark}
 use Rattle.rds_audit.specs.Rules.{BreaksFirst, IsAfterFragment, IsBrokenBy, IsFaultOf, LogPasses}
+use Rattle.rds_audit.specs.Recording.{IsJudgedAs, IsSilentAs, counted_as}
 use Rattle.rds_audit.proofs.ReignSteps.{slot_ended}
+use Rattle.rds_audit.proofs.Recordings.{judged_step, log_begins}
 
 pub log_passes : (d : ℕ) (heard : List (Option Message)) (a : AuditState) → HoldsLog d heard a → LogPasses d heard
 log_passes d heard a h = record { text = h.text.passes; name = h.name.passes }
@@ -21,47 +24,64 @@ log_passes d heard a h = record { text = h.text.passes; name = h.name.passes }
 abbrev pub IsJudged : ℕ → List (Option Message) → AuditState → Option AuditFault → Type 0
 IsJudged d heard a fault = MatchOption fault (HoldsLog d heard a) (λ f. IsFaultOf d heard f)
 
+-- before the first slot
+pub stands_first : (pi d : ℕ) (start : LogStart) (a : AuditState) → a.programme ≡ pi → a.distance ≡ d → 0 < d → a.fault ≡ None → a.start ≡ start
+    → ((sent : List Mark) → IsSilentAs start d sent → HoldsMarks text_gauge d sent a.text) → ((sent : List Mark) → IsSilentAs start d sent → HoldsMarks name_gauge d sent a.name) → AuditStandsAt pi d a []
+stands_first pi d start a programme distance lasts clean begins texts names = record {
+  programme = programme;
+  distance = distance;
+  lasts = lasts;
+  heard = [];
+  are = tt;
+  holds = λ judged is. subst (IsJudged d judged a) (sym clean) (log_begins start d a texts names judged (subst (λ s. IsJudgedAs s d [] judged) begins is));
+}
+
 module _ (pi d : ℕ) (a : AuditState) (log : List (Option Group)) (s : AuditStandsAt pi d a log) where
-  pub clean_holds : a.fault ≡ None → HoldsLog d s.heard a
-  clean_holds e = subst (IsJudged d s.heard a) e s.holds
+  pub clean_holds : a.fault ≡ None → (judged : List (Option Message)) → IsJudgedAs a.start d s.heard judged → HoldsLog d judged a
+  clean_holds e judged is = subst (IsJudged d judged a) e (s.holds judged is)
 
-  pub fault_is : (fault : AuditFault) → a.fault ≡ Some fault → IsFaultOf d s.heard fault
-  fault_is fault e = subst (IsJudged d s.heard a) e s.holds
+  pub fault_is : (fault : AuditFault) → a.fault ≡ Some fault → (judged : List (Option Message)) → IsJudgedAs a.start d s.heard judged → IsFaultOf d judged fault
+  fault_is fault e judged is = subst (IsJudged d judged a) e (s.holds judged is)
 
-  clean_here : a.fault ≡ None → HoldsLog a.distance s.heard a
-  clean_here e = subst (λ n. HoldsLog n s.heard a) (sym s.distance) (clean_holds e)
+  clean_here : a.fault ≡ None → (judged : List (Option Message)) → IsJudgedAs a.start d s.heard judged → HoldsLog a.distance judged a
+  clean_here e judged is = subst (λ n. HoldsLog n judged a) (sym s.distance) (clean_holds e judged is)
 
   -- one more slot, after which the state follows from the log
-  goes_on : (after : AuditState) (slot : Option Group) (message : Option Message) → Hears a.programme slot message → after.programme ≡ a.programme → after.distance ≡ a.distance
-      → IsJudged d (message ∷ s.heard) after after.fault → AuditStandsAt pi d after (slot ∷ log)
-  goes_on after slot message h programme distance judged = record {
+  goes_on : (after : AuditState) (slot : Option Group) (message : Option Message) → Hears a.programme slot message → after.programme ≡ a.programme → after.distance ≡ a.distance → after.start ≡ a.start
+      → ((judged : List (Option Message)) → IsJudgedAs a.start d s.heard judged → IsJudged d (counted_as a.start judged message ∷ judged) after after.fault) → AuditStandsAt pi d after (slot ∷ log)
+  goes_on after slot message h programme distance begins holds = record {
     programme = programme ∙ s.programme;
     distance = distance ∙ s.distance;
     lasts = s.lasts;
     heard = message ∷ s.heard;
     are = (subst (λ n. Hears n slot message) s.programme h, s.are);
-    holds = judged;
+    holds = λ judged is.
+        let (before, was, e) = judged_step a.start d message s.heard judged (subst (λ st. IsJudgedAs st d (message ∷ s.heard) judged) begins is) in
+        subst (λ (x : List (Option Message)). IsJudged d x after after.fault) (sym e) (holds before was);
   }
 
   -- after a fault
   pub fault_stays : (slot : Option Group) (message : Option Message) (fault : AuditFault) → a.fault ≡ Some fault → Hears a.programme slot message → AuditStandsAt pi d a (slot ∷ log)
-  fault_stays slot message fault e h = goes_on a slot message h refl refl (subst (IsJudged d (message ∷ s.heard) a) (sym e) (inr (fault_is fault e)))
+  fault_stays slot message fault e h =
+      goes_on a slot message h refl refl refl (λ judged is. subst (IsJudged d (counted_as a.start judged message ∷ judged) a) (sym e) (inr (fault_is fault e judged is)))
 
   -- at a fault
   pub fault_found : (after : AuditState) (slot : Option Group) (message : Option Message) (fault : AuditFault) → a.fault ≡ None → after.fault ≡ Some fault
-      → after.programme ≡ a.programme → after.distance ≡ a.distance → Hears a.programme slot message
-      → ((heard : List (Option Message)) → HoldsLog a.distance heard a → BreaksFirst a.distance message heard fault) → AuditStandsAt pi d after (slot ∷ log)
-  fault_found after slot message fault clean e programme distance h breaks =
-      let here : BreaksFirst d message s.heard fault = subst (λ n. BreaksFirst n message s.heard fault) s.distance (breaks s.heard (clean_here clean)) in
-      goes_on after slot message h programme distance (subst (IsJudged d (message ∷ s.heard) after) (sym e) (inl (log_passes d s.heard a (clean_holds clean), here)))
+      → after.programme ≡ a.programme → after.distance ≡ a.distance → after.start ≡ a.start → Hears a.programme slot message
+      → ((judged : List (Option Message)) → HoldsLog a.distance judged a → BreaksFirst a.distance (counted_as a.start judged message) judged fault) → AuditStandsAt pi d after (slot ∷ log)
+  fault_found after slot message fault clean e programme distance begins h breaks =
+      goes_on after slot message h programme distance begins (λ judged is.
+      let here : BreaksFirst d (counted_as a.start judged message) judged fault = subst (λ n. BreaksFirst n (counted_as a.start judged message) judged fault) s.distance (breaks judged (clean_here clean judged is)) in
+      subst (IsJudged d (counted_as a.start judged message ∷ judged) after) (sym e) (inl (log_passes d judged a (clean_holds clean judged is), here)))
 
   -- at a slot that passes
   pub slot_passes : (after : AuditState) (slot : Option Group) (message : Option Message) → a.fault ≡ None → after.fault ≡ None
-      → after.programme ≡ a.programme → after.distance ≡ a.distance → Hears a.programme slot message
-      → ((heard : List (Option Message)) → HoldsLog a.distance heard a → HoldsLog a.distance (message ∷ heard) after) → AuditStandsAt pi d after (slot ∷ log)
-  slot_passes after slot message clean e programme distance h holds =
-      let here : HoldsLog d (message ∷ s.heard) after = subst (λ n. HoldsLog n (message ∷ s.heard) after) s.distance (holds s.heard (clean_here clean)) in
-      goes_on after slot message h programme distance (subst (IsJudged d (message ∷ s.heard) after) (sym e) here)
+      → after.programme ≡ a.programme → after.distance ≡ a.distance → after.start ≡ a.start → Hears a.programme slot message
+      → ((judged : List (Option Message)) → HoldsLog a.distance judged a → HoldsLog a.distance (counted_as a.start judged message ∷ judged) after) → AuditStandsAt pi d after (slot ∷ log)
+  slot_passes after slot message clean e programme distance begins h holds =
+      goes_on after slot message h programme distance begins (λ judged is.
+      let here : HoldsLog d (counted_as a.start judged message ∷ judged) after = subst (λ n. HoldsLog n (counted_as a.start judged message ∷ judged) after) s.distance (holds judged (clean_here clean judged is)) in
+      subst (IsJudged d (counted_as a.start judged message ∷ judged) after) (sym e) here)
 
 -- at the end of a slot
 pub ended : (d : ℕ) (heard : List (Option Message)) (message : Option Message) (a after : AuditState)
@@ -90,31 +110,42 @@ pub record Answers (g : Gauge) (d : ℕ) (mark : Mark) (before after : ReignsSta
   pub holds : (sent : List Mark) → HoldsMarks g d sent before → IfOk result (λ _. HoldsNewest g d mark sent after)
   pub breaks : (sent : List Mark) → HoldsMarks g d sent before → IfErr result (λ fault. IsBrokenBy d g.kind mark sent fault)
 
--- a message of texts alone, and one of names alone
+-- the same of a message of texts alone, and of one of names alone, that is judged as it is
 pub texts_judge : (r : Result (Unit {0}) AuditFault) (a after : AuditState) (message : Option Message) → name_mark message ≡ Nothing → after.name ≡ a.name
-    → Answers text_gauge a.distance (text_mark message) a.text after.text r → Judges a after message r
-texts_judge (Ok done) a after message silent same answers = record {
-  holds = λ heard h. record {
-    text = answers.holds (marks text_mark heard) h.text;
-    name = rw (silent, same) (nothing_sent name_gauge a.distance (marks name_mark heard) a.name h.name);
+    → ((judged : List (Option Message)) → HoldsLog a.distance judged a → counted_as a.start judged message ≡ message) → Answers text_gauge a.distance (text_mark message) a.text after.text r → Judges a after message r
+texts_judge (Ok done) a after message silent same counts answers = record {
+  holds = λ judged h. subst (λ (x : Option Message). HoldsSlot a.distance x judged after) (sym (counts judged h)) record {
+    text = answers.holds (marks text_mark judged) h.text;
+    name = rw (silent, same) (nothing_sent name_gauge a.distance (marks name_mark judged) a.name h.name);
   };
-  breaks = λ heard h. tt;
+  breaks = λ judged h. tt;
 }
-texts_judge (Err fault) a after message silent same answers = record {
-  holds = λ heard h. tt;
-  breaks = λ heard h. inl (answers.breaks (marks text_mark heard) h.text);
+texts_judge (Err fault) a after message silent same counts answers = record {
+  holds = λ judged h. tt;
+  breaks = λ judged h. subst (λ (x : Option Message). BreaksFirst a.distance x judged fault) (sym (counts judged h)) (inl (answers.breaks (marks text_mark judged) h.text));
 }
 
 pub names_judge : (r : Result (Unit {0}) AuditFault) (a after : AuditState) (message : Option Message) → text_mark message ≡ Nothing → after.text ≡ a.text
-    → Answers name_gauge a.distance (name_mark message) a.name after.name r → Judges a after message r
-names_judge (Ok done) a after message silent same answers = record {
-  holds = λ heard h. record {
-    text = rw (silent, same) (nothing_sent text_gauge a.distance (marks text_mark heard) a.text h.text);
-    name = answers.holds (marks name_mark heard) h.name;
+    → ((judged : List (Option Message)) → HoldsLog a.distance judged a → counted_as a.start judged message ≡ message) → Answers name_gauge a.distance (name_mark message) a.name after.name r → Judges a after message r
+names_judge (Ok done) a after message silent same counts answers = record {
+  holds = λ judged h. subst (λ (x : Option Message). HoldsSlot a.distance x judged after) (sym (counts judged h)) record {
+    text = rw (silent, same) (nothing_sent text_gauge a.distance (marks text_mark judged) a.text h.text);
+    name = answers.holds (marks name_mark judged) h.name;
   };
-  breaks = λ heard h. tt;
+  breaks = λ judged h. tt;
 }
-names_judge (Err fault) a after message silent same answers = record {
-  holds = λ heard h. tt;
-  breaks = λ heard h. inr (answers.breaks (marks name_mark heard) h.name);
+names_judge (Err fault) a after message silent same counts answers = record {
+  holds = λ judged h. tt;
+  breaks = λ judged h. subst (λ (x : Option Message). BreaksFirst a.distance x judged fault) (sym (counts judged h)) (inr (answers.breaks (marks name_mark judged) h.name));
+}
+
+-- a message with nothing for either service, whose slot passes
+pub nothing_judged : (a : AuditState) (message : Option Message) → ((judged : List (Option Message)) → HoldsLog a.distance judged a → (text_mark (counted_as a.start judged message) ≡ Nothing) × (name_mark (counted_as a.start judged message) ≡ Nothing))
+    → Judges a a message (Ok tt)
+nothing_judged a message silent = record {
+  holds = λ judged h. record {
+    text = rw (silent judged h).0 (nothing_sent text_gauge a.distance (marks text_mark judged) a.text h.text);
+    name = rw (silent judged h).1 (nothing_sent name_gauge a.distance (marks name_mark judged) a.name h.name);
+  };
+  breaks = λ judged h. tt;
 }

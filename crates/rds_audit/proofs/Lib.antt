@@ -16,5 +16,6 @@ pub mod AgeSteps
 pub mod ContentSteps
 pub mod ReignSteps
 pub mod Faults
+pub mod Recordings
 pub mod AuditSteps
 pub mod AuditRows

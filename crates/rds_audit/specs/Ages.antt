@@ -4,7 +4,25 @@ use Rattle.std.specs.Prelude.{◌≡◌, ◌≢◌, ◌≤◌, ◌+◌, ◌-◌,
 use Rattle.std.specs.Prelude.{ℕ, Bool, true, false, IsTrue, List, min, not, if◌then◌else◌}
 use Rattle.rds_receiver.specs.Run.{is_same}
 use Rattle.rds_audit.specs.declared.ages.Ages.{Ages}
+use Rattle.rds_audit.specs.declared.log_start.LogStart.{LogStart}
+use Rattle.rds_audit.specs.declared.log_start.LogStart.TheVariants.{Complete, Running}
 use Rattle.rds_audit.specs.Reigns.{AlternateFlags, Reign}
+
+-- how old a log counts before its first slot
+abbrev pub age_at : LogStart → ℕ → ℕ
+age_at Complete d = d
+age_at Running d = 2 * d
+
+-- the ages before the first slot
+abbrev pub ages_at : LogStart → ℕ → Ages
+ages_at start d = record {
+  is_open = false;
+  flag = false;
+  since_last = age_at start d;
+  since_before = age_at start d;
+  since_start = 0;
+  turns = true;
+}
 
 -- a fragment with this flag joins the current reign
 abbrev pub Joins : ℕ → Bool → Ages → Type 0

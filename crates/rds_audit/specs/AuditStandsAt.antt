@@ -9,6 +9,7 @@ use Rattle.rds_audit.specs.AuditState.{AuditState, ContentState, ReignsState, ce
 use Rattle.rds_audit.specs.Lengths.{Gauge, lengths_of, name_gauge, sent_last, tags_end, text_gauge}
 use Rattle.rds_safety.specs.Marks.{Mark, marks, name_mark, text_mark}
 use Rattle.rds_audit.specs.Reigns.{Reign, SentTags, reigns}
+use Rattle.rds_audit.specs.Recording.{IsJudgedAs, counted_as}
 use Rattle.rds_audit.specs.Rules.{BreaksFirst, IsFaultOf, Passes}
 
 -- the fragments of the newest reign
@@ -52,24 +53,29 @@ pub record HoldsSlot (d : ℕ) (newest : Option Message) (before : List (Option 
   pub text : HoldsNewest text_gauge d (text_mark newest) (marks text_mark before) a.text
   pub name : HoldsNewest name_gauge d (name_mark newest) (marks name_mark before) a.name
 
--- the audit has this PI and a spacing of d slots; without a fault its state follows from the log, which passes; a fault
--- that it has is the fault of the log
+-- without a fault the state follows from this log, which passes; a fault that it has is the fault of the log
+abbrev pub HasJudged : ℕ → AuditState → List (Option Message) → Type 0
+HasJudged d a judged = MatchOption a.fault (HoldsLog d judged a) (λ fault. IsFaultOf d judged fault)
+
+-- the audit has this PI and a spacing of d slots, and judged the log as that is to be judged
 pub record AuditStandsAt (pi d : ℕ) (a : AuditState) (log : List (Option Group)) : Type 0 where
   pub programme : a.programme ≡ pi
   pub distance : a.distance ≡ d
   pub lasts : 0 < d
   pub heard : List (Option Message)
   pub are : AreHeard pi log heard
-  pub holds : MatchOption a.fault (HoldsLog d heard a) (λ fault. IsFaultOf d heard fault)
+  pub holds : (judged : List (Option Message)) → IsJudgedAs a.start d heard judged → HasJudged d a judged
 
--- this holds of the spacing and the messages of each log that the audit stands at
+-- this holds of the spacing of each log that the audit stands at, and of its messages as they are judged
 abbrev pub WhereTheAuditStands : AuditState → (ℕ → List (Option Message) → Type 0) → Type 0
-WhereTheAuditStands a Holds = (pi d : ℕ) (log : List (Option Group)) (s : AuditStandsAt pi d a log) → Holds d s.heard
+WhereTheAuditStands a Holds =
+    (pi d : ℕ) (log : List (Option Group)) (s : AuditStandsAt pi d a log) (judged : List (Option Message))
+    → IsJudgedAs a.start d s.heard judged → Holds d judged
 
 -- the audit took this message in the next slot of a log: without an error its state follows from the log with that
 -- slot; with one, the slot breaks the rule of the fault first
 pub record Judges (a after : AuditState) (message : Option Message) (result : Result (Unit {0}) AuditFault) : Type 0 where
-  pub holds : (heard : List (Option Message)) → HoldsLog a.distance heard a
-      → IfOk result (λ _. HoldsSlot a.distance message heard after)
-  pub breaks : (heard : List (Option Message)) → HoldsLog a.distance heard a
-      → IfErr result (λ fault. BreaksFirst a.distance message heard fault)
+  pub holds : (judged : List (Option Message)) → HoldsLog a.distance judged a
+      → IfOk result (λ _. HoldsSlot a.distance (counted_as a.start judged message) judged after)
+  pub breaks : (judged : List (Option Message)) → HoldsLog a.distance judged a
+      → IfErr result (λ fault. BreaksFirst a.distance (counted_as a.start judged message) judged fault)

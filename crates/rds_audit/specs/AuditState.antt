@@ -1,6 +1,6 @@
 -- The state of an audit.
 use Rattle.std.specs.Prelude.{◌≡◌, ◌≤◌, ◌<◌, ◌⊎◌, ◌==◌}
-use Rattle.std.specs.Prelude.{ℕ, Bool, true, List, Option, Some, None, is_some, max}
+use Rattle.std.specs.Prelude.{ℕ, Bool, true, false, List, Option, Some, None, is_some, max}
 use Rattle.std.specs.Prelude.{refl, replicate, slice_index_or, slice_set, if◌then◌else◌}
 use Rattle.std.specs.Coded.{Coded, code_by, coded×, coded_ℕ, coded_bool, coded_list, coded_option}
 use Rattle.rds_fields.specs.Tag.{PairFields}
@@ -9,6 +9,8 @@ use Rattle.rds_audit.specs.declared.audit.AuditFault.{AuditFault}
 use Rattle.rds_audit.specs.declared.audit.AuditFault.TheVariants.{Changed, NotOneText, EarlyFlag}
 use Rattle.rds_audit.specs.declared.audit.AuditFault.TheVariants.{EarlyTag, TagOutside}
 use Rattle.rds_audit.specs.declared.audited.Lengths.{Lengths}
+use Rattle.rds_audit.specs.declared.log_start.LogStart.{LogStart}
+use Rattle.rds_audit.specs.declared.log_start.LogStart.TheVariants.{Complete, Running}
 use Rattle.rds_audit.specs.Ages.{opened_ages}
 use Rattle.rds_audit.specs.Lengths.{narrowed, pair_end}
 
@@ -24,10 +26,12 @@ pub record ReignsState : Type 0 where
   pub ages : Ages
   pub content : ContentState
 
--- an audit: its programme (PI), the spacing d in slots, both services, and the fault, if there is one
+-- an audit: its programme (PI), the spacing d in slots, where the log begins, both services, and the fault, if there is
+-- one
 pub record AuditState : Type 0 where
   pub programme : ℕ
   pub distance : ℕ
+  pub start : LogStart
   pub text : ReignsState
   pub name : ReignsState
   pub fault : Option AuditFault
@@ -146,9 +150,33 @@ fault_back TagOutside = refl
 abbrev pub fault_code : Coded AuditFault
 fault_code = code_by ℕ coded_ℕ fault_number numbered_fault fault_back
 
+abbrev pub is_running : LogStart → Bool
+is_running Complete = false
+is_running Running = true
+
+abbrev pub start_if : Bool → LogStart
+start_if false = Complete
+start_if true = Running
+
+pub start_back : (s : LogStart) → start_if (is_running s) ≡ s
+start_back Complete = refl
+start_back Running = refl
+
+abbrev pub start_code : Coded LogStart
+start_code = code_by Bool coded_bool is_running start_if start_back
+
 abbrev pub audit_code : Coded AuditState
 audit_code =
-    code_by ((ℕ × ℕ) × ((ReignsState × ReignsState) × Option AuditFault))
-    (coded× (coded× coded_ℕ coded_ℕ) (coded× (coded× reigns_code reigns_code) (coded_option fault_code)))
-    (λ a. ((a.programme, a.distance), ((a.text, a.name), a.fault)))
-    (λ p. record { programme = p.0.0; distance = p.0.1; text = p.1.0.0; name = p.1.0.1; fault = p.1.1 }) (λ _. refl)
+    code_by ((ℕ × (ℕ × LogStart)) × ((ReignsState × ReignsState) × Option AuditFault))
+    (coded× (coded× coded_ℕ (coded× coded_ℕ start_code))
+    (coded× (coded× reigns_code reigns_code) (coded_option fault_code)))
+    (λ a. ((a.programme, (a.distance, a.start)), ((a.text, a.name), a.fault)))
+    (λ p. record {
+      programme = p.0.0;
+      distance = p.0.1.0;
+      start = p.0.1.1;
+      text = p.1.0.0;
+      name = p.1.0.1;
+      fault = p.1.1;
+    })
+    (λ _. refl)

@@ -1,6 +1,7 @@
 -- The audit of a log of sent groups. Read the files in this order: the rules of a log, then the state of the audit,
 -- then the laws that lead from a log that passes to safety.
 pub mod Dense
+pub mod Recording
 pub mod Reigns
 pub mod Rules
 pub mod Lengths

@@ -1,7 +1,7 @@
 -- An audit stored as plain numbers (this project's own form).
 use Rattle.std.specs.Prelude.{ℕ, ◌<◌, ◌≤◌, ◌==◌, List, Option, Some, None, map, if◌then◌else◌}
 use Rattle.rds_fields.specs.Stored.{is_set}
-use Rattle.rds_audit.specs.AuditState.{AuditState, ContentState, ReignsState}
+use Rattle.rds_audit.specs.AuditState.{AuditState, ContentState, ReignsState, start_if}
 use Rattle.rds_audit.specs.declared.ages.Ages.{Ages}
 use Rattle.rds_audit.specs.declared.audit.AuditFault.{AuditFault}
 use Rattle.rds_audit.specs.declared.audit.AuditFault.TheVariants.{Changed, NotOneText, EarlyFlag}
@@ -52,6 +52,7 @@ abbrev pub audit_stored : StoredAudit → AuditState
 audit_stored a = record {
   programme = a.pi;
   distance = a.distance;
+  start = start_if (is_set a.is_running);
   text = reigns_stored a.text;
   name = reigns_stored a.name;
   fault = fault_stored a.fault;

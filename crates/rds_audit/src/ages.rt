@@ -1,13 +1,13 @@
 //! The ages of a service's reigns: how many slots ago they started and ended. Each age stops at a limit.
 ghost use Rattle.std.specs.Prelude.{◌≡◌, ◌≢◌, ◌+◌, ◌*◌, ◌<◌, ◌≤◌, ◌↔◌, IsTrue, IsErr, IfErr, IfOk, min, true, false};
-ghost use Rattle.rds_audit.specs.Ages.{HasLasted, IsEarly, Joins, aged, opened_ages};
+ghost use Rattle.rds_audit.specs.Ages.{HasLasted, IsEarly, Joins, aged, ages_at, opened_ages};
 
-use crate::AuditFault;
+use crate::{AuditFault, LogStart};
 use rds_encoder::Distance;
 
 /// The ages, in slots, of the current reign and of the one before it. They stop at a limit: `since_last` and
-/// `since_before` at 2 (M + K), `since_start` at M + K. Before the first reign, the log counts as M + K slots older
-/// than it is.
+/// `since_before` at 2 (M + K), `since_start` at M + K. Before the first reign, a complete log counts as M + K slots
+/// older than it is, and the log of a running station as 2 (M + K) or more.
 #[derive(Clone, Copy)]
 pub(crate) struct Ages {
     pub(crate) is_open: bool,
@@ -20,22 +20,19 @@ pub(crate) struct Ages {
 }
 
 impl Ages {
-    /// Makes the ages before the first reign.
-    pub(crate) fn new(distance: Distance) -> Ages
-        ensures { result ≡ record {
-          is_open = false;
-          flag = false;
-          since_last = distance;
-          since_before = distance;
-          since_start = 0;
-          turns = true;
-        } }
+    /// Makes the ages before the first slot of a log that begins so.
+    pub(crate) fn new(distance: Distance, start: LogStart) -> Ages
+        ensures { result ≡ ages_at start distance }
     {
+        let age = match start {
+            LogStart::Complete => distance.get(),
+            LogStart::Running => 2 * distance.get(),
+        };
         Ages {
             is_open: false,
             flag: false,
-            since_last: distance.get(),
-            since_before: distance.get(),
+            since_last: age,
+            since_before: age,
             since_start: 0,
             turns: true,
         }

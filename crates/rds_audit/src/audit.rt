@@ -1,11 +1,13 @@
 //! The audit: it takes a log slot by slot, and finds the rule that the log breaks first.
-ghost use Rattle.std.specs.Prelude.{◌≡◌, ◌+◌, ◌<◌, ◌≤◌, ◌↔◌, [], ◌∷◌};
-ghost use Rattle.std.specs.Prelude.{ℕ, List, Option, Some, None, Ok, Err, IsErr, IsTrue, IfOk, IfErr, MatchResult};
+ghost use Rattle.std.specs.Prelude.{◌≡◌, ◌+◌, ◌<◌, ◌≤◌, ◌↔◌, ◌⊎◌, [], ◌∷◌};
+ghost use Rattle.std.specs.Prelude.{ℕ, true, false, List, Option, Some, None, Ok, Err, IsErr, IsTrue, IfOk, IfErr, MatchResult};
 ghost use Rattle.rds_block.specs.declared.group.Group.{Group};
 ghost use Rattle.rds_fields.specs.declared.message.Message.{Message};
+ghost use Rattle.rds_fields.specs.declared.message.Message.TheVariants.{Tags};
 ghost use Rattle.rds_fields.specs.Spells.{Spells};
 ghost use Rattle.rds_receiver.specs.Receipts.{Hears};
 ghost use Rattle.rds_audit.specs.declared.audit.AuditFault.{AuditFault};
+ghost use Rattle.rds_audit.specs.declared.log_start.LogStart.TheVariants as LogStart;
 ghost use Rattle.rds_audit.specs.AuditLaws.{IsSafeLog};
 ghost use Rattle.rds_audit.specs.AuditStandsAt.{AuditStandsAt, HoldsLog, HoldsSlot, Judges, WhereTheAuditStands};
 ghost use Rattle.rds_audit.specs.Dense.{HasPlans};
@@ -18,10 +20,12 @@ ghost use Rattle.rds_safety.specs.Marks.{marks, name_mark, text_mark};
 use crate::audited::{Names, Texts};
 use crate::reigns::Reigns;
 use crate::stored::StoredAudit;
-use crate::{one_fault, passes_by_plans, what_passes_is_safe, what_passes_is_safe_by_the_flag};
+use crate::{
+    LogStart, one_fault, passes_by_plans, what_passes_is_safe, what_passes_is_safe_by_the_flag,
+};
 use rds_block::{Blocks, Group};
 use rds_encoder::Distance;
-use rds_fields::{Dwell, Late, Message};
+use rds_fields::{Dwell, Late, Message, TagPair};
 use rds_receiver::heard;
 use std::marker::Model;
 use thiserror::Error;
@@ -56,6 +60,7 @@ pub enum AuditFault {
 pub struct Audit {
     pi: u16,
     distance: Distance,
+    start: LogStart,
     text: Reigns<Texts>,
     name: Reigns<Names>,
     fault: Option<AuditFault>,
@@ -72,6 +77,7 @@ impl Model for Audit {
     ghost view = { λ a. record {
       programme = a.pi;
       distance = a.distance;
+      start = a.start;
       text = a.text;
       name = a.name;
       fault = a.fault;
@@ -81,18 +87,29 @@ impl Model for Audit {
 }
 
 impl Audit {
-    /// Makes the audit of this programme before the first slot, for receivers of this dwell whose groups come at most
-    /// so many slots late.
+    /// Makes the audit of a complete log of this programme, before the first slot, for receivers of this dwell whose
+    /// groups come at most so many slots late.
     pub fn new(pi: u16, dwell: Dwell, late: Late) -> Audit
         ensures stands { AuditStandsAt pi (dwell + late) result [] }
         ensures passed { result.fault ≡ None }
+        ensures start { result.start ≡ LogStart.Complete }
+    {
+        Audit::starting(pi, dwell, late, LogStart::Complete)
+    }
+
+    /// Does the same as [`new`](Self::new) for a log that begins so.
+    pub fn starting(pi: u16, dwell: Dwell, late: Late, start: LogStart) -> Audit
+        ensures stands { AuditStandsAt pi (dwell + late) result [] }
+        ensures passed { result.fault ≡ None }
+        ensures start { result.start ≡ start }
     {
         let distance = Distance::new(dwell, late);
         Audit {
             pi,
             distance,
-            text: Reigns::new(distance),
-            name: Reigns::new(distance),
+            start,
+            text: Reigns::new(distance, start),
+            name: Reigns::new(distance, start),
             fault: None,
         }
     }
@@ -105,6 +122,7 @@ impl Audit {
         Audit {
             pi: stored.pi,
             distance: Distance::restore(stored.distance),
+            start: LogStart::restored(stored.is_running),
             text: Reigns::restore(&stored.text),
             name: Reigns::restore(&stored.name),
             fault: AuditFault::numbered(stored.fault),
@@ -122,6 +140,7 @@ impl Audit {
             name: self.name.store(),
             pi: self.pi,
             fault: AuditFault::number(self.fault),
+            is_running: self.start.stored(),
         }
     }
 
@@ -132,6 +151,7 @@ impl Audit {
             → AuditStandsAt pi d self.old log → AuditStandsAt pi d self.new (group ∷ log) }
         ensures fault { MatchResult result
             (λ _. self.new.fault ≡ None) (λ fault. self.new.fault ≡ Some fault) }
+        ensures start { self.new.start ≡ self.old.start }
         ensures which { WhereTheAuditStands self.new (λ d heard.
             MatchResult result (λ _. LogPasses d heard) (λ fault. IsFaultOf d heard fault)) }
         ensures again { (fault : AuditFault) → self.old.fault ≡ Some fault
@@ -150,6 +170,7 @@ impl Audit {
             → AuditStandsAt pi d self.old log → AuditStandsAt pi d self.new (group ∷ log) }
         ensures fault { MatchResult result
             (λ _. self.new.fault ≡ None) (λ fault. self.new.fault ≡ Some fault) }
+        ensures start { self.new.start ≡ self.old.start }
         ensures which { WhereTheAuditStands self.new (λ d heard.
             MatchResult result (λ _. LogPasses d heard) (λ fault. IsFaultOf d heard fault)) }
         ensures again { (fault : AuditFault) → self.old.fault ≡ Some fault
@@ -216,6 +237,7 @@ impl Audit {
     fn take_slot(&mut self, group: Option<Blocks>) -> Result<(), AuditFault>
         ensures programme { self.new.programme ≡ self.old.programme }
         ensures distance { self.new.distance ≡ self.old.distance }
+        ensures start { self.new.start ≡ self.old.start }
         ensures fault { self.new.fault ≡ self.old.fault }
         ensures takes { (message : Option Message) × Hears self.old.programme group message
             × Judges self.old self.new message result }
@@ -234,6 +256,7 @@ impl Audit {
     fn hear(&mut self, group: Blocks) -> Result<(), AuditFault>
         ensures programme { self.new.programme ≡ self.old.programme }
         ensures distance { self.new.distance ≡ self.old.distance }
+        ensures start { self.new.start ≡ self.old.start }
         ensures fault { self.new.fault ≡ self.old.fault }
         ensures takes { (message : Message) × Spells message group
             × Judges self.old self.new (Some message) result }
@@ -246,7 +269,7 @@ impl Audit {
             return self.name.take(distance, it.flag, it.address, it.bytes);
         }
         if let Some(pair) = Message::tags_in(group) {
-            return self.text.take_tags(distance, pair);
+            return self.take_tags(pair);
         }
         if let Some(_) = Message::announced_in(group) {
             return Ok(());
@@ -254,10 +277,39 @@ impl Audit {
         Ok(())
     }
 
+    /// Takes tags that were sent in this slot, except before the first text segment of the log of a running station:
+    /// their text may have been sent before the log. Error if they break a rule.
+    fn take_tags(&mut self, pair: TagPair) -> Result<(), AuditFault>
+        ensures programme { self.new.programme ≡ self.old.programme }
+        ensures distance { self.new.distance ≡ self.old.distance }
+        ensures start { self.new.start ≡ self.old.start }
+        ensures fault { self.new.fault ≡ self.old.fault }
+        ensures judges { Judges self.old self.new (Some (Tags pair)) result }
+    {
+        if self.awaits_text() {
+            return Ok(());
+        }
+        self.text.take_tags(self.distance, pair)
+    }
+
+    /// Returns whether the station was on air before the log began, and no text segment came yet.
+    fn awaits_text(&self) -> bool
+        ensures early { result ≡ true
+            → (self.now.start ≡ LogStart.Running) × (self.now.text.ages.is_open ≡ false) }
+        ensures begun { result ≡ false
+            → (self.now.start ≡ LogStart.Complete) ⊎ (self.now.text.ages.is_open ≡ true) }
+    {
+        match self.start {
+            LogStart::Complete => false,
+            LogStart::Running => !self.text.is_open(),
+        }
+    }
+
     /// Ends the slot.
     fn end_slot(&mut self)
         ensures programme { self.new.programme ≡ self.old.programme }
         ensures distance { self.new.distance ≡ self.old.distance }
+        ensures start { self.new.start ≡ self.old.start }
         ensures fault { self.new.fault ≡ self.old.fault }
         ensures holds { (heard : List (Option Message)) (message : Option Message)
             → HoldsSlot self.old.distance message heard self.old

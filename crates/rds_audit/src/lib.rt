@@ -7,6 +7,7 @@ mod audit;
 mod audit_laws;
 mod audited;
 mod content;
+mod log_start;
 mod reigns;
 mod stored;
 
@@ -15,4 +16,5 @@ pub use audit_laws::{
     broadcasts_are_the_reigns, one_fault, passes_by_plans, what_passes_is_safe,
     what_passes_is_safe_by_the_flag,
 };
+pub use log_start::LogStart;
 pub use stored::{StoredAudit, StoredCell, StoredReigns};

@@ -1,17 +1,18 @@
 //! The reigns of a service: the current one, and how long ago the one before it ended.
-ghost use Rattle.std.specs.Prelude.{◌≡◌, ◌+◌, ◌<◌, ◌≤◌, List, [], IfOk, IfErr};
+ghost use Rattle.std.specs.Prelude.{◌≡◌, ◌+◌, ◌<◌, ◌≤◌, List, [], IfOk, IfErr, false};
 ghost use Rattle.rds_audit.specs.Ages.{IsEarly, aged};
 ghost use Rattle.rds_audit.specs.AuditStandsAt.{HoldsMarks, HoldsNewest};
 ghost use Rattle.rds_audit.specs.AuditState.{CanTake, CannotTake, joined_state, no_content, opened_state};
+ghost use Rattle.rds_audit.specs.Recording.{IsSilentAs};
 ghost use Rattle.rds_safety.specs.Marks.{Mark, Sends, Tagged};
 ghost use Rattle.rds_audit.specs.Rules.{IsBrokenBy};
 ghost use Rattle.rds_audit.specs.Stored.{reigns_stored};
 
-use crate::AuditFault;
 use crate::ages::Ages;
 use crate::audited::Audited;
 use crate::content::Content;
 use crate::stored::StoredReigns;
+use crate::{AuditFault, LogStart};
 use rds_encoder::Distance;
 use rds_fields::TagPair;
 use std::marker::Model;
@@ -34,13 +35,15 @@ impl<S: Audited> Model for Reigns<S> {
 }
 
 impl<S: Audited> Reigns<S> {
-    /// Makes the state of a service before its first reign.
-    pub(crate) fn new(distance: Distance) -> Self
+    /// Makes the state of a service before the first slot of a log that begins so.
+    pub(crate) fn new(distance: Distance, start: LogStart) -> Self
         requires { 0 < distance }
-        ensures { HoldsMarks S.gauge distance [] result }
+        ensures holds { (sent : List Mark) → IsSilentAs start distance sent
+            → HoldsMarks S.gauge distance sent result }
+        ensures open { result.ages.is_open ≡ false }
     {
         Reigns {
-            ages: Ages::new(distance),
+            ages: Ages::new(distance, start),
             content: Content::new(),
         }
     }
@@ -114,6 +117,13 @@ impl<S: Audited> Reigns<S> {
         self.content.take_tags(pair)?;
         ages.renew();
         Ok(())
+    }
+
+    /// Returns whether there is a reign.
+    pub(crate) fn is_open(&self) -> bool
+        ensures { result ≡ self.now.ages.is_open }
+    {
+        self.ages.is_open
     }
 
     /// Returns whether the flag turned from each reign to the next one.

@@ -1,8 +1,10 @@
 //! An audit as plain numbers, for a program that stores it. A bit is 0 for no and any other number for yes.
 ghost use Rattle.std.specs.Prelude.{◌≡◌, map};
+ghost use Rattle.rds_audit.specs.AuditState.{start_if};
+ghost use Rattle.rds_fields.specs.Stored.{is_set};
 ghost use Rattle.rds_audit.specs.Stored.{cell_stored, fault_stored, number_of_fault};
 
-use crate::AuditFault;
+use crate::{AuditFault, LogStart};
 
 /// The bytes that were sent at one address, if any.
 #[repr(C)]
@@ -42,6 +44,31 @@ pub struct StoredAudit {
     pub pi: u16,
     /// The number of the fault that was found, 0 if there is none.
     pub fault: u8,
+    /// Whether the station was on air before the log began.
+    pub is_running: u8,
+}
+
+impl LogStart {
+    /// Stores the start as a bit.
+    pub(crate) fn stored(self) -> u8
+        ensures { start_if (is_set result) ≡ self }
+    {
+        match self {
+            LogStart::Complete => 0,
+            LogStart::Running => 1,
+        }
+    }
+
+    /// Rebuilds a stored start.
+    pub(crate) fn restored(bit: u8) -> LogStart
+        ensures { result ≡ start_if (is_set bit) }
+    {
+        if bit != 0 {
+            LogStart::Running
+        } else {
+            LogStart::Complete
+        }
+    }
 }
 
 impl AuditFault {

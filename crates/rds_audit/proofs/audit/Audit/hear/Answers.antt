@@ -1,10 +1,10 @@
 use Rattle.std.proofs.Common.{Some, arith, refl, subst}
-use Rattle.std.proofs.lemmas.Grind.{common_steps}
 use Rattle.rds_fields.specs.declared.message.Message.TheVariants.{Announce, Name, Other, Tags, Text}
 use Rattle.rds_audit.specs.AuditStandsAt.{Judges}
 use Rattle.rds_audit.specs.AuditState.{AuditState}
 use Rattle.rds_audit.specs.contracts.audit.Audit.{the_view}
-use Rattle.rds_audit.proofs.AuditSteps.{names_judge, texts_judge}
+use Rattle.rds_audit.proofs.AuditSteps.{names_judge, nothing_judged, texts_judge}
+use Rattle.rds_audit.proofs.Recordings.{announcement_counts, name_counts, other_counts, text_counts}
 use Rattle.rds_audit.proofs.audit.Audit.hear.Goals as goal
 
 pub returns-in-Some-clause-takes : goal.returns-in-Some-clause-takes
@@ -13,7 +13,8 @@ returns-in-Some-clause-takes c =
       message,
       c.in-Some.ensures.spelled,
       subst (λ (a : AuditState). Judges a (the_view (record c.self.inside { text = c.take.new.self })) (Some message) c.take.result) c.self.view_is
-          (texts_judge c.take.result (the_view c.self.inside) (the_view (record c.self.inside { text = c.take.new.self })) (Some message) refl refl record { holds = c.take.ensures.holds; breaks = c.take.ensures.fault }),
+          (texts_judge c.take.result (the_view c.self.inside) (the_view (record c.self.inside { text = c.take.new.self })) (Some message) refl refl
+          (λ judged h. text_counts _ judged _ _ _) record { holds = c.take.ensures.holds; breaks = c.take.ensures.fault }),
     )
 
 pub returns-in-Some-name_in-clause-takes : goal.returns-in-Some-name_in-clause-takes
@@ -23,22 +24,17 @@ returns-in-Some-name_in-clause-takes c =
       message,
       c.in-Some-name_in.ensures.spelled,
       subst (λ (a : AuditState). Judges a (the_view (record c.self.inside { name = c.take-in-Some-name_in.new.self })) (Some message) c.take-in-Some-name_in.result) c.self.view_is
-          (names_judge c.take-in-Some-name_in.result (the_view c.self.inside) (the_view (record c.self.inside { name = c.take-in-Some-name_in.new.self })) (Some message) refl refl record { holds = c.take-in-Some-name_in.ensures.holds; breaks = c.take-in-Some-name_in.ensures.fault }),
+          (names_judge c.take-in-Some-name_in.result (the_view c.self.inside) (the_view (record c.self.inside { name = c.take-in-Some-name_in.new.self })) (Some message) refl refl
+          (λ judged h. name_counts _ judged _ _ _) record { holds = c.take-in-Some-name_in.ensures.holds; breaks = c.take-in-Some-name_in.ensures.fault }),
     )
 
 pub returns-in-Some-tags_in-clause-takes : goal.returns-in-Some-tags_in-clause-takes
-returns-in-Some-tags_in-clause-takes c =
-    let message = Tags c.in-Some-tags_in.pair in (
-      message,
-      c.in-Some-tags_in.ensures.spelled,
-      subst (λ (a : AuditState). Judges a (the_view (record c.self.inside { text = c.take_tags.new.self })) (Some message) c.take_tags.result) c.self.view_is
-          (texts_judge c.take_tags.result (the_view c.self.inside) (the_view (record c.self.inside { text = c.take_tags.new.self })) (Some message) refl refl record { holds = c.take_tags.ensures.holds; breaks = c.take_tags.ensures.fault }),
-    )
+returns-in-Some-tags_in-clause-takes c = (Tags c.in-Some-tags_in.pair, c.in-Some-tags_in.ensures.spelled, c.take_tags.ensures.judges)
 
 pub returns-in-Some-announced_in-clause-takes : goal.returns-in-Some-announced_in-clause-takes
 returns-in-Some-announced_in-clause-takes c =
     let it = c.in-Some-announced_in.field-0 in
-    (Announce it.code c.args.group.c it.aid, c.in-Some-announced_in.ensures.spelled, record { holds = grind (arith, common_steps); breaks = grind (arith, common_steps) })
+    (Announce it.code c.args.group.c it.aid, c.in-Some-announced_in.ensures.spelled, nothing_judged c.args.self.now _ (λ judged h. announcement_counts _ judged _ _ _))
 
 pub returns-clause-takes : goal.returns-clause-takes
 returns-clause-takes c = (
@@ -49,5 +45,5 @@ returns-clause-takes c = (
     name = c.in_default-name_in.ensures.none;
     tags = c.in_default-tags_in.ensures.none;
   },
-  record { holds = grind (arith, common_steps); breaks = grind (arith, common_steps) },
+  nothing_judged c.args.self.now _ (λ judged h. other_counts _ judged),
 )

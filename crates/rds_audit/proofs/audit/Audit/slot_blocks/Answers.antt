@@ -2,6 +2,7 @@ use Rattle.std.proofs.Common.{rules, ◌≡◌, ◌∷◌, None, refl, sym, ap, 
 use Rattle.rds_receiver.specs.Receipts.{Hears}
 use Rattle.rds_audit.specs.AuditState.{AuditState}
 use Rattle.rds_audit.specs.AuditStandsAt.{HoldsLog, HoldsSlot}
+use Rattle.rds_audit.specs.Recording.{counted_as}
 use Rattle.rds_audit.proofs.AuditSteps.{fault_found, fault_stays, slot_passes}
 use Rattle.rds_audit.proofs.audit.Audit.slot_blocks.Goals as goal
 
@@ -18,7 +19,7 @@ returns-in-Err-clause-stands c pi d log s =
     let clean : c.args.self.now.fault ≡ None = ap (λ (a : AuditState). a.fault) (sym c.self.view_is) ∙ c.in_default.is in
     fault_found pi d c.args.self.now log s _ c.args.group message c.in-Err.fault clean refl
     (ap (λ (a : AuditState). a.programme) c.self-2.view_is ∙ c.in-Err.ensures.programme) (ap (λ (a : AuditState). a.distance) c.self-2.view_is ∙ c.in-Err.ensures.distance)
-    hears judges.breaks
+    (ap (λ (a : AuditState). a.start) c.self-2.view_is ∙ c.in-Err.ensures.start) hears judges.breaks
 
 pub returns-clause-stands : goal.returns-clause-stands
 returns-clause-stands c pi d log s =
@@ -27,11 +28,13 @@ returns-clause-stands c pi d log s =
     slot_passes pi d c.args.self.now log s c.end_slot.new.self c.args.group message clean
     (c.end_slot.ensures.fault ∙ c.in_default-take_slot.ensures.fault ∙ clean)
     (c.end_slot.ensures.programme ∙ c.in_default-take_slot.ensures.programme) (c.end_slot.ensures.distance ∙ c.in_default-take_slot.ensures.distance)
-    hears (λ heard h.
+    (c.end_slot.ensures.start ∙ c.in_default-take_slot.ensures.start)
+    hears (λ judged h.
     let same = c.in_default-take_slot.ensures.distance in
-    let now : HoldsSlot c.args.self.now.distance message heard c.take_slot.new.self = judges.holds heard h in
-    subst (λ n. HoldsLog n (message ∷ heard) c.end_slot.new.self) same
-    (c.end_slot.ensures.holds heard message (subst (λ n. HoldsSlot n message heard c.take_slot.new.self) (sym same) now)))
+    let said = counted_as c.args.self.now.start judged message in
+    let now : HoldsSlot c.args.self.now.distance said judged c.take_slot.new.self = judges.holds judged h in
+    subst (λ n. HoldsLog n (said ∷ judged) c.end_slot.new.self) same
+    (c.end_slot.ensures.holds judged said (subst (λ n. HoldsSlot n said judged c.take_slot.new.self) (sym same) now)))
 
 pub returns-in-Err-clause-fault : goal.returns-in-Err-clause-fault
 returns-in-Err-clause-fault c = search rules

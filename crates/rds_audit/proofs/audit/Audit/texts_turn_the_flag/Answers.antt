@@ -5,9 +5,9 @@ use Rattle.rds_safety.specs.Marks.{marks, text_mark}
 use Rattle.rds_audit.proofs.audit.Audit.texts_turn_the_flag.Goals as goal
 
 pub returns-then-passed-clause-safe : goal.returns-then-passed-clause-safe
-returns-then-passed-clause-safe c pi d log s turns =
-    let both : LogPasses d s.heard × AlternateFlags (reigns d (marks text_mark s.heard)) = search rules in
-    let safe = c.what_passes_is_safe_by_the_flag.ensures.safe d s.heard s.lasts both.0 in
+returns-then-passed-clause-safe c pi d log s judged is turns =
+    let both : LogPasses d judged × AlternateFlags (reigns d (marks text_mark judged)) = search rules in
+    let safe = c.what_passes_is_safe_by_the_flag.ensures.safe d judged s.lasts both.0 in
     record {
       plans = safe.plans;
       lawful = safe.lawful;
@@ -17,7 +17,7 @@ returns-then-passed-clause-safe c pi d log s turns =
     }
 
 pub returns-else-passed-clause-turns : goal.returns-else-passed-clause-turns
-returns-else-passed-clause-turns c pi d log s = (
+returns-else-passed-clause-turns c pi d log s judged is = (
   (λ e. absurd (let bad : false ≡ true = sym c.if-passed.false ∙ e in cc)),
-  (λ both. absurd (let bad : true ≡ false = sym ((c.passed.ensures.passes pi d log s).1 both.0) ∙ c.if-passed.false in cc)),
+  (λ both. absurd (let bad : true ≡ false = sym ((c.passed.ensures.passes pi d log s judged is).1 both.0) ∙ c.if-passed.false in cc)),
 )

@@ -1,0 +1,54 @@
+-- A log that begins in the middle (this project's own rule). A recording begins while its station is on air. So its
+-- first text may have started at any time before, and its first tags may be of a text that was sent before it. Lists
+-- have the newest first.
+use Rattle.std.specs.Prelude.{◌≡◌, ◌≤◌, ◌++◌, ℕ, Bool, true, false, List, [], ◌∷◌, Option, Some, None, replicate}
+use Rattle.std.specs.Prelude.{if◌then◌else◌}
+use Rattle.rds_fields.specs.declared.message.Message.{Message}
+use Rattle.rds_fields.specs.declared.message.Message.TheVariants.{Text, Name, Announce, Tags, Other}
+use Rattle.rds_audit.specs.declared.log_start.LogStart.{LogStart}
+use Rattle.rds_audit.specs.declared.log_start.LogStart.TheVariants.{Complete, Running}
+use Rattle.rds_safety.specs.Marks.{Mark, Nothing}
+
+-- a segment of a text is among the messages
+abbrev pub has_text : List (Option Message) → Bool
+has_text [] = false
+has_text (None ∷ before) = has_text before
+has_text (Some (Text f a b) ∷ before) = true
+has_text (Some (Name f a b) ∷ before) = has_text before
+has_text (Some (Announce code bits aid) ∷ before) = has_text before
+has_text (Some (Tags pair) ∷ before) = has_text before
+has_text (Some Other ∷ before) = has_text before
+
+-- the message of a slot after these: tags count as nothing if no text segment came before
+abbrev pub counted : List (Option Message) → Option Message → Option Message
+counted before None = None
+counted before (Some (Text f a b)) = Some (Text f a b)
+counted before (Some (Name f a b)) = Some (Name f a b)
+counted before (Some (Announce code bits aid)) = Some (Announce code bits aid)
+counted before (Some (Tags pair)) = if has_text before then Some (Tags pair) else None
+counted before (Some Other) = Some Other
+
+-- the messages, except the tags before the first text segment
+abbrev pub from_first_text : List (Option Message) → List (Option Message)
+from_first_text [] = []
+from_first_text (newest ∷ before) = counted (from_first_text before) newest ∷ from_first_text before
+
+-- the log with so many slots in front in which nothing was sent
+abbrev pub preceded : ℕ → List (Option Message) → List (Option Message)
+preceded lost log = log ++ replicate lost None
+
+-- what the audit judges: a complete log as it is; the log of a running station with d slots or more in front in which
+-- nothing was sent, and without the tags before the first text segment
+abbrev pub IsJudgedAs : LogStart → ℕ → List (Option Message) → List (Option Message) → Type 0
+IsJudgedAs Complete d log judged = judged ≡ log
+IsJudgedAs Running d log judged = (lost : ℕ) × (d ≤ lost) × (judged ≡ from_first_text (preceded lost log))
+
+-- the message that is judged in the slot after these
+abbrev pub counted_as : LogStart → List (Option Message) → Option Message → Option Message
+counted_as Complete judged message = message
+counted_as Running judged message = counted judged message
+
+-- the marks that are judged before the first slot of a log
+abbrev pub IsSilentAs : LogStart → ℕ → List Mark → Type 0
+IsSilentAs Complete d sent = sent ≡ []
+IsSilentAs Running d sent = (lost : ℕ) × (d ≤ lost) × (sent ≡ replicate lost Nothing)
