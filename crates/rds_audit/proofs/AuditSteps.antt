@@ -13,9 +13,10 @@ use Rattle.rds_audit.specs.AuditState.{AuditState, ReignsState}
 use Rattle.rds_audit.specs.Lengths.{Gauge, name_gauge, text_gauge}
 use Rattle.rds_safety.specs.Marks.{IsMarkIn, Mark, Nothing, Tagged, marks, name_mark, text_mark}
 use Rattle.rds_audit.specs.Rules.{BreaksFirst, IsAfterFragment, IsBrokenBy, IsFaultOf, LogPasses}
+use Rattle.rds_audit.specs.Judging.{judged_step}
 use Rattle.rds_audit.specs.Recording.{IsJudgedAs, IsSilentAs, counted_as}
 use Rattle.rds_audit.proofs.ReignSteps.{slot_ended}
-use Rattle.rds_audit.proofs.Recordings.{judged_step, log_begins}
+use Rattle.rds_audit.proofs.Recordings.{log_begins}
 
 pub log_passes : (d : ℕ) (heard : List (Option Message)) (a : AuditState) → HoldsLog d heard a → LogPasses d heard
 log_passes d heard a h = record { text = h.text.passes; name = h.name.passes }

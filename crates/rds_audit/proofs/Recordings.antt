@@ -14,7 +14,7 @@ use Rattle.rds_audit.specs.Ages.{HasCurrent, HoldsAges, age_at, ages_at}
 use Rattle.rds_audit.specs.AuditStandsAt.{HoldsLog, HoldsMarks}
 use Rattle.rds_audit.specs.AuditState.{AuditState, ReignsState, no_content}
 use Rattle.rds_audit.specs.Lengths.{Gauge, name_gauge, text_gauge}
-use Rattle.rds_audit.specs.Recording.{IsJudgedAs, IsSilentAs, counted, counted_as, from_first_text, has_text, preceded}
+use Rattle.rds_audit.specs.Recording.{IsJudgedAs, IsSilentAs, counted_as, from_first_text, has_text}
 use Rattle.rds_audit.specs.Reigns.{Reign, after_fragment, after_tags, joins, reigns}
 use Rattle.rds_audit.specs.Rules.{IsAfterFragment}
 use Rattle.rds_audit.proofs.ContentSteps.{empty_content}
@@ -74,11 +74,6 @@ silent_holds g Complete d sent e = subst (λ (x : List Mark). HoldsMarks g d x r
 silent_holds g Running d sent (lost, far, e) = subst (λ (x : List Mark). HoldsMarks g d x record { ages = ages_at Running d; content = no_content g.longest }) (sym e) (silence g Running d lost (omega arith))
 
 -- ---- from slot to slot
-
-pub judged_step : (start : LogStart) (d : ℕ) (message : Option Message) (heard judged : List (Option Message)) → IsJudgedAs start d (message ∷ heard) judged
-    → (before : List (Option Message)) × IsJudgedAs start d heard before × (judged ≡ counted_as start before message ∷ before)
-judged_step Complete d message heard judged e = (heard, refl, e)
-judged_step Running d message heard judged (lost, far, e) = (from_first_text (preceded lost heard), (lost, far, refl), e)
 
 -- there is a reign
 is_begun : List Reign → Bool

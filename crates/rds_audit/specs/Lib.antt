@@ -2,6 +2,7 @@
 -- then the laws that lead from a log that passes to safety.
 pub mod Dense
 pub mod Recording
+pub mod Judging
 pub mod Reigns
 pub mod Rules
 pub mod Lengths

@@ -18,7 +18,7 @@ ghost use Rattle.rds_audit.specs.Stored.{IsStored, audit_stored};
 ghost use Rattle.rds_safety.specs.Marks.{marks, name_mark, text_mark};
 
 use crate::audited::{Names, Texts};
-use crate::reigns::Reigns;
+use crate::reigns::{Reigns, Tally};
 use crate::stored::StoredAudit;
 use crate::{
     LogStart, one_fault, passes_by_plans, what_passes_is_safe, what_passes_is_safe_by_the_flag,
@@ -204,6 +204,16 @@ impl Audit {
         passes_by_plans();
         what_passes_is_safe();
         self.fault.is_none()
+    }
+
+    /// Returns what was judged of texts so far, for a person.
+    pub fn texts(&self) -> Tally {
+        self.text.tally()
+    }
+
+    /// Returns what was judged of names so far, for a person.
+    pub fn names(&self) -> Tally {
+        self.name.tally()
     }
 
     /// Returns whether the log passes so far and turned the A/B flag with each new text. A receiver of such a log that

@@ -17,4 +17,5 @@ pub use audit_laws::{
     what_passes_is_safe_by_the_flag,
 };
 pub use log_start::LogStart;
+pub use reigns::Tally;
 pub use stored::{StoredAudit, StoredCell, StoredReigns};

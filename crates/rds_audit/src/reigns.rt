@@ -17,11 +17,26 @@ use rds_encoder::Distance;
 use rds_fields::TagPair;
 use std::marker::Model;
 
+/// What an audit judged of a service so far, for a person. No contract speaks of it.
+#[derive(Clone, Copy, Default)]
+pub struct Tally {
+    /// The number of texts, or of names.
+    pub values: u64,
+    /// The number of groups with tags.
+    pub tags: u64,
+    /// How many slots the first segment of the current text came after the first slot in which the text can have
+    /// started, at most M + K.
+    pub waited: u32,
+    /// Whether the current text has the flag of the one before it, and came M + K slots or more after it.
+    pub resumed: bool,
+}
+
 /// The current reign of a service, and how long ago the one before it ended.
 #[derive(Drop)]
 pub(crate) struct Reigns<S: Audited> {
     ages: Ages,
     content: Content<S>,
+    tally: Tally,
 }
 
 impl<S: Audited> Model for Reigns<S> {
@@ -45,6 +60,7 @@ impl<S: Audited> Reigns<S> {
         Reigns {
             ages: Ages::new(distance, start),
             content: Content::new(),
+            tally: Tally::default(),
         }
     }
 
@@ -62,6 +78,7 @@ impl<S: Audited> Reigns<S> {
                 turns: stored.turns != 0,
             },
             content: Content::restore(stored),
+            tally: Tally::default(),
         }
     }
 
@@ -116,7 +133,13 @@ impl<S: Audited> Reigns<S> {
         }
         self.content.take_tags(pair)?;
         ages.renew();
+        self.tally.tags = self.tally.tags.saturating_add(1);
         Ok(())
+    }
+
+    /// Returns what was judged so far.
+    pub(crate) fn tally(&self) -> Tally {
+        self.tally
     }
 
     /// Returns whether there is a reign.
@@ -162,8 +185,15 @@ impl<S: Audited> Reigns<S> {
             (λ fault. IsEarly distance flag self.old.ages × (fault ≡ AuditFault.EarlyFlag)) }
         ensures opened { IfOk result (λ _. self.new ≡ opened_state distance S.LONGEST flag self.old) }
     {
+        let resumed = self.ages.is_open && flag == self.ages.flag;
         self.ages.open(distance, flag)?;
         self.content = Content::new();
+        self.tally = Tally {
+            values: self.tally.values.saturating_add(1),
+            waited: self.ages.since_start,
+            resumed,
+            ..self.tally
+        };
         Ok(())
     }
 }

@@ -60,6 +60,10 @@ flag_rule name = record (new_rule name) { long = Some name; action = Some SetTru
 abbrev pub tp_rule : Rule
 tp_rule = flag_rule (codes "tp")
 
+-- `--running`
+abbrev pub running_rule : Rule
+running_rule = flag_rule (codes "running")
+
 -- `--quiet`
 abbrev pub quiet_rule : Rule
 quiet_rule = flag_rule (codes "quiet")
@@ -71,6 +75,10 @@ log_app name = with_rule (with_rule (with_rule (new_app name) pi_rule) dwell_rul
 -- a subcommand that takes `--k`
 unfoldable pub late_app : Text → App
 late_app name = with_rule (log_app name) late_rule
+
+-- the subcommand that audits a log
+unfoldable pub audit_app : Text → App
+audit_app name = with_rule (late_app name) running_rule
 
 -- `--grain N`, from 0 to 87
 abbrev pub grain_rule : Rule
@@ -96,7 +104,7 @@ decoder_app = with_subcommand top_app (log_app (codes "decode")).top
 unfoldable pub log_readers_app : App
 log_readers_app =
     with_subcommand
-    (with_subcommand (with_subcommand decoder_app (late_app (codes "audit")).top) (log_app (codes "witness")).top)
+    (with_subcommand (with_subcommand decoder_app (audit_app (codes "audit")).top) (log_app (codes "witness")).top)
     (slots_app (codes "slots")).top
 
 -- with all subcommands except `sim`
@@ -152,6 +160,9 @@ flag_in name rows = option_map_or (λ text. bytes_eq text (codes "true")) (first
 abbrev pub tp_in : List Row → Bool
 tp_in = flag_in (codes "tp")
 
+abbrev pub running_in : List Row → Bool
+running_in = flag_in (codes "running")
+
 abbrev pub quiet_in : List Row → Bool
 quiet_in = flag_in (codes "quiet")
 
@@ -167,7 +178,7 @@ task_in name rows =
     if bytes_eq name (codes "decode") then Some Decode
     else if bytes_eq name (codes "encode") then with_station Encode rows
     else if bytes_eq name (codes "sim") then with_station Simulate rows
-    else if bytes_eq name (codes "audit") then option_map Audit (late_in rows)
+    else if bytes_eq name (codes "audit") then option_map (λ late. Audit late (running_in rows)) (late_in rows)
     else if bytes_eq name (codes "witness") then Some Witness
     else if bytes_eq name (codes "slots") then option_map Slots (grain_in rows)
     else None

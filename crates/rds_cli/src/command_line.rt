@@ -2,8 +2,8 @@
 ghost use Rattle.std.specs.Prelude.{◌≡◌, IfOk, codes, false};
 ghost use Rattle.clap.specs.Words.{App, app_of, rule_of, with_subcommand};
 ghost use Rattle.clap.specs.declared.builder.command.Command.TheViews.{out-Command};
-ghost use Rattle.rds_cli.specs.CommandLine.{dwell_rule, flag_rule, grain_rule, late_app, late_rule, log_app, number_rule};
-ghost use Rattle.rds_cli.specs.CommandLine.{pi_rule, pty_rule, quiet_rule, slots_app, station_app, top_app, tp_rule, whole_app};
+ghost use Rattle.rds_cli.specs.CommandLine.{audit_app, dwell_rule, flag_rule, grain_rule, late_app, late_rule, log_app, number_rule};
+ghost use Rattle.rds_cli.specs.CommandLine.{pi_rule, pty_rule, quiet_rule, running_rule, slots_app, station_app, top_app, tp_rule, whole_app};
 
 use clap::builder::ValueParser;
 use clap::{Arg, ArgAction, Command, value_parser};
@@ -112,6 +112,19 @@ fn tp<'a>(alloc: Global) -> Arg<'a>
     )
 }
 
+/// Makes the flag `--running`.
+fn running<'a>(alloc: Global) -> Arg<'a>
+    ensures rule { rule_of result ≡ running_rule }
+    ensures local { result.global ≡ false }
+{
+    let help = "The station was on air before the log began, as in a recording";
+    flag(alloc, "running", help).long_help(
+        "The station was on air before the log began, as in a recording. The audit then\n\
+         takes M + K lost slots before the first line. So the first text may have started\n\
+         at any time, and RT+ tags before the first text segment are not judged.",
+    )
+}
+
 /// Makes the flag `--quiet`. Help lists it after the other options.
 fn quiet<'a>(alloc: Global) -> Arg<'a>
     ensures rule { rule_of result ≡ quiet_rule }
@@ -173,8 +186,9 @@ fn late_reader<'a>(alloc: Global, name: &'a str, page: Page<'a>) -> Result<Comma
 }
 
 /// Makes the subcommand `audit`.
+#[tactic(auto, unfolding(crate::specs::CommandLine::audit_app))]
 fn audit<'a>(alloc: Global) -> Result<Command<'a>, AllocError>
-    ensures app { IfOk result (λ c. app_of c ≡ late_app (codes "audit")) }
+    ensures app { IfOk result (λ c. app_of c ≡ audit_app (codes "audit")) }
     ensures local { IfOk result (λ c. (out-Command c).has_globals ≡ false) }
 {
     let page = Page {
@@ -186,6 +200,8 @@ fn audit<'a>(alloc: Global) -> Result<Command<'a>, AllocError>
                  yes too, and a warning.\n\
                  No: a rule was broken. A receiver may or may not show a mix; `witness` looks for\n\
                  one. A station that keeps the rules can get a no if it has few free slots.\n\n\
+                 The log is complete: it begins when the station starts. For a recording, give\n\
+                 --running.\n\n\
                  Faults, each with its cure:\n  \
                    EarlyFlag   A text reused the A/B flag less than M + K slots after the last\n              \
                                group of the text before the previous one. Keep each text on\n              \
@@ -210,7 +226,7 @@ fn audit<'a>(alloc: Global) -> Result<Command<'a>, AllocError>
                    $ rdsrt audit --pi C201 --m 8 < examples/flags.log\n  \
                    no 4 EarlyFlag",
     };
-    late_reader(alloc, "audit", page)
+    late_reader(alloc, "audit", page)?.arg(running(alloc))
 }
 
 /// Makes the subcommand `witness`.

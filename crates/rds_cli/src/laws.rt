@@ -1,7 +1,7 @@
 //! What the definition of the command line says of written-out arguments.
 ghost use Rattle.std.specs.Prelude.{codes, false, true};
 ghost use Rattle.rds_cli.specs.CommandLine.{AskFor, AskForHelp};
-ghost use Rattle.rds_cli.specs.Examples.{AreNotTaken, CallForHelp, auditing, decoding, encoding, filling, quietly, simulating, typed, witnessing};
+ghost use Rattle.rds_cli.specs.Examples.{AreNotTaken, CallForHelp, auditing, auditing_running, decoding, encoding, filling, quietly, simulating, typed, witnessing};
 
 /// Shows the definition at work. The arguments of README's examples are taken and ask for these tasks. A dwell of 0
 /// slots, a programme type of 32, a subcommand without a programme and a missing subcommand are refused. Help and the
@@ -18,6 +18,8 @@ pub fn words_of_the_examples()
     ensures sim_tp { AskFor (typed (codes "rdsrt sim --pi C201 --pty 10 --tp")) (simulating 128 10 true 0) }
     ensures audit { AskFor (typed (codes "rdsrt audit --pi C201 --m 4")) (auditing 4 0) }
     ensures audit_late { AskFor (typed (codes "rdsrt audit --pi C201 --m 4 --k 2")) (auditing 4 2) }
+    ensures audit_running { AskFor (typed (codes "rdsrt audit --running --pi C201"))
+        (auditing_running 128) }
     ensures witness { AskFor (typed (codes "rdsrt witness --pi C201 --m 8")) (witnessing 8) }
     ensures slots { AskFor (typed (codes "rdsrt slots")) (filling 128 20) }
     ensures slots_grain { AskFor (typed (codes "rdsrt slots --m 8 --grain 0")) (filling 8 0) }

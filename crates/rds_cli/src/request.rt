@@ -31,8 +31,9 @@ pub enum Task {
     Encode(Programme, Late),
     /// Print what a station sends and what its receivers show.
     Simulate(Programme, Late),
-    /// Print whether a log of all groups that were sent passes the audit.
-    Audit(Late),
+    /// Print whether a log of all groups that were sent passes the audit. The flag: the station was on air before the
+    /// log began.
+    Audit(Late, bool),
     /// Print which slots of such a log a receiver has to lose to show a mix.
     Witness,
     /// Print a log with times, and a line for each slot that it lacks. Its times are off by at most so many milliseconds.
@@ -109,7 +110,7 @@ fn task_of(name: &str, inner: &ArgMatches<'_>) -> Option<Task>
         "decode" => Some(Task::Decode),
         "encode" => Some(Task::Encode(programme_of(inner)?, late_of(inner)?)),
         "sim" => Some(Task::Simulate(programme_of(inner)?, late_of(inner)?)),
-        "audit" => Some(Task::Audit(late_of(inner)?)),
+        "audit" => Some(Task::Audit(late_of(inner)?, is_given(inner, "running"))),
         "witness" => Some(Task::Witness),
         "slots" => Some(Task::Slots(grain_of(inner)?)),
         _ => None,

@@ -1,5 +1,5 @@
 -- How what is heard of a log's programmes goes on, line by line.
-use Rattle.std.proofs.Common.{◌≡◌, ◌+◌, ◌<◌, ◌≤◌, ℕ, Bool, List, [], ◌∷◌, Option, Some, None, cond, false, true, refl, arith, inl, inr}
+use Rattle.std.proofs.Common.{◌≡◌, ◌+◌, ◌<◌, ◌≤◌, ℕ, Bool, List, [], ◌∷◌, Option, Some, None, cond, false, true, refl, sym, ◌∙◌, arith, inl, inr}
 use Rattle.rds_block.specs.declared.group.Group.{Group}
 use Rattle.rds_log.specs.LogLines.{Line}
 use Rattle.rds_log.specs.LineSays.{LineSays}
@@ -34,6 +34,20 @@ heard_still pi slot slots h wanted is = record {
 pub heard_line : (pi : ℕ) (lines : List Line) (line : Line) (said : LogLine) (h : Heard) → h.wanted ≡ true → LineSays line said → HeardLines pi lines h → HeardLines pi (line ∷ lines) h
 heard_line pi lines line Skip h wanted says s = heard_skip pi lines line h says s
 heard_line pi lines line (Slot slot) h wanted says s = heard_slot pi lines line slot h h says (λ slots is. heard_still pi slot slots h wanted is) s
+
+-- only these fields are heard
+pub same_heard : (pi : ℕ) (lines : List Line) (h after : Heard) → after.wanted ≡ h.wanted → after.groups ≡ h.groups → after.first ≡ h.first → after.of_first ≡ h.of_first
+    → HeardLines pi lines h → HeardLines pi lines after
+same_heard pi lines h after wanted groups first of_first s = record {
+  slots = s.slots;
+  say = s.say;
+  heard = record {
+    wanted = rw wanted s.heard.wanted;
+    counted = λ e.
+        let counted = s.heard.counted (sym wanted ∙ e) in
+        record { groups = groups ∙ counted.groups; first = rw (first, of_first) counted.first };
+  };
+}
 
 -- groups of a programme are groups
 pub fewer : (pi : ℕ) (slots : List (Option Group)) → groups_of pi slots ≤ groups_in slots

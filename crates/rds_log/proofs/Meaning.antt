@@ -4,17 +4,18 @@ use Rattle.std.specs.Prelude.{Result}
 use Rattle.rds_block.specs.declared.group.Group.{Group}
 use Rattle.rds_charset.specs.Told.{Traffic}
 use Rattle.rds_audit.specs.declared.audit.AuditFault.{AuditFault}
+use Rattle.rds_audit.specs.declared.log_start.LogStart.{LogStart}
 use Rattle.rds_log.specs.Audit.{Audits, Means, SlotsAreSafe, SlotsFail, SlotsHaveNoPlans, SlotsPass}
 use Rattle.rds_log.specs.declared.verdict.Verdict.TheVariants.{Yes, No}
 use Rattle.rds_view_lines.specs.declared.fault.LogFault.{LogFault}
 
 -- a yes goes with slots that pass, and a no with slots that fail
-pub meaning : (pi m k reads : ℕ) (r w : Traffic) (result : Result Bool LogFault)
-    → ((slots : List (Option Group)) → SlotsPass pi (m + k) slots → SlotsAreSafe pi m k slots)
-    → ((t : ℕ) (fault : AuditFault) (slots : List (Option Group)) → SlotsFail pi (m + k) t fault slots → SlotsHaveNoPlans pi (m + k) slots)
-    → Audits pi (m + k) reads r w result → Means pi m k r result
-meaning pi m k reads r w (Err fault) safe none audits = tt
-meaning pi m k reads r w (Ok true) safe none (Ok (Yes n), (text, read, end, whole, calm), answer) = record {
+pub meaning : (start : LogStart) (pi m k reads : ℕ) (r w : Traffic) (result : Result Bool LogFault)
+    → ((slots : List (Option Group)) → SlotsPass start pi (m + k) slots → SlotsAreSafe start pi m k slots)
+    → ((t : ℕ) (fault : AuditFault) (slots : List (Option Group)) → SlotsFail start pi (m + k) t fault slots → SlotsHaveNoPlans start pi (m + k) slots)
+    → Audits start pi (m + k) reads r w result → Means start pi m k r result
+meaning start pi m k reads r w (Err fault) safe none audits = tt
+meaning start pi m k reads r w (Ok true) safe none (Ok (Yes n), (text, read, end, whole, calm), answer) = record {
   text = text;
   read = read;
   end = end;
@@ -24,10 +25,10 @@ meaning pi m k reads r w (Ok true) safe none (Ok (Yes n), (text, read, end, whol
   say = whole.say;
   safe = safe whole.slots whole.pass;
 }
-meaning pi m k reads r w (Ok true) safe none (Ok (No t fault), judged, answer) = absurd (answer.0.0 refl)
-meaning pi m k reads r w (Ok true) safe none (Err fault, judged, answer) = absurd answer
-meaning pi m k reads r w (Ok false) safe none (Ok (Yes n), judged, answer) = absurd (let bad : false ≡ true = answer.0.1 tt in cc)
-meaning pi m k reads r w (Ok false) safe none (Ok (No t fault), (text, read, stops, calm), answer) = record {
+meaning start pi m k reads r w (Ok true) safe none (Ok (No t fault), judged, answer) = absurd (answer.0.0 refl)
+meaning start pi m k reads r w (Ok true) safe none (Err fault, judged, answer) = absurd answer
+meaning start pi m k reads r w (Ok false) safe none (Ok (Yes n), judged, answer) = absurd (let bad : false ≡ true = answer.0.1 tt in cc)
+meaning start pi m k reads r w (Ok false) safe none (Ok (No t fault), (text, read, stops, calm), answer) = record {
   text = text;
   read = read;
   lines = stops.lines;
@@ -36,4 +37,4 @@ meaning pi m k reads r w (Ok false) safe none (Ok (No t fault), (text, read, sto
   say = stops.say;
   none = none t fault stops.slots stops.fail;
 }
-meaning pi m k reads r w (Ok false) safe none (Err fault, judged, answer) = absurd answer
+meaning start pi m k reads r w (Ok false) safe none (Err fault, judged, answer) = absurd answer

@@ -1,6 +1,7 @@
 -- The answer of `audit`, and its state at each end: how much of the reader it read, and what it wrote. Lists of slots
--- and of lines have the newest first. d is M + K, the number of slots that keeps broadcasts apart. r is the traffic
--- with the reader, w the traffic with the writer.
+-- and of lines have the newest first. d is M + K, the number of slots that keeps broadcasts apart; `start` says
+-- whether the log begins with its station, and so how it is judged. r is the traffic with the reader, w the traffic with
+-- the writer.
 use Rattle.std.specs.Prelude.{◌≡◌, ◌↔◌, ◌+◌, ◌++◌, ◌∷◌, []}
 use Rattle.std.specs.Prelude.{ℕ, Bool, true, false, List, IsTrue, Ok, Err, Result, None, Some, codes, decimal, length, Option}
 use Rattle.std.specs.Io.KnownBytes.{Appends, Consumes, IsAtEnd}
@@ -16,6 +17,8 @@ use Rattle.rds_audit.specs.declared.audit.AuditFault.TheVariants.{Changed, NotOn
 use Rattle.rds_audit.specs.declared.audit.AuditFault.TheVariants.{EarlyTag, TagOutside}
 use Rattle.rds_audit.specs.AuditStandsAt.{AuditStandsAt}
 use Rattle.rds_audit.specs.AuditState.{AuditState}
+use Rattle.rds_audit.specs.Recording.{IsJudgedAs}
+use Rattle.rds_audit.specs.declared.log_start.LogStart.{LogStart}
 use Rattle.rds_log.specs.LogLines.{AreLines, Line}
 use Rattle.rds_log.specs.LogWrites.{AreSlots}
 use Rattle.rds_log.specs.Reads.{BeginsWith, NextIsBad, ReadsUpTo}
@@ -27,34 +30,34 @@ use Rattle.rds_log.specs.declared.verdict.Verdict.TheVariants.{Yes, No}
 -- ---- slots
 
 -- the slots pass the audit of this programme
-pub record SlotsPass (pi d : ℕ) (slots : List (Option Group)) : Type 0 where
+pub record SlotsPass (start : LogStart) (pi d : ℕ) (slots : List (Option Group)) : Type 0 where
   pub heard : List (Option Message)
   pub are : AreHeard pi slots heard
-  pub passes : LogPasses d heard
+  pub passes : (judged : List (Option Message)) → IsJudgedAs start d heard judged → LogPasses d judged
 
 -- the newest slot has number t, those before it pass, and this is the fault of all
-pub record SlotsFail (pi d t : ℕ) (fault : AuditFault) (slots : List (Option Group)) : Type 0 where
+pub record SlotsFail (start : LogStart) (pi d t : ℕ) (fault : AuditFault) (slots : List (Option Group)) : Type 0 where
   pub newest : Option Group
   pub before : List (Option Group)
   pub cut : slots ≡ newest ∷ before
   pub number : t ≡ length before
-  pub passed : SlotsPass pi d before
+  pub passed : SlotsPass start pi d before
   pub heard : List (Option Message)
   pub are : AreHeard pi slots heard
-  pub fault_is : IsFaultOf d heard fault
+  pub fault_is : (judged : List (Option Message)) → IsJudgedAs start d heard judged → IsFaultOf d judged fault
 
 -- no receiver of dwell m breaks any part of the promise over these slots, provided that no group reaches it more than k
 -- slots late; it may lose groups and restart at any time
-pub record SlotsAreSafe (pi m k : ℕ) (slots : List (Option Group)) : Type 0 where
+pub record SlotsAreSafe (start : LogStart) (pi m k : ℕ) (slots : List (Option Group)) : Type 0 where
   pub heard : List (Option Message)
   pub are : AreHeard pi slots heard
-  pub safe : IsSafeLog m k heard
+  pub safe : (judged : List (Option Message)) → IsJudgedAs start (m + k) heard judged → IsSafeLog m k judged
 
 -- these slots have no lawful and dense plans
-pub record SlotsHaveNoPlans (pi d : ℕ) (slots : List (Option Group)) : Type 0 where
+pub record SlotsHaveNoPlans (start : LogStart) (pi d : ℕ) (slots : List (Option Group)) : Type 0 where
   pub heard : List (Option Message)
   pub are : AreHeard pi slots heard
-  pub none : HasPlans d heard → ⊥
+  pub none : (judged : List (Option Message)) → IsJudgedAs start d heard judged → HasPlans d judged → ⊥
 
 -- ---- the answer line
 
@@ -76,61 +79,61 @@ IsYes (No t fault) = ⊥
 -- ---- lines
 
 -- the lines are good, and their slots pass
-pub record LinesPass (pi d : ℕ) (lines : List Line) : Type 0 where
+pub record LinesPass (start : LogStart) (pi d : ℕ) (lines : List Line) : Type 0 where
   pub slots : List (Option Group)
   pub say : AreSlots lines slots
-  pub pass : SlotsPass pi d slots
+  pub pass : SlotsPass start pi d slots
 
 -- a line of the text is malformed, and the slots of the lines before it pass
-pub record AuditStopsAtBadLine (pi d n : ℕ) (text : List ℕ) (left : Option (List ℕ)) : Type 0 where
+pub record AuditStopsAtBadLine (start : LogStart) (pi d n : ℕ) (text : List ℕ) (left : Option (List ℕ)) : Type 0 where
   pub lines : List Line
   pub next : NextIsBad n lines text left
-  pub pass : LinesPass pi d lines
+  pub pass : LinesPass start pi d lines
 
 -- the text begins with good lines. The newest slot of these has number t, and the slots before it pass
-pub record AuditStopsAtSlot (pi d t : ℕ) (fault : AuditFault) (text : List ℕ) (left : Option (List ℕ)) : Type 0 where
+pub record AuditStopsAtSlot (start : LogStart) (pi d t : ℕ) (fault : AuditFault) (text : List ℕ) (left : Option (List ℕ)) : Type 0 where
   pub lines : List Line
   pub begins : BeginsWith text left lines
   pub slots : List (Option Group)
   pub say : AreSlots lines slots
-  pub fail : SlotsFail pi d t fault slots
+  pub fail : SlotsFail start pi d t fault slots
 
 -- all lines of the text are good, n of them are slots, and these pass
-pub record WholePasses (pi d n : ℕ) (text : List ℕ) : Type 0 where
+pub record WholePasses (start : LogStart) (pi d n : ℕ) (text : List ℕ) : Type 0 where
   pub lines : List Line
   pub are : AreLines text lines
   pub slots : List (Option Group)
   pub say : AreSlots lines slots
   pub number : n ≡ length slots
-  pub pass : SlotsPass pi d slots
+  pub pass : SlotsPass start pi d slots
 
 -- the verdict of all bytes of a log: yes if all lines are good and the slots pass; no if the log begins with good lines
 -- whose slots pass except the newest, whatever follows
-abbrev pub IsVerdictOf : ℕ → ℕ → List ℕ → Verdict → Type 0
-IsVerdictOf pi d bytes (Yes n) = WholePasses pi d n bytes
-IsVerdictOf pi d bytes (No t fault) = AuditStopsAtSlot pi d t fault bytes (Some [])
+abbrev pub IsVerdictOf : LogStart → ℕ → ℕ → List ℕ → Verdict → Type 0
+IsVerdictOf start pi d bytes (Yes n) = WholePasses start pi d n bytes
+IsVerdictOf start pi d bytes (No t fault) = AuditStopsAtSlot start pi d t fault bytes (Some [])
 
 -- ---- reading
 
 -- the slots of the complete lines pass, and the reader gave at least this many bytes
-pub record PassesSoFar (pi d : ℕ) (r : Traffic) (least : ℕ) : Type 0 where
+pub record PassesSoFar (start : LogStart) (pi d : ℕ) (r : Traffic) (least : ℕ) : Type 0 where
   pub closed : List Line
   pub reads : ReadsUpTo r least closed
-  pub pass : LinesPass pi d closed
+  pub pass : LinesPass start pi d closed
 
 -- the bytes that were read: all up to the reader's end if all slots pass, and if not, up to where the audit stopped
-abbrev pub Judges : ℕ → ℕ → ℕ → Traffic → Result Verdict LogFault → Type 0
-Judges pi d reads r (Ok (Yes n)) =
-    (text : List ℕ) × Consumes r.before r.after text × IsAtEnd r.after × WholePasses pi d n text × IsCalm r
-Judges pi d reads r (Ok (No t fault)) =
-    (text : List ℕ) × Consumes r.before r.after text × AuditStopsAtSlot pi d t fault text r.after × IsCalm r
-Judges pi d reads r (Err (BadLine n)) =
-    (text : List ℕ) × Consumes r.before r.after text × AuditStopsAtBadLine pi d n text r.after × IsCalm r
-Judges pi d reads r (Err Read) = PassesSoFar pi d r 0 × HasFailed r
-Judges pi d reads r (Err TooLong) = PassesSoFar pi d r reads × IsCalm r
-Judges pi d reads r (Err (BadRow n)) = ⊥
-Judges pi d reads r (Err Write) = ⊥
-Judges pi d reads r (Err Memory) = ⊥
+abbrev pub Judges : LogStart → ℕ → ℕ → ℕ → Traffic → Result Verdict LogFault → Type 0
+Judges start pi d reads r (Ok (Yes n)) =
+    (text : List ℕ) × Consumes r.before r.after text × IsAtEnd r.after × WholePasses start pi d n text × IsCalm r
+Judges start pi d reads r (Ok (No t fault)) =
+    (text : List ℕ) × Consumes r.before r.after text × AuditStopsAtSlot start pi d t fault text r.after × IsCalm r
+Judges start pi d reads r (Err (BadLine n)) =
+    (text : List ℕ) × Consumes r.before r.after text × AuditStopsAtBadLine start pi d n text r.after × IsCalm r
+Judges start pi d reads r (Err Read) = PassesSoFar start pi d r 0 × HasFailed r
+Judges start pi d reads r (Err TooLong) = PassesSoFar start pi d r reads × IsCalm r
+Judges start pi d reads r (Err (BadRow n)) = ⊥
+Judges start pi d reads r (Err Write) = ⊥
+Judges start pi d reads r (Err Memory) = ⊥
 
 -- ---- answering
 
@@ -142,20 +145,20 @@ Answers (Err given) w (Ok passed) = ⊥
 Answers (Err given) w (Err fault) = (fault ≡ given) × PutsNothing w
 
 -- the result of `audit` with at most this many reads: it came to a verdict or a fault, and answered it
-abbrev pub Audits : ℕ → ℕ → ℕ → Traffic → Traffic → Result Bool LogFault → Type 0
-Audits pi d reads r w result = (judged : Result Verdict LogFault) × Judges pi d reads r judged × Answers judged w result
+abbrev pub Audits : LogStart → ℕ → ℕ → ℕ → Traffic → Traffic → Result Bool LogFault → Type 0
+Audits start pi d reads r w result = (judged : Result Verdict LogFault) × Judges start pi d reads r judged × Answers judged w result
 
 -- the answer is the verdict of the bytes
-pub record AnswersVerdictOf (pi d : ℕ) (bytes : List ℕ) (w : Traffic) (passed : Bool) : Type 0 where
+pub record AnswersVerdictOf (start : LogStart) (pi d : ℕ) (bytes : List ℕ) (w : Traffic) (passed : Bool) : Type 0 where
   pub verdict : Verdict
-  pub is : IsVerdictOf pi d bytes verdict
+  pub is : IsVerdictOf start pi d bytes verdict
   pub answer : IsTrue passed ↔ IsYes verdict
   pub wrote : Appends w.before w.after (verdict_line verdict)
 
 -- ---- the meaning of an answer
 
 -- the log was read to its end, its lines are good, and their slots are safe
-pub record WholeIsSafe (pi m k : ℕ) (r : Traffic) : Type 0 where
+pub record WholeIsSafe (start : LogStart) (pi m k : ℕ) (r : Traffic) : Type 0 where
   pub text : List ℕ
   pub read : Consumes r.before r.after text
   pub end : IsAtEnd r.after
@@ -163,31 +166,32 @@ pub record WholeIsSafe (pi m k : ℕ) (r : Traffic) : Type 0 where
   pub are : AreLines text lines
   pub slots : List (Option Group)
   pub say : AreSlots lines slots
-  pub safe : SlotsAreSafe pi m k slots
+  pub safe : SlotsAreSafe start pi m k slots
 
 -- the log begins with good lines whose slots have no plans
-pub record BeginsWithNoPlans (pi d : ℕ) (r : Traffic) : Type 0 where
+pub record BeginsWithNoPlans (start : LogStart) (pi d : ℕ) (r : Traffic) : Type 0 where
   pub text : List ℕ
   pub read : Consumes r.before r.after text
   pub lines : List Line
   pub begins : BeginsWith text r.after lines
   pub slots : List (Option Group)
   pub say : AreSlots lines slots
-  pub none : SlotsHaveNoPlans pi d slots
+  pub none : SlotsHaveNoPlans start pi d slots
 
 -- after a yes, the whole log is safe for every receiver of dwell m whose groups come at most k slots late; after a no,
 -- the log has no lawful and dense plans
-abbrev pub Means : ℕ → ℕ → ℕ → Traffic → Result Bool LogFault → Type 0
-Means pi m k r (Ok true) = WholeIsSafe pi m k r
-Means pi m k r (Ok false) = BeginsWithNoPlans pi (m + k) r
-Means pi m k r (Err fault) = Unit {0}
+abbrev pub Means : LogStart → ℕ → ℕ → ℕ → Traffic → Result Bool LogFault → Type 0
+Means start pi m k r (Ok true) = WholeIsSafe start pi m k r
+Means start pi m k r (Ok false) = BeginsWithNoPlans start pi (m + k) r
+Means start pi m k r (Err fault) = Unit {0}
 
 -- ---- on the way
 
 -- the audit took the slots of these lines, and they pass
-pub record HasAudited (pi d : ℕ) (a : AuditState) (number : ℕ) (lines : List Line) : Type 0 where
+pub record HasAudited (start : LogStart) (pi d : ℕ) (a : AuditState) (number : ℕ) (lines : List Line) : Type 0 where
   pub slots : List (Option Group)
   pub say : AreSlots lines slots
   pub count : number ≡ length slots
   pub audit : AuditStandsAt pi d a slots
+  pub begins : a.start ≡ start
   pub passed : a.fault ≡ None

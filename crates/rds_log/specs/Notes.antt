@@ -1,6 +1,7 @@
 -- The notes on a log. This is the project's own rule. r is the traffic with the reader.
 use Rattle.std.specs.Prelude.{◌≡◌, ◌⊎◌, ℕ, List, Option, Some, None, Ok, Err, Result, IfNone, IfSome, take}
 use Rattle.std.specs.Io.KnownBytes.{Consumes}
+use Rattle.rds_audit.specs.declared.log_start.LogStart.{LogStart}
 use Rattle.rds_charset.specs.Told.{Traffic}
 use Rattle.rds_log.specs.Audit.{Judges}
 use Rattle.rds_log.specs.Heard.{HeardLog}
@@ -50,8 +51,8 @@ NotesFault r TooLong noted = noted ≡ None
 NotesFault r Memory noted = noted ≡ None
 
 -- the note has the slot and the fault of a no
-abbrev pub NotesNo : ℕ → ℕ → ℕ → Traffic → Option NoNote → Type 0
-NotesNo pi d reads r noted = (note : NoNote) × (noted ≡ Some note) × Judges pi d reads r (Ok (No note.slot note.fault))
+abbrev pub NotesNo : LogStart → ℕ → ℕ → ℕ → Traffic → Option NoNote → Type 0
+NotesNo start pi d reads r noted = (note : NoNote) × (noted ≡ Some note) × Judges start pi d reads r (Ok (No note.slot note.fault))
 
 -- the notes of an audit with this result: after a yes, the programmes of the log, and at a no, its slot and its fault
 abbrev pub NotesVerdict : ℕ → Traffic → LogNotes → Result Verdict LogFault → Type 0

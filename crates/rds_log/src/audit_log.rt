@@ -1,6 +1,7 @@
 //! The engine of `audit`: whether the groups of a station pass.
 ghost use Rattle.std.specs.Prelude.{◌≡◌, ◌≢◌, ◌≤◌, ◌+◌, ◌^◌, [], IfErr, Ok, false, true};
 ghost use Rattle.rds_charset.specs.Told.{traffic};
+ghost use Rattle.rds_audit.specs.declared.log_start.LogStart.TheVariants as LogStart;
 ghost use Rattle.rds_log.specs.Audit.{Answers, Audits, Judges, Means};
 ghost use Rattle.rds_log.specs.Heard.{HeardLines, HeardLog};
 ghost use Rattle.rds_log.specs.Notes.{NotesFault, NotesNo, NotesVerdict};
@@ -13,12 +14,12 @@ use crate::log_line::LogLine;
 use crate::notes::{LogNotes, NoNote};
 use crate::source::Source;
 use crate::verdict::Verdict;
-use rds_audit::Audit;
+use rds_audit::{Audit, LogStart};
 use rds_charset::{Lines, TellingRead, TellingWrite, put};
 use rds_fields::{Dwell, Late};
 use rds_view_lines::LogFault;
 
-/// Audits the log of a station, one slot a line, and writes the answer line: `yes` with the number of slots, or `no`
+/// Audits the complete log of a station, one slot a line, and writes the answer line: `yes` with the number of slots, or `no`
 /// with the first slot that breaks a rule and the name of the fault.
 ///
 /// If the answer is yes, no receiver with this dwell ever shows a mix of the log's texts, provided that its groups come
@@ -36,10 +37,10 @@ pub fn audit<R: TellingRead, W: TellingWrite>(
     dwell: Dwell,
     late: Late,
 ) -> Result<bool, LogFault>
-    ensures audits { Audits pi (dwell + late) (2 ^ 32)
+    ensures audits { Audits LogStart.Complete pi (dwell + late) (2 ^ 32)
         (traffic R.remaining R.failures reader.old reader.new)
         (traffic W.contents W.failures writer.old writer.new) result }
-    ensures means { Means pi dwell late (traffic R.remaining R.failures reader.old reader.new) result }
+    ensures means { Means LogStart.Complete pi dwell late (traffic R.remaining R.failures reader.old reader.new) result }
     ensures reads { MadeReads (2 ^ 32) (R.reads reader.old) (R.reads reader.new) result }
 {
     audit_within(reader, writer, pi, dwell, late, MOST_READS)
@@ -55,41 +56,52 @@ pub fn audit_within<R: TellingRead, W: TellingWrite>(
     reads: u64,
 ) -> Result<bool, LogFault>
     requires { reads ≤ 2 ^ 32 }
-    ensures audits { Audits pi (dwell + late) reads
+    ensures audits { Audits LogStart.Complete pi (dwell + late) reads
         (traffic R.remaining R.failures reader.old reader.new)
         (traffic W.contents W.failures writer.old writer.new) result }
-    ensures means { Means pi dwell late (traffic R.remaining R.failures reader.old reader.new) result }
+    ensures means { Means LogStart.Complete pi dwell late (traffic R.remaining R.failures reader.old reader.new) result }
     ensures reads { MadeReads reads (R.reads reader.old) (R.reads reader.new) result }
 {
     what_an_answer_means();
-    let verdict = judge(reader, pi, dwell, late, reads, &mut LogNotes::new(pi))?;
+    let verdict = judge(
+        reader,
+        pi,
+        dwell,
+        late,
+        LogStart::Complete,
+        reads,
+        &mut LogNotes::new(pi),
+    )?;
     write_verdict(verdict, writer)
 }
 
-/// Does what [`audit`] does, and takes notes for a person. The output and the answer are the same.
+/// Audits a log that begins so, and takes notes for a person. For a complete log the output and the answer are those of
+/// [`audit`]. For the log of a running station the answer is that of the log with M + K lost slots in front, or more,
+/// and without the tags before its first text segment. Slots count from the first line of the log.
 pub fn audit_with_notes<R: TellingRead, W: TellingWrite>(
     reader: &mut R,
     writer: &mut W,
     pi: u16,
     dwell: Dwell,
     late: Late,
+    start: LogStart,
     notes: &mut LogNotes,
 ) -> Result<bool, LogFault>
-    ensures audits { Audits pi (dwell + late) (2 ^ 32)
+    ensures audits { Audits start pi (dwell + late) (2 ^ 32)
         (traffic R.remaining R.failures reader.old reader.new)
         (traffic W.contents W.failures writer.old writer.new) result }
-    ensures means { Means pi dwell late (traffic R.remaining R.failures reader.old reader.new) result }
+    ensures means { Means start pi dwell late (traffic R.remaining R.failures reader.old reader.new) result }
     ensures reads { MadeReads (2 ^ 32) (R.reads reader.old) (R.reads reader.new) result }
     ensures heard { result ≡ Ok true
         → HeardLog pi (traffic R.remaining R.failures reader.old reader.new) notes.new.heard }
-    ensures no { result ≡ Ok false → NotesNo pi (dwell + late) (2 ^ 32)
+    ensures no { result ≡ Ok false → NotesNo start pi (dwell + late) (2 ^ 32)
         (traffic R.remaining R.failures reader.old reader.new) notes.new.no }
     ensures fault { IfErr result (λ fault. fault ≢ faults.Write
         → NotesFault (traffic R.remaining R.failures reader.old reader.new) fault notes.new.bad) }
 {
     what_an_answer_means();
     *notes = LogNotes::new(pi);
-    let verdict = judge(reader, pi, dwell, late, MOST_READS, notes)?;
+    let verdict = judge(reader, pi, dwell, late, start, MOST_READS, notes)?;
     write_verdict(verdict, writer)
 }
 
@@ -110,18 +122,19 @@ fn judge<R: TellingRead>(
     pi: u16,
     dwell: Dwell,
     late: Late,
+    start: LogStart,
     reads: u64,
     notes: &mut LogNotes,
 ) -> Result<Verdict, LogFault>
     requires reads { reads ≤ 2 ^ 32 }
     requires groups { notes.old.heard.groups ≡ 0 }
     requires heard { HeardLines pi [] notes.old.heard }
-    ensures judges { Judges pi (dwell + late) reads (traffic R.remaining R.failures reader.old reader.new) result }
+    ensures judges { Judges start pi (dwell + late) reads (traffic R.remaining R.failures reader.old reader.new) result }
     ensures reads { MadeReads reads (R.reads reader.old) (R.reads reader.new) result }
     ensures notes { NotesVerdict pi (traffic R.remaining R.failures reader.old reader.new) notes.new result }
 {
     let mut source = Source::new(reads);
-    let mut audit = Audit::new(pi, dwell, late);
+    let mut audit = Audit::starting(pi, dwell, late, start);
     let mut slots = 0;
     let mut said = LogLine::Skip;
     loop {
@@ -129,6 +142,8 @@ fn judge<R: TellingRead>(
             Ok(true) => notes.heard.line(pi, said),
             Ok(false) => {
                 notes.slots = slots;
+                notes.texts = audit.texts();
+                notes.names = audit.names();
                 return Ok(Verdict::Yes(slots));
             }
             Err(fault) => {

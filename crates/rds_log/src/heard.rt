@@ -7,10 +7,39 @@ ghost use Rattle.rds_log.specs.LogLines.{Line};
 use crate::log_line::LogLine;
 use rds_block::Blocks;
 
+/// How many groups of each type the wanted programme has, for a person. No contract speaks of it.
+#[derive(Clone, Copy)]
+pub struct GroupCounts {
+    counts: [u64; 32],
+}
+
+impl GroupCounts {
+    /// Starts before the first group.
+    pub(crate) fn new() -> GroupCounts {
+        GroupCounts { counts: [0; 32] }
+    }
+
+    /// Counts a group.
+    #[inline(always)]
+    fn add(&mut self, group: Blocks) {
+        if let Some(count) = self.counts.get_mut(usize::from(group.kind())) {
+            *count = count.wrapping_add(1);
+        }
+    }
+
+    /// Returns the number of groups of this number, in version A or B.
+    pub fn of(&self, number: u8, version: char) -> u64 {
+        let kind = usize::from(number & 0x0F) * 2 + usize::from(version == 'B');
+        self.counts.get(kind).copied().unwrap_or(0)
+    }
+}
+
 /// The programmes of a log's groups, for a person who gave the PI of another programme (this project's own rule).
 #[derive(Clone, Copy)]
 pub struct Heard {
-    /// Whether a group of the wanted programme was read. If so, the other fields mean nothing.
+    /// The groups of the wanted programme.
+    pub counts: GroupCounts,
+    /// Whether a group of the wanted programme was read. If so, the fields after this one mean nothing.
     pub wanted: bool,
     /// The number of groups that were read, of any programme.
     pub groups: u64,
@@ -30,6 +59,7 @@ impl Heard {
         ensures heard { HeardLines pi [] result }
     {
         Heard {
+            counts: GroupCounts::new(),
             wanted: false,
             groups: 0,
             first: None,
@@ -45,8 +75,25 @@ impl Heard {
         ensures heard { (lines : List Line) (line : Line) → LineSays line said
             → HeardLines pi lines self.old → HeardLines pi (line ∷ lines) self.new }
     {
+        self.tally(pi, said);
         if !self.wanted {
             self.look(pi, said);
+        }
+    }
+
+    /// Counts the group of a line, if it is of the wanted programme.
+    #[inline(always)]
+    fn tally(&mut self, pi: u16, said: LogLine)
+        ensures wanted { self.new.wanted ≡ self.old.wanted }
+        ensures groups { self.new.groups ≡ self.old.groups }
+        ensures first { self.new.first ≡ self.old.first }
+        ensures of_first { self.new.of_first ≡ self.old.of_first }
+    {
+        let LogLine::Slot(Some(group)) = said else {
+            return;
+        };
+        if group.pi() == pi {
+            self.counts.add(group);
         }
     }
 

@@ -13,6 +13,7 @@ ghost use Rattle.rds_log.specs.Decode.{DecodesAll};
 ghost use Rattle.rds_log.specs.declared.log_line.LogLine.{LogLine};
 ghost use Rattle.rds_log.specs.declared.verdict.Verdict.{Verdict};
 ghost use Rattle.rds_audit.specs.declared.audit.AuditFault.{AuditFault};
+ghost use Rattle.rds_audit.specs.declared.log_start.LogStart.{LogStart};
 
 use rds_audit::{one_fault, passes_by_plans, what_passes_is_safe};
 
@@ -30,14 +31,14 @@ pub fn bytes_write_one_output()
 /// Shows that the answer to a log is a function of its bytes: they have one verdict, a call of `audit` that ends
 /// without a fault answers it and writes its line, and two such calls answered and wrote the same.
 pub fn bytes_have_one_verdict()
-    ensures one_verdict { (pi d : ℕ) (bytes : List ℕ) (v u : Verdict) → 0 < d
-        → IsVerdictOf pi d bytes v → IsVerdictOf pi d bytes u → v ≡ u }
-    ensures answered { (pi d reads : ℕ) (bytes : List ℕ) (r w : Traffic) (passed : Bool)
-        → r.before ≡ Some bytes → Audits pi d reads r w (Ok passed)
-        → AnswersVerdictOf pi d bytes w passed }
-    ensures alike { (pi d reads others : ℕ) (bytes : List ℕ) (r w q v : Traffic) (passed other : Bool)
+    ensures one_verdict { (start : LogStart) (pi d : ℕ) (bytes : List ℕ) (v u : Verdict) → 0 < d
+        → IsVerdictOf start pi d bytes v → IsVerdictOf start pi d bytes u → v ≡ u }
+    ensures answered { (start : LogStart) (pi d reads : ℕ) (bytes : List ℕ) (r w : Traffic) (passed : Bool)
+        → r.before ≡ Some bytes → Audits start pi d reads r w (Ok passed)
+        → AnswersVerdictOf start pi d bytes w passed }
+    ensures alike { (start : LogStart) (pi d reads others : ℕ) (bytes : List ℕ) (r w q v : Traffic) (passed other : Bool)
         → 0 < d → r.before ≡ Some bytes → q.before ≡ Some bytes
-        → Audits pi d reads r w (Ok passed) → Audits pi d others q v (Ok other)
+        → Audits start pi d reads r w (Ok passed) → Audits start pi d others q v (Ok other)
         → (passed ≡ other) × WriteAlike w v }
 {
     one_fault();
@@ -46,10 +47,10 @@ pub fn bytes_have_one_verdict()
 /// Shows the meaning of the answer to a log: slots that pass with M and K are safe for every receiver with dwell M
 /// whose groups come at most K slots late, and slots that do not pass have no lawful and dense plans.
 pub fn what_an_answer_means()
-    ensures safe { (pi m k : ℕ) (slots : List (Option Group)) → 0 < m → SlotsPass pi (m + k) slots
-        → SlotsAreSafe pi m k slots }
-    ensures no_plans { (pi d t : ℕ) (fault : AuditFault) (slots : List (Option Group)) → 0 < d
-        → SlotsFail pi d t fault slots → SlotsHaveNoPlans pi d slots }
+    ensures safe { (start : LogStart) (pi m k : ℕ) (slots : List (Option Group)) → 0 < m → SlotsPass start pi (m + k) slots
+        → SlotsAreSafe start pi m k slots }
+    ensures no_plans { (start : LogStart) (pi d t : ℕ) (fault : AuditFault) (slots : List (Option Group)) → 0 < d
+        → SlotsFail start pi d t fault slots → SlotsHaveNoPlans start pi d slots }
 {
     one_fault();
     passes_by_plans();

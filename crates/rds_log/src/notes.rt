@@ -5,7 +5,7 @@ use crate::heard::Heard;
 use crate::line_cause::LineCause;
 use crate::log_line::{DECIDING, LogLine};
 use arrayvec::ArrayVec;
-use rds_audit::{Audit, AuditFault};
+use rds_audit::{Audit, AuditFault, Tally};
 use rds_fields::Message;
 
 /// A malformed line (this project's own rule).
@@ -31,8 +31,21 @@ pub struct NoNote {
     /// The earlier slot that it comes too soon after. For `EarlyFlag`, that is the last slot of the text or name before
     /// the previous one. For `EarlyTag`, it is the first slot in which the text can have started.
     pub earlier: Option<u64>,
+    /// For `EarlyTag`, the slot of the first segment of the text.
+    pub first: Option<u64>,
+    /// For `EarlyTag`, the pause after which the text began anew with the same flag.
+    pub paused: Option<Pause>,
     /// M + K, in slots.
     pub spacing: u32,
+}
+
+/// A pause of M + K slots or more without a text segment or tags (this project's own rule).
+#[derive(Clone, Copy, Debug, PartialEq, Eq)]
+pub struct Pause {
+    /// The first slot of the pause, if it began less than 2 (M + K) slots before the fault.
+    pub from: Option<u64>,
+    /// The slot after the pause.
+    pub until: u64,
 }
 
 impl NoNote {
@@ -51,21 +64,57 @@ impl NoNote {
     {
         let of_name = is_name(said);
         let stored = audit.store();
+        let texts = audit.texts();
+        let is_early_tag = fault == AuditFault::EarlyTag && stored.text.is_open != 0;
         let age = match fault {
             AuditFault::EarlyFlag if of_name => Some(stored.name.since_before),
             AuditFault::EarlyFlag => Some(stored.text.since_before),
-            AuditFault::EarlyTag if stored.text.is_open != 0 => Some(stored.text.since_start),
+            AuditFault::EarlyTag if is_early_tag => Some(stored.text.since_start),
             _ => None,
         };
+        let first = if is_early_tag {
+            first_of(slot, stored.text.since_start, texts)
+        } else {
+            None
+        };
+        let spacing = stored.distance;
         NoNote {
             slot,
             line,
             fault,
             of_name,
             earlier: slot_before(slot, age),
-            spacing: stored.distance,
+            first,
+            paused: pause_of(slot, stored.text.since_before, spacing, texts, first),
+            spacing,
         }
     }
+}
+
+/// Returns the slot of the first segment of the current text, which can have started so many slots before this one.
+fn first_of(slot: u64, since_start: u32, texts: Tally) -> Option<u64> {
+    slot_before(slot, Some(since_start))?.checked_add(u64::from(texts.waited))
+}
+
+/// Returns the pause before the current text, if that text has the flag of the one before, whose last slot was so many
+/// slots before this one. That age stops at 2 (M + K).
+fn pause_of(
+    slot: u64,
+    since_before: u32,
+    spacing: u32,
+    texts: Tally,
+    first: Option<u64>,
+) -> Option<Pause> {
+    let until = first?;
+    if !texts.resumed {
+        return None;
+    }
+    let from = if since_before < spacing.saturating_mul(2) {
+        slot_before(slot, Some(since_before.saturating_sub(1)))
+    } else {
+        None
+    };
+    Some(Pause { from, until })
 }
 
 /// Returns whether a line has a group of a name.
@@ -92,6 +141,10 @@ pub struct LogNotes {
     pub bad: Option<BadStart>,
     /// The slot at which the audit stopped.
     pub no: Option<NoNote>,
+    /// What the audit judged of texts.
+    pub texts: Tally,
+    /// What the audit judged of names.
+    pub names: Tally,
 }
 
 impl LogNotes {
@@ -110,6 +163,8 @@ impl LogNotes {
             heard: Heard::new(pi),
             bad: None,
             no: None,
+            texts: Tally::default(),
+            names: Tally::default(),
         }
     }
 }

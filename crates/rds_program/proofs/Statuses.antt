@@ -29,7 +29,7 @@ engine_status : (task : Task) (t : Tuning) (r : Traffic) (ReadFailed : Type 0) (
 engine_status Decode t r ReadFailed w status ran = ended_status _ Decode ran.outcome _ status (λ _. omega arith) ran.ended
 engine_status (Encode programme late) t r ReadFailed w status ran = ended_status _ (Encode programme late) ran.outcome _ status (λ _. omega arith) ran.ended
 engine_status (Simulate programme late) t r ReadFailed w status ran = ended_status _ (Simulate programme late) ran.outcome _ status (λ _. omega arith) ran.ended
-engine_status (Audit late) t r ReadFailed w status ran = ended_status _ (Audit late) ran.outcome _ status verdict_few ran.ended
+engine_status (Audit late running) t r ReadFailed w status ran = ended_status _ (Audit late running) ran.outcome _ status verdict_few ran.ended
 engine_status Witness t r ReadFailed w status ran = ended_status _ Witness ran.outcome _ status witness_few ran.ended
 engine_status (Slots grain) t r ReadFailed w status ran = ended_status _ (Slots grain) ran.outcome _ status (λ _. omega arith) ran.ended
 

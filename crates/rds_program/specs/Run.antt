@@ -11,6 +11,7 @@ use Rattle.rds_charset.specs.Told.{HasFailed, PutsNothing, Traffic}
 use Rattle.rds_charset.specs.declared.told.WriteFault.{WriteFault}
 use Rattle.rds_receiver.specs.Receipts.{Tuning}
 use Rattle.rds_world.specs.declared.world.Config.{Config}
+use Rattle.rds_audit.specs.AuditState.{start_if}
 use Rattle.rds_log.specs.Audit.{Audits}
 use Rattle.rds_log.specs.Decode.{Decodes}
 use Rattle.rds_log.specs.LogWrites.{tuned}
@@ -50,7 +51,7 @@ abbrev pub mark_of : Task → List ℕ
 mark_of Decode = []
 mark_of (Encode programme late) = codes "# "
 mark_of (Simulate programme late) = []
-mark_of (Audit late) = []
+mark_of (Audit late running) = []
 mark_of Witness = []
 mark_of (Slots grain) = codes "# "
 
@@ -121,8 +122,8 @@ TaskRuns (Encode programme late) t r ReadFailed w status =
 TaskRuns (Simulate programme late) t r ReadFailed w status =
     Runs (Plays Simulation (station_of t programme late) (2 ^ 32) (script_in r ReadFailed)) done
     (Simulate programme late) w status
-TaskRuns (Audit late) t r ReadFailed w status =
-    Runs (Audits t.programme (t.dwell + late) (2 ^ 32) r) verdict_status (Audit late) w status
+TaskRuns (Audit late running) t r ReadFailed w status =
+    Runs (Audits (start_if running) t.programme (t.dwell + late) (2 ^ 32) r) verdict_status (Audit late running) w status
 TaskRuns Witness t r ReadFailed w status = Runs (Witnesses t r) witness_status Witness w status
 TaskRuns (Slots grain) t r ReadFailed w status = Runs RunsSlots done (Slots grain) w status
 

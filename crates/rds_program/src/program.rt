@@ -5,6 +5,7 @@ ghost use Rattle.rds_charset.specs.Told.{PutsNothing, Traffic, traffic};
 ghost use Rattle.rds_log.specs.LogWrites.{tuned};
 ghost use Rattle.rds_view_lines.specs.ReadFailed.{SomeReadFailed};
 ghost use Rattle.clap.specs.Words.{kind_of};
+ghost use Rattle.rds_audit.specs.AuditState.{start_if};
 ghost use Rattle.rds_cli.specs.CommandLine.{IsPi};
 ghost use Rattle.rds_program.specs.Run as specs;
 ghost use Rattle.rds_program.specs.Run.{EndsWith, IsUntouched, PutsAfter, PutsLine, RefusesPi, RunsFrom, RunsRead, RunsWords};
@@ -16,6 +17,7 @@ use crate::tell::tell_run;
 use clap::Error;
 use clap::error::ErrorKind;
 use rds_arrivals::Grain;
+use rds_audit::LogStart;
 use rds_charset::{Lines, TellingRead, TellingWrite, put};
 use rds_cli::{Programme, Request, Task, identification_of, read_words};
 use rds_fields::{Dwell, Head, Late};
@@ -211,8 +213,9 @@ fn run_task<R: TellingRead, W: TellingWrite>(
             let simulated = simulate_with_notes(alloc, &mut *reader, writer, station, notes_on);
             end_with(asked, simulated, writer, &mut notes.end)
         }
-        Task::Audit(late) => {
-            match audit_with_notes(reader, writer, pi, dwell, late, &mut notes.log) {
+        Task::Audit(late, running) => {
+            let start = start_of(running);
+            match audit_with_notes(reader, writer, pi, dwell, late, start, &mut notes.log) {
                 Ok(passed) => answer_by(passed, OK, NO, &mut notes.end),
                 Err(fault) => fail_with(asked, fault, writer, &mut notes.end),
             }
@@ -243,6 +246,17 @@ fn station_of(pi: u16, dwell: Dwell, programme: Programme, late: Late) -> Config
         },
         dwell,
         late,
+    }
+}
+
+/// Returns where the log of an audit begins.
+fn start_of(running: bool) -> LogStart
+    ensures { result ≡ start_if running }
+{
+    if running {
+        LogStart::Running
+    } else {
+        LogStart::Complete
     }
 }
 
@@ -329,7 +343,7 @@ fn mark(task: Task) -> &'static [u8]
 {
     match task {
         Task::Encode(..) | Task::Slots(_) => b"# ",
-        Task::Decode | Task::Simulate(..) | Task::Audit(_) | Task::Witness => b"",
+        Task::Decode | Task::Simulate(..) | Task::Audit(..) | Task::Witness => b"",
     }
 }
 

@@ -15,6 +15,9 @@ use std::io::{ErrorKind, Write};
 /// The most bytes of a note. All notes are shorter.
 const ROOM: usize = 1024;
 
+/// The beginning of a note.
+const BEGUN: &[u8] = b"rdsrt: ";
+
 /// The bytes of an unfinished note.
 type Note = ArrayVec<u8, ROOM>;
 
@@ -48,9 +51,72 @@ fn tell_warnings<N: TellingWrite>(task: Task, notes: &RunNotes, screen: &mut N) 
     }
     // Prover: a value is copied by a new name before its second use (docs/PROVER.md, "Workarounds").
     let asked = task;
-    if notes.end == End::Done && notes.log.no.is_none() && !reads_script(asked) {
+    if notes.end != End::Done || notes.log.no.is_some() || reads_script(asked) {
+        return;
+    }
+    if notes.log.heard.wanted {
+        tell_covered(task, notes, screen);
+    } else {
         tell_no_group(task, notes, screen);
     }
+}
+
+/// Prints what was judged, and which groups of the programme were not read.
+fn tell_covered<N: TellingWrite>(task: Task, notes: &RunNotes, screen: &mut N) {
+    let counts = notes.log.heard.counts;
+    let second = counts.of(2, 'B');
+    let read = [(2, 'A'), (10, 'A'), (11, 'A')];
+    let none = read
+        .iter()
+        .all(|&(number, version)| counts.of(number, version) == 0);
+    let mut note = begun();
+    match task {
+        Task::Audit(..) if !none => push_judged(notes, &mut note),
+        _ if !none && second == 0 => return,
+        _ if none => {
+            let _ = write!(note, "no 2A, 10A or 11A group of ");
+            push(notes.pi.as_slice(), &mut note);
+            push_says_nothing(task, &mut note);
+        }
+        _ => {}
+    }
+    if second > 0 {
+        let verb = match task {
+            Task::Audit(..) => "judged",
+            _ => "read",
+        };
+        let join = if note.len() > BEGUN.len() { "; " } else { "" };
+        let _ = write!(note, "{join}{second} groups 2B were not {verb}");
+    }
+    print(note, screen);
+}
+
+/// Appends what an audit judged.
+fn push_judged(notes: &RunNotes, note: &mut Note) {
+    let texts = notes.log.texts;
+    let names = notes.log.names;
+    let slots = notes.log.slots;
+    let _ = write!(note, "judged in {slots} slots: ");
+    push_count(texts.values, "text", "texts", note);
+    let _ = write!(note, ", ");
+    push_count(names.values, "name", "names", note);
+    let _ = write!(note, ", ");
+    push_count(texts.tags, "pair of tags", "pairs of tags", note);
+}
+
+/// Appends a number of things.
+fn push_count(count: u64, one: &str, more: &str, note: &mut Note) {
+    let thing = if count == 1 { one } else { more };
+    let _ = write!(note, "{count} {thing}");
+}
+
+/// Appends that a yes, or a search that found nothing, says nothing.
+fn push_says_nothing(task: Task, note: &mut Note) {
+    let _ = match task {
+        Task::Audit(..) => write!(note, ": the yes says nothing"),
+        Task::Witness => write!(note, ": the search says nothing"),
+        _ => Ok(()),
+    };
 }
 
 /// Prints that something was set too early, and from when it is accepted.
@@ -99,9 +165,7 @@ fn tell_no_group<N: TellingWrite>(task: Task, notes: &RunNotes, screen: &mut N) 
         }
         let _ = write!(note, ")");
     }
-    if let Task::Audit(_) = task {
-        let _ = write!(note, ". The yes says nothing");
-    }
+    push_says_nothing(task, &mut note);
     print(note, screen);
 }
 
@@ -145,8 +209,25 @@ fn tell_no<N: TellingWrite>(notes: &RunNotes, screen: &mut N) {
     if let Some(options) = notes.options {
         let slots = options.dwell.get();
         let _ = write!(note, " --m {slots}");
+        push_running(no, options.task, &mut note);
     }
     print(note, screen);
+}
+
+/// Appends the option for a recording, if the fault may be one of its beginning.
+fn push_running(no: NoNote, task: Task, note: &mut Note) {
+    let may_be_old = match no.fault {
+        AuditFault::EarlyFlag | AuditFault::EarlyTag => no.slot < u64::from(no.spacing),
+        AuditFault::Changed | AuditFault::NotOneText | AuditFault::TagOutside => false,
+    };
+    if let Task::Audit(_, false) = task
+        && may_be_old
+    {
+        let _ = write!(
+            note,
+            ". If the station was on air before the log began: --running"
+        );
+    }
 }
 
 /// Appends the broken rule, in a sentence.
@@ -173,7 +254,31 @@ fn push_rule(no: NoNote, note: &mut Note) {
     };
     if let Some(slot) = no.earlier {
         let _ = write!(note, ", in slot {slot}");
+        push_first(slot, no, note);
     }
+}
+
+/// Appends where the first group of the text is, if the text can have started before it, and the pause before it.
+fn push_first(start: u64, no: NoNote, note: &mut Note) {
+    if let Some(first) = no.first
+        && first != start
+    {
+        let _ = write!(note, " at the earliest; its first group is in slot {first}");
+    }
+    let Some(pause) = no.paused else {
+        return;
+    };
+    let until = pause.until.saturating_sub(1);
+    let _ = match pause.from {
+        Some(from) => write!(
+            note,
+            "; no segment from slot {from} to {until}, so the text began anew"
+        ),
+        None => write!(
+            note,
+            "; no segment for M + K slots or more up to slot {until}, so the text began anew"
+        ),
+    };
 }
 
 /// Prints why a PI code was refused.
@@ -299,14 +404,14 @@ fn push_shown(bytes: &[u8], note: &mut Note) {
 fn reads_script(task: Task) -> bool {
     match task {
         Task::Encode(..) | Task::Simulate(..) => true,
-        Task::Decode | Task::Audit(_) | Task::Witness | Task::Slots(_) => false,
+        Task::Decode | Task::Audit(..) | Task::Witness | Task::Slots(_) => false,
     }
 }
 
 /// Returns the beginning of a note.
 fn begun() -> Note {
     let mut note = Note::new();
-    let _ = write!(note, "rdsrt: ");
+    push(BEGUN, &mut note);
     note
 }
 

@@ -36,7 +36,7 @@ calm_script says form config task known w status ran = record {
 pub calm_task : {P Q : Type 0} → (P → Q) → (task : Task) (t : Tuning) (r w : Traffic) (status : ℕ)
     → TaskRuns task t r P w status → TaskRuns task t r Q w status
 calm_task says Decode t r w status ran = ran
-calm_task says (Audit late) t r w status ran = ran
+calm_task says (Audit late running) t r w status ran = ran
 calm_task says Witness t r w status ran = ran
 calm_task says (Slots grain) t r w status ran = ran
 calm_task says (Encode programme late) t r w status ran =

@@ -14,7 +14,7 @@ loop-notes-init g c =
       stands = (
         [],
         c.new-source.ensures.stands _,
-        record { slots = []; say = refl; count = refl; audit = c.new-audit.ensures.stands; passed = c.new-audit.ensures.passed },
+        record { slots = []; say = refl; count = refl; audit = c.starting-audit.ensures.stands; begins = c.starting-audit.ensures.start; passed = c.starting-audit.ensures.passed },
         c.requires.heard,
       );
     }
@@ -31,9 +31,9 @@ returns-in-Err-slot_blocks-clause-judges g c =
     let (lines, stands, audited, heard) = c.loop-notes.invariant.stands in
     let (line, says, further) = rw (c.in-Ok-true.field-0-test, c.in-Slot.is) at (c.in-Ok-true.ensures.gives _ _ lines stands) in
     let after = c.slot_blocks.ensures.stands c.args.pi (c.args.dwell + c.args.late) audited.slots audited.audit in
-    stops_at_slot c.args.pi (c.args.dwell + c.args.late) c.args.reads c.next.new.self c.loop-notes.audit c.slot_blocks.new.self c.loop-notes.slots
+    stops_at_slot c.args.start c.args.pi (c.args.dwell + c.args.late) c.args.reads c.next.new.self c.loop-notes.audit c.slot_blocks.new.self c.loop-notes.slots
     (state_of g.R.Read.remaining g.R.TellingRead.failures g.R.TellingRead.reads c.args.reader.now) (state_of g.R.Read.remaining g.R.TellingRead.failures g.R.TellingRead.reads c.next.new.reader)
-    lines line c.in-Slot.group c.in-Err-slot_blocks.fault says audited after (c.in-Err-slot_blocks.ensures.which _ _ _ after) further
+    lines line c.in-Slot.group c.in-Err-slot_blocks.fault says audited after c.in-Err-slot_blocks.ensures.start (c.in-Err-slot_blocks.ensures.which _ _ _ after) further
 
 pub loop-notes-preserved : goal.loop-notes-preserved
 loop-notes-preserved g c =
@@ -50,7 +50,7 @@ loop-notes-preserved g c =
       stands = (
         line ∷ lines,
         further,
-        audits_said c.args.pi (c.args.dwell + c.args.late) c.loop-notes.audit c.slot_blocks.new.self c.loop-notes.slots lines line _ c.in-Slot.group said c.in-Slot.is audited after c.in_default-slot_blocks.ensures.fault,
+        audits_said c.args.start c.args.pi (c.args.dwell + c.args.late) c.loop-notes.audit c.slot_blocks.new.self c.loop-notes.slots lines line _ c.in-Slot.group said c.in-Slot.is audited after c.in_default-slot_blocks.ensures.start c.in_default-slot_blocks.ensures.fault,
         c.line.ensures.heard lines line said heard,
       );
     }
@@ -69,7 +69,7 @@ loop-notes-preserved-in_default g c =
       stands = (
         line ∷ lines,
         further,
-        audits_skip c.args.pi (c.args.dwell + c.args.late) c.loop-notes.audit c.loop-notes.slots lines line _ said c.in_default.is audited,
+        audits_skip c.args.start c.args.pi (c.args.dwell + c.args.late) c.loop-notes.audit c.loop-notes.slots lines line _ said c.in_default.is audited,
         c.line.ensures.heard lines line said heard,
       );
     }

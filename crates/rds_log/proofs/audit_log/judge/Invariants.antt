@@ -11,7 +11,7 @@ invariant-loop-notes g l = record {
   groups : l.notes.heard.groups + budget l.source ≤ 2 ^ 48 + 1;
   stands : (lines : List Line) × SourceStandsAt l.source l.fn.reads (state_of g.R.Read.remaining g.R.TellingRead.failures g.R.TellingRead.reads l.initial.reader)
       (state_of g.R.Read.remaining g.R.TellingRead.failures g.R.TellingRead.reads l.reader) lines
-      × HasAudited l.fn.pi (l.fn.dwell + l.fn.late) l.audit l.slots lines × HeardLines l.fn.pi lines l.notes.heard;
+      × HasAudited l.fn.start l.fn.pi (l.fn.dwell + l.fn.late) l.audit l.slots lines × HeardLines l.fn.pi lines l.notes.heard;
 }
 
 abbrev pub decreases-loop-notes : goal.decreases-loop-notes

@@ -18,8 +18,8 @@ returns-clause-judges c =
     let message = Some (Tags c.args.pair) in
     let begun = subst (λ (a : AuditState). (a.start ≡ Complete) ⊎ (a.text.ages.is_open ≡ true)) (sym c.self.view_is) (c.awaits_text.ensures.begun c.if-awaits_text.false) in
     subst (λ (a : AuditState). Judges a (the_view (record c.self.inside { text = c.take_tags.new.self })) message c.take_tags.result) c.self.view_is
-        (texts_judge c.take_tags.result (the_view c.self.inside) (the_view (record c.self.inside { text = c.take_tags.new.self })) message refl refl
-        (λ judged h. elim begun [
-          inl complete ↦ tags_complete _ judged c.args.pair complete
-          | inr open_now ↦ tags_count _ judged c.args.pair (sym (open_if _ judged (the_view c.self.inside) h) ∙ open_now)
-        ]) record { holds = c.take_tags.ensures.holds; breaks = c.take_tags.ensures.fault })
+    (texts_judge c.take_tags.result (the_view c.self.inside) (the_view (record c.self.inside { text = c.take_tags.new.self })) message refl refl
+    (λ judged h. elim begun [
+      | inl complete ↦ tags_complete _ judged c.args.pair complete
+      | inr open_now ↦ tags_count _ judged c.args.pair (sym (open_if _ judged (the_view c.self.inside) h) ∙ open_now)
+    ]) record { holds = c.take_tags.ensures.holds; breaks = c.take_tags.ensures.fault })
