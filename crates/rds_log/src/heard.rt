@@ -75,7 +75,9 @@ impl Heard {
         ensures heard { (lines : List Line) (line : Line) → LineSays line said
             → HeardLines pi lines self.old → HeardLines pi (line ∷ lines) self.new }
     {
-        self.tally(pi, said);
+        // Prover: a `Copy` value is copied by a new name before its second use (docs/PROVER.md, "Workarounds").
+        let handed = said;
+        self.tally(pi, handed);
         if !self.wanted {
             self.look(pi, said);
         }
