@@ -2,6 +2,7 @@
 
 test_c_library has the tests for this machine, test_arm and test_microcontrollers those for other processors.
 """
+import itertools
 import os
 import random
 import re
@@ -31,6 +32,9 @@ target_link_libraries(static PRIVATE rdsrt::static)
 """
 ROWS, PIECES, ROUNDS = 100_000, 60, 3000
 DWELL, LATE = "16", "3"
+# microseconds of 19 slots, of examples/c/receive.c's grain, of a day, and from 1970 to a day of 2023
+NINETEEN_SLOTS, GRAIN, DAY, EPOCH = 1_664_000, 20_000, 86_400_000_000, 1_700_000_000_000_000
+LOST = b"---- ---- ---- ----\n"
 
 
 def header_version():
@@ -92,7 +96,7 @@ def heard(seed, sent):
         if line.startswith(b"#") or kind > 0.3:
             yield line
         elif kind < 0.2:
-            yield b"---- ---- ---- ----\n"
+            yield LOST
         elif kind < 0.22:
             yield line[:5] + b"----" + line[9:]
         elif kind < 0.24:
@@ -111,21 +115,52 @@ def hostile(seed, log):
     return bytes(piece)
 
 
+def lost_slots(apart):
+    """Returns how many slots were lost between two groups so many microseconds apart, by the rule: the least n such
+    that 19 apart are at most 19 GRAIN and n + 1 slots more."""
+    return next(n for n in itertools.count() if 19 * apart <= 19 * GRAIN + NINETEEN_SLOTS * (n + 1))
+
+
 def timed(seed, log):
-    """Returns the received groups of a log with their times in microseconds and the time of its end, and the log of the
-    slots in which they came."""
+    """Returns the received groups of a log with their times in microseconds, with timers and a clock that is set now
+    and then, and the log of the slots that a receiver counts by these times."""
     roll = random.Random(seed)
-    groups, slots = b"", b""
-    lines = [it for it in log.splitlines() if not it.startswith(b"#")]
-    for slot, line in enumerate(lines):
-        if b"----" in line or roll.random() < 0.1:
-            slots += b"---- ---- ---- ----\n"
-            continue
+    groups, slots, last, ahead, time = b"", b"", None, EPOCH, EPOCH
+    for slot, line in enumerate(it for it in log.splitlines() if not it.startswith(b"#")):
         # just after the slot has begun, or just before it ends
-        time = slot * 1_040_000_000 // 11_875 + roll.randrange(5, 80_000)
+        time = ahead + slot * NINETEEN_SLOTS // 19 + roll.randrange(80_000)
+        if b"----" in line or roll.random() < 0.1:
+            groups += b"%d\n" % time if roll.random() < 0.2 else b""
+            continue
+        lost = 0 if last is None else lost_slots(time - last)
+        if last is not None and roll.random() < 0.005:
+            jump = roll.choice([-10_000_000, DAY + 1])
+            ahead, time, lost = ahead + jump, time + jump, int(DWELL)
         groups += b"%d %s\n" % (time, line[:19])
-        slots += line[:19] + b"\n"
-    return groups + b"%d\n" % (len(lines) * 1_040_000_000 // 11_875 + 5), slots
+        slots += LOST * lost + line[:19] + b"\n"
+        last = time
+    time += 2 * int(DWELL) * NINETEEN_SLOTS // 19
+    return groups + b"%d\n" % time, slots + LOST * lost_slots(time - last)
+
+
+def received():
+    """Gives worked inputs of receive.c, each with its dwell and answer. ABCDEF is two groups, and HI is one."""
+    one, two, whole = b"%d C201 2140 4142 4344\n", b"%d C201 2141 4546 0D20\n", b"%d C201 2140 4849 0D20\n"
+    # 19 slots are 1,664,000 us, and the receiver shows two groups that are less slots apart than the dwell
+    pairs = [(20, 0, b'1 text "ABCDEF"\n'), (20, 1_664_000, b'19 text "ABCDEF"\n'),
+             (20, 1_684_000, b'19 text "ABCDEF"\n'), (20, 1_684_001, b""), (128, 11_122_526, b'127 text "ABCDEF"\n'),
+             (128, 11_210_105, b""), (20, -1, b"")]
+    # the text goes in slot 20; after a break there are 20 slots without a group
+    again = b'0 text "HI"\n20 text none\n%d text "HI"\n'
+    repeated = [(DAY, again % 986_539), (DAY + 1, again % 21), (-1, again % 21)]
+    timers = [(1_771_578, b'0 text "HI"\n'), (1_771_579, b'0 text "HI"\n20 text none\n')]
+    for begins in (1_664_000, EPOCH):
+        for dwell, later, shown in pairs:
+            yield dwell, one % begins + two % (begins + later), shown
+        for later, shown in repeated:
+            yield 20, whole % begins + whole % (begins + later), shown
+        for later, shown in timers:
+            yield 20, whole % begins + (b"%d\n" % (begins + later)) * 2, shown
 
 
 def inputs():
@@ -136,10 +171,11 @@ def inputs():
     station = [*options, "--pty", "10", "--k", LATE]
     sent = ran(["encode", *station], rows)
     log = b"".join(heard(2, sent[1]))
-    groups, slots = timed(3, sent[1][:200_000])
+    groups, slots = timed(3, sent[1][:200_000].rpartition(b"\n")[0])
     shown = ran(["decode", *options], slots)[1]
     given = [("encode", ["C201", "10", DWELL, LATE], rows, sent),
-             ("receive", ["C201", DWELL], groups, (0, b"".join(re.findall(rb"^\d+ text .*\n", shown, re.M))))]
+             ("receive", ["C201", DWELL], groups, (0, b"".join(re.findall(rb"^\d+ text .*\n", shown, re.M)))),
+             *(("receive", ["C201", str(dwell)], text, (0, wanted)) for dwell, text, wanted in received())]
     for one in [log, *(hostile(seed, log) for seed in range(PIECES))]:
         given.append(("decode", ["C201", DWELL], one, ran(["decode", *options], one)))
     for one in [sent[1], log, *(hostile(seed, sent[1]) for seed in range(PIECES))]:

@@ -1,27 +1,43 @@
-/* A receive loop with a clock of slots. Groups come from a demodulator, at times of its own clock. Time goes on without
- * them, and each slot that passes is one call. So the receiver drops a text one dwell after its last part, even if no
- * more groups come.
+/* A receive loop with a clock of slots. Groups come from a demodulator, with times of its clock. Each slot is one call,
+ * also if no group came in it. So the receiver drops a text one dwell after its last part, even if no more groups come.
  *
  * Each line of the input has a time in microseconds, followed by the four blocks of the group that was complete then. A
  * line with only a time is a timer: no group came up to then.
+ *
+ * The program counts the slots from one group to the next, and rounds up, since a receiver that counts too few slots can
+ * show a mix. If the delays of the groups vary by less than a slot less GRAIN (67 ms), it never counts too few.
  *
  *     cc receive.c $(pkg-config --cflags --libs rdsrt) -o receive
  *     ./receive C201 [DWELL] < groups */
 #include <rdsrt.h>
 
 #include <inttypes.h>
+#include <stdbool.h>
 #include <stdio.h>
 #include <stdlib.h>
 #include <string.h>
 
+/* All three in microseconds. 19 slots: a slot has 104 bits, at 1187.5 bit/s. */
+#define NINETEEN_SLOTS UINT64_C(1664000)
+#define GRAIN UINT64_C(20000) /* how far the times can be off */
+#define DAY UINT64_C(86400000000)
+
 struct radio {
     struct rdsrt_receiver receiver;
     struct rdsrt_text shown;
-    uint64_t slot; /* of the next call */
+    unsigned dwell;
+    uint64_t slot;         /* of the next call */
+    bool began;            /* there was a time */
+    uint64_t last, latest; /* the time of the last group, and the latest time */
+    uint64_t lost;         /* the calls without a group since the last group */
 };
 
-/* The slot that ends at this time: one has 104 bits, and 1187.5 bits take a second. */
-static uint64_t slot_at(uint64_t microseconds) { return microseconds * 11875 / 1040000000; }
+/* Returns how many slots were lost between groups at these times: the least n such that
+ * 19 (later - earlier) <= 19 GRAIN + NINETEEN_SLOTS (n + 1). */
+static uint64_t lost_slots(uint64_t earlier, uint64_t later) {
+    uint64_t apart = later - earlier;
+    return apart <= GRAIN ? 0 : (19 * (apart - GRAIN) - 1) / NINETEEN_SLOTS;
+}
 
 static void show(const struct radio *radio) {
     uint8_t utf8[256];
@@ -48,9 +64,30 @@ static void end_slot(struct radio *radio, const uint16_t *blocks) {
     radio->slot++;
 }
 
-/* All slots before this one that had no call: nothing was received in them. */
-static void catch_up(struct radio *radio, uint64_t slot) {
-    while (radio->slot < slot) end_slot(radio, NULL);
+/* Begins a new count of slots at this time. */
+static void begin_at(struct radio *radio, uint64_t now) {
+    radio->last = radio->latest = now;
+    radio->lost = 0;
+}
+
+/* Returns whether the time went back, or on by more than a day. Then nobody knows how many slots passed. */
+static bool is_break(const struct radio *radio, uint64_t now) {
+    if (now < radio->latest) return now < radio->last || radio->latest - now > GRAIN;
+    return now - radio->latest > DAY;
+}
+
+/* Makes the calls of the slots up to this time in which no group came. After a break it makes as many as the dwell, so
+ * that the receiver keeps nothing from before. */
+static void catch_up(struct radio *radio, uint64_t now) {
+    uint64_t lost;
+    if (!radio->began) begin_at(radio, now);
+    radio->began = true;
+    if (is_break(radio, now)) {
+        for (lost = 0; lost < radio->dwell; lost++) end_slot(radio, NULL);
+        begin_at(radio, now);
+    }
+    for (lost = lost_slots(radio->last, now); radio->lost < lost; radio->lost++) end_slot(radio, NULL);
+    if (now > radio->latest) radio->latest = now;
 }
 
 int main(int count, char **words) {
@@ -64,14 +101,18 @@ int main(int count, char **words) {
         fputs("usage: receive PI [DWELL] < groups\n", stderr);
         return 2;
     }
+    radio.dwell = (unsigned)dwell;
     while (fgets(line, sizeof line, stdin)) {
         uint64_t now;
         uint16_t blocks[4];
         int read = sscanf(line, "%" SCNu64 " %" SCNx16 " %" SCNx16 " %" SCNx16 " %" SCNx16, &now, blocks, blocks + 1,
                           blocks + 2, blocks + 3);
         if (read < 1) return 1;
-        catch_up(&radio, slot_at(now));
-        if (read == 5) end_slot(&radio, blocks);
+        catch_up(&radio, now);
+        if (read == 5) {
+            end_slot(&radio, blocks);
+            begin_at(&radio, now);
+        }
     }
     return 0;
 }
