@@ -251,6 +251,22 @@ def cmake(check, folder, prefix):
         check(f"README's lines of C by CMake, {name}", output([os.path.join(build, name)]), (0, b"HI\n"))
 
 
+def cmake_by_link(check, folder, prefix):
+    """Checks that CMake finds the library through a link to its folder, as it finds /lib before /usr/lib if PATH has
+    /bin first."""
+    write_hi(folder)
+    with open(os.path.join(folder, "CMakeLists.txt"), "w", encoding="utf-8") as file:
+        file.write(PROJECT)
+    root, build = os.path.join(folder, "linked"), os.path.join(folder, "build-linked")
+    os.mkdir(root)
+    os.symlink(os.path.join(prefix, "lib"), os.path.join(root, "lib"))
+    check("CMake through a link", output(["cmake", "-S", folder, "-B", build, f"-DCMAKE_PREFIX_PATH={root}"])[0], 0)
+    status, _ = output(["cmake", "--build", build])
+    check("CMake through a link builds README's lines of C", status, 0)
+    if status == 0:
+        check("README's lines of C through a link", output([os.path.join(build, "shared")]), (0, b"HI\n"))
+
+
 def installed_in(prefix):
     """Returns the files in the prefix."""
     return {os.path.relpath(os.path.join(at, it), prefix) for at, _, its in os.walk(prefix) for it in its}

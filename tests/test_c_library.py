@@ -92,6 +92,10 @@ class Install(Case):
         with tempfile.TemporaryDirectory() as folder:
             c_library.cmake(self.check, folder, self.prefix)
 
+    @needs("cmake")
+    def test_cmake_finds_the_library_through_a_link(self):
+        c_library.cmake_by_link(self.check, temporary_folder(self), self.prefix)
+
     def test_python_takes_the_library(self):
         code, library = "import rdsrt; print(rdsrt.library_version())", os.path.join(self.prefix, "lib/librdsrt.so")
         version = ran(["--version"])[1].split()[1]
