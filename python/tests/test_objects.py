@@ -1,15 +1,18 @@
 """Tests of receivers, encoders, audits, their exceptions, copies and threads."""
 import copy
+import ctypes
 import inspect
 import os
 import pickle
 import re
+import sys
 import threading
 import unittest
 
 import rdsrt
 from rdsrt import (Audit, ContentType, Encoder, Fault, Held, InvalidText, Item, MalformedLine, NoText, OutOfText,
                    Receiver, Refused, Silent, Tag, View, Wait)
+from rdsrt import _library
 
 HI = (0xC201, 0x2140, 0x4849, 0x0D20)
 
@@ -240,6 +243,37 @@ class Threads(unittest.TestCase):
         for it in threads:
             it.join()
         self.assertEqual(sorted(shown), [(pi, "HI") for pi in range(8)])
+
+    def test_each_call_keeps_the_lock_of_python(self):
+        """A call that gives it up runs while another thread reads or writes the struct."""
+        for name in _library.CALLS:
+            call = getattr(_library.library(), f"rdsrt_{name}")
+            self.assertTrue(call._flags_ & ctypes._FUNCFLAG_PYTHONAPI, name)
+
+    def test_a_view_beside_slots_of_another_thread_is_no_mix(self):
+        """One thread changes the receiver, and others read its view."""
+        texts = ["A" * 64, "B" * 64]
+        rows = [[(0xC201, 0x2000 | flag << 4 | at, *[0x4141 + 0x0101 * flag] * 2) for at in range(16)] for flag in (0, 1)]
+        receiver, done, wrong, before = Receiver(0xC201), threading.Event(), [], sys.getswitchinterval()
+
+        def read():
+            while not done.is_set():
+                if (text := receiver.view.text) not in (None, *texts):
+                    wrong.append(text)
+        readers = [threading.Thread(target=read) for _ in range(2)]
+        sys.setswitchinterval(1e-6)
+        try:
+            for it in readers:
+                it.start()
+            for number in range(200):
+                for group in rows[number % 2]:
+                    receiver.slot(group)
+        finally:
+            done.set()
+            sys.setswitchinterval(before)
+            for it in readers:
+                it.join()
+        self.assertEqual((wrong, receiver.view.text), ([], texts[1]))
 
 
 class Json(unittest.TestCase):

@@ -15,7 +15,8 @@ The C library is proved. The character table and the names of RT+ content types 
 `rdsrt.characters` and `ContentType`.
 
 An object holds no file, no thread and no memory of the library, so nothing has to be closed. Objects can be copied,
-pickled and compared. Two threads may use two objects at the same time, and one object in turns.
+pickled and compared. Threads may use different objects at the same time. One thread may change an object, and others
+may read what it shows meanwhile. A Python without the global lock (free-threaded) needs a lock of yours for that.
 """
 from ._library import NoLibrary
 from .characters import InvalidText

@@ -98,7 +98,8 @@ def places() -> Iterator[str]:
 def loaded(place: str) -> Any:
     """Returns the library in this file with its calls declared. Raises NoLibrary if the file is not this library."""
     try:
-        it: Any = ctypes.CDLL(place)
+        # PyDLL and not CDLL: a call keeps Python's lock, so no other thread reads or writes its struct meanwhile
+        it: Any = ctypes.PyDLL(place)
         for name, (result, arguments) in CALLS.items():
             call = getattr(it, f"rdsrt_{name}")
             call.restype, call.argtypes = result, arguments
