@@ -76,7 +76,7 @@ def mixes(slots):
 
 
 class Rows(Case):
-    def test_the_rows_of_a_text_and_of_a_refused_text(self):
+    def test_the_rows_of_a_text_and_of_a_closest_text(self):
         trial = ["--no-empty-first", "--at-once", "--slots", "5", "--m", "2", "--k", "1", "--one-in", "2"]
         empty = ["-,,1,\n", "-,,0,\n", "-,,1,\n", "-,,0,\n", "-,,1,\n"]
         for text, field in (("HI", "HI"), ('Édith Piaf, "Milord"\nmore\n', 'Édith Piaf, ""Milord""'),
@@ -84,12 +84,16 @@ class Rows(Case):
                             (r"a\x0Ab\xFF", r"a\x0Ab\xFF"), ("24 €\r\n", "24 €")):
             wanted = "".join(empty[:3]) + f'text,"{field}",0,\n' + empty[4]
             self.check(f"{text[:20]!r}", rows_of(text.encode(), *trial), (0, wanted, ""))
-        refused = [(b"x" * 65, "65 characters, and 64 at most"), (b"\xff", "no UTF-8"),
-                   ("文".encode(), "no character of RadioText at place 0: '文'"),
-                   (rb"a\x0D", r"no byte of a text at place 1: \x0D"),
-                   (b"ab\\", r"no character of RadioText at place 2: '\\'")]
-        for text, told in refused:
-            self.check(f"{text[:20]!r}", rows_of(text, *trial), (0, "".join(empty), f"station: FILE: {told}\n"))
+        # the text that the field stands for, if it is another than the field
+        for text, sent, field in (("x" * 65, "x" * 64, None), ("Guns N’ Roses", "Guns N' Roses", None),
+                                  ("文", "?", None), (r"a\x0D", "a?", None), ("ab\\", r"ab\x5C", None),
+                                  ("“ß” – x", '"ß" - x', r'""\x8D"" - x')):
+            wanted = "".join(empty[:3]) + f'text,"{field or sent}",0,\n' + empty[4]
+            told = f'station: FILE: sends "{sent}" in place of "{text}"\n'
+            self.check(f"{text[:20]!r}", rows_of(text.encode(), *trial), (0, wanted, told))
+        wanted = "".join(empty[:3]) + 'text,"Stra\\x8De",0,\n' + empty[4]
+        self.check("a character that encode does not take", rows_of("Straße".encode(), *trial), (0, wanted, ""))
+        self.check("no UTF-8", rows_of(b"\xff", *trial), (0, "".join(empty), "station: FILE: no UTF-8\n"))
         self.check("no text", rows_of(b"\n", *trial), (0, "".join(empty), ""))
         wanted = ["-,,1,\n", 'text,"",1,\n', "-,,1,\n", 'text,"HI",1,\n', "-,,1,\n"]
         told = rows_of(b"HI", "--at-once", "--slots", "5", "--m", "1", "--one-in", "1")
@@ -97,7 +101,7 @@ class Rows(Case):
         for words in ([], ["--m", "0", "file"], ["--k", "1025", "file"], ["--one-in", "0", "file"]):
             self.check(f"refused {words}", subprocess.run([STATION, *words], capture_output=True).returncode, 2)
 
-    def test_a_text_is_taken_exactly_if_encode_takes_it(self):
+    def test_encode_takes_each_row_and_a_text_that_it_takes_stays(self):
         rng = random.Random(SEED)
         characters = [chr(it) for it in range(0x20, 0x180)] + [f"\\x{it:02X}" for it in range(256)] + ["€", "文"]
         texts = [rng.choice(characters) + "x" for _ in range(40)]
@@ -110,6 +114,7 @@ class Rows(Case):
                 words = [STATION, "--no-empty-first", "--at-once", "--slots", "2", "--m", "1", file.name]
                 rows = subprocess.run(words, capture_output=True, timeout=SECONDS).stdout.decode()
                 plain = f'-,,1,\ntext,"{text.replace(chr(34), chr(34) * 2)}",0,\n'
+                self.check(f"seed {SEED}, {text!r} by encode", encoded(rows, 1).returncode, 0)
                 self.check(f"seed {SEED}, {text!r} beside encode", rows == plain, encoded(plain, 1).returncode == 0)
 
 

@@ -1,7 +1,7 @@
 """Tests of the character table and of the names of content types."""
 import unittest
 
-from rdsrt import ContentType, InvalidText, type_name
+from rdsrt import ContentType, Encoder, InvalidText, closest, type_name
 from rdsrt.characters import ADDED, BYTES, CHARACTERS, PROVED, coded, shown
 
 # bytes of the basic table that stay escapes, with the backslash, and the bytes that it leaves empty
@@ -37,6 +37,31 @@ class Characters(unittest.TestCase):
             with self.assertRaises(InvalidText) as invalid:
                 coded(text)
             self.assertEqual(invalid.exception.place, place)
+
+    def test_closest_texts(self):
+        for text, near in (("Beyoncé – Déjà Vu", "Beyoncé - Déjà Vu"), ("Guns N’ Roses", "Guns N' Roses"),
+                           ("“Straße”", '"Straße"'), ("„Łódź”…", '"Lódź"...'),
+                           ("e\u0301\u0308", "é"), ("文 Кино", "? ????"),
+                           ("AC\\DC", "AC\\x5CDC"), ("\\", "\\x5C"), ("a\\x0Ab\\xFF", "a\\x0Ab\\xFF"), ("\\x0D", "?"),
+                           ("a\tb\u00A0c\u200Bd", "a b cd"), ("½ ⅓ ™ ﬁ", "½ 1/3 TM fi"),
+                           ("^~`", "?-'"), ("\ud800", "?"),
+                           ("\u0301", ""), ("", ""), ("x" * 70, "x" * 64), ("x" * 63 + "…", "x" * 63 + "."),
+                           ("\\x41" * 65, "\\x41" * 64)):
+            self.assertEqual(closest(text), near, text)
+
+    def test_a_text_that_can_be_sent_is_its_own_closest(self):
+        for byte in (0x0A, 0x0B, 0x1F, *range(0x20, 0x100)):
+            self.assertEqual(closest(shown(bytes([byte]))), shown(bytes([byte])))
+
+    def test_each_closest_text_is_sent(self):
+        characters = [chr(it) for it in range(0x3000)]
+        for at in range(0, len(characters), 16):
+            text = "".join(characters[at:at + 16])
+            encoder = Encoder(0xC201, dwell=1)
+            encoder.tick()
+            encoder.set_text(closest(text))
+            self.assertEqual(encoder.text, shown(coded(closest(text))), text)
+            self.assertEqual(closest(closest(text)), closest(text), text)
 
     def test_pairs_of_letters(self):
         # the columns of the standard's table have the small letter 16 places after the large one

@@ -24,10 +24,13 @@ class Groups:
         raise queue.Empty
 groups = Groups()
 """
-STUDIO = """
+# quotes without a byte, a text that is too long, no artist, and two equal pieces that are too long for the second tag
+SONGS = [("ABBA", "Waterloo"), ("Guns N\u2019 Roses", "\u201cEstranged\u201d"), ("Björk", "x" * 60), ("", "Jóga"),
+         ("y" * 40, "y" * 40)]
+STUDIO = f"""
 import modulator
 def playing():
-    return ("ABBA", "Waterloo") if len(modulator.sent) < 300 else ("Björk", "Jóga")
+    return {SONGS}[len(modulator.sent) // 300]
 """
 # after some slots it shows the display of a receiver
 MODULATOR = """
@@ -35,7 +38,7 @@ from rdsrt import ContentType, Receiver
 sent = []
 def send(group):
     sent.append(group)
-    if len(sent) == 1000:
+    if len(sent) == 1500:
         for slot, view in Receiver(0xC201).watch(sent):
             print(slot, view.text, view.tag(ContentType.ITEM_ARTIST), view.tag(ContentType.ITEM_TITLE))
         raise SystemExit
@@ -75,8 +78,10 @@ class Readme(unittest.TestCase):
         status, lines, errors = ran(blocks()[2])
         self.assertEqual((status, errors), (0, ""))
         shown = [it.partition(" ")[2] for it in lines]
-        wanted = ["ABBA - Waterloo None None", "ABBA - Waterloo ABBA Waterloo", "Björk - Jóga None None",
-                  "Björk - Jóga Björk Jóga"]
+        guns, long, equal = "Guns N' Roses - \"Estranged\"", "Björk - " + "x" * 56, "y" * 40 + " - " + "y" * 21
+        wanted = ["ABBA - Waterloo None None", "ABBA - Waterloo ABBA Waterloo", f"{guns} None None",
+                  f"{guns} Guns N' Roses \"Estranged\"", f"{long} None None", f"{long} Björk None", "Jóga None None",
+                  "Jóga None Jóga", f"{equal} None None"]
         self.assertEqual([it for it in dict.fromkeys(shown) if it != "None None None"], wanted)
 
 

@@ -18,7 +18,9 @@ are not sure of their character:
 
 The backslash (0x5C) is shown as \\x5C, because a backslash begins an escape.
 """
+import itertools
 import re
+import unicodedata
 from typing import Dict, Iterator, Optional, Tuple
 
 
@@ -39,6 +41,18 @@ CHARACTERS: Dict[int, str] = {first + place: character for table in (PROVED, ADD
 """The character of each byte that has one."""
 BYTES: Dict[str, int] = {character: byte for byte, character in CHARACTERS.items()}
 
+LONGEST_TEXT = 64
+"""The most bytes of a text."""
+_CONTROLS = {0x0A, 0x0B, 0x1F}                               # the bytes below 0x20 that a text may have
+# what is sent for characters without a byte that do not come apart into others
+_NEAREST: Dict[str, str] = {
+    **dict.fromkeys("\u2018\u2019\u201A\u201B\u2032\u02B9\u02BB\u02BC\u02BD\u2039\u203A\u00B4`", "'"),
+    **dict.fromkeys("\u201C\u201D\u201E\u201F\u2033\u02BA\u00AB\u00BB", '"'),
+    **dict.fromkeys("\u2010\u2011\u2012\u2013\u2014\u2015\u2212\u2043\u2022\u00B7~", "-"),
+    "\u2044": "/", "×": "x", "®": "(R)", "ẞ": "SS", "Ð": "D", "Đ": "D", "Ħ": "H", "ħ": "h", "Ł": "L", "ł": "l",
+    "Ŧ": "T", "ŧ": "t", "Ə": "E", "ə": "e",
+}
+
 _SHOWN = [CHARACTERS.get(byte, f"\\x{byte:02X}") for byte in range(256)]
 _ESCAPE = re.compile(r"\\x([0-9A-Fa-f]{2})")
 
@@ -54,13 +68,59 @@ class InvalidText(ValueError):
         return type(self), (self.why, self.place)
 
 
+def require_str(what: str, it: object) -> None:
+    """Raises TypeError if this is not a str."""
+    if not isinstance(it, str):
+        raise TypeError(f"{what} is a str and not {type(it).__name__}")
+
+
 def shown(coded: bytes) -> str:
     """Returns the bytes of an RDS text as Unicode. A byte without a character becomes \\xHH."""
     return "".join([_SHOWN[byte] for byte in coded])
 
 
+def _nearest(character: str) -> str:
+    """Returns what is sent for a character without a byte: nothing for a mark of its own and for a character without a
+    width, a space for a control character, and ? if no character is near."""
+    kind = unicodedata.category(character)
+    if kind in ("Cf", "Mn", "Me"):
+        return ""
+    if kind in ("Cc", "Zl", "Zp"):
+        return " "
+    pieces = _NEAREST.get(character) or "".join(_NEAREST.get(it, it) for it in unicodedata.normalize("NFKD", character))
+    return "".join(it for it in pieces if it in BYTES) or "?"
+
+
+def _closest_symbols(text: str) -> Iterator[str]:
+    """Yields the characters and escapes of the closest text, each of which is one byte."""
+    place = 0
+    while place < len(text):
+        escape = _ESCAPE.match(text, place)
+        if escape:
+            byte = int(escape[1], 16)
+            yield escape[0] if byte >= 0x20 or byte in _CONTROLS else "?"
+        elif text[place] == "\\":
+            yield "\\x5C"
+        elif text[place] in BYTES:
+            yield text[place]
+        else:
+            yield from _nearest(text[place])
+        place += len(escape[0]) if escape else 1
+
+
+def closest(text: str) -> str:
+    """Returns the closest text that can be sent: `Encoder.set_text` does not raise InvalidText for it.
+
+    A quotation mark, a dash or a letter without a byte becomes the nearest one: ’ becomes ', and Ł becomes L. A
+    character that has no near one becomes ?. The text ends after 64 characters. An escape \\xHH stays if its byte can
+    be sent. Any other backslash becomes \\x5C."""
+    require_str("a text", text)
+    return "".join(itertools.islice(_closest_symbols(unicodedata.normalize("NFC", text)), LONGEST_TEXT))
+
+
 def symbols(text: str) -> Iterator[Tuple[int, int]]:
     """Yields the byte of each character or escape of a text, with its index. Raises InvalidText."""
+    require_str("a text", text)
     place = 0
     while place < len(text):
         escape = _ESCAPE.match(text, place)
