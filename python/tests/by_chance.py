@@ -13,10 +13,15 @@ LINE = re.compile(r'(\d+) (\w+) (?:none|([01]) ([01])|(?:([A-Z0-9.]+) )?"(.*)")'
 TEXT_BYTES = [0x0A, 0x0B, 0x1F, *range(0x20, 0x100)]
 
 
+def ran_with_notes(*words, log=b""):
+    """Returns the lines that the program prints over this log, and its standard error."""
+    done = subprocess.run([PROGRAM, *words], input=log, capture_output=True, timeout=SECONDS)
+    return done.stdout.decode().splitlines(), done.stderr.decode()
+
+
 def ran(*words, log=b""):
     """Returns the lines that the program prints over this log."""
-    return subprocess.run([PROGRAM, *words], input=log, stdout=subprocess.PIPE, stderr=subprocess.DEVNULL,
-                          timeout=SECONDS).stdout.decode().splitlines()
+    return ran_with_notes(*words, log=log)[0]
 
 
 def text(rng, most):

@@ -25,6 +25,37 @@ class Logs(unittest.TestCase):
                 with self.assertRaises(MalformedLine) as fault:
                     list(read_log(["# note", line]))
                 self.assertEqual(fault.exception.line, 2)
+                with self.assertRaises(MalformedLine) as fault:
+                    next(read_log([line], first=7))
+                self.assertEqual(fault.exception.line, 7)
+
+    def test_the_cause_of_a_malformed_line(self):
+        for line, why in (("hello", "it has no space"), ('{"pi": 1}', "it looks like JSON"),
+                          ("text,A B,1,", "it looks like a row of a script, which encode and sim read"),
+                          ("C201 2140", "it ends after block 2"),
+                          ("C201 214 4849 0D20", "block 2 has 3 characters, expected 4"),
+                          ("C201 2140 4849 0G20", "block 4 has a character that is not a hexadecimal digit")):
+            with self.assertRaises(MalformedLine) as fault:
+                list(read_log([line]))
+            self.assertEqual(fault.exception.why, why)
+            self.assertEqual(str(fault.exception),
+                             f"line 1 is malformed: {why}; a log line looks like C201 2140 4849 0D20")
+
+    def test_wrong_types_and_numbers(self):
+        for given in ("file.log", b"C201 2140 4849 0D20\n"):
+            with self.assertRaisesRegex(TypeError, "open file or a list"):
+                list(read_log(given))
+        for group in (b"abcd", "abcd", {1, 2, 3, 4}, {1: 1, 2: 2, 3: 3, 4: 4}, (1, 2, 3, 4.0)):
+            with self.assertRaisesRegex(TypeError, "a group is|a block is an int"):
+                format_group(group)
+        for group in ((1, 2, 3, 0x12345), (1, 2, 3, -5), (1, 2, 3)):
+            with self.assertRaisesRegex(ValueError, "a block is|a group has 4 blocks"):
+                format_group(group)
+        for dwell in (-1, 0, 65536):
+            with self.assertRaisesRegex(ValueError, "dwell is"):
+                list(slots([(0.0, HI)], dwell=dwell))
+        with self.assertRaisesRegex(TypeError, "dwell is an int"):
+            list(slots([(0.0, HI)], dwell=1.5))
 
 
 class Times(unittest.TestCase):

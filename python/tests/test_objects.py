@@ -11,7 +11,7 @@ import unittest
 
 import rdsrt
 from rdsrt import (Audit, ContentType, Encoder, Fault, Held, InvalidText, Item, MalformedLine, NoText, OutOfText,
-                   Receiver, Refused, Silent, Tag, View, Wait)
+                   Receiver, Refused, Silent, Tag, View, Wait, closest)
 from rdsrt import _library
 
 HI = (0xC201, 0x2140, 0x4849, 0x0D20)
@@ -73,6 +73,36 @@ class Receivers(unittest.TestCase):
         self.assertTrue(Receiver(0, 1) == Receiver(0, 1) and Receiver(0xFFFF, 65535) == Receiver(0xFFFF, 65535))
 
 
+    def test_wrong_types(self):
+        receiver, encoder, audit = Receiver(0xC201), on_air("HI"), Audit(0xC201)
+        for call in (lambda: receiver.slot(b"abcd"), lambda: audit.slot({1, 2, 3, 4}), lambda: receiver.slot("abcd")):
+            with self.assertRaisesRegex(TypeError, "a group is"):
+                call()
+        for call in (lambda: encoder.set_text(b"x"), lambda: encoder.set_name(None), lambda: closest(b"x")):
+            with self.assertRaisesRegex(TypeError, "a text is a str"):
+                call()
+        with self.assertRaisesRegex(TypeError, "the piece of artist is a str"):
+            encoder.tag(artist=b"HI")
+        with self.assertRaisesRegex(ValueError, "the piece of artist is empty"):
+            encoder.tag(artist="")
+        with self.assertRaisesRegex(TypeError, "a content type is"):
+            receiver.view.tag("ITEM_ARTIST")
+        with self.assertRaisesRegex(TypeError, "pi is an int"):
+            Receiver("C201")
+        self.assertEqual((receiver, audit.slots), (Receiver(0xC201), 0))
+
+    def test_numbers_are_read_only(self):
+        for it, names in ((Receiver(0xC201), ("pi", "dwell")), (Audit(0xC201), ("pi", "dwell", "late", "slots")),
+                          (Encoder(0xC201), ("pi", "dwell", "late", "pty", "tp"))):
+            for name in names:
+                with self.assertRaises(AttributeError):
+                    setattr(it, name, 1)
+        encoder = Encoder(1, pty=2, tp=True, dwell=3, late=4)
+        self.assertEqual((encoder.pi, encoder.pty, encoder.tp, encoder.dwell, encoder.late), (1, 2, True, 3, 4))
+        audit = Audit(1, 2, 3)
+        self.assertEqual((audit.pi, audit.dwell, audit.late, audit.slots), (1, 2, 3, 0))
+
+
 class Encoders(unittest.TestCase):
     def test_a_song(self):
         encoder = Encoder(0xC201, pty=10, tp=True, dwell=16)
@@ -128,7 +158,7 @@ class Encoders(unittest.TestCase):
         for pieces, number in (({"artist": "B: x"}, 1), ({"artist": "B", "title": "X"}, 2)):
             with self.assertRaises(OutOfText) as out:
                 encoder.tag(**pieces)
-            self.assertEqual(out.exception.tag, number)
+            self.assertEqual((out.exception.tag, out.exception.name), (number, [*pieces][number - 1]))
         for pieces in ({"nothing": "A"}, {"dummy_class": "A"}, {"artist": ""},
                        {"artist": "A", "title": "B", "album": "A"}):
             with self.assertRaises(ValueError):
@@ -223,7 +253,8 @@ class Copies(unittest.TestCase):
                 Receiver(1).__setstate__({**state, **change})
 
     def test_exceptions_are_pickled(self):
-        for one in (Silent(5), Held(6), NoText(), OutOfText(2), InvalidText("no RDS character", 3), MalformedLine(4)):
+        for one in (Silent(5), Held(6), NoText(), OutOfText(2), OutOfText(1, "artist"),
+                    InvalidText("no RDS character", 3), MalformedLine(4, "it has no space")):
             other = pickle.loads(pickle.dumps(one))
             self.assertEqual((type(other), vars(other), str(other)), (type(one), vars(one), str(one)))
 

@@ -79,11 +79,14 @@ class BesideTheProgram(unittest.TestCase):
                 for it in Receiver(0xC201, 8).watch(read_log(io.BytesIO(piece))):
                     last.append(by_chance.shown_in(*it, program_name))
                 fault = []
+                why = ""
             except MalformedLine as malformed:
                 fault, faults = [f"fault line {malformed.line}"], faults + 1
-            lines = ran("decode", "--pi", "C201", "--m", "8", log=piece)
+                why = f": {malformed.why}; a log line looks like C201 2140 4849 0D20"
+            lines, notes = by_chance.ran_with_notes("decode", "--pi", "C201", "--m", "8", log=piece)
             told = [it for it in lines if it.startswith("fault")]
             self.assertEqual((told, last), (fault, by_chance.shown_by(lines[:len(lines) - len(told)])))
+            self.assertIn(why, notes)
         self.assertGreater(faults, 20)
 
 

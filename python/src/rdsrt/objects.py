@@ -1,12 +1,11 @@
 """Receivers, encoders and audits: the structs of the C library as Python objects."""
 import ctypes
 import enum
-import operator
 from typing import Any, Dict, Iterable, Iterator, List, NamedTuple, Optional, Sequence, SupportsIndex, Tuple, TypeVar
 
 from . import _library as c
-from .characters import InvalidText, coded, shown, symbols
-from .logs import Group
+from .characters import InvalidText, coded, require_str, shown, symbols
+from .logs import Group, blocks_of, in_range
 from .views import ContentType, Item, Tag, View, content_type_of
 
 _Any = TypeVar("_Any", bound="_Plain")
@@ -55,14 +54,14 @@ class NoText(Refused):
 
 
 class OutOfText(Refused):
-    """The text on air does not have the piece of tag 1 or 2."""
+    """The text on air does not have the piece of tag 1 or 2. `name` is its keyword, if `Encoder.tag` raised this."""
 
-    def __init__(self, tag: int):
-        super().__init__(tag)
-        self.tag = tag
+    def __init__(self, tag: int, name: Optional[str] = None):
+        super().__init__(tag, name)
+        self.tag, self.name = tag, name
 
     def __str__(self) -> str:
-        return f"the text on air does not have the piece of tag {self.tag}"
+        return f"the text on air does not have the piece of {self.name or f'tag {self.tag}'}"
 
 
 class Wait(NamedTuple):
@@ -78,23 +77,9 @@ def library_version() -> str:
     return f"{it.major}.{it.minor}.{it.patch}"
 
 
-def _in_range(what: str, number: SupportsIndex, least: int, most: int) -> int:
-    """Returns the number as an int. ctypes would cut a larger one silently."""
-    if not least <= (it := operator.index(number)) <= most:
-        raise ValueError(f"{what} is {it} and not from {least} to {most}")
-    return it
-
-
 def _blocks(group: Optional[Sequence[SupportsIndex]]) -> Tuple[Any, int]:
     """Returns a group as the library takes it: blocks and their count."""
-    if group is None:
-        return None, 0
-    if len(group) != 4:
-        raise ValueError(f"a group has 4 blocks and not {len(group)}")
-    words = [operator.index(it) for it in group]
-    if min(words) < 0 or max(words) > 0xFFFF:
-        raise ValueError(f"a block is from 0 to 0xFFFF: {words}")
-    return c.Blocks(*words), 4
+    return (None, 0) if group is None else (c.Blocks(*blocks_of(group)), 4)
 
 
 def _text_of(it: c.Text) -> Optional[str]:
@@ -106,10 +91,22 @@ def _name_of(it: c.Name) -> Optional[str]:
 
 
 class _Plain:
-    """A struct of the library. It can be copied, pickled and compared. Two objects are equal if their structs have the
-    same bytes."""
+    """A struct of the library, for a programme and a dwell. It can be copied, pickled and compared. Two objects are
+    equal if their structs have the same bytes. Only the calls change it: its numbers are read-only."""
     _type: Any
     _its: Any
+    _pi: int
+    _dwell: int
+
+    @property
+    def pi(self) -> int:
+        """The programme (PI)."""
+        return self._pi
+
+    @property
+    def dwell(self) -> int:
+        """The dwell in slots."""
+        return self._dwell
 
     def __getstate__(self) -> Dict[str, Any]:
         return {**self.__dict__, "_its": bytes(self._its), "_abi": c.ABI}
@@ -141,7 +138,7 @@ class Receiver(_Plain):
     _type = c.Receiver
 
     def __init__(self, pi: SupportsIndex, dwell: SupportsIndex = 128):
-        self.pi, self.dwell = _in_range("pi", pi, 0, 0xFFFF), _in_range("dwell", dwell, 1, 0xFFFF)
+        self._pi, self._dwell = in_range("pi", pi, 0, 0xFFFF), in_range("dwell", dwell, 1, 0xFFFF)
         self._its = c.Receiver()
         c.library().rdsrt_receiver_init(self._its, self.pi, self.dwell)
 
@@ -184,13 +181,28 @@ class Encoder(_Plain):
 
     def __init__(self, pi: SupportsIndex, *, pty: SupportsIndex = 0, tp: bool = False, dwell: SupportsIndex = 128,
                  late: SupportsIndex = 0):
-        self.pi, self.pty, self.tp = _in_range("pi", pi, 0, 0xFFFF), _in_range("pty", pty, 0, 31), bool(tp)
-        self.dwell, self.late = _in_range("dwell", dwell, 1, 0xFFFF), _in_range("late", late, 0, 1024)
+        self._pi, self._pty, self._tp = in_range("pi", pi, 0, 0xFFFF), in_range("pty", pty, 0, 31), bool(tp)
+        self._dwell, self._late = in_range("dwell", dwell, 1, 0xFFFF), in_range("late", late, 0, 1024)
         self._its = c.Encoder()
         c.library().rdsrt_encoder_init(self._its, self.pi, int(self.tp), self.pty, self.dwell, self.late)
 
     def __repr__(self) -> str:
         return f"<Encoder of {self.pi:04X}, dwell {self.dwell}, late {self.late}: {self.text!r}>"
+
+    @property
+    def pty(self) -> int:
+        """The programme type."""
+        return self._pty
+
+    @property
+    def tp(self) -> bool:
+        """The flag of traffic announcements."""
+        return self._tp
+
+    @property
+    def late(self) -> int:
+        """How many slots late a group may reach a receiver."""
+        return self._late
 
     def set_text(self, text: str) -> None:
         """Puts a text of up to 64 characters on air from this slot on, and removes the tags. Raises Silent, Held or
@@ -213,8 +225,8 @@ class Encoder(_Plain):
             raise ValueError(f"a text has up to 2 tags and not {len(tags)}")
         its = c.Tags(toggle=int(bool(toggle)), running=int(bool(running)))
         for tag, most, (kind, start, length) in zip((its.tag1, its.tag2), (64, 32), tags):
-            tag.content_type = _in_range("content type", kind, 1, 63)
-            tag.start, tag.length = _in_range("start", start, 0, 63), _in_range("length", length, 1, most)
+            tag.content_type = in_range("content type", kind, 1, 63)
+            tag.start, tag.length = in_range("start", start, 0, 63), in_range("length", length, 1, most)
         self._raise(c.library().rdsrt_encoder_set_tags(self._its, ctypes.byref(its)), "", 0)
 
     def tag(self, *, toggle: bool = False, running: bool = True, **pieces: str) -> None:
@@ -229,9 +241,12 @@ class Encoder(_Plain):
                 kind = f"ITEM_{kind}"
             if kind not in ContentType.__members__:
                 raise ValueError(f"no content type has the name {name}")
+            require_str(f"the piece of {name}", piece)
             its = coded(piece)
+            if not its:
+                raise ValueError(f"the piece of {name} is empty")
             if air.is_shown and its not in text:
-                raise OutOfText(len(tags) + 1)
+                raise OutOfText(len(tags) + 1, name)
             tags.append((ContentType[kind], max(0, text.find(its)), len(its)))
         # the second tag is the one with the shorter limit
         self.set_tags(*sorted(tags, key=lambda it: -it[2]), toggle=toggle, running=running)
@@ -293,8 +308,8 @@ class Audit(_Plain):
     _type = c.Audit
 
     def __init__(self, pi: SupportsIndex, dwell: SupportsIndex = 128, late: SupportsIndex = 0):
-        self.pi, self.slots = _in_range("pi", pi, 0, 0xFFFF), 0
-        self.dwell, self.late = _in_range("dwell", dwell, 1, 0xFFFF), _in_range("late", late, 0, 1024)
+        self._pi, self._slots = in_range("pi", pi, 0, 0xFFFF), 0
+        self._dwell, self._late = in_range("dwell", dwell, 1, 0xFFFF), in_range("late", late, 0, 1024)
         self._its = c.Audit()
         c.library().rdsrt_audit_init(self._its, self.pi, self.dwell, self.late)
 
@@ -302,12 +317,22 @@ class Audit(_Plain):
         verdict = "passed" if self.passed else "not passed"
         return f"<Audit of {self.pi:04X}, dwell {self.dwell}, late {self.late}: {self.slots} slots, {verdict}>"
 
+    @property
+    def late(self) -> int:
+        """How many slots late a group may reach a receiver."""
+        return self._late
+
+    @property
+    def slots(self) -> int:
+        """How many slots have ended."""
+        return self._slots
+
     def slot(self, group: Optional[Sequence[SupportsIndex]]) -> Optional[Fault]:
         """Ends a slot in which this group was sent, or None. Returns the fault from the slot that breaks a rule on, and
         before it None."""
         blocks, count = _blocks(group)
         code = c.library().rdsrt_audit_slot(self._its, blocks, count)
-        self.slots += 1
+        self._slots += 1
         return Fault(code) if code else None
 
     def take(self, groups: Iterable[Optional[Sequence[SupportsIndex]]]) -> Optional[Tuple[int, Fault]]:

@@ -70,6 +70,8 @@ class View:
 
     def tag(self, content_type: int) -> Optional[str]:
         """Returns the text of the tag of this content type, or None."""
+        if not hasattr(content_type, "__index__"):
+            raise TypeError(f"a content type is a ContentType or an int and not {type(content_type).__name__}")
         return next((it.text for it in self.tags if it.content_type == content_type), None)
 
     def as_json(self) -> Dict[str, Any]:
