@@ -16,7 +16,7 @@
  *         bool all = next_group(blocks);             // yours: false if a block was lost, or if no group came
  *         if (rdsrt_receiver_slot(&receiver, all ? blocks : NULL, all ? 4 : 0) == RDSRT_CHANGED) {
  *             rdsrt_receiver_view(&receiver, &view);
- *             if (view.text.is_shown) show(view.text.bytes, view.text.length);   // rdsrt_text_to_utf8 makes UTF-8
+ *             if (view.text.is_shown) show(view.text.bytes, view.text.length);   // rdsrt_text_to_display makes UTF-8
  *             else show_nothing();
  *         }
  *     }
@@ -50,8 +50,9 @@
  *     rdsrt_encoder_init                16    0    rdsrt_audit_passed               644  656
  *     rdsrt_encoder_set_text           696  720    rdsrt_audit_texts_turn_the_flag  644  656
  *     rdsrt_encoder_set_name           632  656    rdsrt_audit_names_turn_the_flag  644  656
- *     rdsrt_encoder_set_tags           664  704    rdsrt_text_to_utf8               360  368
- *     rdsrt_encoder_tick               872  928    rdsrt_text_from_utf8             128  128
+ *     rdsrt_encoder_set_tags           664  704    rdsrt_text_to_display            296  304
+ *     rdsrt_encoder_tick               872  928    rdsrt_text_to_utf8               360  368
+ *                                                  rdsrt_text_from_utf8             128  128
  *
  * YOU PROMISE for every call:
  *  - a pointer to a struct, to a count or to blocks[4] is not NULL, is aligned, and points to all of it;
@@ -75,7 +76,7 @@ extern "C" {
 #endif
 
 /* The number of this interface. It changes with every size, offset, code or call below. */
-#define RDSRT_ABI 2
+#define RDSRT_ABI 3
 
 /* The version of this header. rdsrt_version() returns the version of the linked library. */
 #define RDSRT_VERSION_MAJOR 0
@@ -238,10 +239,18 @@ uint32_t rdsrt_audit_names_turn_the_flag(const struct rdsrt_audit *audit);
 
 /* ---- Texts as UTF-8 ---- */
 
-/* Writes a text, up to 64 bytes of the RDS character table, as UTF-8: at most 256 bytes, with no 0 at the end. A byte
- * without a character, and the quotation mark, become \xHH. room: how many bytes `into` has.
+/* For a display. Writes a text, up to 64 bytes of the RDS character table, as UTF-8: at most 192 bytes, with no 0 at
+ * the end. Each byte becomes one character. A byte without a character becomes U+FFFD, also the control characters that
+ * a text may have: 0x0A (a new line), 0x0B (the end of a headline) and 0x1F (a soft hyphen). Replace these first, as
+ * your display needs it. room: how many bytes `into` has.
  * Returns RDSRT_OK, and *count is the number of bytes written; RDSRT_NO_ROOM, and *count is the room needed; or
  * RDSRT_TOO_LONG, and *count is unchanged. An error writes nothing at `into`. */
+uint32_t rdsrt_text_to_display(const uint8_t *text, size_t length, uint8_t *into, size_t room, size_t *count);
+
+/* For logs and scripts: rdsrt_text_from_utf8 reads this form as the same bytes, and you can write it between quotation
+ * marks. It has fewer characters than a display. Writes a text, up to 64 bytes of the RDS character table, as UTF-8: at
+ * most 256 bytes, with no 0 at the end. A byte without a character here, and the quotation mark, become \xHH.
+ * Codes: those of rdsrt_text_to_display. */
 uint32_t rdsrt_text_to_utf8(const uint8_t *text, size_t length, uint8_t *into, size_t room, size_t *count);
 
 /* Reads UTF-8, in which \xHH may stand for a byte, as bytes of the RDS character table.

@@ -1,8 +1,10 @@
 """Tests of the character table and of the names of content types."""
+import ctypes
 import unittest
 
+from rdsrt import _library
 from rdsrt import ContentType, Encoder, InvalidText, closest, type_name
-from rdsrt.characters import ADDED, BYTES, CHARACTERS, PROVED, coded, shown
+from rdsrt.characters import BYTES, CHARACTERS, MORE, PRINTED, coded, shown
 
 # bytes of the basic table that stay escapes, with the backslash, and the bytes that it leaves empty
 ESCAPES = {0x5C, 0x5E, 0x60, 0x7E, 0x9D, 0xA4, 0xCE, 0xEE, 0xFE} | set(range(0x20)) | {0x7F, 0xFF}
@@ -12,8 +14,15 @@ class Characters(unittest.TestCase):
     def test_each_byte(self):
         self.assertEqual(set(range(256)) - set(CHARACTERS), ESCAPES)
         self.assertEqual(len(BYTES), len(CHARACTERS))
-        self.assertEqual(sum(map(len, PROVED.values())) + sum(map(len, ADDED.values())), len(CHARACTERS))
+        self.assertEqual(sum(map(len, PRINTED.values())) + sum(map(len, MORE.values())), len(CHARACTERS))
         self.assertTrue(all(len(it) == 1 and it.isprintable() for it in BYTES))
+
+    def test_the_table_is_that_of_the_c_library(self):
+        into, count = ctypes.create_string_buffer(8), ctypes.c_size_t()
+        for byte in range(256):
+            code = _library.library().rdsrt_text_to_display(bytes([byte]), 1, into, len(into), ctypes.byref(count))
+            displayed = into.raw[:count.value].decode()
+            self.assertEqual((code, displayed), (_library.OK, "\\" if byte == 0x5C else CHARACTERS.get(byte, "\uFFFD")))
 
     def test_there_and_back(self):
         for byte in range(256):

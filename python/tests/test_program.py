@@ -9,7 +9,7 @@ import by_chance
 import rdsrt
 from by_chance import PROGRAM, ran
 from rdsrt import Audit, MalformedLine, Receiver, format_group, read_log, type_name
-from rdsrt.characters import CHARACTERS, PROVED, coded
+from rdsrt.characters import CHARACTERS, PRINTED, coded
 
 
 def program_name(number):
@@ -27,18 +27,18 @@ class BesideTheProgram(unittest.TestCase):
         printed = [re.fullmatch(r'(\d+) text "(.*)"', it) for it in ran("decode", "--pi", "C201", "--m", "1", log=log)]
         printed = {int(it[1]) // 2: it[2] for it in printed if it}
         self.assertGreaterEqual(set(printed), set(range(0x20, 256)))
-        proved = {first + at: it for first, stretch in PROVED.items() for at, it in enumerate(stretch)}
+        table = {first + at: it for first, stretch in PRINTED.items() for at, it in enumerate(stretch)}
         for byte, character in printed.items():
             if byte == 0x0D:
                 self.assertEqual(character, "")
             elif character.startswith("\\x"):
                 self.assertEqual(character, f"\\x{byte:02X}")
-                self.assertTrue(byte not in proved or proved[byte] == '"', character)
+                self.assertTrue(byte not in table or table[byte] == '"', character)
             else:
-                self.assertEqual((proved[byte], CHARACTERS[byte]), (character, character))
+                self.assertEqual((table[byte], CHARACTERS[byte]), (character, character))
 
     def test_each_character_is_read_as_the_program_reads_it(self):
-        characters = [it for stretch in PROVED.values() for it in stretch]
+        characters = [it for stretch in PRINTED.values() for it in stretch]
         rows = "-,,1,\n" + "".join('text,"{}",1,\n-,,1,\n'.format(it.replace('"', '""')) for it in characters)
         log = subprocess.run([PROGRAM, "encode", "--pi", "C201", "--m", "1"], input=rows.encode(), capture_output=True,
                              timeout=by_chance.SECONDS).stdout

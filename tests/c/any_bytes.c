@@ -168,6 +168,11 @@ static void texts(void) {
         CHECK(again == length && (length == 0 || memcmp(bytes, back, length) == 0));
         if (length) CHECK(rdsrt_text_from_utf8(utf8, count, back, length - 1, &again) == RDSRT_NO_ROOM);
     }
+    count = 999;
+    code = rdsrt_text_to_display(length ? bytes : NULL, length, room ? utf8 : NULL, room, &count);
+    CHECK((code == RDSRT_TOO_LONG) == (length > 64) && (code != RDSRT_TOO_LONG || count == 999));
+    if (code == RDSRT_NO_ROOM) CHECK(count > room && count <= 192);
+    if (code == RDSRT_OK) CHECK(count <= room && count >= length);
     code = rdsrt_text_from_utf8(bytes, length, back, length, &again);
     CHECK(code == RDSRT_OK ? again <= length : code >= RDSRT_NOT_UTF8 && code <= RDSRT_NO_ROOM);
     free(bytes);

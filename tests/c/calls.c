@@ -151,14 +151,24 @@ static void texts(void) {
     CHECK(rdsrt_text_from_utf8(utf8, 5, text, sizeof text, &count) == RDSRT_OK);
     CHECK(count == 4 && memcmp(text, "Caf\x82", 4) == 0);
     CHECK(rdsrt_text_to_utf8(bytes("\x01\x02\x03"), 3, utf8, sizeof utf8, &count) == RDSRT_NO_ROOM && count == 12);
+    /* what a log has escapes for */
+    uint8_t shown[8];
+    CHECK(rdsrt_text_to_display(bytes("\"\x8D\\\x0D"), 4, shown, sizeof shown, &count) == RDSRT_OK);
+    CHECK(count == 7 && memcmp(shown, "\"\xC3\x9F\\\xEF\xBF\xBD", 7) == 0);
+    CHECK(rdsrt_text_to_display(bytes("\xA9\xA9\xA9"), 3, shown, sizeof shown, &count) == RDSRT_NO_ROOM && count == 9);
+    CHECK(memcmp(shown, "\"\xC3\x9F\\\xEF\xBF\xBD", 7) == 0);
+    CHECK(rdsrt_text_to_display(NULL, 0, NULL, 0, &count) == RDSRT_OK && count == 0);
     /* the calls write one size_t, and leave the next */
     size_t counts[2] = {77, 99};
     CHECK(rdsrt_text_to_utf8(bytes("HI"), 2, utf8, sizeof utf8, counts) == RDSRT_OK && counts[0] == 2 && counts[1] == 99);
     CHECK(rdsrt_text_from_utf8(bytes("A"), 1, text, sizeof text, counts) == RDSRT_OK && counts[0] == 1 && counts[1] == 99);
+    CHECK(rdsrt_text_to_display(bytes("HI"), 2, utf8, sizeof utf8, counts) == RDSRT_OK);
+    CHECK(counts[0] == 2 && counts[1] == 99);
     count = 77;
     uint8_t spaces[65];
     memset(spaces, ' ', sizeof spaces);
     CHECK(rdsrt_text_to_utf8(spaces, sizeof spaces, utf8, sizeof utf8, &count) == RDSRT_TOO_LONG && count == 77);
+    CHECK(rdsrt_text_to_display(spaces, sizeof spaces, utf8, sizeof utf8, &count) == RDSRT_TOO_LONG && count == 77);
     CHECK(rdsrt_text_from_utf8(bytes("\xFF"), 1, text, sizeof text, &count) == RDSRT_NOT_UTF8 && count == 77);
     CHECK(rdsrt_text_from_utf8(bytes("abcde"), 5, text, sizeof text, &count) == RDSRT_NO_ROOM && count == 77);
     CHECK(rdsrt_text_from_utf8(bytes("ab\\y"), 4, text, sizeof text, &count) == RDSRT_BAD_ESCAPE && count == 2);

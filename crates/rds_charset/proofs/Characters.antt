@@ -47,7 +47,7 @@ held-FitsInBytes stretches i d are within = FitsInBytes-from_fits (stretch_of (g
     (λ unfit. ap (list_all fits) (sym are) ∙ list_all-map fits stretch_of stretches ∙ list_all_at (λ stretch. fits (stretch_of stretch)) stretches i d within unfit)
 
 -- all bytes that have a character, with that character
-abbrev entries_in : List Stretch → List (ℕ × ℕ)
+abbrev pub entries_in : List Stretch → List (ℕ × ℕ)
 entries_in [] = []
 entries_in (stretch ∷ stretches) = enumerate_from stretch.0 stretch.1 ++ entries_in stretches
 
@@ -77,7 +77,7 @@ found_at test stretch stretches byte character all true is here =
     rw sum at holds
 found_at test stretch stretches byte character all false is here = absurd (cc)
 
-holds_at_byte : (test : ℕ → ℕ → Bool) (stretches : List Stretch) (byte character : ℕ) → list_all (λ e. test e.0 e.1) (entries_in stretches) ≡ true → character_in stretches byte ≡ Some character → test byte character ≡ true
+pub holds_at_byte : (test : ℕ → ℕ → Bool) (stretches : List Stretch) (byte character : ℕ) → list_all (λ e. test e.0 e.1) (entries_in stretches) ≡ true → character_in stretches byte ≡ Some character → test byte character ≡ true
 holds_at_byte test [] byte character all here = absurd (cc)
 holds_at_byte test (stretch ∷ stretches) byte character all here = by_stretch (character_at stretch byte) refl here (holds_at_byte test stretches byte character (holds_at_rest test stretch stretches all))
   where

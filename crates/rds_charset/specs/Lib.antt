@@ -2,6 +2,7 @@ pub mod Faults
 pub mod Laws
 pub mod Printed
 pub mod Digits
+pub mod Displays
 pub mod ReadAs
 pub mod Stops
 pub mod Stretches

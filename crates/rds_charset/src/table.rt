@@ -1,8 +1,9 @@
 //! The table: the characters that a text on air can have, and their bytes.
 
 ghost use Rattle.std.specs.Prelude.{◌≡◌, map};
+ghost use Rattle.rds_charset.specs.Displays.{displayed_character, more};
 ghost use Rattle.rds_charset.specs.Stretches.{stretch_of};
-ghost use Rattle.rds_charset.specs.Table.{byte_at, byte_of, character_at, character_of};
+ghost use Rattle.rds_charset.specs.Table.{byte_at, byte_of, character_at, character_in, character_of};
 ghost use Rattle.rds_charset.specs.Table.{FitsInBytes, table};
 
 /// Bytes that follow each other, and their characters.
@@ -89,6 +90,76 @@ static TABLE: [Stretch; 10] = [
     },
 ];
 
+/// More bytes that a display has a character for. Printed texts have escapes for them.
+static MORE: [Stretch; 15] = [
+    Stretch {
+        first: 0x24,
+        characters: &['¤'],
+    },
+    Stretch {
+        first: 0x5C,
+        characters: &['\\'],
+    },
+    Stretch {
+        first: 0x8C,
+        characters: &['Ş', 'ß', '¡', 'Ĳ'],
+    },
+    Stretch {
+        first: 0x9C,
+        characters: &['ş'],
+    },
+    Stretch {
+        first: 0x9E,
+        characters: &['ı', 'ĳ'],
+    },
+    Stretch {
+        first: 0xA0,
+        characters: &['ª', 'α', '©', '‰'],
+    },
+    Stretch {
+        first: 0xA5,
+        characters: &['ě', 'ň', 'ő', 'π'],
+    },
+    Stretch {
+        first: 0xAC,
+        characters: &['←', '↑', '→', '↓'],
+    },
+    Stretch {
+        first: 0xB0,
+        characters: &[
+            'º', '¹', '²', '³', '±', 'İ', 'ń', 'ű', 'µ', '¿', '÷', '°', '¼', '½', '¾', '§',
+        ],
+    },
+    Stretch {
+        first: 0xCA,
+        characters: &['Ř', 'Č', 'Š', 'Ž'],
+    },
+    Stretch {
+        first: 0xCF,
+        characters: &['Ŀ'],
+    },
+    Stretch {
+        first: 0xDA,
+        characters: &['ř', 'č', 'š', 'ž', 'đ', 'ŀ'],
+    },
+    Stretch {
+        first: 0xE0,
+        characters: &[
+            'Ã', 'Å', 'Æ', 'Œ', 'ŷ', 'Ý', 'Õ', 'Ø', 'Þ', 'Ŋ', 'Ŕ', 'Ć', 'Ś', 'Ź',
+        ],
+    },
+    Stretch {
+        first: 0xEF,
+        characters: &['ð'],
+    },
+    Stretch {
+        first: 0xF0,
+        characters: &[
+            'ã', 'å', 'æ', 'œ', 'ŵ', 'ý', 'õ', 'ø', 'þ', 'ŋ', 'ŕ', 'ć', 'ś', 'ź',
+        ],
+    },
+];
+
 /// Returns the table, stretch by stretch.
 fn table() -> &'static [Stretch]
     ensures { map stretch_of result.now ≡ table }
@@ -96,11 +167,34 @@ fn table() -> &'static [Stretch]
     &TABLE
 }
 
+/// Returns the bytes that only a display has a character for, stretch by stretch.
+fn more() -> &'static [Stretch]
+    ensures { map stretch_of result.now ≡ more }
+{
+    &MORE
+}
+
 /// Returns the character of the byte. None if it has none.
 pub(crate) fn character_of(byte: u8) -> Option<char>
     ensures { result ≡ character_of byte }
 {
-    for stretch in table() {
+    character_in(table(), byte)
+}
+
+/// Returns the character that a display shows for the byte: the replacement character if it has none.
+pub(crate) fn displayed_character(byte: u8) -> char
+    ensures { result ≡ displayed_character byte }
+{
+    character_of(byte)
+        .or(character_in(more(), byte))
+        .unwrap_or(char::REPLACEMENT_CHARACTER)
+}
+
+/// Returns the character of the byte in the first of these stretches that has the byte.
+fn character_in(stretches: &[Stretch], byte: u8) -> Option<char>
+    ensures { result ≡ character_in (map stretch_of stretches.now) byte }
+{
+    for stretch in stretches {
         if let Some(character) = stretch.character_of(byte) {
             return Some(character);
         }

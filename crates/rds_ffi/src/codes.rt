@@ -1,7 +1,7 @@
 //! The codes that calls return. Contracts use their names in C, from `specs/Codes`.
 
 /// The number of this interface. It changes with every size, offset, code or call of the C header.
-pub(crate) const ABI: u32 = 2;
+pub(crate) const ABI: u32 = 3;
 
 /// Success. For a receiver's slot: the view did not change. For a tick: no group is sent.
 pub(crate) const OK: u32 = 0;

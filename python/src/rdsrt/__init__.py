@@ -11,8 +11,8 @@ makes such a row of groups with times of arrival.
 
 `name` is the programme type name (PTYN, group 10A) everywhere. The station name (PS) is not handled.
 
-The C library is proved. The character table and the names of RT+ content types from 12 on are this package's own: see
-`rdsrt.characters` and `ContentType`.
+The C library is proved. The names of RT+ content types from 12 on are this package's own, see `ContentType`. The
+characters are those of `rdsrt.characters`.
 
 An object holds no file, no thread and no memory of the library, so nothing has to be closed. Objects can be copied,
 pickled and compared. Threads may use different objects at the same time. One thread may change an object, and others

@@ -5,7 +5,7 @@ import functools
 import os
 from typing import Any, Dict, Iterator, List, Tuple
 
-ABI = 2
+ABI = 3
 OK, DONE, BAD_ARGUMENT, SILENT, HELD, NO_TEXT, OUT_OF_TEXT_1, OUT_OF_TEXT_2 = 0, 1, 2, 3, 4, 5, 6, 7
 TOO_LONG, BAD_BYTE, BAD_TAGS = 8, 9, 10
 
@@ -77,6 +77,7 @@ CALLS: Dict[str, Tuple[Any, List[Any]]] = {
     "audit_passed": (u32, [ANY]),
     "audit_texts_turn_the_flag": (u32, [ANY]),
     "audit_names_turn_the_flag": (u32, [ANY]),
+    "text_to_display": (u32, [ANY, size_t, ANY, size_t, ANY]),
 }
 
 

@@ -1,10 +1,10 @@
 """The characters of RDS texts.
 
-This table is the package's own. `PROVED` has the characters of the proved table (docs/FORMATS.md, "Characters"): the
-program and the C library print exactly these. `ADDED` has more characters of the basic table of IEC 62106 (annex E,
-code table G0). They are not proved.
+This is the table of `rdsrt_text_to_display` of the C library, byte by byte, so that no library is needed for it. A test
+compares them. `PRINTED` has the characters of the printed form (docs/FORMATS.md, "Characters"), which the program
+prints and scripts take. `MORE` has more characters of the basic table of IEC 62106 (annex E, code table G0).
 
-We had no copy of the standard. Most added letters are the same in the table of DAB (ETSI TS 101 756). DAB has other
+We had no copy of the standard. Most letters in `MORE` are the same in the table of DAB (ETSI TS 101 756). DAB has other
 characters at these bytes, so they are from memory alone: 0x24, 0x8F, 0x9F, 0xA0, 0xA1, 0xA3, 0xA8, 0xAC to 0xAF, 0xB0 to
 0xB4, 0xB8, 0xBA, and 0xBC to 0xBF.
 
@@ -16,7 +16,7 @@ are not sure of their character:
 - 0xCE: Đ, or the Icelandic Ð.
 - 0xEE and 0xFE: T and t with a stroke or with a caron.
 
-The backslash (0x5C) is shown as \\x5C, because a backslash begins an escape.
+The backslash (0x5C) is shown as \\x5C, because a backslash begins an escape. The C library shows it as it is.
 """
 import itertools
 import re
@@ -28,15 +28,15 @@ def _ascii(first: int, last: int) -> str:
     return "".join(map(chr, range(first, last + 1)))
 
 
-PROVED: Dict[int, str] = {
+PRINTED: Dict[int, str] = {
     0x20: _ascii(0x20, 0x23), 0x25: _ascii(0x25, 0x5B), 0x5D: "]", 0x5F: "_", 0x61: _ascii(0x61, 0x7D),
     0x80: "áàéèíìóòúùÑÇ", 0x90: "âäêëîïôöûüñç", 0xA9: "€£$", 0xC0: "ÁÀÉÈÍÌÓÒÚÙ", 0xD0: "ÂÄÊËÎÏÔÖÛÜ",
 }
-ADDED: Dict[int, str] = {
+MORE: Dict[int, str] = {
     0x24: "¤", 0x8C: "Şß¡Ĳ", 0x9C: "ş", 0x9E: "ıĳ", 0xA0: "ªα©‰", 0xA5: "ěňőπ", 0xAC: "←↑→↓", 0xB0: "º¹²³±İńűµ¿÷°¼½¾§",
     0xCA: "ŘČŠŽ", 0xCF: "Ŀ", 0xDA: "řčšžđŀ", 0xE0: "ÃÅÆŒŷÝÕØÞŊŔĆŚŹ", 0xEF: "ð", 0xF0: "ãåæœŵýõøþŋŕćśź",
 }
-CHARACTERS: Dict[int, str] = {first + place: character for table in (PROVED, ADDED)
+CHARACTERS: Dict[int, str] = {first + place: character for table in (PRINTED, MORE)
                               for first, stretch in table.items() for place, character in enumerate(stretch)}
 """The character of each byte that has one."""
 BYTES: Dict[str, int] = {character: byte for byte, character in CHARACTERS.items()}

@@ -1,5 +1,5 @@
 use Rattle.std.proofs.Common.{rules}
-use Rattle.rds_ffi.proofs.text.rdsrt_text_to_utf8.Goals as goal
+use Rattle.rds_ffi.proofs.text.put_whole.Goals as goal
 
 pub slice_bounds-copy_from_slice-end : goal.slice_bounds-copy_from_slice-end
 slice_bounds-copy_from_slice-end c = search rules

@@ -1,0 +1,5 @@
+use Rattle.rds_charset.proofs.DisplayedText.{length-displayed}
+use Rattle.rds_charset.proofs.laws.displayed_takes_three.Goals as goal
+
+pub returns : goal.returns
+returns c = length-displayed
