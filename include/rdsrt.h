@@ -217,9 +217,15 @@ void rdsrt_encoder_wait(const struct rdsrt_encoder *encoder, struct rdsrt_wait *
 
 /* ---- Audit: does an encoder keep the rules that prevent mixes? ---- */
 
-/* Makes an audit before the first slot. dwell: M, 1 to 65535 slots; late: K, 0 to 1024 slots.
+/* Makes an audit before the first slot of a complete log: one that begins when the station starts. dwell: M, 1 to 65535
+ * slots; late: K, 0 to 1024 slots.
  * Returns RDSRT_OK, or RDSRT_BAD_ARGUMENT if a number is out of range. */
 uint32_t rdsrt_audit_init(struct rdsrt_audit *audit, uint16_t pi, uint16_t dwell, uint16_t late);
+
+/* Does the same for a recording: the station was on air before its first slot. The audit takes M + K lost slots before
+ * it, so the first text may have started at any time. RT+ tags before the first text segment are not judged, since
+ * their text may be older; no receiver of the recording shows them. */
+uint32_t rdsrt_audit_init_running(struct rdsrt_audit *audit, uint16_t pi, uint16_t dwell, uint16_t late);
 
 /* Ends a slot. count is 4 if this group was sent, and 0 if nothing was sent (blocks may be NULL).
  * Returns RDSRT_OK until a rule is broken, and then, in this and in every later slot, the code of that fault

@@ -61,7 +61,7 @@ const page = (() => {
     $("left-out").replaceChildren();
     return replaces(name, async () => {
       tab(name);
-      if (name === "script") scriptTab.open(decoder.decode(input), { ...how, input }); else await logTab.open(input, { ...how, blob: file });
+      if (name === "script") scriptTab.open(decoder.decode(input), { ...how, input }); else await logTab.open(input, { ...how, running: true, blob: file });
       return true;
     });
   }

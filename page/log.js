@@ -52,7 +52,7 @@ const logTab = (() => {
   }
 
   /* Opens a log: its text, or the bytes of its file, which is `blob`. Returns when its display and its verdict are shown. */
-  function open(content, { pi, m, k, lost = [], example = "", file = "", blob, isEdited = false } = {}) {
+  function open(content, { pi, m, k, running = false, lost = [], example = "", file = "", blob, isEdited = false } = {}) {
     const bytes = typeof content === "string" ? encoder.encode(content) : content;
     state.blob = blob ?? new Blob([bytes]);
     for (const worker of Object.values(workers)) worker.drop();
@@ -61,6 +61,7 @@ const logTab = (() => {
     $("log-example").value = example;
     if (m) $("log-m").value = m;
     if (k !== undefined) $("log-k").value = k;
+    $("log-running").checked = running;
     state.text = bytes.length > links.MOST_PLAIN ? null : decoder.decode(bytes);
     logText.open(bytes, state.text);
     return working(read(pi));
@@ -121,7 +122,8 @@ const logTab = (() => {
     links.keep("log", { text: state.text, options: options() });
     const turn = ++state.turn, problem = parts.problemOf($("log-form"));
     if (problem) { showProblem(problem, { fit }); return; }
-    const [pi, m, k] = ["pi", "m", "k"].map((name) => $(`log-${name}`).value), asked = { pi, m, k, lost: [...state.lost] };
+    const [pi, m, k] = ["pi", "m", "k"].map((name) => $(`log-${name}`).value), running = $("log-running").checked;
+    const asked = { pi, m, k, running, lost: [...state.lost] };
     const done = wait(`Decoding with M = ${Number(m).toLocaleString("en")}`);
     $("log-unlose").hidden = !state.lost.size;
     Object.assign(state, { no: null, witness: null });
@@ -171,10 +173,10 @@ const logTab = (() => {
   }
 
   /* The audit's answer; each is kept. */
-  async function audit({ pi, m, k }, worker = "audit") {
-    const key = [pi, m, k].join(" "), { audits } = state;
+  async function audit({ pi, m, k, running }, worker = "audit") {
+    const key = [pi, m, k, running].join(" "), { audits } = state;
     if (audits.has(key)) return audits.get(key);
-    const got = await workers[worker].askNewest("audit", { pi, m, k });
+    const got = await workers[worker].askNewest("audit", { pi, m, k, running });
     if (got) audits.set(key, got);
     return got;
   }
@@ -183,9 +185,9 @@ const logTab = (() => {
     const got = await audit(asked);
     if (state.turn !== turn || !got) return;
     const { log, groups, times } = state, pi = parseInt(asked.pi, 16), m = Number(asked.m), k = Number(asked.k);
-    const no = verdict.show({ audit: got, log, groups, pi, m, k, times }, does);
+    const { running } = asked, no = verdict.show({ audit: got, log, groups, pi, m, k, running, times }, does);
     Object.assign(state, { result: { ...state.result, audit: got }, no, judged: turn });
-    tellLines("audit", `rdsrt audit --pi ${asked.pi} --m ${asked.m} --k ${asked.k}`, got.output);
+    tellLines("audit", `rdsrt audit --pi ${asked.pi} --m ${asked.m} --k ${asked.k}${running ? " --running" : ""}`, got.output);
     // the answer has a mark in the lane of events
     if (no && state.drawn === turn) timeline.show(lanes(), log.count);
   }
@@ -233,7 +235,8 @@ const logTab = (() => {
     const name = $("log-file-name").textContent, m = $("log-m").value, pi = $("log-pi").value;
     const { bytes } = await workers.whole.ask("fill", { m: Number(m) });
     if (!bytes) { showProblem("The times are so far apart that the page does not add the lost slots. Use examples/slots."); return; }
-    await open(bytes, { pi, m, k: $("log-k").value, isEdited: true, file: `${name || "log"}, with its lost slots` });
+    const [k, running] = [$("log-k").value, $("log-running").checked];
+    await open(bytes, { pi, m, k, running, isEdited: true, file: `${name || "log"}, with its lost slots` });
   }
 
   /* Shows why nothing is decoded, and no result of what was there before. */
@@ -329,7 +332,8 @@ const logTab = (() => {
   // ---- a link
 
   const lostOptions = () => state.lost.size ? `&lost=${links.inLetters(state.lost)}` : "";
-  const options = () => `pi=${$("log-pi").value}&m=${$("log-m").value}&k=${$("log-k").value}${lostOptions()}`;
+  const runningOption = () => $("log-running").checked ? "&running=1" : "";
+  const options = () => `pi=${$("log-pi").value}&m=${$("log-m").value}&k=${$("log-k").value}${runningOption()}${lostOptions()}`;
   const isUnsaved = () => state.isEdited;
 
   function save() {
@@ -341,7 +345,8 @@ const logTab = (() => {
   /* Opens the log of a link. */
   async function openLink(hash) {
     const it = await links.read("log", hash), { text, given, within } = it, lost = links.slotsOf(given.get("lost"));
-    await open(text, { pi: given.get("pi"), m: within("m", 1, 65535), k: within("k", 0, 1024), lost });
+    const running = within("running", 0, 1) === 1;
+    await open(text, { pi: given.get("pi"), m: within("m", 1, 65535), k: within("k", 0, 1024), running, lost });
     links.look(timeline, it);
     links.hold("log", { text, options: options() }, hash);
   }
@@ -350,9 +355,9 @@ const logTab = (() => {
   function begin(compiled) {
     $("log-share").onclick = link;
     for (const name of ["whole", "lossy", "audit", "search"]) workers[name] = new LogWorker(compiled);
-    for (const id of ["log-pi", "log-m", "log-k"]) $(id).oninput = parts.soon(() => look());
+    for (const id of ["log-pi", "log-m", "log-k", "log-running"]) $(id).oninput = parts.soon(() => look());
     $("log-save").onclick = save;
-    $("log-text").oninput = parts.soon(() => open($("log-text").value, { pi: $("log-pi").value, isEdited: true }));
+    $("log-text").oninput = parts.soon(() => open($("log-text").value, { pi: $("log-pi").value, running: $("log-running").checked, isEdited: true }));
     $("log-unlose").onclick = () => { state.lost.clear(); look(); };
     logText.begin();
     changes.begin();

@@ -25,17 +25,20 @@ const verdict = (() => {
   /* The dwell of a verdict, for its heading. */
   const withDwell = (m) => `with M = ${number(m)} (${lines.time(m)})`;
 
-  /* A yes over a log without a group. The programmes to choose are those of its groups. */
-  function empty({ log }) {
-    const has = log.count ? `no whole group in ${parts.counted(log.count, "slot")}` : "no slots";
-    return [
-      make("h2", { textContent: "Nothing to audit" }),
-      make("p", { textContent: `The log has ${has}. The program answers yes, and this yes means nothing.` }),
-    ];
-  }
+  /* The program's note that a yes says nothing; empty if it says something. */
+  const emptyNote = ({ notes }) => notes.find((note) => note.includes("the yes says nothing")) ?? "";
+
+  /* A yes that says nothing, in the words of the program. */
+  const empty = ({ audit }) => [
+    make("h2", { textContent: "Nothing to audit" }),
+    make("p", { textContent: `The program answers yes, with a note: ${emptyNote(audit)}.` }),
+  ];
+
+  /* What a yes covers, in the words of the program. */
+  const covered = ({ notes }) => (notes.find((note) => note.startsWith("judged ")) ?? "").replace("judged", "Judged");
 
   /* A yes; it covers the slots that were recorded. */
-  function passed({ log, groups, m }) {
+  function passed({ audit, log, groups, m }) {
     const missing = log.count - groups, few = `${number(missing)} of ${parts.counted(log.count, "slot")} ${missing === 1 ? "is" : "are"} missing`;
     const kept = missing ? `The recorded ${groups === 1 ? "slot keeps" : "slots keep"}`
       : log.count === 1 ? "The one slot keeps" : `All ${parts.counted(log.count, "slot")} keep`;
@@ -43,6 +46,7 @@ const verdict = (() => {
     const all = [
       make("h2", { textContent: `✓ Passes ${withDwell(m)}` }),
       make("p", { textContent: `${kept} the rules. No receiver with this M shows a mix of ${of}, whichever groups it loses.` }),
+      make("p", { textContent: `${covered(audit)}.` }),
     ];
     return missing ? [...all, says(few, "(no whole group). The yes covers only the others.")] : all;
   }
@@ -101,11 +105,13 @@ const verdict = (() => {
   }
 
   /* Shows the answer over a log, which has so many whole groups. `does` is what its buttons do. */
-  function show({ audit, log, groups, pi, m, k, times }, does) {
-    const given = { audit, log, groups, pi, m, times }, no = noOf(audit), isYes = audit.output.startsWith("yes "), isEmpty = isYes && !groups;
+  function show({ audit, log, groups, pi, m, k, running, times }, does) {
+    const given = { audit, log, groups, pi, m, times }, no = noOf(audit), isYes = audit.output.startsWith("yes ");
+    const isEmpty = isYes && emptyNote(audit) !== "";
     const gaps = no || isYes ? absent(given, does) : [];
     const told = no ? refused(given, no, does) : isEmpty ? empty(given) : isYes ? passed(given) : faulty(given, does);
-    const about = `The audit reads the log as sent, with M + K = ${m + k} slots (${lines.time(m + k)}).`;
+    const before = running ? " The station was on air before the log began." : "";
+    const about = `The audit reads the log as sent, with M + K = ${m + k} slots (${lines.time(m + k)}).${before}`;
     $("verdict").className = `verdict${kindOf(no, isYes, isEmpty, gaps.length)}`;
     $("verdict").replaceChildren(...told, ...gaps, make("p", { className: "dwells", id: "dwells", hidden: true }),
       make("p", { className: "small", textContent: about }));

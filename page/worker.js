@@ -50,7 +50,7 @@
   /* Decodes once: the browser compiles the program better once it has run, and makes room for the log. */
   const warm = ({ pi, m }) => { run(["decode", "--pi", pi, "--m", m], state.bytes); return null; };
 
-  const audit = ({ pi, m, k }) => run(["audit", "--pi", pi, "--m", m, "--k", k], state.bytes);
+  const audit = ({ pi, m, k, running }) => run(["audit", "--pi", pi, "--m", m, "--k", k, ...(running ? ["--running"] : [])], state.bytes);
   const find = (given) => witness.find(state.bytes, given);
 
   /* The log with a line for each slot that its times say it lacks. */

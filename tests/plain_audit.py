@@ -101,10 +101,14 @@ class Reigns:
         current["last"] = slot
 
 
-def audit(slots, dwell):
-    """Returns the answer line for these slots of one programme: four blocks each, or None if nothing was sent."""
+def audit(slots, dwell, is_running=False):
+    """Returns the answer line for these slots of one programme: four blocks each, or None if nothing was sent.
+
+    If the station was on air before the log, M + K lost slots come first, and tags before the first text segment do not
+    count."""
     services = {"text": Reigns(dwell, is_text_segment), "name": Reigns(dwell, is_name_segment)}
-    for slot, group in enumerate(slots):
+    before = dwell if is_running else 0
+    for slot, group in enumerate(slots, before):
         if group is None:
             continue
         try:
@@ -112,10 +116,10 @@ def audit(slots, dwell):
             if segment is not None:
                 service, *rest = segment
                 services[service].take(slot, *rest)
-            elif ends is not None:
+            elif ends is not None and (services["text"].all or not is_running):
                 services["text"].take_tags(slot, ends)
         except Broken as fault:
-            return f"no {slot} {fault}\n"
+            return f"no {slot - before} {fault}\n"
     return f"yes {len(slots)}\n"
 
 

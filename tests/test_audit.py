@@ -7,7 +7,7 @@ from tests import plain_audit, plain_plans
 from tests.calls import AUDIT
 from tests.support import ProgramCase, ran
 
-SEED, SEED_OF_PLANS = 20261122, 20261124
+SEED, SEED_OF_PLANS, SEED_OF_RECORDINGS = 20261122, 20261124, 20261127
 
 
 def random_script(rng):
@@ -62,13 +62,62 @@ class BesideThePlainAudit(ProgramCase):
                 dense += 1
                 self.check(f"seed {SEED}, dense log {number} by the plain audit", wanted[0], f"yes {len(slots)}\n")
             for at, (log, answer) in enumerate(zip(logs, wanted)):
-                given = "".join(" ".join(group or ["----"] * 4) + "\n" for group in log).encode()
                 status = 0 if answer.startswith("yes") else 1
-                self.check(f"seed {SEED}, log {at} of script {number}, {options}", ran([*AUDIT, *options], given),
-                           (status, answer.encode()))
+                self.check(f"seed {SEED}, log {at} of script {number}, {options}",
+                           ran([*AUDIT, *options], lines_of(log)), (status, answer.encode()))
         self.check("dense logs", dense > 100, True)
         kinds = {"yes", "Changed", "NotOneText", "EarlyFlag", "EarlyTag", "TagOutside"}
         self.check("answers", (set(answers), min(answers.values()) > 4), (kinds, True))
+
+
+def lines_of(slots):
+    """Returns the log of these slots."""
+    return "".join(" ".join(group or ["----"] * 4) + "\n" for group in slots).encode()
+
+
+class Recordings(ProgramCase):
+    """Logs of our encoder that begin in any slot, audited with --running."""
+
+    def logs(self):
+        """Yields options, spacing, and the slots of an encoder from each of some slots on."""
+        rng = random.Random(SEED_OF_RECORDINGS)
+        for _ in range(150):
+            dwell, late = rng.choice((1, 2, 4, 8, 16)), rng.choice((0, 0, 1, 3))
+            options = ["--m", str(dwell), "--k", str(late)]
+            _, log = ran(["encode", "--pi", "C201", *options], random_script(rng))
+            slots = [None if line[0] == "-" else line.split() for line in log.decode().splitlines() if line[0] != "#"]
+            for first in rng.sample(range(len(slots)), 6):
+                yield options, dwell + late, slots, first
+
+    def test_a_recording_of_a_station_that_passes_passes(self):
+        recordings, early = 0, 0
+        for options, spacing, slots, first in self.logs():
+            rest = slots[first:]
+            wanted = plain_audit.audit(rest, spacing, is_running=True)
+            self.check(f"seed {SEED_OF_RECORDINGS}, {options}, from slot {first} of {lines_of(slots)}",
+                       ran([*AUDIT, *options, "--running"], lines_of(rest))[1], wanted.encode())
+            if plain_audit.audit(slots, spacing).startswith("yes"):
+                self.check("passes", wanted, f"yes {len(rest)}\n")
+                recordings += 1
+                early += plain_audit.audit(rest, spacing).endswith("EarlyTag\n")
+        self.check("recordings, and those that fail without --running", (recordings > 300, early > 20), (True, True))
+
+    def test_the_answer_is_that_of_lost_slots_in_front_and_more_change_nothing(self):
+        """If no tags come before the first text segment."""
+        compared = 0
+        for options, spacing, slots, first in self.logs():
+            rest = slots[first:]
+            begin = next((it for it in rest if it and it[1][0] in "2B"), None)
+            if begin is None or begin[1][0] == "B":
+                continue
+            compared += 1
+            recorded = ran([*AUDIT, *options, "--running"], lines_of(rest))[1].split()
+            for lost in (spacing, spacing + 1, 3 * spacing + 7):
+                given = lines_of([None] * lost + rest)
+                answer, number, *fault = ran([*AUDIT, *options], given)[1].split()
+                self.check(f"{lost} lost slots in front, {options}", [answer, b"%d" % (int(number) - lost), *fault],
+                           recorded)
+        self.check("recordings that begin with a text segment", compared > 200, True)
 
 
 class BesidePlainPlans(ProgramCase):

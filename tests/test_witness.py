@@ -66,6 +66,22 @@ def moved(lines, times):
     return [re.sub(number, lambda it: str(int(it[0]) * times), it, count=3) for it in lines]
 
 
+def mixes_of(slots, dwell, burst, slot):
+    """Returns the line of each thing that a receiver newly shows in the slot if it loses the burst, and that a receiver
+    that loses nothing does not show up to M - 1 slots later."""
+    first, last = burst
+    emptied = [LOST if first <= at <= last else it for at, it in enumerate(slots)]
+    known = {thing_of(it) for it in decoded(slots[:slot + dwell], dwell)}
+    shown, lines = {}, []
+    for line in decoded(emptied[:slot + 1], dwell):
+        at, part, *_ = line.split(" ")
+        if int(at) < slot:
+            shown[part] = thing_of(line)
+        elif part in ("text", "name", "tag1", "tag2") and not line.endswith(" none"):
+            lines.append(line)
+    return [it for it in lines if thing_of(it) not in known and thing_of(it) not in shown.values()]
+
+
 class Case(ProgramCase):
     def confirm(self, name, slots, dwell, printed):
         """Checks that `decode` prints the line without the lost slots, and that it shows the same thing nowhere in the
@@ -76,23 +92,29 @@ class Case(ProgramCase):
         self.check(f"{name}: {printed}: without the slots", line in decoded(emptied, dwell), True)
         known = {thing_of(it) for it in decoded(slots[:slot + dwell], dwell)}
         self.check(f"{name}: {printed}: with them", thing_of(line) in known, False)
-        return slot
+        return (first, last), slot
 
 
 class ByChance(Case):
     def test_a_mix_is_found_exactly_if_the_plain_search_finds_one(self):
         """Both find it in the same slot."""
-        rng, elsewhere_rng, found = random.Random(SEED), random.Random(SEED_ELSEWHERE), 0
+        rng, elsewhere_rng, found, several = random.Random(SEED), random.Random(SEED_ELSEWHERE), 0, 0
         for number in range(LOGS):
             dwell, slots = rng.choice((2, 3, 4, 6)), random_log(rng)
             status, lines = witness(slots, dwell)
             name, best = f"seed {SEED}, log {number}, dwell {dwell}", first_mix(slots, dwell)
             got = {self.confirm(name, slots, dwell, it) for it in lines if it != NONE}
-            self.check(f"{name}: first mix", (status, got), (0, set()) if best is None else (1, {best}))
+            self.check(f"{name}: first mix", (status, {slot for _, slot in got}),
+                       (0, set()) if best is None else (1, {best}))
+            for burst, slot in got:
+                self.check(f"{name}: each mix of slot {slot} has a line", [it.partition(": ")[2] for it in lines],
+                           mixes_of(slots, dwell, burst, slot))
+                several += len(lines) > 1
             found += bool(got)
             if number % 10 == 0:
                 self.elsewhere(name, slots, dwell, (status, lines), elsewhere_rng)
         self.check("logs with a mix, and without", LOGS // 15 < found < LOGS - LOGS // 15, True)
+        self.check("logs with several mixes in one slot", several > 5, True)
 
     def elsewhere(self, name, slots, dwell, answer, rng):
         """Checks that the answer is the same for another programme, and for longer slots and dwells."""

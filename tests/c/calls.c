@@ -129,6 +129,23 @@ static void flags(void) {
     CHECK(rdsrt_audit_texts_turn_the_flag(&it) == 0 && rdsrt_audit_names_turn_the_flag(&it) == 1);
 }
 
+/* A recording begins in the middle of a text: its tags may come at once. Tags before the first text segment are not
+ * judged. */
+static void recording(void) {
+    const uint16_t *tags = tags_of_hi;
+    struct rdsrt_audit it;
+    CHECK(rdsrt_audit_init_running(&it, 0xC201, 0, 0) == RDSRT_BAD_ARGUMENT);
+    CHECK(rdsrt_audit_init(&it, 0xC201, 8, 0) == RDSRT_OK);
+    CHECK(rdsrt_audit_slot(&it, tags, 4) == RDSRT_FAULT_EARLY_TAG);
+    CHECK(rdsrt_audit_init(&it, 0xC201, 8, 0) == RDSRT_OK);
+    CHECK(rdsrt_audit_slot(&it, hi, 4) == RDSRT_OK && rdsrt_audit_slot(&it, tags, 4) == RDSRT_FAULT_EARLY_TAG);
+    CHECK(rdsrt_audit_init_running(&it, 0xC201, 8, 0) == RDSRT_OK);
+    CHECK(rdsrt_audit_slot(&it, tags, 4) == RDSRT_OK);
+    CHECK(rdsrt_audit_slot(&it, hi, 4) == RDSRT_OK && rdsrt_audit_slot(&it, tags, 4) == RDSRT_OK);
+    CHECK(rdsrt_audit_slot(&it, yo, 4) == RDSRT_OK && rdsrt_audit_slot(&it, tags, 4) == RDSRT_FAULT_EARLY_TAG);
+    CHECK(rdsrt_audit_passed(&it) == 0);
+}
+
 static void audit(void) {
     static const uint16_t ended[4] = {0xC201, 0x2141, 0x4142, 0x0D20};
     static const uint16_t long_tag[4] = {0xC201, 0xB158, 0x8012, 0x0000};
@@ -182,6 +199,7 @@ int main(void) {
     encoder();
     tags_set();
     audit();
+    recording();
     flags();
     texts();
     puts("ok");

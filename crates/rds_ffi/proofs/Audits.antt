@@ -5,6 +5,7 @@ use Rattle.rds_block.specs.declared.group.Group.{Group}
 use Rattle.rds_fields.specs.declared.message.Message.{Message}
 use Rattle.rds_audit.specs.AuditStandsAt.{AuditStandsAt, WhereTheAuditStands}
 use Rattle.rds_audit.specs.AuditState.{AuditState}
+use Rattle.rds_audit.specs.Recording.{IsJudgedAs}
 use Rattle.rds_audit.specs.Rules.{IsFaultOf, LogPasses}
 use Rattle.rds_audit.specs.Stored.{IsStored, audit_stored}
 use Rattle.rds_audit.specs.declared.audit.AuditFault.{AuditFault}
@@ -23,7 +24,7 @@ back pi d s log a same good stands = record {
 
 -- a statement about the log of each audit with this state holds for the audit in memory
 pub lying : (s : StoredAudit) (a : AuditState) (Holds : ℕ → List (Option Message) → Type 0) → (IsStored s → a ≡ audit_stored s) → WhereTheAuditStands a Holds → WhereItHeard s Holds
-lying s a Holds same holds pi d log lies = subst (λ (x : AuditState). (stands : AuditStandsAt pi d x log) → Holds d stands.heard) (same lies.good) (holds pi d log) lies.at
+lying s a Holds same holds pi d log lies = subst (λ (x : AuditState). (stands : AuditStandsAt pi d x log) (judged : List (Option Message)) → IsJudgedAs x.start d stands.heard judged → Holds d judged) (same lies.good) (holds pi d log) lies.at
 
 found : (P : Type 0) (Q : AuditFault → Type 0) (r : Result (Unit {0}) AuditFault) → MatchResult r (λ _. P) Q → MatchOption (fault_in r) P Q
 found P Q (Ok done) m = m

@@ -3,7 +3,9 @@ use Rattle.std.specs.Prelude.{◌≡◌, ℕ, List, Option, Some, None, Result, 
 use Rattle.rds_block.specs.declared.group.Group.{Group}
 use Rattle.rds_fields.specs.declared.message.Message.{Message}
 use Rattle.rds_audit.specs.AuditStandsAt.{AuditStandsAt}
+use Rattle.rds_audit.specs.Recording.{IsJudgedAs}
 use Rattle.rds_audit.specs.Rules.{IsFaultOf, LogPasses}
+use Rattle.rds_audit.specs.declared.log_start.LogStart.{LogStart}
 use Rattle.rds_audit.specs.Stored.{IsStored, audit_stored}
 use Rattle.rds_audit.specs.declared.audit.AuditFault.{AuditFault}
 use Rattle.rds_audit.specs.declared.stored.StoredAudit.{StoredAudit}
@@ -18,9 +20,15 @@ pub record AuditInMemory (pi d : ℕ) (s : StoredAudit) (log : List (Option Grou
 abbrev pub WhereItIs : StoredAudit → (ℕ → ℕ → List (Option Group) → Type 0) → Type 0
 WhereItIs s Holds = (pi d : ℕ) (log : List (Option Group)) → AuditInMemory pi d s log → Holds pi d log
 
--- and this of its number of slots and of the messages of its log
+-- where the log of the audit begins
+abbrev pub start_in : StoredAudit → LogStart
+start_in s = (audit_stored s).start
+
+-- and this of its number of slots and of the messages of its log, as they are judged
 abbrev pub WhereItHeard : StoredAudit → (ℕ → List (Option Message) → Type 0) → Type 0
-WhereItHeard s Holds = (pi d : ℕ) (log : List (Option Group)) (lies : AuditInMemory pi d s log) → Holds d lies.at.heard
+WhereItHeard s Holds =
+    (pi d : ℕ) (log : List (Option Group)) (lies : AuditInMemory pi d s log) (judged : List (Option Message))
+    → IsJudgedAs (start_in s) d lies.at.heard judged → Holds d judged
 
 -- the fault of a result
 abbrev pub fault_in : Result (Unit {0}) AuditFault → Option AuditFault

@@ -6,14 +6,16 @@ ghost use Rattle.rds_audit.specs.Dense.{HasPlans};
 ghost use Rattle.rds_audit.specs.FlagLaws.{NamesAreSafeByFlag, TextsAreSafeByFlag};
 ghost use Rattle.rds_audit.specs.Reigns.{AlternateFlags, reigns};
 ghost use Rattle.rds_audit.specs.Rules.{LogPasses};
-ghost use Rattle.rds_ffi.specs.AuditInMemory.{AuditInMemory, IsAnswer, Tells, WhereItHeard, WhereItIs, fault_in};
+ghost use Rattle.rds_audit.specs.Stored.{IsStored};
+ghost use Rattle.rds_audit.specs.declared.log_start.LogStart.TheVariants as LogStart;
+ghost use Rattle.rds_ffi.specs.AuditInMemory.{AuditInMemory, IsAnswer, Tells, WhereItHeard, WhereItIs, fault_in, start_in};
 ghost use Rattle.rds_ffi.specs.Codes.{RDSRT_BAD_ARGUMENT, RDSRT_OK, code_of};
 ghost use Rattle.rds_ffi.specs.Slots.{Bring, IsCount};
 ghost use Rattle.rds_safety.specs.Marks.{marks, name_mark, text_mark};
 
 use crate::codes;
 use crate::slots::brought;
-use rds_audit::{Audit, AuditFault, StoredAudit};
+use rds_audit::{Audit, AuditFault, LogStart, StoredAudit};
 use rds_fields::{Dwell, Late};
 
 /// Makes an audit of this programme before the first slot. The dwell and the lateness are in slots.
@@ -25,6 +27,39 @@ use rds_fields::{Dwell, Late};
 pub extern "C" fn rdsrt_audit_init(audit: &mut StoredAudit, pi: u16, dwell: u16, late: u16) -> u32
     ensures code { result ≡ RDSRT_OK ↔ ((0 < dwell) × (late ≤ 1024)) }
     ensures stands { result ≡ RDSRT_OK → AuditInMemory pi (dwell + late) audit.new [] }
+    ensures start { result ≡ RDSRT_OK → start_in audit.new ≡ LogStart.Complete }
+    ensures bad { result ≢ RDSRT_OK → result ≡ RDSRT_BAD_ARGUMENT }
+    ensures kept { result ≢ RDSRT_OK → audit.new ≡ audit.old }
+{
+    begun(audit, pi, dwell, late, LogStart::Complete)
+}
+
+/// Does what [`rdsrt_audit_init`] does for a log whose station was on air before the log began.
+///
+/// # Errors
+///
+/// As [`rdsrt_audit_init`].
+#[unsafe(no_mangle)]
+pub extern "C" fn rdsrt_audit_init_running(
+    audit: &mut StoredAudit,
+    pi: u16,
+    dwell: u16,
+    late: u16,
+) -> u32
+    ensures code { result ≡ RDSRT_OK ↔ ((0 < dwell) × (late ≤ 1024)) }
+    ensures stands { result ≡ RDSRT_OK → AuditInMemory pi (dwell + late) audit.new [] }
+    ensures start { result ≡ RDSRT_OK → start_in audit.new ≡ LogStart.Running }
+    ensures bad { result ≢ RDSRT_OK → result ≡ RDSRT_BAD_ARGUMENT }
+    ensures kept { result ≢ RDSRT_OK → audit.new ≡ audit.old }
+{
+    begun(audit, pi, dwell, late, LogStart::Running)
+}
+
+/// Makes an audit of a log that begins so.
+fn begun(audit: &mut StoredAudit, pi: u16, dwell: u16, late: u16, start: LogStart) -> u32
+    ensures code { result ≡ RDSRT_OK ↔ ((0 < dwell) × (late ≤ 1024)) }
+    ensures stands { result ≡ RDSRT_OK → AuditInMemory pi (dwell + late) audit.new [] }
+    ensures start { result ≡ RDSRT_OK → start_in audit.new ≡ start }
     ensures bad { result ≢ RDSRT_OK → result ≡ RDSRT_BAD_ARGUMENT }
     ensures kept { result ≢ RDSRT_OK → audit.new ≡ audit.old }
 {
@@ -34,7 +69,7 @@ pub extern "C" fn rdsrt_audit_init(audit: &mut StoredAudit, pi: u16, dwell: u16,
     let Some(late) = Late::new(late) else {
         return codes::BAD_ARGUMENT;
     };
-    *audit = Audit::new(pi, dwell, late).store();
+    *audit = Audit::starting(pi, dwell, late, start).store();
     codes::OK
 }
 
@@ -47,6 +82,7 @@ pub extern "C" fn rdsrt_audit_init(audit: &mut StoredAudit, pi: u16, dwell: u16,
 #[unsafe(no_mangle)]
 pub extern "C" fn rdsrt_audit_slot(audit: &mut StoredAudit, blocks: &[u16]) -> u32
     ensures code { result ≢ RDSRT_BAD_ARGUMENT ↔ IsCount blocks.now }
+    ensures start { result ≢ RDSRT_BAD_ARGUMENT → IsStored audit.old → start_in audit.new ≡ start_in audit.old }
     ensures stands { result ≢ RDSRT_BAD_ARGUMENT → WhereItIs audit.old (λ pi d log.
         (slot : Option Group) × Bring blocks.now slot × AuditInMemory pi d audit.new (slot ∷ log)) }
     ensures which { result ≢ RDSRT_BAD_ARGUMENT → WhereItHeard audit.new (Tells result) }

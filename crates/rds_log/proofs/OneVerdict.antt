@@ -1,5 +1,5 @@
 -- The bytes of a log have one verdict.
-use Rattle.std.proofs.Common.{◌≡◌, ◌≢◌, ◌⊎◌, ◌↔◌, ◌<◌, ◌∙◌, ◌∷◌, [], ◌++◌, ℕ, List, Bool, true, false, Option, Some, Ok, Err, append_assoc, ap, arith, inl, inr, length, refl, sym}
+use Rattle.std.proofs.Common.{◌≡◌, ◌≢◌, ◌⊎◌, ◌↔◌, ◌<◌, ◌∙◌, ◌∷◌, [], ◌++◌, ℕ, List, Bool, true, false, Option, Some, Ok, Err, append_assoc, ap, arith, inl, inr, length, refl, subst, sym}
 use Rattle.std.specs.Prelude.{All, IsTrue}
 use Rattle.std.specs.Io.KnownBytes.{Consumes}
 use Rattle.std.proofs.lemmas.Bool.Decides.{eqb_tells}
@@ -11,6 +11,7 @@ use Rattle.rds_fields.specs.declared.message.Message.{Message}
 use Rattle.rds_receiver.specs.OneView.{same_heard}
 use Rattle.rds_receiver.specs.Receipts.{AreHeard}
 use Rattle.rds_audit.specs.AuditLaws.{ALogHasOneFault, WhatHasAFaultDoesNotPass}
+use Rattle.rds_audit.specs.Recording.{IsJudgedAs}
 use Rattle.rds_audit.specs.Judging.{judged_more, some_judged}
 use Rattle.rds_audit.specs.Rules.{IsFaultOf}
 use Rattle.rds_audit.specs.declared.log_start.LogStart.{LogStart}
@@ -108,7 +109,7 @@ fails_for_good : WhatHasAFaultDoesNotPass → (start : LogStart) (pi d t : ℕ) 
 fails_for_good fails start pi d t fault more slots some fail pass =
     let (newer, same) = more_heard pi more slots pass.heard fail.heard pass.are fail.are in
     let (judged, is) = some_judged start d pass.heard in
-    let (later, before, was, e) = judged_more start d newer fail.heard judged (rw same at is) in
+    let (later, before, was, e) = judged_more start d newer fail.heard judged (subst (λ (x : List (Option Message)). IsJudgedAs start d x judged) same is) in
     fails d judged fault some (rw e (fault_stays d later before fault (fail.fault_is before was))) (pass.passes judged is)
 
 -- and those that do not pass fail at one slot, with one fault

@@ -73,6 +73,7 @@ CALLS: Dict[str, Tuple[Any, List[Any]]] = {
     "encoder_on_air": (None, [ANY, ANY]),
     "encoder_wait": (None, [ANY, ANY]),
     "audit_init": (u32, [ANY, u16, u16, u16]),
+    "audit_init_running": (u32, [ANY, u16, u16, u16]),
     "audit_slot": (u32, [ANY, ANY, size_t]),
     "audit_passed": (u32, [ANY]),
     "audit_texts_turn_the_flag": (u32, [ANY]),

@@ -303,15 +303,20 @@ class Audit(_Plain):
     """Judges, slot by slot, whether an encoder keeps the rules that prevent mixes. Give it each group that was sent.
     The verdict means nothing for groups that a receiver got.
 
+    A complete log begins when the station starts. With `running=True` the station was on air before the first slot, as
+    in a recording.
+
     A station that sends segments less often than every `dwell` + `late` slots can get a fault although it keeps the
     spacing."""
     _type = c.Audit
 
-    def __init__(self, pi: SupportsIndex, dwell: SupportsIndex = 128, late: SupportsIndex = 0):
+    def __init__(self, pi: SupportsIndex, dwell: SupportsIndex = 128, late: SupportsIndex = 0, *,
+                 running: bool = False):
         self._pi, self._slots = in_range("pi", pi, 0, 0xFFFF), 0
         self._dwell, self._late = in_range("dwell", dwell, 1, 0xFFFF), in_range("late", late, 0, 1024)
         self._its = c.Audit()
-        c.library().rdsrt_audit_init(self._its, self.pi, self.dwell, self.late)
+        init = c.library().rdsrt_audit_init_running if running else c.library().rdsrt_audit_init
+        init(self._its, self.pi, self.dwell, self.late)
 
     def __repr__(self) -> str:
         verdict = "passed" if self.passed else "not passed"

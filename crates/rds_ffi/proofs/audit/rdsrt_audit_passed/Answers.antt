@@ -7,16 +7,16 @@ use Rattle.rds_ffi.proofs.Bits.{one, set}
 use Rattle.rds_ffi.proofs.audit.rdsrt_audit_passed.Goals as goal
 
 pub returns-clause-passes : goal.returns-clause-passes
-returns-clause-passes c pi d log lies =
-    let is = lying _ _ (λ d heard. IsTrue c.passed.result ↔ LogPasses d heard) c.restore.ensures.same c.passed.ensures.passes pi d log lies in
-    ((λ e. is.0 (set _ (sym c.from.ensures ∙ e))), (λ h. c.from.ensures ∙ one _ (is.1 h)))
+returns-clause-passes c pi d log lies judged is =
+    let same = lying _ _ (λ d heard. IsTrue c.passed.result ↔ LogPasses d heard) c.restore.ensures.same c.passed.ensures.passes pi d log lies judged is in
+    ((λ e. same.0 (set _ (sym c.from.ensures ∙ e))), (λ h. c.from.ensures ∙ one _ (same.1 h)))
 
 pub returns-clause-plans : goal.returns-clause-plans
-returns-clause-plans c pi d log lies =
-    let is = lying _ _ (λ d heard. IsTrue c.passed.result ↔ HasPlans d heard) c.restore.ensures.same c.passed.ensures.plans pi d log lies in
-    ((λ e. is.0 (set _ (sym c.from.ensures ∙ e))), (λ h. c.from.ensures ∙ one _ (is.1 h)))
+returns-clause-plans c pi d log lies judged is =
+    let same = lying _ _ (λ d heard. IsTrue c.passed.result ↔ HasPlans d heard) c.restore.ensures.same c.passed.ensures.plans pi d log lies judged is in
+    ((λ e. same.0 (set _ (sym c.from.ensures ∙ e))), (λ h. c.from.ensures ∙ one _ (same.1 h)))
 
 pub returns-clause-safe : goal.returns-clause-safe
-returns-clause-safe c pi d log lies m k some sum e =
-    lying _ _ (λ d heard. (m k : ℕ) → 0 < m → m + k ≡ d → IsTrue c.passed.result → IsSafeLog m k heard) c.restore.ensures.same c.passed.ensures.safe pi d log lies m k some sum
+returns-clause-safe c pi d log lies judged is m k some sum e =
+    lying _ _ (λ d heard. (m k : ℕ) → 0 < m → m + k ≡ d → IsTrue c.passed.result → IsSafeLog m k heard) c.restore.ensures.same c.passed.ensures.safe pi d log lies judged is m k some sum
     (set _ (sym c.from.ensures ∙ e))

@@ -74,3 +74,22 @@ returns-in-Err-clause-fault g c =
     fault_noted c.args.reads
     (state_of g.R.Read.remaining g.R.TellingRead.failures g.R.TellingRead.reads c.args.reader.now) (state_of g.R.Read.remaining g.R.TellingRead.failures g.R.TellingRead.reads c.next.new.reader)
     lines _ c.in-Err.fault _ (c.in-Err.ensures.gives _ _ lines stands) c.note-notes.ensures
+
+pub loop-notes-preserved-in-loop-notes : goal.loop-notes-preserved-in-loop-notes
+loop-notes-preserved-in-loop-notes g c =
+    let (lines, stands, decoded, heard) = c.loop-notes.invariant.stands in
+    let (line, says, further) = rw c.in-Ok-true.field-0-test at (c.in-Ok-true.ensures.gives _ _ lines stands) in
+    let less = c.in-Ok-true.ensures.budget c.in-Ok-true.field-0-test in
+    let slots = c.line-in-Ok-true.ensures.slots in
+    let before = c.loop-notes.invariant.slots in
+    let groups = c.line.ensures.groups in
+    let counted = c.loop-notes.invariant.groups in
+    let none : length c.write-then-not-has_line.new.self.output ≡ 0 = rw c.in_ok-write.ensures.empty refl in
+    record {
+      room = omega (arith, none);
+      empty = λ _. c.in_ok-write.ensures.empty;
+      slots = rw c.in_ok-write.ensures.slots (omega (arith, before, less, slots));
+      groups = omega (arith, counted, less, groups);
+      bad = c.loop-notes.invariant.bad;
+      stands = (line ∷ lines, further, c.in_ok-write.ensures.wrote _ _ (line ∷ lines) (c.line-in-Ok-true.ensures.decoded _ _ lines line says decoded), c.line.ensures.heard lines line says heard);
+    }
