@@ -9,7 +9,7 @@ use Rattle.rds_encoder.specs.Laws.{ANumberIsBelowTheLength}
 use Rattle.rds_encoder.specs.Plan.{Broadcast, HasNumber}
 use Rattle.rds_receiver.specs.Receipts.{Fragment, name_fragment, text_fragment}
 use Rattle.rds_receiver.specs.Run.{is_same}
-use Rattle.rds_safety.specs.FlagAlone.{HearsEach, HearsOneBetween, IsHeardFrom, TurnsTheFlag}
+use Rattle.rds_safety.specs.FlagAlone.{HearsEach, HearsOneBetween, IsHeardFrom, IsNews, TurnsTheFlag}
 use Rattle.rds_safety.specs.FlagLaws.{NamesByFlagAreOfTheirSource, TagsByFlagAreOfTheirText, TextsByFlagAreOfTheirSource}
 use Rattle.rds_safety.specs.Flags.{other_flag}
 use Rattle.rds_safety.specs.Late.{Input}
@@ -52,8 +52,8 @@ turns below d kind rs a alternate =
     (of_each_two_too (λ r next. r.flag ≢ next.flag) (λ r next. (x y : List ℕ) → (r.flag ≢ next.flag) ⊎ ((x ≡ y) ⊎ (y ≡ []))) (λ r next differ x y. inl differ) rs alternate)
 
 hears_each : ANumberIsBelowTheLength → (d now : ℕ) (kind : Kind) (pick : Message → Option Fragment) (input : Input) (rs : List Reign) (a : AllByRecursion (CanBeBroadcast d kind) rs)
-    → HearsEachReign pick now input rs → HearsEach pick (plan_from d kind rs a) now input
-hears_each below d now kind pick input rs a each k b next t s p q some heard before begun =
+    → HearsEachReign pick now input rs → HearsEach IsNews pick (plan_from d kind rs a) now input
+hears_each below d now kind pick input rs a each k b next t s p q news heard before begun =
     (of_each_two (λ b c. (t s : ℕ) → IsHeardFrom pick input t s → s < b.start → c.start ≤ now → HearsOneBetween pick input b.start (b.end + 1)) below d kind rs a
     (of_each_two_too (λ r next. (t s : ℕ) → IsHeardFrom pick input t s → s < r.start → next.start ≤ now → HearsOneBetween pick input r.start (r.last + 1))
     (λ r next. (x y : List ℕ) → (t s : ℕ) → IsHeardFrom pick input t s → s < r.start → next.start ≤ now → HearsOneBetween pick input r.start (r.last + 1))
@@ -68,11 +68,11 @@ safe_by_flag laws safe_texts safe_names safe_tags d log some passes =
     λ alternate. subst (λ (plan : List Broadcast). TurnsTheFlag plan) (sym text.1) (turns laws.below d texts (reigns d (marks text_mark log)) passes.text.reigns alternate) in
     let name_turns : AlternateFlags (reigns d (marks name_mark log)) → TurnsTheFlag name.0.plan =
     λ alternate. subst (λ (plan : List Broadcast). TurnsTheFlag plan) (sym name.1) (turns laws.below d names (reigns d (marks name_mark log)) passes.name.reigns alternate) in
-    let text_each : (now : ℕ) (input : Input) → HearsEachReign text_fragment now input (reigns d (marks text_mark log)) → HearsEach text_fragment text.0.plan now input =
-    λ now input each. subst (λ (plan : List Broadcast). HearsEach text_fragment plan now input) (sym text.1)
+    let text_each : (now : ℕ) (input : Input) → HearsEachReign text_fragment now input (reigns d (marks text_mark log)) → HearsEach IsNews text_fragment text.0.plan now input =
+    λ now input each. subst (λ (plan : List Broadcast). HearsEach IsNews text_fragment plan now input) (sym text.1)
     (hears_each laws.below d now texts text_fragment input (reigns d (marks text_mark log)) passes.text.reigns each) in
-    let name_each : (now : ℕ) (input : Input) → HearsEachReign name_fragment now input (reigns d (marks name_mark log)) → HearsEach name_fragment name.0.plan now input =
-    λ now input each. subst (λ (plan : List Broadcast). HearsEach name_fragment plan now input) (sym name.1)
+    let name_each : (now : ℕ) (input : Input) → HearsEachReign name_fragment now input (reigns d (marks name_mark log)) → HearsEach IsNews name_fragment name.0.plan now input =
+    λ now input each. subst (λ (plan : List Broadcast). HearsEach IsNews name_fragment plan now input) (sym name.1)
     (hears_each laws.below d now names name_fragment input (reigns d (marks name_mark log)) passes.name.reigns each) in
     record {
       plans = record { text = text.0.plan; name = name.0.plan };

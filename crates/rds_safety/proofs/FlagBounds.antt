@@ -6,7 +6,7 @@ use Rattle.rds_fields.specs.Tag.{PairFields}
 use Rattle.rds_encoder.specs.Plan.{Broadcast, HasNumber}
 use Rattle.rds_encoder.specs.Spaced.{IsSpaced}
 use Rattle.rds_receiver.specs.Receipts.{Fragment, text_fragment}
-use Rattle.rds_safety.specs.FlagAlone.{EachLasts, HearsEach, HearsOneIn, HearsTextBeforeTags, ShowsByFlag, TurnsTheFlag}
+use Rattle.rds_safety.specs.FlagAlone.{EachLasts, HearsEach, HearsOneIn, HearsTextBeforeTags, IsFilled, ShowsByFlag, TurnsTheFlag}
 use Rattle.rds_safety.specs.FlagBounds.{MixesByFlag}
 use Rattle.rds_safety.specs.Late.{HasEntry, IsHeardInOrder, SentIn}
 use Rattle.rds_safety.specs.Lawful.{HasOne, HasFragment, IsLawful, texts}
@@ -39,13 +39,13 @@ text_first n j plan t s u r k pair b came from planned covers heard before = abs
 
 -- ---- the flag has to turn
 
-heard_both : (j now : ℕ) → HearsEach text_fragment (plan (j + 1)) now (input 0 j j)
+heard_both : (j now : ℕ) → HearsEach IsFilled text_fragment (plan (j + 1)) now (input 0 j j)
 heard_both j now k b next t r p q some heard before begun = elim (which (j + 1) k b p) [
   | inl last ↦ absurd (elim (which (j + 1) (k + 1) next q) [ inl v ↦ omega arith | inr v ↦ omega arith ])
   | inr first ↦ absurd (let start : b.start ≡ 0 = ap (λ (x : Broadcast). x.start) first.1 in omega arith)
 ]
 
-at_one_or_more : (j : ℕ) → MixesByFlag (j + 1) (λ plan now input. HearsEach text_fragment plan now input × HearsTextBeforeTags plan input)
+at_one_or_more : (j : ℕ) → MixesByFlag (j + 1) (λ plan now input. HearsEach IsFilled text_fragment plan now input × HearsTextBeforeTags plan input)
 at_one_or_more j = record {
   plan = plan (j + 1);
   log = log j;
@@ -59,10 +59,10 @@ at_one_or_more j = record {
   of_none = of_none (j + 1);
 }
 
-pub one_flag_twice : (d : ℕ) → 0 < d → MixesByFlag d (λ plan now input. HearsEach text_fragment plan now input × HearsTextBeforeTags plan input)
+pub one_flag_twice : (d : ℕ) → 0 < d → MixesByFlag d (λ plan now input. HearsEach IsFilled text_fragment plan now input × HearsTextBeforeTags plan input)
 one_flag_twice d some =
     let e : d - 1 + 1 ≡ d = omega arith in
-    subst (λ (x : ℕ). MixesByFlag x (λ plan now input. HearsEach text_fragment plan now input × HearsTextBeforeTags plan input)) e (at_one_or_more (d - 1))
+    subst (λ (x : ℕ). MixesByFlag x (λ plan now input. HearsEach IsFilled text_fragment plan now input × HearsTextBeforeTags plan input)) e (at_one_or_more (d - 1))
 
 -- ---- a segment of each broadcast has to be heard: `AAAACCC` is on air from slot 0 on, `EEEEEEE` with the other flag
 -- from slot m + 1 on, and `BBBBDDD` with the first flag again in slot 2 m + 2. The receiver loses all of the second
@@ -140,7 +140,7 @@ three_spaced d m near = record {
 three_turn : (m : ℕ) → TurnsTheFlag (three m)
 three_turn m k a b p q = follow (λ a b. (a.flag ≢ b.flag) ⊎ ((a.bytes ≡ b.bytes) ⊎ (b.bytes ≡ []))) m k a b p q (inl (λ e. (cc))) (inl (λ e. (cc)))
 
-three_last : (m : ℕ) → EachLasts (m + 1) (three m)
+three_last : (m : ℕ) → EachLasts IsFilled (m + 1) (three m)
 three_last m k a b p q some = follow (λ a b. a.start + (m + 1) ≤ a.end + 1) m k a b p q (omega arith) (omega arith)
 
 -- no broadcast that has passed lasts for m + 2 slots
@@ -246,7 +246,7 @@ three_in_order m =
     (λ r u s e a. (let r_is : m + m + 1 + 1 ≡ r = cc in omega (arith, all_from_first 0 (m + m + 1) u s a)))
 
 at_more : (d m : ℕ) → d ≤ m + 2
-    → MixesByFlag d (λ plan now input. TurnsTheFlag plan × EachLasts (m + 1) plan × HearsOneIn (m + 1 + 1) text_fragment plan now input × HearsTextBeforeTags plan input)
+    → MixesByFlag d (λ plan now input. TurnsTheFlag plan × EachLasts IsFilled (m + 1) plan × HearsOneIn (m + 1 + 1) text_fragment plan now input × HearsTextBeforeTags plan input)
 at_more d m near = record {
   plan = three m;
   log = three_sent m;
@@ -267,7 +267,7 @@ at_more d m near = record {
 }
 
 pub one_slot_more : (d n : ℕ) → 0 < n → d ≤ n + 1
-    → MixesByFlag d (λ plan now input. TurnsTheFlag plan × EachLasts n plan × HearsOneIn (n + 1) text_fragment plan now input × HearsTextBeforeTags plan input)
+    → MixesByFlag d (λ plan now input. TurnsTheFlag plan × EachLasts IsFilled n plan × HearsOneIn (n + 1) text_fragment plan now input × HearsTextBeforeTags plan input)
 one_slot_more d n some near =
     let e : n - 1 + 1 ≡ n = omega arith in
-    subst (λ (x : ℕ). MixesByFlag d (λ plan now input. TurnsTheFlag plan × EachLasts x plan × HearsOneIn (x + 1) text_fragment plan now input × HearsTextBeforeTags plan input)) e (at_more d (n - 1) (omega arith))
+    subst (λ (x : ℕ). MixesByFlag d (λ plan now input. TurnsTheFlag plan × EachLasts IsFilled x plan × HearsOneIn (x + 1) text_fragment plan now input × HearsTextBeforeTags plan input)) e (at_more d (n - 1) (omega arith))

@@ -17,7 +17,7 @@ use Rattle.rds_encoder.specs.Plan.{Broadcast, HasNumber}
 use Rattle.rds_receiver.specs.Receipts.{Fragment, Segment, name_fragment, segments, text_fragment}
 use Rattle.rds_receiver.specs.Shown.{ShownView}
 use Rattle.rds_receiver.specs.Tags.{is_known, pair_since}
-use Rattle.rds_safety.specs.FlagAlone.{HearsEach, HearsOneIn, ShowsByFlag, TurnsTheFlag, flag_run, pair_by_flag, run_by_flag}
+use Rattle.rds_safety.specs.FlagAlone.{HearsEach, HearsOneIn, IsFilled, ShowsByFlag, TurnsTheFlag, flag_run, pair_by_flag, run_by_flag}
 use Rattle.rds_safety.specs.FlagBounds.{CutsByFlag}
 use Rattle.rds_safety.specs.FlagLaws.{ShowsEmptyText, ShowsTagsOfText}
 use Rattle.rds_safety.specs.Late.{CameFrom, HasEntry, Input, IsHeardLate, IsHeardOnTime, SentIn, own_origins}
@@ -262,7 +262,7 @@ not_of_text e (inr (inr tags)) = elim (which e tags.number tags.broadcast tags.p
     first_byte : Some aaa ≡ Some bbb → ⊥
     first_byte same = (let bytes : aaa ≡ bbb = cc in omega (arith, ap (λ (x : List ℕ). slice_index x 0) bytes))
 
-at_one_or_more : (e : ℕ) → CutsByFlag (e + 1) (λ plan now input. TurnsTheFlag plan × HearsEach text_fragment plan now input × HearsOneIn (e + 1 + 1) text_fragment plan now input)
+at_one_or_more : (e : ℕ) → CutsByFlag (e + 1) (λ plan now input. TurnsTheFlag plan × HearsEach IsFilled text_fragment plan now input × HearsOneIn (e + 1 + 1) text_fragment plan now input)
 at_one_or_more e = record {
   plan = two e;
   log = log e;
@@ -279,7 +279,7 @@ at_one_or_more e = record {
   fails = not_of_text e;
 }
 
-pub one_slot_more : (d : ℕ) → 0 < d → CutsByFlag d (λ plan now input. TurnsTheFlag plan × HearsEach text_fragment plan now input × HearsOneIn (d + 1) text_fragment plan now input)
+pub one_slot_more : (d : ℕ) → 0 < d → CutsByFlag d (λ plan now input. TurnsTheFlag plan × HearsEach IsFilled text_fragment plan now input × HearsOneIn (d + 1) text_fragment plan now input)
 one_slot_more d some =
     let e : d - 1 + 1 ≡ d = omega arith in
-    subst (λ (x : ℕ). CutsByFlag x (λ plan now input. TurnsTheFlag plan × HearsEach text_fragment plan now input × HearsOneIn (x + 1) text_fragment plan now input)) e (at_one_or_more (d - 1))
+    subst (λ (x : ℕ). CutsByFlag x (λ plan now input. TurnsTheFlag plan × HearsEach IsFilled text_fragment plan now input × HearsOneIn (x + 1) text_fragment plan now input)) e (at_one_or_more (d - 1))

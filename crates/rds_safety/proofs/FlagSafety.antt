@@ -1,4 +1,4 @@
--- Lemmas: a receiver with the flag bit alone that heard a segment of each broadcast shows the value of its run's
+-- Lemmas: a receiver with the flag bit alone that heard a segment of each broadcast before news shows the value of its run's
 -- source, and tags of that text; and two such receivers show neighbours.
 use Rattle.std.proofs.Common.{◌≡◌, ◌≢◌, ◌⊎◌, ◌+◌, ◌<◌, ◌≤◌, ℕ, zero, suc, Bool, true, false, List, [], ◌∷◌, length, slice_index, Option, Some, None, cond, refl, sym, ap, ◌∙◌, subst, inl, inr, arith}
 use Rattle.std.specs.Prelude.{IfSome}
@@ -20,7 +20,7 @@ use Rattle.rds_receiver.specs.Receipts.{Fragment, Segment, name_fragment, segmen
 use Rattle.rds_receiver.specs.Run.{begins_in, cells_of, is_same, run_at}
 use Rattle.rds_receiver.specs.Shown.{IsShown, ShownView}
 use Rattle.rds_receiver.specs.Tags.{item_of, pair_from, tag_of}
-use Rattle.rds_safety.specs.FlagAlone.{HearsEach, HearsTextBeforeTags, IsHarmless, IsHeardFrom, ListensByFlag, ShowsByFlag, TurnsTheFlag, flag_run, flag_run_before, pair_by_flag, run_by_flag}
+use Rattle.rds_safety.specs.FlagAlone.{HearsEach, HearsTextBeforeTags, IsFilled, IsHarmless, IsHeardFrom, IsNews, ListensByFlag, ShowsByFlag, TurnsTheFlag, flag_run, flag_run_before, pair_by_flag, run_by_flag}
 use Rattle.rds_safety.specs.FlagLaws.{HasNewSource, HoldsItsSource, IsOfItsSource, NamesByFlagAreNew, NamesByFlagAreOfTheirSource, NamesWithADwellAreNew, NewSourcesAreNear, ShowsEmptyText, ShowsTagsOfText, TagsByFlagAreOfTheirText, TextsByFlagAreHeldAlone, TextsByFlagAreNew, TextsByFlagAreOfTheirSource, TextsWithADwellAreNew}
 use Rattle.rds_safety.specs.Late.{CameFrom, HasEntry, Input, IsHeardInOrder}
 use Rattle.rds_safety.specs.Lawful.{IsFragmentOf, IsLawful, Kind, names, texts}
@@ -285,39 +285,38 @@ tags_by_flag laws d plan log input view law order first_text v shows = by view.t
 
 -- ---- how new a source is
 
--- the source of a receiver that heard a segment of each broadcast is at most one behind
+-- the source of a receiver that heard a segment of each broadcast before those that Is holds of is at most one behind
+-- them
 pub new_source : PlanLaws → EachNumberNamesOne → (d now : ℕ) (pick : Message → Option Fragment) (plan : List Broadcast) (log : List (Option Message)) (input : Input)
-    → IsSpaced d plan → IsHeardInOrder log input → ((t s : ℕ) → CameFrom input t s → s ≤ now) → HearsEach pick plan now input → HasNewSource plan now input (run_by_flag pick input)
-new_source laws names_one d now pick plan log input spaced order past each k l a b source planned begun =
+    → IsSpaced d plan → IsHeardInOrder log input → ((t s : ℕ) → CameFrom input t s → s ≤ now)
+    → (Is : List Broadcast → ℕ → Broadcast → Type 0) → HearsEach Is pick plan now input → HasNewSource Is plan now input (run_by_flag pick input)
+new_source laws names_one d now pick plan log input spaced order past Is each k l a b source planned begun so =
     by (segments pick input.first input.heard) (segments_fall pick input.first input.heard) (all_picked pick input.first input.heard) (λ g is_in. is_in) source
   where
     by : (gs : List Segment) → AreFalling (input.first + length input.heard) gs → AllByRecursion (IsPicked pick input.first input.heard) gs → ((g : Segment) → IsIn (segments pick input.first input.heard) g → IsIn gs g)
-        → IsSource plan input (flag_run gs) k a → (l ≤ k + 1) ⊎ (b.bytes ≡ [])
+        → IsSource plan input (flag_run gs) k a → l ≤ k + 1
     by [] falls picks holds is = absurd is.sent
     by (g ∷ older) falls picks holds is = elim (cases_lt (k + 1) l) [
-      | inr near ↦ inl near
-      | inl far ↦ elim (some_or_none b.bytes) [
-        | inl none ↦ inr none
-        | inr some ↦ absurd (none_passes laws names_one d now pick plan log input spaced order past each (input.first + length input.heard) now g is.slot k l a b
-            (λ h is_in after before. elim (holds h is_in) [
-              | inl same ↦ omega (arith, ap (λ (z : Segment). z.slot) same, after)
-              | inr is_older ↦ omega (arith, in_below g.slot older h falls.1 is_older, after)
-            ])
-            (λ t s came before. omega (arith, before_end input.first input.origins t (Some s) came, order.beside))
-            (omega arith) picks.0 is.sent is.planned planned is.covers begun far some)
-      ]
+      | inr near ↦ near
+      | inl far ↦ absurd (none_passes laws names_one d now pick plan log input spaced order past Is each (input.first + length input.heard) now g is.slot k l a b
+          (λ h is_in after before. elim (holds h is_in) [
+            | inl same ↦ omega (arith, ap (λ (z : Segment). z.slot) same, after)
+            | inr is_older ↦ omega (arith, in_below g.slot older h falls.1 is_older, after)
+          ])
+          (λ t s came before. omega (arith, before_end input.first input.origins t (Some s) came, order.beside))
+          (omega arith) picks.0 is.sent is.planned planned is.covers begun far so)
     ]
 
 -- the source of a receiver with a dwell is at most one behind too, since it is recent
 dwell_is_new : PlanLaws → (d m now : ℕ) (kind : Kind) (pick : Message → Option Fragment) (of : Option Message → Mark) (plan : List Broadcast) (log : List (Option Message)) (input : Input)
-    → PicksWhatIsMarked pick of → IsLawful d kind plan (marks of log) → IsHeardByOwnClock d m now log input → HasNewSource plan now input (run_at pick m input.first input.heard)
-dwell_is_new laws d m now kind pick of plan log input alike law hears k l a b source planned begun =
+    → PicksWhatIsMarked pick of → IsLawful d kind plan (marks of log) → IsHeardByOwnClock d m now log input → HasNewSource IsFilled plan now input (run_at pick m input.first input.heard)
+dwell_is_new laws d m now kind pick of plan log input alike law hears k l a b source planned begun filled =
     by (run_at pick m input.first input.heard) (heard_run_lies laws d m now kind pick of plan log input alike law (own_is_near d m now log input hears)) source
   where
-    by : (gs : List Segment) → RunLiesInOne d now kind plan input gs → IsSource plan input gs k a → (l ≤ k + 1) ⊎ (b.bytes ≡ [])
+    by : (gs : List Segment) → RunLiesInOne d now kind plan input gs → IsSource plan input gs k a → l ≤ k + 1
     by [] lies is = absurd is.sent
     by (g ∷ older) lies is = elim (cases_lt (k + 1) l) [
-      | inr near ↦ inl near
+      | inr near ↦ near
       | inl far ↦
           let origin : is.slot ≡ lies.all.0.slot = one_origin input g.slot is.slot lies.all.0.slot is.sent lies.all.0.from in
           absurd (omega (arith, laws.far d plan k l a b law.spaced is.planned planned (omega (arith, far)), origin, is.covers.to, lies.recent, begun))
@@ -329,19 +328,24 @@ source_began now plan input [] k b past source = absurd source.sent
 source_began now plan input (g ∷ older) k b past source = omega (arith, source.covers.from, past g.slot source.slot source.sent)
 
 pub near_sources : NewSourcesAreNear
-near_sources now plan x y x_run y_run x_past y_past x_new y_new k l a b p q =
-    (x_new k l a b p q.planned (source_began now plan y y_run l b y_past q), y_new l k b a q p.planned (source_began now plan x x_run k a x_past p))
+near_sources now plan x y x_run y_run x_past y_past x_new y_new k l a b p q = (
+  or_empty (l ≤ k + 1) b.bytes (x_new k l a b p q.planned (source_began now plan y y_run l b y_past q)),
+  or_empty (k ≤ l + 1) a.bytes (y_new l k b a q p.planned (source_began now plan x x_run k a x_past p)),
+)
+  where
+    or_empty : (Near : Type 0) (bytes : List ℕ) → (bytes ≢ [] → Near) → Near ⊎ (bytes ≡ [])
+    or_empty Near bytes near = elim (some_or_none bytes) [ inl none ↦ inr none | inr some ↦ inl (near some) ]
 
 -- ---- the laws
 
 module _ (laws : PlanLaws) (names_one : EachNumberNamesOne) where
   text_run_is : (d now : ℕ) (plan : List Broadcast) (log : List (Option Message)) (r : Listener) → IsLawful d texts plan (marks text_mark log) → TurnsTheFlag plan → ListensByFlag now log r
-      → HearsEach text_fragment plan now r.input → RunIsOfOneValue texts plan r.input (run_by_flag text_fragment r.input)
+      → HearsEach IsNews text_fragment plan now r.input → RunIsOfOneValue texts plan r.input (run_by_flag text_fragment r.input)
   text_run_is d now plan log r law turns listens each =
       run_is_of_one_value laws names_one d now texts text_fragment text_mark plan log r.input text_fragments_marked law turns listens.order listens.past each
 
   name_run_is : (d now : ℕ) (plan : List Broadcast) (log : List (Option Message)) (r : Listener) → IsLawful d names plan (marks name_mark log) → TurnsTheFlag plan → ListensByFlag now log r
-      → HearsEach name_fragment plan now r.input → RunIsOfOneValue names plan r.input (run_by_flag name_fragment r.input)
+      → HearsEach IsNews name_fragment plan now r.input → RunIsOfOneValue names plan r.input (run_by_flag name_fragment r.input)
   name_run_is d now plan log r law turns listens each =
       run_is_of_one_value laws names_one d now names name_fragment name_mark plan log r.input name_fragments_marked law turns listens.order listens.past each
 
@@ -362,10 +366,14 @@ module _ (laws : PlanLaws) (names_one : EachNumberNamesOne) where
       tags_by_flag laws d plan log r.input r.view law listens.order first_text (text_run_is d now plan log r law turns listens each) listens.shows
 
   pub texts_new : TextsByFlagAreNew
-  texts_new d now plan log r law listens each = new_source laws names_one d now text_fragment plan log r.input law.spaced listens.order listens.past each
+  texts_new d now plan log r law listens =
+      let new = new_source laws names_one d now text_fragment plan log r.input law.spaced listens.order listens.past in
+      (new IsFilled, new IsNews)
 
   pub names_new : NamesByFlagAreNew
-  names_new d now plan log r law listens each = new_source laws names_one d now name_fragment plan log r.input law.spaced listens.order listens.past each
+  names_new d now plan log r law listens =
+      let new = new_source laws names_one d now name_fragment plan log r.input law.spaced listens.order listens.past in
+      (new IsFilled, new IsNews)
 
   pub texts_with_a_dwell : TextsWithADwellAreNew
   texts_with_a_dwell d m now plan log r law listens = dwell_is_new laws d m now texts text_fragment text_mark plan log r.input text_fragments_marked law listens.heard

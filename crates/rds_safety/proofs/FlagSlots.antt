@@ -13,8 +13,8 @@ use Rattle.rds_receiver.specs.Run.{begins_in, cells_of, is_same, run, run_at, ru
 use Rattle.rds_receiver.specs.Shown.{IsShown, ShowsView, ShownView}
 use Rattle.rds_receiver.specs.Tags.{item_of, pair_from, pair_held, tag_of}
 use Rattle.rds_fields.specs.declared.pair.Which.TheVariants.{One, Two}
-use Rattle.rds_safety.specs.FlagAlone.{EachLasts, GetsInARow, HearsEach, HearsOneIn, HearsTextBeforeTags, ListensByFlag, ShowsByFlag, flag_run, flag_run_before, pair_by_flag, run_by_flag}
-use Rattle.rds_safety.specs.FlagLaws.{WhoGetsSomeHearsOneIn, WhoLosesFewGetsSome}
+use Rattle.rds_safety.specs.FlagAlone.{EachLasts, GetsInARow, HearsEach, HearsOneIn, HearsTextBeforeTags, IsFilled, IsNews, ListensByFlag, ShowsByFlag, flag_run, flag_run_before, pair_by_flag, run_by_flag}
+use Rattle.rds_safety.specs.FlagLaws.{WhoGetsSomeHearsOneIn, WhoHearsOneInHearsEach, WhoLosesFewGetsSome}
 use Rattle.rds_safety.specs.Late.{CameFrom, HasEntry, Input, IsHeardInOrder, SentIn}
 use Rattle.rds_safety.specs.Lawful.{IsLawful, texts}
 use Rattle.rds_safety.specs.Laws.{PlanLaws}
@@ -26,12 +26,17 @@ use Rattle.rds_safety.proofs.Pairs.{tags_are_marked}
 use Rattle.rds_safety.proofs.Hearing.{AreFalling, segments_fall}
 use Rattle.rds_safety.proofs.HeldWhole.{one_covers}
 
-pub hears_each : (d n now : ℕ) (pick : Message → Option Fragment) (plan : List Broadcast) (input : Input) → IsSpaced d plan → EachLasts n plan → HearsOneIn n pick plan now input → HearsEach pick plan now input
-hears_each d n now pick plan input spaced lasts often k b next t r p q some heard before begun =
-    let long = lasts k b next p q some in
+hears_each_so : (Is : List Broadcast → ℕ → Broadcast → Type 0) (d n now : ℕ) (pick : Message → Option Fragment) (plan : List Broadcast) (input : Input)
+    → IsSpaced d plan → HearsOneIn n pick plan now input → EachLasts Is n plan → HearsEach Is pick plan now input
+hears_each_so Is d n now pick plan input spaced often lasts k b next t r p q so heard before begun =
+    let long = lasts k b next p q so in
     let after = spaced.order k b next p q in
     let w = often k b.start t r b p (omega arith) long (omega (arith, long, after, begun)) heard before in
     record { slot = w.slot; origin = w.origin; heard = w.heard; since = w.since; until = omega (arith, w.until, long) }
+
+pub hears_each : WhoHearsOneInHearsEach
+hears_each d n now pick plan input spaced often =
+    (hears_each_so IsFilled d n now pick plan input spaced often, hears_each_so IsNews d n now pick plan input spaced often)
 
 pub hears_text_before_tags : PlanLaws → (d now : ℕ) (plan : List Broadcast) (log : List (Option Message)) (r : Listener) → IsLawful d texts plan (marks text_mark log) → ListensByFlag now log r
     → HearsOneIn d text_fragment plan now r.input → HearsTextBeforeTags plan r.input

@@ -80,11 +80,21 @@ pub record HearsOneBetween (pick : Message → Option Fragment) (input : Input) 
   pub since : from ≤ origin
   pub until : origin < before
 
--- once the receiver heard a segment, it heard one of each later broadcast that another one followed by slot `now`; it
--- may miss a broadcast before the empty text
-abbrev pub HearsEach : (Message → Option Fragment) → List Broadcast → ℕ → Input → Type 0
-HearsEach pick plan now input =
-    (k : ℕ) (b next : Broadcast) (t r : ℕ) → HasNumber plan k b → HasNumber plan (k + 1) next → next.bytes ≢ []
+-- broadcast k is filled: it is not the empty text
+abbrev pub IsFilled : List Broadcast → ℕ → Broadcast → Type 0
+IsFilled plan k b = b.bytes ≢ []
+
+-- broadcast k is news: it is not the empty text, and neither of the two before it has its flag and its bytes
+pub record IsNews (plan : List Broadcast) (k : ℕ) (b : Broadcast) : Type 0 where
+  pub filled : b.bytes ≢ []
+  pub new : (j : ℕ) (a : Broadcast) → HasNumber plan j a → j < k → k ≤ j + 2 → a.flag ≡ b.flag → a.bytes ≡ b.bytes → ⊥
+
+-- once the receiver heard a segment, it heard one of each later broadcast that by slot `now` another one followed that
+-- Is holds of: a filled one, or news. It may miss the others
+abbrev pub HearsEach : (List Broadcast → ℕ → Broadcast → Type 0) → (Message → Option Fragment) → List Broadcast → ℕ
+    → Input → Type 0
+HearsEach Is pick plan now input =
+    (k : ℕ) (b next : Broadcast) (t r : ℕ) → HasNumber plan k b → HasNumber plan (k + 1) next → Is plan (k + 1) next
     → IsHeardFrom pick input t r → r < b.start → next.start ≤ now → HearsOneBetween pick input b.start (b.end + 1)
 
 -- once the receiver heard a segment, it heard one of each later broadcast before the tags of that broadcast
@@ -100,10 +110,10 @@ HearsOneIn n pick plan now input =
     (k s t r : ℕ) (b : Broadcast) → HasNumber plan k b → b.start ≤ s → s + n ≤ b.end + 1 → s + n ≤ now
     → IsHeardFrom pick input t r → r < s → HearsOneBetween pick input s (s + n)
 
--- each broadcast lasts for at least n slots if another one follows that is not the empty text
-abbrev pub EachLasts : ℕ → List Broadcast → Type 0
-EachLasts n plan =
-    (k : ℕ) (b next : Broadcast) → HasNumber plan k b → HasNumber plan (k + 1) next → next.bytes ≢ []
+-- each broadcast lasts for at least n slots if another one follows that Is holds of
+abbrev pub EachLasts : (List Broadcast → ℕ → Broadcast → Type 0) → ℕ → List Broadcast → Type 0
+EachLasts Is n plan =
+    (k : ℕ) (b next : Broadcast) → HasNumber plan k b → HasNumber plan (k + 1) next → Is plan (k + 1) next
     → b.start + n ≤ b.end + 1
 
 -- a segment was sent in slot `from` or later, and before slot `before`

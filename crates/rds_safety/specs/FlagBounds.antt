@@ -4,7 +4,8 @@ use Rattle.std.specs.Prelude.{◌≡◌, ◌+◌, ◌<◌, ◌≤◌, ◌⊎◌,
 use Rattle.rds_fields.specs.declared.message.Message.{Message}
 use Rattle.rds_encoder.specs.Plan.{Broadcast, HasNumber}
 use Rattle.rds_receiver.specs.Receipts.{text_fragment}
-use Rattle.rds_safety.specs.FlagAlone.{EachLasts, HearsEach, HearsOneIn, HearsTextBeforeTags, ListensByFlag, TurnsTheFlag}
+use Rattle.rds_safety.specs.FlagAlone.{EachLasts, HearsEach, HearsOneIn, HearsTextBeforeTags, IsFilled}
+use Rattle.rds_safety.specs.FlagAlone.{ListensByFlag, TurnsTheFlag}
 use Rattle.rds_safety.specs.Late.{Input}
 use Rattle.rds_safety.specs.Lawful.{IsLawful, texts}
 use Rattle.rds_safety.specs.Marks.{marks, text_mark}
@@ -29,13 +30,13 @@ pub record MixesByFlag (d : ℕ) (IsSo : List Broadcast → ℕ → Input → Ty
 abbrev pub OneFlagTwiceMixes : Type 0
 OneFlagTwiceMixes =
     (d : ℕ) → 0 < d
-    → MixesByFlag d (λ plan now input. HearsEach text_fragment plan now input × HearsTextBeforeTags plan input)
+    → MixesByFlag d (λ plan now input. HearsEach IsFilled text_fragment plan now input × HearsTextBeforeTags plan input)
 
 -- if each broadcast lasts for n slots, hearing a segment in each n + 1 slots in a row is not enough
 abbrev pub OneSlotMoreMixesByFlag : Type 0
 OneSlotMoreMixesByFlag =
     (d n : ℕ) → 0 < n → d ≤ n + 1
-    → MixesByFlag d (λ plan now input. TurnsTheFlag plan × EachLasts n plan
+    → MixesByFlag d (λ plan now input. TurnsTheFlag plan × EachLasts IsFilled n plan
     × HearsOneIn (n + 1) text_fragment plan now input × HearsTextBeforeTags plan input)
 
 -- the same for a receiver that shows tags of another text than the one shown
@@ -54,5 +55,5 @@ pub record CutsByFlag (d : ℕ) (IsSo : List Broadcast → ℕ → Input → Typ
 abbrev pub OneSlotMoreCutsByFlag : Type 0
 OneSlotMoreCutsByFlag =
     (d : ℕ) → 0 < d
-    → CutsByFlag d (λ plan now input. TurnsTheFlag plan × HearsEach text_fragment plan now input
+    → CutsByFlag d (λ plan now input. TurnsTheFlag plan × HearsEach IsFilled text_fragment plan now input
     × HearsOneIn (d + 1) text_fragment plan now input)

@@ -7,8 +7,9 @@ use Rattle.rds_encoder.specs.Plan.{Broadcast, HasNumber}
 use Rattle.rds_encoder.specs.Spaced.{IsSpaced}
 use Rattle.rds_receiver.specs.Receipts.{Fragment, Segment, name_fragment, text_fragment}
 use Rattle.rds_receiver.specs.Shown.{ShowsView, ShownView}
-use Rattle.rds_safety.specs.FlagAlone.{EachLasts, GetsSome, HearsEach, HearsOneIn, HearsTextBeforeTags, ListensByFlag}
-use Rattle.rds_safety.specs.FlagAlone.{LosesInARow, SendsOneIn, ShowsByFlag, TurnsTheFlag, run_by_flag}
+use Rattle.rds_safety.specs.FlagAlone.{EachLasts, GetsSome, HearsEach, HearsOneIn, HearsTextBeforeTags, IsFilled}
+use Rattle.rds_safety.specs.FlagAlone.{IsNews, ListensByFlag, LosesInARow, SendsOneIn, ShowsByFlag, TurnsTheFlag}
+use Rattle.rds_safety.specs.FlagAlone.{run_by_flag}
 use Rattle.rds_safety.specs.Late.{CameFrom, Input, IsHeardInOrder}
 use Rattle.rds_safety.specs.Lawful.{IsFragmentOf, IsLawful, Kind, names, texts}
 use Rattle.rds_safety.specs.Marks.{IsMarkIn, Mark, Tagged, marks, name_mark, text_mark}
@@ -64,7 +65,7 @@ abbrev pub TextsByFlagAreOfTheirSource : Type 0
 TextsByFlagAreOfTheirSource =
     (d now : ℕ) (plan : List Broadcast) (log : List (Option Message)) (r : Listener)
     → IsLawful d texts plan (marks text_mark log) → TurnsTheFlag plan → ListensByFlag now log r
-    → HearsEach text_fragment plan now r.input
+    → HearsEach IsNews text_fragment plan now r.input
     → IfSome r.view.text (IsOfItsSource plan r.input (run_by_flag text_fragment r.input))
 
 -- the name shown likewise
@@ -72,7 +73,7 @@ abbrev pub NamesByFlagAreOfTheirSource : Type 0
 NamesByFlagAreOfTheirSource =
     (d now : ℕ) (plan : List Broadcast) (log : List (Option Message)) (r : Listener)
     → IsLawful d names plan (marks name_mark log) → TurnsTheFlag plan → ListensByFlag now log r
-    → HearsEach name_fragment plan now r.input
+    → HearsEach IsNews name_fragment plan now r.input
     → IfSome r.view.name (IsOfItsSource plan r.input (run_by_flag name_fragment r.input))
 
 -- unless the source is the empty text, the receiver holds segments of the source's text alone; so a text shown in part
@@ -81,7 +82,7 @@ abbrev pub TextsByFlagAreHeldAlone : Type 0
 TextsByFlagAreHeldAlone =
     (d now : ℕ) (plan : List Broadcast) (log : List (Option Message)) (r : Listener)
     → IsLawful d texts plan (marks text_mark log) → TurnsTheFlag plan → ListensByFlag now log r
-    → HearsEach text_fragment plan now r.input
+    → HearsEach IsNews text_fragment plan now r.input
     → HoldsItsSource texts plan r.input (run_by_flag text_fragment r.input)
 
 -- no tags are shown, or the empty text is shown without a tag, or the tags shown are of the text shown
@@ -89,41 +90,47 @@ abbrev pub TagsByFlagAreOfTheirText : Type 0
 TagsByFlagAreOfTheirText =
     (d now : ℕ) (plan : List Broadcast) (log : List (Option Message)) (r : Listener)
     → IsLawful d texts plan (marks text_mark log) → TurnsTheFlag plan → ListensByFlag now log r
-    → HearsEach text_fragment plan now r.input → HearsTextBeforeTags plan r.input
+    → HearsEach IsNews text_fragment plan now r.input → HearsTextBeforeTags plan r.input
     → ShowsNoTags r.view ⊎ ShowsEmptyText r.view ⊎ ShowsTagsOfText d plan (marks text_mark log) r.view
 
--- each broadcast that began by slot `now` is at most the next one after the source of the run, or is the empty text
-abbrev pub HasNewSource : List Broadcast → ℕ → Input → List Segment → Type 0
-HasNewSource plan now input the_run =
-    (k l : ℕ) (a b : Broadcast) → IsSource plan input the_run k a → HasNumber plan l b → b.start ≤ now
-    → (l ≤ k + 1) ⊎ (b.bytes ≡ [])
+-- each broadcast that Is holds of, and that began by slot `now`, is at most the next one after the source of the run
+abbrev pub HasNewSource : (List Broadcast → ℕ → Broadcast → Type 0) → List Broadcast → ℕ → Input → List Segment → Type 0
+HasNewSource Is plan now input the_run =
+    (k l : ℕ) (a b : Broadcast) → IsSource plan input the_run k a → HasNumber plan l b → b.start ≤ now → Is plan l b
+    → l ≤ k + 1
 
--- this holds for a receiver that hears a segment of each broadcast of texts
+-- this holds for a receiver that hears a segment of each broadcast of texts: for all but the empty text, or for news
 abbrev pub TextsByFlagAreNew : Type 0
 TextsByFlagAreNew =
     (d now : ℕ) (plan : List Broadcast) (log : List (Option Message)) (r : Listener)
-    → IsLawful d texts plan (marks text_mark log) → ListensByFlag now log r → HearsEach text_fragment plan now r.input
-    → HasNewSource plan now r.input (run_by_flag text_fragment r.input)
+    → IsLawful d texts plan (marks text_mark log) → ListensByFlag now log r
+    → (HearsEach IsFilled text_fragment plan now r.input
+    → HasNewSource IsFilled plan now r.input (run_by_flag text_fragment r.input))
+    × (HearsEach IsNews text_fragment plan now r.input
+    → HasNewSource IsNews plan now r.input (run_by_flag text_fragment r.input))
 
--- this holds for one that hears a segment of each broadcast of names
+-- the same for names
 abbrev pub NamesByFlagAreNew : Type 0
 NamesByFlagAreNew =
     (d now : ℕ) (plan : List Broadcast) (log : List (Option Message)) (r : Listener)
-    → IsLawful d names plan (marks name_mark log) → ListensByFlag now log r → HearsEach name_fragment plan now r.input
-    → HasNewSource plan now r.input (run_by_flag name_fragment r.input)
+    → IsLawful d names plan (marks name_mark log) → ListensByFlag now log r
+    → (HearsEach IsFilled name_fragment plan now r.input
+    → HasNewSource IsFilled plan now r.input (run_by_flag name_fragment r.input))
+    × (HearsEach IsNews name_fragment plan now r.input
+    → HasNewSource IsNews plan now r.input (run_by_flag name_fragment r.input))
 
 -- this holds for each receiver with a dwell, whatever it hears
 abbrev pub TextsWithADwellAreNew : Type 0
 TextsWithADwellAreNew =
     (d m now : ℕ) (plan : List Broadcast) (log : List (Option Message)) (r : Listener)
     → IsLawful d texts plan (marks text_mark log) → ListensByOwnClock d m now log r
-    → HasNewSource plan now r.input (text_run m r.input)
+    → HasNewSource IsFilled plan now r.input (text_run m r.input)
 
 abbrev pub NamesWithADwellAreNew : Type 0
 NamesWithADwellAreNew =
     (d m now : ℕ) (plan : List Broadcast) (log : List (Option Message)) (r : Listener)
     → IsLawful d names plan (marks name_mark log) → ListensByOwnClock d m now log r
-    → HasNewSource plan now r.input (name_run m r.input)
+    → HasNewSource IsFilled plan now r.input (name_run m r.input)
 
 -- of the sources of two runs, each is at most the next one after the other, or is the empty text
 abbrev pub HaveNearSourcesByFlag : List Broadcast → Input → List Segment → Input → List Segment → Type 0
@@ -136,14 +143,17 @@ abbrev pub NewSourcesAreNear : Type 0
 NewSourcesAreNear =
     (now : ℕ) (plan : List Broadcast) (x y : Input) (x_run y_run : List Segment)
     → ((t s : ℕ) → CameFrom x t s → s ≤ now) → ((t s : ℕ) → CameFrom y t s → s ≤ now)
-    → HasNewSource plan now x x_run → HasNewSource plan now y y_run → HaveNearSourcesByFlag plan x x_run y y_run
+    → HasNewSource IsFilled plan now x x_run → HasNewSource IsFilled plan now y y_run
+    → HaveNearSourcesByFlag plan x x_run y y_run
 
 -- if each broadcast lasts for n slots, a receiver that hears a segment in each n slots in a row hears one of each
 -- broadcast
 abbrev pub WhoHearsOneInHearsEach : Type 0
 WhoHearsOneInHearsEach =
     (d n now : ℕ) (pick : Message → Option Fragment) (plan : List Broadcast) (input : Input)
-    → IsSpaced d plan → EachLasts n plan → HearsOneIn n pick plan now input → HearsEach pick plan now input
+    → IsSpaced d plan → HearsOneIn n pick plan now input
+    → (EachLasts IsFilled n plan → HearsEach IsFilled pick plan now input)
+    × (EachLasts IsNews n plan → HearsEach IsNews pick plan now input)
 
 -- a receiver that hears a segment in each d slots in a row of a broadcast hears tags only after their text
 abbrev pub WhoHearsOneInHearsTextBeforeTags : Type 0

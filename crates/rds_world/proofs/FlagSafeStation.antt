@@ -10,7 +10,7 @@ use Rattle.rds_safety.specs.Late.{Input}
 use Rattle.rds_world.specs.FlagStation.{NamesOfAStationAreNew, NamesOfAStationAreOfTheirSource, TagsOfAStationAreOfTheirText, TextsOfAStationAreNew, TextsOfAStationAreOfTheirSource, TheStationSendsOneIn, WhoGetsSomeShowsTextsOfTheirSource, WhoLosesFewShowsTextsOfTheirSource}
 use Rattle.rds_world.specs.Slots.{entries, log, plans_of}
 use Rattle.rds_world.specs.Station.{TheEncoderIsLawful}
-use Rattle.rds_world.proofs.FlagStation.{empties_are_harmless, keeps_each, turns_the_flag}
+use Rattle.rds_world.proofs.FlagStation.{keeps_each, turns}
 
 -- a segment in each n slots is one in each m slots, if n is at most m
 oftener : (n m : ℕ) (pick : Message → Option Fragment) (plan : List Broadcast) (now : ℕ) (input : Input) → n ≤ m → HearsOneIn n pick plan now input → HearsOneIn m pick plan now input
@@ -22,39 +22,43 @@ pub texts_are_safe : TheEncoderIsLawful → TextsByFlagAreOfTheirSource → WhoH
 texts_are_safe lawful safe enough d now events r some set first listens often =
     let law = lawful d events some set in
     let moves = text_moves (entries events) in
-    let turns = turns_the_flag d (length events - 1) moves (empties_are_harmless d moves first) in
-    let lasts = keeps_each d (length events - 1) moves first in
-    safe d now (plans_of d events).text (log d events) r law.text turns listens (enough d (2 * d) now text_fragment (plans_of d events).text r.input law.text.spaced lasts often)
+    let flags = turns d (length events - 1) moves in
+    let lasts = (keeps_each d (length events - 1) moves).1 first in
+    safe d now (plans_of d events).text (log d events) r law.text (flags.0 (flags.1 first)) listens ((enough d (2 * d) now text_fragment (plans_of d events).text r.input law.text.spaced often).1 lasts)
 
 pub names_are_safe : TheEncoderIsLawful → NamesByFlagAreOfTheirSource → WhoHearsOneInHearsEach → NamesOfAStationAreOfTheirSource
 names_are_safe lawful safe enough d now events r some set first listens often =
     let law = lawful d events some set in
     let moves = name_moves (entries events) in
-    let turns = turns_the_flag d (length events - 1) moves (empties_are_harmless d moves first) in
-    let lasts = keeps_each d (length events - 1) moves first in
-    safe d now (plans_of d events).name (log d events) r law.name turns listens (enough d (2 * d) now name_fragment (plans_of d events).name r.input law.name.spaced lasts often)
+    let flags = turns d (length events - 1) moves in
+    let lasts = (keeps_each d (length events - 1) moves).1 first in
+    safe d now (plans_of d events).name (log d events) r law.name (flags.0 (flags.1 first)) listens ((enough d (2 * d) now name_fragment (plans_of d events).name r.input law.name.spaced often).1 lasts)
 
 pub tags_are_safe : TheEncoderIsLawful → TagsByFlagAreOfTheirText → WhoHearsOneInHearsEach → WhoHearsOneInHearsTextBeforeTags → TagsOfAStationAreOfTheirText
 tags_are_safe lawful safe enough before_tags d now events r some set first listens often =
     let law = lawful d events some set in
     let moves = text_moves (entries events) in
-    let turns = turns_the_flag d (length events - 1) moves (empties_are_harmless d moves first) in
-    let lasts = keeps_each d (length events - 1) moves first in
-    safe d now (plans_of d events).text (log d events) r law.text turns listens
-    (enough d (2 * d) now text_fragment (plans_of d events).text r.input law.text.spaced lasts (oftener d (2 * d) text_fragment (plans_of d events).text now r.input (omega arith) often))
+    let flags = turns d (length events - 1) moves in
+    let lasts = (keeps_each d (length events - 1) moves).1 first in
+    safe d now (plans_of d events).text (log d events) r law.text (flags.0 (flags.1 first)) listens
+    ((enough d (2 * d) now text_fragment (plans_of d events).text r.input law.text.spaced (oftener d (2 * d) text_fragment (plans_of d events).text now r.input (omega arith) often)).1 lasts)
     (before_tags d now (plans_of d events).text (log d events) r law.text listens often)
 
 pub texts_are_new : TheEncoderIsLawful → TextsByFlagAreNew → WhoHearsOneInHearsEach → TextsOfAStationAreNew
-texts_are_new lawful new enough d now events r some set first listens often =
+texts_are_new lawful new enough d now events r some set listens often =
     let law = lawful d events some set in
-    let lasts = keeps_each d (length events - 1) (text_moves (entries events)) first in
-    new d now (plans_of d events).text (log d events) r law.text listens (enough d (2 * d) now text_fragment (plans_of d events).text r.input law.text.spaced lasts often)
+    let lasts = keeps_each d (length events - 1) (text_moves (entries events)) in
+    let each = enough d (2 * d) now text_fragment (plans_of d events).text r.input law.text.spaced often in
+    let is_new = new d now (plans_of d events).text (log d events) r law.text listens in
+    (λ first. is_new.0 (each.0 (lasts.0 first)), λ first. is_new.1 (each.1 (lasts.1 first)))
 
 pub names_are_new : TheEncoderIsLawful → NamesByFlagAreNew → WhoHearsOneInHearsEach → NamesOfAStationAreNew
-names_are_new lawful new enough d now events r some set first listens often =
+names_are_new lawful new enough d now events r some set listens often =
     let law = lawful d events some set in
-    let lasts = keeps_each d (length events - 1) (name_moves (entries events)) first in
-    new d now (plans_of d events).name (log d events) r law.name listens (enough d (2 * d) now name_fragment (plans_of d events).name r.input law.name.spaced lasts often)
+    let lasts = keeps_each d (length events - 1) (name_moves (entries events)) in
+    let each = enough d (2 * d) now name_fragment (plans_of d events).name r.input law.name.spaced often in
+    let is_new = new d now (plans_of d events).name (log d events) r law.name listens in
+    (λ first. is_new.0 (each.0 (lasts.0 first)), λ first. is_new.1 (each.1 (lasts.1 first)))
 
 pub some_are_enough : TextsOfAStationAreOfTheirSource → TheStationSendsOneIn → WhoGetsSomeHearsOneIn → WhoGetsSomeShowsTextsOfTheirSource
 some_are_enough safe sends enough d r now events l some set first listens lends gets =

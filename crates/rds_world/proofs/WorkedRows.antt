@@ -1,9 +1,13 @@
--- Worked examples of due receptions and of inputs, calculated by hand. Lists have the newest first.
-use Rattle.std.proofs.Common.{◌≡◌, ◌-◌, ◌<◌, ℕ, List, ◌∷◌, Option, Some, None, refl, ap, arith}
+-- Worked examples of due receptions, of inputs and of what may come first after a restart, calculated by hand. Lists
+-- have the newest first.
+use Rattle.std.proofs.Common.{◌≡◌, ◌-◌, ◌<◌, ℕ, List, [], ◌∷◌, Option, Some, None, true, refl, sym, ap, inl, inr, arith}
+use Rattle.rds_encoder.specs.Entries.{Move, Begin, Set, End}
+use Rattle.rds_encoder.specs.Plan.{plan_of}
 use Rattle.rds_fields.specs.declared.message.Message.{Message}
 use Rattle.rds_safety.specs.Late.{Input}
 use Rattle.rds_world.specs.declared.event.Reception.TheVariants.{Got}
 use Rattle.rds_world.specs.Due.{IsDueBack}
+use Rattle.rds_world.specs.FlagStation.{IsSafeAfter}
 use Rattle.rds_world.specs.Slots.{received}
 
 -- zero slots late, a receiver hears what is sent in the slot, and its origin is the slot
@@ -29,3 +33,27 @@ not_before_first due = (let there = due.there in omega (arith, there))
 
 not_so_late : IsDueBack 2 6 None 3 → ⊥
 not_so_late due = (let soon = due.soon in omega (arith, soon))
+
+-- with d = 1: a text in slot 1, and another one in slot 3, one slot before a restart
+abbrev one_slot_of_two : List Move
+one_slot_of_two = Begin ∷ End true ∷ Set (0x42 ∷ []) ∷ End true ∷ End true ∷ Set (0x41 ∷ []) ∷ End true ∷ []
+
+-- the first of them has flag 0, so it is safe after the restart, and so is the empty text
+again_is_safe : IsSafeAfter 1 (plan_of 1 4 one_slot_of_two) (0x41 ∷ [])
+again_is_safe = inl (inl refl)
+
+empty_is_safe : IsSafeAfter 1 (plan_of 1 4 one_slot_of_two) []
+empty_is_safe = inl (inr refl)
+
+-- the second one is not: a receiver that missed it still holds the first one
+last_is_not_safe : IsSafeAfter 1 (plan_of 1 4 one_slot_of_two) (0x42 ∷ []) → ⊥
+last_is_not_safe (inl (inl same)) = omega (arith, one_byte 0x41 0x42 same)
+  where
+    one_byte : (a b : ℕ) → (a ∷ []) ≡ (b ∷ []) → a ≡ b
+    one_byte a b same = cc
+last_is_not_safe (inl (inr none)) = (cc)
+last_is_not_safe (inr long) = (let lasted = long.1 in omega (arith, lasted))
+
+-- if it lasted for two slots, each text is safe
+after_two_slots : IsSafeAfter 1 (plan_of 1 5 (Begin ∷ End true ∷ End true ∷ Set (0x42 ∷ []) ∷ End true ∷ End true ∷ Set (0x41 ∷ []) ∷ End true ∷ [])) (0x43 ∷ [])
+after_two_slots = inr (refl, omega arith)

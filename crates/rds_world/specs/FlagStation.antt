@@ -1,14 +1,14 @@
 -- What a station promises to receivers with the flag bit alone (this project's own rule). Its flag turns with each text
--- that it accepts. After a restart the flag is 0 again, so the empty text has to come first. Lists have the newest
--- first.
+-- or name that it accepts. After a restart the flag is 0 again. So the first text or name has to be one that a receiver
+-- can join to what it holds: the empty text, or the newest one with flag 0 again. Lists have the newest first.
 use Rattle.std.specs.Prelude.{◌≡◌, ◌+◌, ◌-◌, ◌*◌, ◌<◌, ◌≤◌, ◌⊎◌}
-use Rattle.std.specs.Prelude.{ℕ, Bool, true, List, [], ◌∷◌, Some, None, IfSome, is_ok, length}
+use Rattle.std.specs.Prelude.{ℕ, Bool, true, List, [], ◌∷◌, Option, Some, None, IfSome, is_ok, length, if◌then◌else◌}
 use Rattle.rds_encoder.specs.Entries.{Move, Begin, Set, End, name_moves, slot_of, text_moves}
 use Rattle.rds_encoder.specs.Plan.{Broadcast, HasNumber, on_air, plan_of}
 use Rattle.rds_encoder.specs.Reply.{reply_to}
 use Rattle.rds_receiver.specs.Receipts.{name_fragment, text_fragment}
-use Rattle.rds_safety.specs.FlagAlone.{EachLasts, GetsSome, HearsOneIn, ListensByFlag, LosesInARow, SendsOneIn}
-use Rattle.rds_safety.specs.FlagAlone.{TurnsTheFlag, run_by_flag}
+use Rattle.rds_safety.specs.FlagAlone.{EachLasts, GetsSome, HearsOneIn, IsFilled, IsNews, ListensByFlag}
+use Rattle.rds_safety.specs.FlagAlone.{LosesInARow, SendsOneIn, TurnsTheFlag, run_by_flag}
 use Rattle.rds_safety.specs.FlagLaws.{HasNewSource, IsOfItsSource, ShowsEmptyText, ShowsTagsOfText}
 use Rattle.rds_safety.specs.Marks.{marks, text_mark}
 use Rattle.rds_safety.specs.OwnClock.{IsTrueClock}
@@ -21,13 +21,32 @@ abbrev pub IsEmptyAfter : List Broadcast → List ℕ → Type 0
 IsEmptyAfter [] x = Unit {0}
 IsEmptyAfter (newest ∷ older) x = x ≡ []
 
--- nothing was planned before, or the newest broadcast has the bytes x, or x is empty
+-- the bytes of the newest broadcast with flag 0
+abbrev pub newest_with_flag_0 : List Broadcast → Option (List ℕ)
+newest_with_flag_0 [] = None
+newest_with_flag_0 (newest ∷ older) = if newest.flag then newest_with_flag_0 older else Some newest.bytes
+
+-- no broadcast before had flag 0, or the newest with flag 0 has the bytes x, or x is empty
+abbrev pub IsAgainAfter : List Broadcast → List ℕ → Type 0
+IsAgainAfter plan x = IfSome (newest_with_flag_0 plan) (λ bytes. (bytes ≡ x) ⊎ (x ≡ []))
+
+-- the newest broadcast has flag 1 and lasted for at least n slots
+abbrev pub EndsLongWithFlag1 : ℕ → List Broadcast → Type 0
+EndsLongWithFlag1 n [] = ⊥
+EndsLongWithFlag1 n (newest ∷ older) = (newest.flag ≡ true) × (newest.start + n ≤ newest.end + 1)
+
+-- a receiver that hears a segment in each 2d slots in a row of a broadcast can join x to what it holds: it is the newest
+-- one with flag 0 again, or empty, or the newest one has flag 1 and lasted for 2d slots
+abbrev pub IsSafeAfter : ℕ → List Broadcast → List ℕ → Type 0
+IsSafeAfter d plan x = IsAgainAfter plan x ⊎ EndsLongWithFlag1 (2 * d) plan
+
+-- nothing was planned before, or the newest broadcast has flag 1 or the bytes x, or x is empty
 abbrev pub IsHarmlessAfter : List Broadcast → List ℕ → Type 0
 IsHarmlessAfter [] x = Unit {0}
-IsHarmlessAfter (newest ∷ older) x = (newest.bytes ≡ x) ⊎ (x ≡ [])
+IsHarmlessAfter (newest ∷ older) x = (newest.flag ≡ true) ⊎ (newest.bytes ≡ x) ⊎ (x ≡ [])
 
--- IsAfter holds of each text that was accepted while no text was on air, that is first after a restart, and of the plan
--- before it
+-- IsAfter holds of each text, or name, that was accepted while none was on air, that is first after a restart, and of
+-- the plan before it
 abbrev pub IsFirstAfterRestart : (List Broadcast → List ℕ → Type 0) → ℕ → List Move → Type 0
 IsFirstAfterRestart IsAfter d [] = Unit {0}
 IsFirstAfterRestart IsAfter d (Begin ∷ before) = IsFirstAfterRestart IsAfter d before
@@ -47,31 +66,40 @@ HasNoRestart (End free ∷ before) = HasNoRestart before
 abbrev pub InOneLifeNothingIsAsked : Type 0
 InOneLifeNothingIsAsked = (d : ℕ) (moves : List Move) → HasNoRestart moves → IsFirstAfterRestart IsEmptyAfter d moves
 
--- the flag turns with each broadcast, if the first one after each restart does no harm
+-- if the empty text comes first, the first ones are safe
+abbrev pub TheEmptyTextIsEnough : Type 0
+TheEmptyTextIsEnough =
+    (d : ℕ) (moves : List Move) → IsFirstAfterRestart IsEmptyAfter d moves → IsFirstAfterRestart (IsSafeAfter d) d moves
+
+-- the flag turns with each broadcast, if the first one after each restart does no harm; what is safe does none
 abbrev pub TheStationTurnsTheFlag : Type 0
 TheStationTurnsTheFlag =
-    (d end : ℕ) (moves : List Move) → IsFirstAfterRestart IsHarmlessAfter d moves → TurnsTheFlag (plan_of d end moves)
+    (d end : ℕ) (moves : List Move)
+    → (IsFirstAfterRestart IsHarmlessAfter d moves → TurnsTheFlag (plan_of d end moves))
+    × (IsFirstAfterRestart (IsSafeAfter d) d moves → IsFirstAfterRestart IsHarmlessAfter d moves)
 
--- each broadcast lasts for at least 2d slots if another one follows that is not the empty text
+-- each broadcast lasts for at least 2d slots if another one follows that is not the empty text, or that is news
 abbrev pub TheStationKeepsEach : Type 0
 TheStationKeepsEach =
-    (d end : ℕ) (moves : List Move) → IsFirstAfterRestart IsEmptyAfter d moves
-    → EachLasts (2 * d) (plan_of d end moves)
+    (d end : ℕ) (moves : List Move)
+    → (IsFirstAfterRestart IsEmptyAfter d moves → EachLasts IsFilled (2 * d) (plan_of d end moves))
+    × (IsFirstAfterRestart (IsSafeAfter d) d moves → EachLasts IsNews (2 * d) (plan_of d end moves))
 
 -- a receiver with the flag bit alone that hears a segment in each 2d slots in a row of a text shows the text of its
 -- source, in which the last segment was sent
 abbrev pub TextsOfAStationAreOfTheirSource : Type 0
 TextsOfAStationAreOfTheirSource =
     (d now : ℕ) (events : List Event) (r : Listener) → 0 < d → SetValues events
-    → IsFirstAfterRestart IsEmptyAfter d (text_moves (entries events)) → ListensByFlag now (log d events) r
+    → IsFirstAfterRestart (IsSafeAfter d) d (text_moves (entries events)) → ListensByFlag now (log d events) r
     → HearsOneIn (2 * d) text_fragment (plans_of d events).text now r.input
     → IfSome r.view.text (IsOfItsSource (plans_of d events).text r.input (run_by_flag text_fragment r.input))
 
--- the same for names; no name is empty, so the station must not have restarted between two of them
+-- the same for names; no name is empty, so the newest one with flag 0 comes first, unless the newest one has flag 1 and
+-- lasted for 2d slots
 abbrev pub NamesOfAStationAreOfTheirSource : Type 0
 NamesOfAStationAreOfTheirSource =
     (d now : ℕ) (events : List Event) (r : Listener) → 0 < d → SetValues events
-    → IsFirstAfterRestart IsEmptyAfter d (name_moves (entries events)) → ListensByFlag now (log d events) r
+    → IsFirstAfterRestart (IsSafeAfter d) d (name_moves (entries events)) → ListensByFlag now (log d events) r
     → HearsOneIn (2 * d) name_fragment (plans_of d events).name now r.input
     → IfSome r.view.name (IsOfItsSource (plans_of d events).name r.input (run_by_flag name_fragment r.input))
 
@@ -79,27 +107,31 @@ NamesOfAStationAreOfTheirSource =
 abbrev pub TagsOfAStationAreOfTheirText : Type 0
 TagsOfAStationAreOfTheirText =
     (d now : ℕ) (events : List Event) (r : Listener) → 0 < d → SetValues events
-    → IsFirstAfterRestart IsEmptyAfter d (text_moves (entries events)) → ListensByFlag now (log d events) r
+    → IsFirstAfterRestart (IsSafeAfter d) d (text_moves (entries events)) → ListensByFlag now (log d events) r
     → HearsOneIn d text_fragment (plans_of d events).text now r.input
     → ShowsNoTags r.view ⊎ ShowsEmptyText r.view
     ⊎ ShowsTagsOfText d (plans_of d events).text (marks text_mark (log d events)) r.view
 
 -- if it hears a segment in each 2d slots in a row of a text, its source is new: each text that began by slot `now` is
--- at most the next one after it, or is empty
+-- at most the next one after it, except the empty text, or except what is no news
 abbrev pub TextsOfAStationAreNew : Type 0
 TextsOfAStationAreNew =
-    (d now : ℕ) (events : List Event) (r : Listener) → 0 < d → SetValues events
-    → IsFirstAfterRestart IsEmptyAfter d (text_moves (entries events)) → ListensByFlag now (log d events) r
+    (d now : ℕ) (events : List Event) (r : Listener) → 0 < d → SetValues events → ListensByFlag now (log d events) r
     → HearsOneIn (2 * d) text_fragment (plans_of d events).text now r.input
-    → HasNewSource (plans_of d events).text now r.input (run_by_flag text_fragment r.input)
+    → (IsFirstAfterRestart IsEmptyAfter d (text_moves (entries events))
+    → HasNewSource IsFilled (plans_of d events).text now r.input (run_by_flag text_fragment r.input))
+    × (IsFirstAfterRestart (IsSafeAfter d) d (text_moves (entries events))
+    → HasNewSource IsNews (plans_of d events).text now r.input (run_by_flag text_fragment r.input))
 
 -- the same for names
 abbrev pub NamesOfAStationAreNew : Type 0
 NamesOfAStationAreNew =
-    (d now : ℕ) (events : List Event) (r : Listener) → 0 < d → SetValues events
-    → IsFirstAfterRestart IsEmptyAfter d (name_moves (entries events)) → ListensByFlag now (log d events) r
+    (d now : ℕ) (events : List Event) (r : Listener) → 0 < d → SetValues events → ListensByFlag now (log d events) r
     → HearsOneIn (2 * d) name_fragment (plans_of d events).name now r.input
-    → HasNewSource (plans_of d events).name now r.input (run_by_flag name_fragment r.input)
+    → (IsFirstAfterRestart IsEmptyAfter d (name_moves (entries events))
+    → HasNewSource IsFilled (plans_of d events).name now r.input (run_by_flag name_fragment r.input))
+    × (IsFirstAfterRestart (IsSafeAfter d) d (name_moves (entries events))
+    → HasNewSource IsNews (plans_of d events).name now r.input (run_by_flag name_fragment r.input))
 
 -- the slot was free
 abbrev pub IsFreeIn : List Event → ℕ → Type 0
@@ -132,7 +164,7 @@ TheStationSendsOneIn =
 abbrev pub WhoGetsSomeShowsTextsOfTheirSource : Type 0
 WhoGetsSomeShowsTextsOfTheirSource =
     (d r now : ℕ) (events : List Event) (l : Listener) → 0 < d → SetValues events
-    → IsFirstAfterRestart IsEmptyAfter d (text_moves (entries events)) → ListensByFlag now (log d events) l
+    → IsFirstAfterRestart (IsSafeAfter d) d (text_moves (entries events)) → ListensByFlag now (log d events) l
     → LendsTwoIn r (plans_of d events).text events
     → GetsSome r (2 * d) text_fragment (plans_of d events).text now l.input
     → IfSome l.view.text (IsOfItsSource (plans_of d events).text l.input (run_by_flag text_fragment l.input))
@@ -141,7 +173,7 @@ WhoGetsSomeShowsTextsOfTheirSource =
 abbrev pub WhoLosesFewShowsTextsOfTheirSource : Type 0
 WhoLosesFewShowsTextsOfTheirSource =
     (d r most now : ℕ) (events : List Event) (l : Listener) (got : ℕ → Bool) → 0 < d → SetValues events
-    → IsFirstAfterRestart IsEmptyAfter d (text_moves (entries events)) → ListensByFlag now (log d events) l
+    → IsFirstAfterRestart (IsSafeAfter d) d (text_moves (entries events)) → ListensByFlag now (log d events) l
     → LendsTwoIn r (plans_of d events).text events → most + 2 * r ≤ 2 * d + 1
     → LosesInARow most r text_fragment now l.input got
     → IfSome l.view.text (IsOfItsSource (plans_of d events).text l.input (run_by_flag text_fragment l.input))

@@ -4,6 +4,7 @@ ghost use Rattle.rds_world.specs.Delivery.{ANameIsDelivered, ATextIsDelivered, A
 ghost use Rattle.rds_world.specs.FlagStation.{ARestartMixes, InOneLifeNothingIsAsked, NamesOfAStationAreNew};
 ghost use Rattle.rds_world.specs.FlagStation.{NamesOfAStationAreOfTheirSource, TagsOfAStationAreOfTheirText};
 ghost use Rattle.rds_world.specs.FlagStation.{TextsOfAStationAreNew, TextsOfAStationAreOfTheirSource};
+ghost use Rattle.rds_world.specs.FlagStation.{TheEmptyTextIsEnough};
 ghost use Rattle.rds_world.specs.FlagStation.{TheStationKeepsEach, TheStationSendsOneIn, TheStationTurnsTheFlag};
 ghost use Rattle.rds_world.specs.FlagStation.{WhoGetsSomeShowsTextsOfTheirSource, WhoLosesFewShowsTextsOfTheirSource};
 ghost use Rattle.rds_world.specs.SafeSlots.{EveryWorldShowsOnlyWhatWasOnAir};
@@ -59,16 +60,18 @@ pub fn on_air_is_delivered()
 }
 
 /// States that an encoder turns the flag with each text or name that it accepts, and keeps each for 2d slots if another
-/// one follows. After a restart the empty text has to come first. To turn the flag, the bytes that were on air before
-/// are enough too. Without a restart nothing has to come first.
+/// one follows. After a restart the empty text has to come first, or the newest text or name with flag 0 again, unless
+/// the newest one has flag 1 and lasted for 2d slots. Without a restart nothing has to come first.
 pub fn the_station_turns_the_flag()
     ensures turns { TheStationTurnsTheFlag }
     ensures keeps { TheStationKeepsEach }
+    ensures empty { TheEmptyTextIsEnough }
     ensures one_life { InOneLifeNothingIsAsked }
 {}
 
 /// States what a receiver with the flag bit alone shows: only texts and names that the station set, if it hears a
-/// segment in each 2d slots of a broadcast; and only tags of the text shown, if it hears one in each d slots.
+/// segment in each 2d slots of a broadcast; and only tags of the text shown, if it hears one in each d slots. What comes
+/// first after a restart has to be safe, as in `the_station_turns_the_flag`.
 pub fn a_station_is_safe_by_the_flag()
     ensures texts { TextsOfAStationAreOfTheirSource }
     ensures names { NamesOfAStationAreOfTheirSource }
