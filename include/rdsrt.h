@@ -184,7 +184,7 @@ void rdsrt_receiver_view(const struct rdsrt_receiver *receiver, struct rdsrt_vie
 /* ---- Encoder ---- */
 
 /* Makes an encoder that (re)starts in this slot, with nothing on air. It sends nothing and refuses every set for
- * dwell + late slots. pi: the programme; tp: its flag of traffic announcements, 0 or not; pty: its programme type, 0 to
+ * dwell + late slots. Restart before the sets of a slot, not after them. pi: the programme; tp: its flag of traffic announcements, 0 or not; pty: its programme type, 0 to
  * 31; dwell: M, 1 to 65535 slots; late: K, how many slots late a group may reach a receiver, 0 to 1024.
  * Returns RDSRT_OK, or RDSRT_BAD_ARGUMENT if a number is out of range. */
 uint32_t rdsrt_encoder_init(struct rdsrt_encoder *encoder, uint16_t pi, uint8_t tp, uint8_t pty, uint16_t dwell,
@@ -204,7 +204,7 @@ struct rdsrt_reply rdsrt_encoder_set_name(struct rdsrt_encoder *encoder, const u
  * RDSRT_OUT_OF_TEXT_2. */
 struct rdsrt_reply rdsrt_encoder_set_tags(struct rdsrt_encoder *encoder, const struct rdsrt_tags *tags);
 
-/* Ends the slot, after its sets. is_free: 0 if other services need the slot (then the encoder sends nothing), else not
+/* Ends the slot, after its sets, of which there may be any number. is_free: 0 if other services need the slot (then the encoder sends nothing), else not
  * 0.
  * Returns RDSRT_SENT and writes the four blocks of the group to send, or returns RDSRT_OK and leaves the blocks. */
 uint32_t rdsrt_encoder_tick(struct rdsrt_encoder *encoder, uint8_t is_free, uint16_t blocks[4]);

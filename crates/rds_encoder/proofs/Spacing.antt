@@ -6,7 +6,7 @@ use Rattle.std.proofs.lemmas.Bool.{cond_both, ltb-false}
 use Rattle.rds_encoder.specs.Entries.{Move, Begin, Set, End, restart_before, slot_of}
 use Rattle.rds_encoder.specs.Reply.{Reply, held_reply, last_accepted, reply_in, reply_to}
 use Rattle.rds_encoder.specs.Plan.{Broadcast, HasNumber, OnAir, endless, next_flag, on_air, plan_of}
-use Rattle.rds_encoder.specs.Spaced.{IsOnePerSlot, IsSpaced, IsUntold}
+use Rattle.rds_encoder.specs.Spaced.{RestartsComeFirst, IsSpaced, IsUnset}
 use Rattle.rds_encoder.proofs.Numbers.{below}
 use Rattle.rds_encoder.proofs.OnAir.{air_since, flag_on_air, start_of, start_on_air}
 
@@ -126,26 +126,33 @@ began_now : (m : ℕ) (moves : List Move) (o : Option OnAir) → on_air m moves 
 began_now m moves None on = tt
 began_now m moves (Some air) on = (air_since m moves air on).1
 
-began_before : (m : ℕ) (moves : List Move) → IsUntold moves → BeganBy (slot_of moves - 1) (on_air m moves)
-began_before m [] untold = tt
-began_before m (Begin ∷ before) untold = absurd untold
-began_before m (Set x ∷ before) untold = absurd untold
-began_before m (End free ∷ before) untold = by_air (on_air m before) (began_now m before (on_air m before) refl)
+began_before : (m : ℕ) (moves : List Move) → IsUnset moves → BeganBy (slot_of moves - 1) (on_air m moves)
+began_before m [] unset = tt
+began_before m (Begin ∷ before) unset = tt
+began_before m (Set x ∷ before) unset = absurd unset
+began_before m (End free ∷ before) unset = by_air (on_air m before) (began_now m before (on_air m before) refl)
   where
     by_air : (o : Option OnAir) → BeganBy (slot_of before) o → BeganBy (slot_of before + 1 - 1) o
     by_air None b = tt
     by_air (Some air) b = omega (arith, b)
 
-pub spaced : (m end : ℕ) (moves : List Move) → 0 < m → IsOnePerSlot moves → BeganBy end (on_air m moves) → IsSpaced m (plan_of m end moves)
-spaced m end [] lasts one by = record { lasts = λ k b n. absurd n; order = λ k a b n o. absurd n; apart = λ k a b n o. absurd n; far = λ k a b n o. absurd n }
-spaced m end (Begin ∷ before) lasts one by = spaced m (slot_of before - 1) before lasts one.1 (began_before m before one.0)
-spaced m end (End free ∷ before) lasts one by = spaced m end before lasts one by
-spaced m end (Set x ∷ before) lasts one by =
-    by_reply (is_ok (reply_to m before)) refl by (spaced m (slot_of before - 1) before lasts one.1 (began_before m before one.0)) (spaced m end before lasts one.1)
+-- if a set is accepted, what was on air began in an earlier slot
+began_earlier : (m : ℕ) (moves : List Move) → 0 < m → is_ok (reply_to m moves) ≡ true → BeganBy (slot_of moves - 1) (on_air m moves)
+began_earlier m moves lasts ok = by_air (on_air m moves) refl
+  where
+    by_air : (o : Option OnAir) → on_air m moves ≡ o → BeganBy (slot_of moves - 1) o
+    by_air None on = tt
+    by_air (Some air) on = omega (arith, long_on_air m moves air ok on, lasts)
+
+pub spaced : (m end : ℕ) (moves : List Move) → 0 < m → RestartsComeFirst moves → BeganBy end (on_air m moves) → IsSpaced m (plan_of m end moves)
+spaced m end [] lasts first by = record { lasts = λ k b n. absurd n; order = λ k a b n o. absurd n; apart = λ k a b n o. absurd n; far = λ k a b n o. absurd n }
+spaced m end (Begin ∷ before) lasts first by = spaced m (slot_of before - 1) before lasts first.1 (began_before m before first.0)
+spaced m end (End free ∷ before) lasts first by = spaced m end before lasts first by
+spaced m end (Set x ∷ before) lasts first by = by_reply (is_ok (reply_to m before)) refl by (spaced m (slot_of before - 1) before lasts first) (spaced m end before lasts first)
   where
     by_reply : (r : Bool) → is_ok (reply_to m before) ≡ r → BeganBy end (on_air m (Set x ∷ before))
-        → IsSpaced m (plan_of m (slot_of before - 1) before) → (BeganBy end (on_air m before) → IsSpaced m (plan_of m end before)) → IsSpaced m (plan_of m end (Set x ∷ before))
+        → (BeganBy (slot_of before - 1) (on_air m before) → IsSpaced m (plan_of m (slot_of before - 1) before)) → (BeganBy end (on_air m before) → IsSpaced m (plan_of m end before)) → IsSpaced m (plan_of m end (Set x ∷ before))
     by_reply true r b closed lasting =
-        rw r (on_top m record { start = slot_of before; end = end; flag = next_flag m before; bytes = x } (plan_of m (slot_of before - 1) before) closed (rw r at b)
+        rw r (on_top m record { start = slot_of before; end = end; flag = next_flag m before; bytes = x } (plan_of m (slot_of before - 1) before) (closed (began_earlier m before lasts r)) (rw r at b)
         (λ k a n. before_next m before k a lasts r n))
     by_reply false r b closed lasting = rw r (lasting (rw r at b))

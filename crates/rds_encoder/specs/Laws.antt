@@ -11,7 +11,7 @@ use Rattle.rds_encoder.specs.Plan.{Broadcast, Covers, HasNumber, OnAir, ending_i
 use Rattle.rds_encoder.specs.Reply.{reply_to}
 use Rattle.rds_encoder.specs.Round.{turn_in}
 use Rattle.rds_encoder.specs.Sent.{sent_in}
-use Rattle.rds_encoder.specs.Spaced.{IsOnePerSlot, IsSpaced}
+use Rattle.rds_encoder.specs.Spaced.{IsSpaced, RestartsComeFirst}
 use Rattle.rds_encoder.specs.Tags.{pair_on_air}
 
 -- the text or name on air is planned, as a broadcast that so far ends in the current slot
@@ -67,10 +67,10 @@ abbrev pub WhatIsPlannedWasAccepted : Type 0
 WhatIsPlannedWasAccepted = (m end : ℕ) (moves : List Move) (k : ℕ) (b : Broadcast) → HasNumber (plan_of m end moves) k b
     → WasAccepted m b.start b.bytes moves
 
--- the plan is spaced by m, if each slot had at most one restart or set, and if the broadcast on air ends no earlier
--- than it began
+-- the plan is spaced by m, if each restart comes before the sets of its slot, and if the broadcast on air ends no
+-- earlier than it began
 abbrev pub ThePlanIsSpaced : Type 0
-ThePlanIsSpaced = (m end : ℕ) (moves : List Move) → 0 < m → IsOnePerSlot moves
+ThePlanIsSpaced = (m end : ℕ) (moves : List Move) → 0 < m → RestartsComeFirst moves
     → IfSome (on_air m moves) (λ air. air.start ≤ end) → IsSpaced m (plan_of m end moves)
 
 -- a number names at most one broadcast

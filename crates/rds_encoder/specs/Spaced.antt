@@ -4,19 +4,19 @@ use Rattle.std.specs.Prelude.{◌≢◌, ◌≤◌, ◌<◌, ◌⊎◌, ◌+◌,
 use Rattle.rds_encoder.specs.Entries.{Move, Begin, Set, End}
 use Rattle.rds_encoder.specs.Plan.{Broadcast, HasNumber}
 
--- the current slot had no restart and no set so far
-abbrev pub IsUntold : List Move → Type 0
-IsUntold [] = Unit {0}
-IsUntold (Begin ∷ before) = ⊥
-IsUntold (Set x ∷ before) = ⊥
-IsUntold (End free ∷ before) = Unit {0}
+-- the current slot had no set so far
+abbrev pub IsUnset : List Move → Type 0
+IsUnset [] = Unit {0}
+IsUnset (Begin ∷ before) = IsUnset before
+IsUnset (Set x ∷ before) = ⊥
+IsUnset (End free ∷ before) = Unit {0}
 
--- each slot has at most one restart or set
-abbrev pub IsOnePerSlot : List Move → Type 0
-IsOnePerSlot [] = Unit {0}
-IsOnePerSlot (Begin ∷ before) = IsUntold before × IsOnePerSlot before
-IsOnePerSlot (Set x ∷ before) = IsUntold before × IsOnePerSlot before
-IsOnePerSlot (End free ∷ before) = IsOnePerSlot before
+-- each restart comes before the sets of its slot; a slot has any number of sets
+abbrev pub RestartsComeFirst : List Move → Type 0
+RestartsComeFirst [] = Unit {0}
+RestartsComeFirst (Begin ∷ before) = IsUnset before × RestartsComeFirst before
+RestartsComeFirst (Set x ∷ before) = RestartsComeFirst before
+RestartsComeFirst (End free ∷ before) = RestartsComeFirst before
 
 -- each broadcast ends no earlier than it starts, and before the next one starts; one and the next differ in flag, or
 -- are at least d slots apart; one and the second after it are at least d slots apart

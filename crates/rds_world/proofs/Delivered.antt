@@ -34,7 +34,7 @@ use Rattle.rds_safety.proofs.Bytes.{name_service, text_service}
 use Rattle.rds_safety.proofs.Entries.{one_origin}
 use Rattle.rds_safety.proofs.HeldWhole.{CameSince, came_in, in_segments, shown_whole}
 use Rattle.rds_world.proofs.InTime.{in_time, input_reaches}
-use Rattle.rds_world.proofs.LawfulStation as lawful
+use Rattle.rds_world.proofs.WorldSlots as world_slots
 use Rattle.rds_safety.specs.Laws.{PlanLaws}
 use Rattle.rds_world.proofs.SafeWorld.{shows_view}
 use Rattle.rds_safety.proofs.Safety.{name_fragments_marked, text_fragments_marked}
@@ -69,11 +69,11 @@ two_segments x n = omega (arith, n.0, length-append x (replicate (8 - length x) 
 -- slots that lie in one broadcast, and the oldest of them follows those before
 module _ (laws : DeliveryLaws) (m : ℕ) (some : 0 < m) (newer : List Event) (oldest : Event) (before : List Event) where
   -- a broadcast that covers the last slot is on air in it
-  on_now : (IsValue : List ℕ → Type 0) (moves : List Entry → List Move) (service : lawful.IsService IsValue moves) (reaches : (events : List Event) → slot_of (moves (entries events)) ≡ length events)
+  on_now : (moves : List Entry → List Move) (service : world_slots.IsService moves) (reaches : (events : List Event) → slot_of (moves (entries events)) ≡ length events)
       (events : List Event) (k : ℕ) (b : Broadcast)
       → HasNumber (plan_of m (length events - 1) (moves (entries events))) k b → 0 < length events → b.start + 1 ≤ length events → length events ≤ b.end + 1 → on_air m (moves (entries events)) ≡ Some (endless b)
-  on_now IsValue moves service reaches [] k b planned one from to = absurd (omega (arith, one))
-  on_now IsValue moves service reaches (e ∷ rest) k b planned one from to =
+  on_now moves service reaches [] k b planned one from to = absurd (omega (arith, one))
+  on_now moves service reaches (e ∷ rest) k b planned one from to =
       let h = moves (commanded e.command (entries rest)) in
       let at : slot_of h ≡ length rest = service.same_slot e.command (entries rest) ∙ reaches rest in
       let last : length (e ∷ rest) - 1 ≡ slot_of h = omega (arith, at) in
@@ -83,17 +83,17 @@ module _ (laws : DeliveryLaws) (m : ℕ) (some : 0 < m) (newer : List Event) (ol
       (laws.only m h k b some now record { from = omega (arith, at, from); to = omega (arith, at, to) })
 
   -- and it was on air in all these slots
-  on_throughout : (IsValue : List ℕ → Type 0) (moves : List Entry → List Move) (service : lawful.IsService IsValue moves) (reaches : (events : List Event) → slot_of (moves (entries events)) ≡ length events)
+  on_throughout : (moves : List Entry → List Move) (service : world_slots.IsService moves) (reaches : (events : List Event) → slot_of (moves (entries events)) ≡ length events)
       → IsMoves moves → (k : ℕ) (b : Broadcast)
       → HasNumber (plan_of m (length (newer ++ oldest ∷ before) - 1) (moves (entries (newer ++ oldest ∷ before)))) k b → b.start ≤ length before → length (newer ++ oldest ∷ before) ≤ b.end + 1
       → IsOnThroughout moves m (endless b) (told_since newer oldest) (told_until oldest before)
-  on_throughout IsValue moves service reaches is_moves k b planned from to =
+  on_throughout moves service reaches is_moves k b planned from to =
       let events = newer ++ oldest ∷ before in
       let long : length events ≡ length newer + length (oldest ∷ before) = length-append newer (oldest ∷ before) in
       let at : slot_of (moves (told_until oldest before)) ≡ length before = service.same_slot oldest.command (entries before) ∙ reaches before in
       throughout laws.was moves is_moves m (endless b) (entries newer) oldest.free (told_until oldest before) (omega (arith, at, from))
       (subst (λ (es : List Entry). on_air m (moves es) ≡ Some (endless b)) (sym (told_parts newer oldest before))
-      (on_now IsValue moves service reaches events k b planned (omega (arith, long)) (omega (arith, long, from)) to))
+      (on_now moves service reaches events k b planned (omega (arith, long)) (omega (arith, long, from)) to))
 
   -- each segment of a text, or of a name, that was sent in these slots came since the oldest of them
   came : (i : ℕ) (pick : Message → Option Fragment) (message : Message) (p : Fragment) → pick message ≡ Some p → GetsEachFree i (newer ++ oldest ∷ [])
@@ -168,12 +168,12 @@ module _ (laws : DeliveryLaws) (config : Config) (newer : List Event) (oldest : 
   shown = shows_view config its_input listened.receiver view (listened.stands.receivers.each i listened.receiver listened.there) listened.shows
 
   law : AreLawful d (plans_of d all_slots) (log d all_slots)
-  law = laws.lawful d all_slots lasts listened.stands.values
+  law = world_slots.events_are_lawful laws.lawful d all_slots lasts listened.stands.values
 
   text_shown : HasNumber (plans_of d all_slots).text number b → 2 * segment_count (text_body b.bytes) ≤ free_slots (newer ++ oldest ∷ []) → view.text ≡ Some b.bytes
   text_shown planned enough =
       let value : IsText b.bytes = law.text.values number b planned in
-      let throughout = on_throughout laws d lasts newer oldest before IsText text_moves lawful.text_service (lawful.reaches IsText text_mark text_moves lawful.text_service) moves_of_texts number b planned from to in
+      let throughout = on_throughout laws d lasts newer oldest before text_moves world_slots.text_service (world_slots.reaches text_moves world_slots.text_service) moves_of_texts number b planned from to in
       let free = free_told newer oldest in
       shown_whole laws.plan config.dwell (length all_slots - 1) (length before) texts text_fragment text_mark (plans_of d all_slots).text (log d all_slots) its_input number b
       text_fragments_marked config.late law.text late (input_reaches d i all_slots ∙ last) fresh planned from (omega (arith, to, some_recent)) soon
@@ -187,7 +187,7 @@ module _ (laws : DeliveryLaws) (config : Config) (newer : List Event) (oldest : 
   name_shown : HasNumber (plans_of d all_slots).name number b → 8 ≤ free_slots (newer ++ oldest ∷ []) → view.name ≡ Some b.bytes
   name_shown planned enough =
       let value : IsName b.bytes = law.name.values number b planned in
-      let throughout = on_throughout laws d lasts newer oldest before IsName name_moves lawful.name_service (lawful.reaches IsName name_mark name_moves lawful.name_service) moves_of_names number b planned from to in
+      let throughout = on_throughout laws d lasts newer oldest before name_moves world_slots.name_service (world_slots.reaches name_moves world_slots.name_service) moves_of_names number b planned from to in
       let free = free_told newer oldest in
       let two = two_segments b.bytes value in
       shown_whole laws.plan config.dwell (length all_slots - 1) (length before) names name_fragment name_mark (plans_of d all_slots).name (log d all_slots) its_input number b
@@ -273,7 +273,7 @@ module _ (laws : DeliveryLaws) (config : Config) (before : List Event) (view : S
 planned_text : DeliveryLaws → (config : Config) (recent before : List Event) (view : ShownView) (b : Broadcast)
     → GotRecently config recent before view → LieIn (plans_of (distance config) (recent ++ before)).text recent before b → IsText b.bytes
 planned_text laws config recent before view b got lies =
-    (let lasts = got.stands.lasts in (laws.lawful (distance config) (recent ++ before) (omega arith) got.stands.values).text.values lies.number b lies.planned)
+    (let lasts = got.stands.lasts in (world_slots.events_are_lawful laws.lawful (distance config) (recent ++ before) (omega arith) got.stands.values).text.values lies.number b lies.planned)
 
 pub text_delivered : DeliveryLaws → ATextIsDelivered
 text_delivered laws config recent before view b got lies enough =

@@ -1,15 +1,14 @@
 -- Lemmas: a station is safe for receivers with the flag bit alone that hear it often enough.
-use Rattle.std.proofs.Common.{◌-◌, ◌*◌, ◌≤◌, ℕ, List, Option, length, arith}
+use Rattle.std.proofs.Common.{◌-◌, ◌*◌, ◌≤◌, ℕ, List, Option, arith}
 use Rattle.rds_fields.specs.declared.message.Message.{Message}
-use Rattle.rds_encoder.specs.Entries.{name_moves, text_moves}
+use Rattle.rds_encoder.specs.Entries.{name_moves, slot_of, text_moves}
 use Rattle.rds_encoder.specs.Plan.{Broadcast}
 use Rattle.rds_receiver.specs.Receipts.{Fragment, name_fragment, text_fragment}
 use Rattle.rds_safety.specs.FlagAlone.{HearsOneIn}
 use Rattle.rds_safety.specs.FlagLaws.{NamesByFlagAreNew, NamesByFlagAreOfTheirSource, TagsByFlagAreOfTheirText, TextsByFlagAreNew, TextsByFlagAreOfTheirSource, WhoGetsSomeHearsOneIn, WhoHearsOneInHearsEach, WhoHearsOneInHearsTextBeforeTags, WhoLosesFewGetsSome}
 use Rattle.rds_safety.specs.Late.{Input}
 use Rattle.rds_world.specs.FlagStation.{NamesOfAStationAreNew, NamesOfAStationAreOfTheirSource, TagsOfAStationAreOfTheirText, TextsOfAStationAreNew, TextsOfAStationAreOfTheirSource, TheStationSendsOneIn, WhoGetsSomeShowsTextsOfTheirSource, WhoLosesFewShowsTextsOfTheirSource}
-use Rattle.rds_world.specs.Slots.{entries, log, plans_of}
-use Rattle.rds_world.specs.Station.{TheEncoderIsLawful}
+use Rattle.rds_world.specs.Station.{TheEncoderIsLawful, station_log, station_plans}
 use Rattle.rds_world.proofs.FlagStation.{keeps_each, turns}
 
 -- a segment in each n slots is one in each m slots, if n is at most m
@@ -19,51 +18,51 @@ oftener n m pick plan now input more often k s t r b planned from to by_now hear
     record { slot = w.slot; origin = w.origin; heard = w.heard; since = w.since; until = omega (arith, w.until, more) }
 
 pub texts_are_safe : TheEncoderIsLawful → TextsByFlagAreOfTheirSource → WhoHearsOneInHearsEach → TextsOfAStationAreOfTheirSource
-texts_are_safe lawful safe enough d now events r some set first listens often =
-    let law = lawful d events some set in
-    let moves = text_moves (entries events) in
-    let flags = turns d (length events - 1) moves in
-    let lasts = (keeps_each d (length events - 1) moves).1 first in
-    safe d now (plans_of d events).text (log d events) r law.text (flags.0 (flags.1 first)) listens ((enough d (2 * d) now text_fragment (plans_of d events).text r.input law.text.spaced often).1 lasts)
+texts_are_safe lawful safe enough d now told r some slots first listens often =
+    let law = lawful d told some slots in
+    let moves = text_moves told in
+    let flags = turns d (slot_of moves - 1) moves in
+    let lasts = (keeps_each d (slot_of moves - 1) moves).1 first in
+    safe d now (station_plans d told).text (station_log d told) r law.text (flags.0 (flags.1 first)) listens ((enough d (2 * d) now text_fragment (station_plans d told).text r.input law.text.spaced often).1 lasts)
 
 pub names_are_safe : TheEncoderIsLawful → NamesByFlagAreOfTheirSource → WhoHearsOneInHearsEach → NamesOfAStationAreOfTheirSource
-names_are_safe lawful safe enough d now events r some set first listens often =
-    let law = lawful d events some set in
-    let moves = name_moves (entries events) in
-    let flags = turns d (length events - 1) moves in
-    let lasts = (keeps_each d (length events - 1) moves).1 first in
-    safe d now (plans_of d events).name (log d events) r law.name (flags.0 (flags.1 first)) listens ((enough d (2 * d) now name_fragment (plans_of d events).name r.input law.name.spaced often).1 lasts)
+names_are_safe lawful safe enough d now told r some slots first listens often =
+    let law = lawful d told some slots in
+    let moves = name_moves told in
+    let flags = turns d (slot_of moves - 1) moves in
+    let lasts = (keeps_each d (slot_of moves - 1) moves).1 first in
+    safe d now (station_plans d told).name (station_log d told) r law.name (flags.0 (flags.1 first)) listens ((enough d (2 * d) now name_fragment (station_plans d told).name r.input law.name.spaced often).1 lasts)
 
 pub tags_are_safe : TheEncoderIsLawful → TagsByFlagAreOfTheirText → WhoHearsOneInHearsEach → WhoHearsOneInHearsTextBeforeTags → TagsOfAStationAreOfTheirText
-tags_are_safe lawful safe enough before_tags d now events r some set first listens often =
-    let law = lawful d events some set in
-    let moves = text_moves (entries events) in
-    let flags = turns d (length events - 1) moves in
-    let lasts = (keeps_each d (length events - 1) moves).1 first in
-    safe d now (plans_of d events).text (log d events) r law.text (flags.0 (flags.1 first)) listens
-    ((enough d (2 * d) now text_fragment (plans_of d events).text r.input law.text.spaced (oftener d (2 * d) text_fragment (plans_of d events).text now r.input (omega arith) often)).1 lasts)
-    (before_tags d now (plans_of d events).text (log d events) r law.text listens often)
+tags_are_safe lawful safe enough before_tags d now told r some slots first listens often =
+    let law = lawful d told some slots in
+    let moves = text_moves told in
+    let flags = turns d (slot_of moves - 1) moves in
+    let lasts = (keeps_each d (slot_of moves - 1) moves).1 first in
+    safe d now (station_plans d told).text (station_log d told) r law.text (flags.0 (flags.1 first)) listens
+    ((enough d (2 * d) now text_fragment (station_plans d told).text r.input law.text.spaced (oftener d (2 * d) text_fragment (station_plans d told).text now r.input (omega arith) often)).1 lasts)
+    (before_tags d now (station_plans d told).text (station_log d told) r law.text listens often)
 
 pub texts_are_new : TheEncoderIsLawful → TextsByFlagAreNew → WhoHearsOneInHearsEach → TextsOfAStationAreNew
-texts_are_new lawful new enough d now events r some set listens often =
-    let law = lawful d events some set in
-    let lasts = keeps_each d (length events - 1) (text_moves (entries events)) in
-    let each = enough d (2 * d) now text_fragment (plans_of d events).text r.input law.text.spaced often in
-    let is_new = new d now (plans_of d events).text (log d events) r law.text listens in
+texts_are_new lawful new enough d now told r some slots listens often =
+    let law = lawful d told some slots in
+    let lasts = keeps_each d (slot_of (text_moves told) - 1) (text_moves told) in
+    let each = enough d (2 * d) now text_fragment (station_plans d told).text r.input law.text.spaced often in
+    let is_new = new d now (station_plans d told).text (station_log d told) r law.text listens in
     (λ first. is_new.0 (each.0 (lasts.0 first)), λ first. is_new.1 (each.1 (lasts.1 first)))
 
 pub names_are_new : TheEncoderIsLawful → NamesByFlagAreNew → WhoHearsOneInHearsEach → NamesOfAStationAreNew
-names_are_new lawful new enough d now events r some set listens often =
-    let law = lawful d events some set in
-    let lasts = keeps_each d (length events - 1) (name_moves (entries events)) in
-    let each = enough d (2 * d) now name_fragment (plans_of d events).name r.input law.name.spaced often in
-    let is_new = new d now (plans_of d events).name (log d events) r law.name listens in
+names_are_new lawful new enough d now told r some slots listens often =
+    let law = lawful d told some slots in
+    let lasts = keeps_each d (slot_of (name_moves told) - 1) (name_moves told) in
+    let each = enough d (2 * d) now name_fragment (station_plans d told).name r.input law.name.spaced often in
+    let is_new = new d now (station_plans d told).name (station_log d told) r law.name listens in
     (λ first. is_new.0 (each.0 (lasts.0 first)), λ first. is_new.1 (each.1 (lasts.1 first)))
 
 pub some_are_enough : TextsOfAStationAreOfTheirSource → TheStationSendsOneIn → WhoGetsSomeHearsOneIn → WhoGetsSomeShowsTextsOfTheirSource
-some_are_enough safe sends enough d r now events l some set first listens lends gets =
-    safe d now events l some set first listens (enough r (2 * d) now text_fragment (plans_of d events).text (log d events) l.input listens.order (sends d r events some lends) gets)
+some_are_enough safe sends enough d r now told l some slots first listens lends gets =
+    safe d now told l some slots first listens (enough r (2 * d) now text_fragment (station_plans d told).text (station_log d told) l.input listens.order (sends d r told some lends) gets)
 
 pub few_losses_are_harmless : WhoGetsSomeShowsTextsOfTheirSource → WhoLosesFewGetsSome → WhoLosesFewShowsTextsOfTheirSource
-few_losses_are_harmless safe enough d r most now events l got some set first listens lends few loses =
-    safe d r now events l some set first listens lends (enough most r (2 * d) now text_fragment (plans_of d events).text l.input got few loses)
+few_losses_are_harmless safe enough d r most now told l got some slots first listens lends few loses =
+    safe d r now told l some slots first listens lends (enough most r (2 * d) now text_fragment (station_plans d told).text l.input got few loses)

@@ -1,23 +1,22 @@
 -- Lemmas: the messages of an encoder are lawful for its plans. For each mark of its log there is the broadcast that was
 -- on air in that slot, and it stays planned whatever comes later.
-use Rattle.std.proofs.Common.{◌≡◌, ◌+◌, ◌-◌, ◌<◌, ◌≤◌, ℕ, List, [], ◌∷◌, ◌++◌, append_assoc, Option, Some, None, refl, sym, ap, ◌∙◌, subst, inl, inr, arith, length}
+use Rattle.std.proofs.Common.{◌≡◌, ◌+◌, ◌-◌, ◌<◌, ◌≤◌, ℕ, List, [], ◌∷◌, ◌++◌, Bool, append_assoc, Option, Some, None, refl, sym, ap, ◌∙◌, subst, inl, inr, arith, length}
 use Rattle.std.specs.Prelude.{IfSome}
+use Rattle.std.specs.List.{AllByRecursion}
 use Rattle.rds_fields.specs.declared.message.Message.{Message}
 use Rattle.rds_fields.specs.declared.message.Message.TheVariants.{Text, Name, Announce, Tags, Other}
 use Rattle.rds_fields.specs.Tag.{BothEndIn, PairFields}
 use Rattle.rds_assembly.specs.Value.{IsName, IsText}
-use Rattle.rds_encoder.specs.Entries.{Entry, Move, Begin, Set, End, name_moves, slot_of, text_moves}
+use Rattle.rds_encoder.specs.Entries.{Entry, Restart, SetText, SetName, SetTags, Tick, Move, Begin, Set, End, name_moves, slot_of, text_moves}
 use Rattle.rds_encoder.specs.Laws.{ANameSegmentIsOfTheNameOnAir, ATextSegmentIsOfTheTextOnAir, HasOnAir, IsSegmentOf, TagsAreOfTheTextOnAir, ThePairEndsInTheText, ThePlanIsSpaced, WasAccepted, WhatIsOnAirBegan, WhatIsPlannedWasAccepted, WhatWasOnAirStaysPlanned}
 use Rattle.rds_encoder.specs.Plan.{Broadcast, HasNumber, OnAir, endless, on_air, plan_of}
-use Rattle.rds_encoder.specs.Spaced.{IsOnePerSlot, IsSpaced, IsUntold}
+use Rattle.rds_encoder.specs.Sent.{sent_in}
+use Rattle.rds_encoder.specs.Spaced.{IsSpaced, RestartsComeFirst}
 use Rattle.rds_receiver.specs.Receipts.{Fragment}
-use Rattle.rds_world.specs.declared.event.Command.{Command}
-use Rattle.rds_world.specs.declared.event.Command.TheVariants.{Quiet, Restart, SetText, SetName, SetTags}
-use Rattle.rds_world.specs.Event.{Event}
 use Rattle.rds_safety.specs.Lawful.{HasOne, HasFragment, HasTags, IsLawful, Kind, names, texts}
 use Rattle.rds_safety.specs.Marks.{IsMarkIn, Mark, Sends, Tagged, marks, name_mark, text_mark}
 use Rattle.rds_safety.specs.Plans.{AreLawful}
-use Rattle.rds_world.specs.Slots.{SetValues, SetsAValue, commanded, entries, log, plans_of, sent_at}
+use Rattle.rds_world.specs.Station.{AreSlots, EndsASlot, IsValid, TheEncoderIsLawful, station_log, station_plans}
 
 -- the laws about each encoder
 pub record EncoderLaws : Type 0 where
@@ -44,156 +43,147 @@ accepted_value P m slot x (Set y ∷ before) all (inl now) = subst P now.1 all.0
 accepted_value P m slot x (Set y ∷ before) all (inr was) = accepted_value P m slot x before all.1 was
 accepted_value P m slot x (End free ∷ before) all was = accepted_value P m slot x before all was
 
--- one service: its moves in a slot are at most one set of a value, and then the end of the slot
-pub record IsService (IsValue : List ℕ → Type 0) (moves : List Entry → List Move) : Type 0 where
-  pub none : moves [] ≡ []
-  pub slot : (e : Event) (before : List Event) → moves (entries (e ∷ before)) ≡ End e.free ∷ moves (commanded e.command (entries before))
-  pub longer : (c : Command) (before : List Entry) → (told : List Move) × (moves (commanded c before) ≡ told ++ moves before)
-  pub same_slot : (c : Command) (before : List Entry) → slot_of (moves (commanded c before)) ≡ slot_of (moves before)
-  pub values : (c : Command) (before : List Entry) → SetsAValue c → AllSetAre IsValue (moves before) → AllSetAre IsValue (moves (commanded c before))
-  pub once : (c : Command) (before : List Entry) → IsUntold (moves before) → IsOnePerSlot (moves before) → IsOnePerSlot (moves (commanded c before))
+-- one service: its moves are those of the entries that concern it
+record IsService (IsValue : List ℕ → Type 0) (moves : List Entry → List Move) : Type 0 where
+  none : moves [] ≡ []
+  tick : (free : Bool) (before : List Entry) → moves (Tick free ∷ before) ≡ End free ∷ moves before
+  longer : (x : Entry) (before : List Entry) → (told : List Move) × (moves (x ∷ before) ≡ told ++ moves before)
+  values : (x : Entry) (before : List Entry) → IsValid x → AllSetAre IsValue (moves before) → AllSetAre IsValue (moves (x ∷ before))
+  logged : (d : ℕ) (entries : List Entry) → length (station_log d entries) ≡ slot_of (moves entries)
 
-pub text_service : IsService IsText text_moves
-text_service = record { none = refl; slot = λ e before. refl; longer = longer; same_slot = same_slot; values = values; once = once }
+-- each slot that ended has its place in the log
+pub logged_texts : (d : ℕ) (entries : List Entry) → length (station_log d entries) ≡ slot_of (text_moves entries)
+logged_texts d [] = refl
+logged_texts d (Restart ∷ before) = logged_texts d before
+logged_texts d (SetText x ∷ before) = logged_texts d before
+logged_texts d (SetName x ∷ before) = logged_texts d before
+logged_texts d (SetTags pair ∷ before) = logged_texts d before
+logged_texts d (Tick free ∷ before) = omega (arith, logged_texts d before)
+
+text_service : IsService IsText text_moves
+text_service = record { none = refl; tick = λ free before. refl; longer = longer; values = values; logged = logged_texts }
   where
-    longer : (c : Command) (before : List Entry) → (told : List Move) × (text_moves (commanded c before) ≡ told ++ text_moves before)
-    longer Quiet before = ([], refl)
+    longer : (x : Entry) (before : List Entry) → (told : List Move) × (text_moves (x ∷ before) ≡ told ++ text_moves before)
     longer Restart before = (Begin ∷ [], refl)
     longer (SetText x) before = (Set x ∷ [], refl)
     longer (SetName x) before = ([], refl)
     longer (SetTags pair) before = ([], refl)
+    longer (Tick free) before = (End free ∷ [], refl)
 
-    same_slot : (c : Command) (before : List Entry) → slot_of (text_moves (commanded c before)) ≡ slot_of (text_moves before)
-    same_slot Quiet before = refl
-    same_slot Restart before = refl
-    same_slot (SetText x) before = refl
-    same_slot (SetName x) before = refl
-    same_slot (SetTags pair) before = refl
-
-    values : (c : Command) (before : List Entry) → SetsAValue c → AllSetAre IsText (text_moves before) → AllSetAre IsText (text_moves (commanded c before))
-    values Quiet before value all = all
+    values : (x : Entry) (before : List Entry) → IsValid x → AllSetAre IsText (text_moves before) → AllSetAre IsText (text_moves (x ∷ before))
     values Restart before value all = all
     values (SetText x) before value all = (value, all)
     values (SetName x) before value all = all
     values (SetTags pair) before value all = all
+    values (Tick free) before value all = all
 
-    once : (c : Command) (before : List Entry) → IsUntold (text_moves before) → IsOnePerSlot (text_moves before) → IsOnePerSlot (text_moves (commanded c before))
-    once Quiet before untold one = one
-    once Restart before untold one = (untold, one)
-    once (SetText x) before untold one = (untold, one)
-    once (SetName x) before untold one = one
-    once (SetTags pair) before untold one = one
+pub logged_names : (d : ℕ) (entries : List Entry) → length (station_log d entries) ≡ slot_of (name_moves entries)
+logged_names d [] = refl
+logged_names d (Restart ∷ before) = logged_names d before
+logged_names d (SetText x ∷ before) = logged_names d before
+logged_names d (SetName x ∷ before) = logged_names d before
+logged_names d (SetTags pair ∷ before) = logged_names d before
+logged_names d (Tick free ∷ before) = omega (arith, logged_names d before)
 
-pub name_service : IsService IsName name_moves
-name_service = record { none = refl; slot = λ e before. refl; longer = longer; same_slot = same_slot; values = values; once = once }
+name_service : IsService IsName name_moves
+name_service = record { none = refl; tick = λ free before. refl; longer = longer; values = values; logged = logged_names }
   where
-    longer : (c : Command) (before : List Entry) → (told : List Move) × (name_moves (commanded c before) ≡ told ++ name_moves before)
-    longer Quiet before = ([], refl)
+    longer : (x : Entry) (before : List Entry) → (told : List Move) × (name_moves (x ∷ before) ≡ told ++ name_moves before)
     longer Restart before = (Begin ∷ [], refl)
     longer (SetText x) before = ([], refl)
     longer (SetName x) before = (Set x ∷ [], refl)
     longer (SetTags pair) before = ([], refl)
+    longer (Tick free) before = (End free ∷ [], refl)
 
-    same_slot : (c : Command) (before : List Entry) → slot_of (name_moves (commanded c before)) ≡ slot_of (name_moves before)
-    same_slot Quiet before = refl
-    same_slot Restart before = refl
-    same_slot (SetText x) before = refl
-    same_slot (SetName x) before = refl
-    same_slot (SetTags pair) before = refl
-
-    values : (c : Command) (before : List Entry) → SetsAValue c → AllSetAre IsName (name_moves before) → AllSetAre IsName (name_moves (commanded c before))
-    values Quiet before value all = all
+    values : (x : Entry) (before : List Entry) → IsValid x → AllSetAre IsName (name_moves before) → AllSetAre IsName (name_moves (x ∷ before))
     values Restart before value all = all
     values (SetText x) before value all = all
     values (SetName x) before value all = (value, all)
     values (SetTags pair) before value all = all
+    values (Tick free) before value all = all
 
-    once : (c : Command) (before : List Entry) → IsUntold (name_moves before) → IsOnePerSlot (name_moves before) → IsOnePerSlot (name_moves (commanded c before))
-    once Quiet before untold one = one
-    once Restart before untold one = (untold, one)
-    once (SetText x) before untold one = one
-    once (SetName x) before untold one = (untold, one)
-    once (SetTags pair) before untold one = one
-
--- a mark of the log, with its slot, and the events before and since
-record WasSentIn (of : Option Message → Mark) (moves : List Entry → List Move) (d : ℕ) (events : List Event) (slot : ℕ) (mark : Mark) : Type 0 where
-  event : Event
-  before : List Event
-  is : mark ≡ of (sent_at d event before)
-  reached : slot_of (moves (commanded event.command (entries before))) ≡ slot
-  past : slot ≤ length events - 1
+-- a mark of the log, with its slot, and the entries before its end and since
+record WasSentIn (of : Option Message → Mark) (moves : List Entry → List Move) (d : ℕ) (entries : List Entry) (slot : ℕ) (mark : Mark) : Type 0 where
+  free : Bool
+  before : List Entry
+  is : mark ≡ of (sent_in d free before)
+  reached : slot_of (moves before) ≡ slot
+  past : slot + 1 ≤ slot_of (moves entries)
   since : List Move
-  told : moves (entries events) ≡ since ++ End event.free ∷ moves (commanded event.command (entries before))
+  told : moves entries ≡ since ++ End free ∷ moves before
 
 module _ (IsValue : List ℕ → Type 0) (of : Option Message → Mark) (moves : List Entry → List Move) (service : IsService IsValue moves) where
-  pub reaches : (events : List Event) → slot_of (moves (entries events)) ≡ length events
-  reaches [] = ap slot_of service.none
-  reaches (e ∷ before) = ap slot_of (service.slot e before) ∙ omega (arith, service.same_slot e.command (entries before), reaches before)
+  values_set : (entries : List Entry) → AllByRecursion IsValid entries → AllSetAre IsValue (moves entries)
+  values_set [] valid = subst (AllSetAre IsValue) (sym service.none) tt
+  values_set (x ∷ before) valid = service.values x before valid.0 (values_set before valid.1)
 
-  values_set : (events : List Event) → SetValues events → AllSetAre IsValue (moves (entries events))
-  values_set [] set = subst (AllSetAre IsValue) (sym service.none) tt
-  values_set (e ∷ before) set = subst (AllSetAre IsValue) (sym (service.slot e before)) (service.values e.command (entries before) set.0 (values_set before set.1))
-
-  untold : (events : List Event) → IsUntold (moves (entries events))
-  untold [] = subst IsUntold (sym service.none) tt
-  untold (e ∷ before) = subst IsUntold (sym (service.slot e before)) tt
-
-  one_a_slot : (events : List Event) → IsOnePerSlot (moves (entries events))
-  one_a_slot [] = subst IsOnePerSlot (sym service.none) tt
-  one_a_slot (e ∷ before) = subst IsOnePerSlot (sym (service.slot e before)) (service.once e.command (entries before) (untold before) (one_a_slot before))
-
-  began_by : (laws : EncoderLaws) (d : ℕ) (events : List Event) → IfSome (on_air d (moves (entries events))) (λ (air : OnAir). air.start ≤ length events - 1)
-  began_by laws d [] = subst (λ (h : List Move). IfSome (on_air d h) (λ (air : OnAir). air.start ≤ 0)) (sym service.none) tt
-  began_by laws d (e ∷ before) =
-      subst (λ (h : List Move). IfSome (on_air d h) (λ (air : OnAir). air.start ≤ length (e ∷ before) - 1)) (sym (service.slot e before))
-      (by (on_air d h) refl)
+  began_by : (laws : EncoderLaws) (d : ℕ) (entries : List Entry) → EndsASlot entries → IfSome (on_air d (moves entries)) (λ (air : OnAir). air.start ≤ slot_of (moves entries) - 1)
+  began_by laws d [] ended = subst (λ (h : List Move). IfSome (on_air d h) (λ (air : OnAir). air.start ≤ slot_of h - 1)) (sym service.none) tt
+  began_by laws d (Restart ∷ before) ended = absurd ended
+  began_by laws d (SetText x ∷ before) ended = absurd ended
+  began_by laws d (SetName x ∷ before) ended = absurd ended
+  began_by laws d (SetTags pair ∷ before) ended = absurd ended
+  began_by laws d (Tick free ∷ before) ended =
+      subst (λ (h : List Move). IfSome (on_air d h) (λ (air : OnAir). air.start ≤ slot_of h - 1)) (sym (service.tick free before)) (by (on_air d (moves before)) refl)
     where
-      h : List Move
-      h = moves (commanded e.command (entries before))
-
-      by : (o : Option OnAir) → on_air d h ≡ o → IfSome o (λ (air : OnAir). air.start ≤ length (e ∷ before) - 1)
+      by : (o : Option OnAir) → on_air d (moves before) ≡ o → IfSome o (λ (air : OnAir). air.start ≤ slot_of (End free ∷ moves before) - 1)
       by None on = tt
-      by (Some air) on = omega (arith, (laws.began d h air on).1, service.same_slot e.command (entries before), reaches before)
+      by (Some air) on = omega (arith, (laws.began d (moves before) air on).1)
 
-  marked : (d : ℕ) (events : List Event) → length (marks of (log d events)) ≡ length events
-  marked d [] = refl
-  marked d (e ∷ before) = omega (arith, marked d before)
+  marked : (d : ℕ) (entries : List Entry) → length (marks of (station_log d entries)) ≡ slot_of (moves entries)
+  marked d entries = all (station_log d entries) ∙ service.logged d entries
+    where
+      all : (log : List (Option Message)) → length (marks of log) ≡ length log
+      all [] = refl
+      all (sent ∷ log) = omega (arith, all log)
 
-  sent_in_slot : (d : ℕ) (events : List Event) (slot : ℕ) (mark : Mark) → IsMarkIn (marks of (log d events)) slot mark → WasSentIn of moves d events slot mark
-  sent_in_slot d [] slot mark sent = absurd sent
-  sent_in_slot d (e ∷ before) slot mark (inl now) =
-      let here : slot ≡ length before = now.0 ∙ marked d before in
-      let at : slot_of (moves (commanded e.command (entries before))) ≡ length before = service.same_slot e.command (entries before) ∙ reaches before in
-      record { event = e; before = before; is = now.1; reached = at ∙ sym here; past = omega (arith, here); since = []; told = service.slot e before }
-  sent_in_slot d (e ∷ before) slot mark (inr earlier) =
-      let w = sent_in_slot d before slot mark earlier in
-      let more = service.longer e.command (entries before) in
+  -- an entry that is not the end of a slot keeps what was sent
+  sent_before : (d : ℕ) (x : Entry) (before : List Entry) (slot : ℕ) (mark : Mark) → slot_of (moves before) ≤ slot_of (moves (x ∷ before)) → WasSentIn of moves d before slot mark → WasSentIn of moves d (x ∷ before) slot mark
+  sent_before d x before slot mark rises w =
+      let more = service.longer x before in
       record {
-        event = w.event;
+        free = w.free;
         before = w.before;
         is = w.is;
         reached = w.reached;
-        past = omega (arith, w.past);
-        since = End e.free ∷ more.0 ++ w.since;
-        told = service.slot e before ∙ ap (λ (h : List Move). End e.free ∷ h) (more.1 ∙ ap (λ (h : List Move). more.0 ++ h) w.told ∙ sym (append_assoc more.0 w.since _));
+        past = omega (arith, w.past, rises);
+        since = more.0 ++ w.since;
+        told = more.1 ∙ ap (λ (h : List Move). more.0 ++ h) w.told ∙ sym (append_assoc more.0 w.since _);
       }
 
+  -- an entry that adds nothing to the log stays in its slot
+  same_slot : (d : ℕ) (x : Entry) (before : List Entry) → station_log d (x ∷ before) ≡ station_log d before → slot_of (moves before) ≤ slot_of (moves (x ∷ before))
+  same_slot d x before same = omega (arith, service.logged d before, service.logged d (x ∷ before), ap (λ (log : List (Option Message)). length log) same)
+
+  sent_in_slot : (d : ℕ) (entries : List Entry) (slot : ℕ) (mark : Mark) → IsMarkIn (marks of (station_log d entries)) slot mark → WasSentIn of moves d entries slot mark
+  sent_in_slot d [] slot mark sent = absurd sent
+  sent_in_slot d (Restart ∷ before) slot mark sent = sent_before d Restart before slot mark (same_slot d Restart before refl) (sent_in_slot d before slot mark sent)
+  sent_in_slot d (SetText x ∷ before) slot mark sent = sent_before d (SetText x) before slot mark (same_slot d (SetText x) before refl) (sent_in_slot d before slot mark sent)
+  sent_in_slot d (SetName x ∷ before) slot mark sent = sent_before d (SetName x) before slot mark (same_slot d (SetName x) before refl) (sent_in_slot d before slot mark sent)
+  sent_in_slot d (SetTags pair ∷ before) slot mark sent = sent_before d (SetTags pair) before slot mark (same_slot d (SetTags pair) before refl) (sent_in_slot d before slot mark sent)
+  sent_in_slot d (Tick free ∷ before) slot mark (inl now) =
+      let next : slot_of (moves (Tick free ∷ before)) ≡ slot_of (moves before) + 1 = ap slot_of (service.tick free before) in
+      let here : slot ≡ slot_of (moves before) = now.0 ∙ marked d before in
+      record { free = free; before = before; is = now.1; reached = sym here; past = omega (arith, here, next); since = []; told = service.tick free before }
+  sent_in_slot d (Tick free ∷ before) slot mark (inr earlier) =
+      let next : slot_of (moves (Tick free ∷ before)) ≡ slot_of (moves before) + 1 = ap slot_of (service.tick free before) in
+      sent_before d (Tick free) before slot mark (omega (arith, next)) (sent_in_slot d before slot mark earlier)
+
   -- the broadcast on air in that slot is planned
-  planned_then : (laws : EncoderLaws) (d : ℕ) (events : List Event) (slot : ℕ) (mark : Mark) (w : WasSentIn of moves d events slot mark) (air : OnAir)
-      → on_air d (moves (commanded w.event.command (entries w.before))) ≡ Some air → HasOnAir (plan_of d (length events - 1) (moves (entries events))) air slot
-  planned_then laws d events slot mark w air on =
-      let h = moves (commanded w.event.command (entries w.before)) in
-      subst (λ n. HasOnAir (plan_of d (length events - 1) (moves (entries events))) air n) w.reached
-      (subst (λ (all : List Move). HasOnAir (plan_of d (length events - 1) all) air (slot_of h)) (sym w.told)
-      (laws.stays d (length events - 1) w.since w.event.free h air on (omega (arith, w.reached, w.past))))
+  planned_then : (laws : EncoderLaws) (d : ℕ) (entries : List Entry) (slot : ℕ) (mark : Mark) (w : WasSentIn of moves d entries slot mark) (air : OnAir)
+      → on_air d (moves w.before) ≡ Some air → HasOnAir (plan_of d (slot_of (moves entries) - 1) (moves entries)) air slot
+  planned_then laws d entries slot mark w air on =
+      subst (λ n. HasOnAir (plan_of d (slot_of (moves entries) - 1) (moves entries)) air n) w.reached
+      (subst (λ (all : List Move). HasOnAir (plan_of d (slot_of (moves entries) - 1) all) air (slot_of (moves w.before))) (sym w.told)
+      (laws.stays d (slot_of (moves entries) - 1) w.since w.free (moves w.before) air on (omega (arith, w.reached, w.past))))
 
-  plan_spaced : (laws : EncoderLaws) (d : ℕ) (events : List Event) → 0 < d → IsSpaced d (plan_of d (length events - 1) (moves (entries events)))
-  plan_spaced laws d events some = laws.spaced d (length events - 1) (moves (entries events)) some (one_a_slot events) (began_by laws d events)
+  plan_spaced : (laws : EncoderLaws) (d : ℕ) (entries : List Entry) → 0 < d → RestartsComeFirst (moves entries) → EndsASlot entries → IsSpaced d (plan_of d (slot_of (moves entries) - 1) (moves entries))
+  plan_spaced laws d entries some first ended = laws.spaced d (slot_of (moves entries) - 1) (moves entries) some first (began_by laws d entries ended)
 
-  plan_values : (laws : EncoderLaws) (d : ℕ) (events : List Event) → SetValues events
-      → (k : ℕ) (b : Broadcast) → HasNumber (plan_of d (length events - 1) (moves (entries events))) k b → IsValue b.bytes
-  plan_values laws d events set k b n =
-      accepted_value IsValue d b.start b.bytes (moves (entries events)) (values_set events set) (laws.accepted d (length events - 1) (moves (entries events)) k b n)
+  plan_values : (laws : EncoderLaws) (d : ℕ) (entries : List Entry) → AllByRecursion IsValid entries
+      → (k : ℕ) (b : Broadcast) → HasNumber (plan_of d (slot_of (moves entries) - 1) (moves entries)) k b → IsValue b.bytes
+  plan_values laws d entries valid k b n =
+      accepted_value IsValue d b.start b.bytes (moves entries) (values_set entries valid) (laws.accepted d (slot_of (moves entries) - 1) (moves entries) k b n)
 
 -- a broadcast that was on air when a segment of it was sent has the fragment
 has_fragment : (kind : Kind) (slot : ℕ) (p : Fragment) (plan : List Broadcast) (air : OnAir) → IsSegmentOf kind.body p.flag p.address p.bytes air → HasOnAir plan air slot → HasOne plan (HasFragment kind slot p)
@@ -250,43 +240,42 @@ no_tags_of_names (Some (Announce code bits aid)) pair e = cc
 no_tags_of_names (Some (Tags q)) pair e = cc
 no_tags_of_names (Some Other) pair e = cc
 
-texts_lawful : EncoderLaws → (d : ℕ) (events : List Event) → 0 < d → SetValues events → IsLawful d texts (plans_of d events).text (marks text_mark (log d events))
-texts_lawful laws d events some set = record {
-  spaced = plan_spaced IsText text_mark text_moves text_service laws d events some;
-  values = plan_values IsText text_mark text_moves text_service laws d events set;
+texts_lawful : EncoderLaws → (d : ℕ) (told : List Entry) → 0 < d → AreSlots told → IsLawful d texts (station_plans d told).text (marks text_mark (station_log d told))
+texts_lawful laws d told some slots = record {
+  spaced = plan_spaced IsText text_mark text_moves text_service laws d told some slots.texts slots.ended;
+  values = plan_values IsText text_mark text_moves text_service laws d told slots.valid;
   fragments = fragments;
   tags = tags;
 }
   where
-    fragments : (slot : ℕ) (p : Fragment) → IsMarkIn (marks text_mark (log d events)) slot (Sends p) → HasOne (plans_of d events).text (HasFragment texts slot p)
+    fragments : (slot : ℕ) (p : Fragment) → IsMarkIn (marks text_mark (station_log d told)) slot (Sends p) → HasOne (station_plans d told).text (HasFragment texts slot p)
     fragments slot p sent =
-        let w = sent_in_slot IsText text_mark text_moves text_service d events slot (Sends p) sent in
-        let air = laws.text d w.event.free (commanded w.event.command (entries w.before)) p.flag p.address p.bytes (text_of_mark (sent_at d w.event w.before) p w.is) in
-        has_fragment texts slot p (plans_of d events).text air.0 air.2 (planned_then IsText text_mark text_moves text_service laws d events slot (Sends p) w air.0 air.1)
+        let w = sent_in_slot IsText text_mark text_moves text_service d told slot (Sends p) sent in
+        let air = laws.text d w.free w.before p.flag p.address p.bytes (text_of_mark (sent_in d w.free w.before) p w.is) in
+        has_fragment texts slot p (station_plans d told).text air.0 air.2 (planned_then IsText text_mark text_moves text_service laws d told slot (Sends p) w air.0 air.1)
 
-    tags : (slot : ℕ) (pair : PairFields) → IsMarkIn (marks text_mark (log d events)) slot (Tagged pair) → HasOne (plans_of d events).text (HasTags d slot pair)
+    tags : (slot : ℕ) (pair : PairFields) → IsMarkIn (marks text_mark (station_log d told)) slot (Tagged pair) → HasOne (station_plans d told).text (HasTags d slot pair)
     tags slot pair sent =
-        let w = sent_in_slot IsText text_mark text_moves text_service d events slot (Tagged pair) sent in
-        let told = commanded w.event.command (entries w.before) in
-        let air = laws.tags d w.event.free told pair (tags_of_mark (sent_at d w.event w.before) pair w.is) in
-        let own = laws.ends d told pair air.2 in
+        let w = sent_in_slot IsText text_mark text_moves text_service d told slot (Tagged pair) sent in
+        let air = laws.tags d w.free w.before pair (tags_of_mark (sent_in d w.free w.before) pair w.is) in
+        let own = laws.ends d w.before pair air.2 in
         let same : own.0 ≡ air.0 = (let both : Some own.0 ≡ Some air.0 = sym own.1 ∙ air.1 in cc) in
-        has_tags d slot pair (plans_of d events).text air.0 (omega (arith, air.3, w.reached)) (subst (λ (x : OnAir). BothEndIn (length x.bytes) pair) same own.2)
-        (planned_then IsText text_mark text_moves text_service laws d events slot (Tagged pair) w air.0 air.1)
+        has_tags d slot pair (station_plans d told).text air.0 (omega (arith, air.3, w.reached)) (subst (λ (x : OnAir). BothEndIn (length x.bytes) pair) same own.2)
+        (planned_then IsText text_mark text_moves text_service laws d told slot (Tagged pair) w air.0 air.1)
 
-names_lawful : EncoderLaws → (d : ℕ) (events : List Event) → 0 < d → SetValues events → IsLawful d names (plans_of d events).name (marks name_mark (log d events))
-names_lawful laws d events some set = record {
-  spaced = plan_spaced IsName name_mark name_moves name_service laws d events some;
-  values = plan_values IsName name_mark name_moves name_service laws d events set;
+names_lawful : EncoderLaws → (d : ℕ) (told : List Entry) → 0 < d → AreSlots told → IsLawful d names (station_plans d told).name (marks name_mark (station_log d told))
+names_lawful laws d told some slots = record {
+  spaced = plan_spaced IsName name_mark name_moves name_service laws d told some slots.names slots.ended;
+  values = plan_values IsName name_mark name_moves name_service laws d told slots.valid;
   fragments = fragments;
-  tags = λ slot pair sent. absurd (no_tags_of_names _ pair (sent_in_slot IsName name_mark name_moves name_service d events slot (Tagged pair) sent).is);
+  tags = λ slot pair sent. absurd (no_tags_of_names _ pair (sent_in_slot IsName name_mark name_moves name_service d told slot (Tagged pair) sent).is);
 }
   where
-    fragments : (slot : ℕ) (p : Fragment) → IsMarkIn (marks name_mark (log d events)) slot (Sends p) → HasOne (plans_of d events).name (HasFragment names slot p)
+    fragments : (slot : ℕ) (p : Fragment) → IsMarkIn (marks name_mark (station_log d told)) slot (Sends p) → HasOne (station_plans d told).name (HasFragment names slot p)
     fragments slot p sent =
-        let w = sent_in_slot IsName name_mark name_moves name_service d events slot (Sends p) sent in
-        let air = laws.name d w.event.free (commanded w.event.command (entries w.before)) p.flag p.address p.bytes (name_of_mark (sent_at d w.event w.before) p w.is) in
-        has_fragment names slot p (plans_of d events).name air.0 air.2 (planned_then IsName name_mark name_moves name_service laws d events slot (Sends p) w air.0 air.1)
+        let w = sent_in_slot IsName name_mark name_moves name_service d told slot (Sends p) sent in
+        let air = laws.name d w.free w.before p.flag p.address p.bytes (name_of_mark (sent_in d w.free w.before) p w.is) in
+        has_fragment names slot p (station_plans d told).name air.0 air.2 (planned_then IsName name_mark name_moves name_service laws d told slot (Sends p) w air.0 air.1)
 
-pub lawful_station : EncoderLaws → (d : ℕ) (events : List Event) → 0 < d → SetValues events → AreLawful d (plans_of d events) (log d events)
-lawful_station laws d events some set = record { text = texts_lawful laws d events some set; name = names_lawful laws d events some set }
+pub lawful_station : EncoderLaws → TheEncoderIsLawful
+lawful_station laws d told some slots = record { text = texts_lawful laws d told some slots; name = names_lawful laws d told some slots }

@@ -2,6 +2,7 @@ pub mod Received
 pub mod DueSteps
 pub mod Stepped
 pub mod LawfulStation
+pub mod WorldSlots
 pub mod InTime
 pub mod SafeWorld
 pub mod SentWhole

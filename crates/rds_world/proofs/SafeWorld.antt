@@ -18,6 +18,7 @@ use Rattle.rds_world.specs.StandsAt.{HasHeard, Shows, StandsAt, tuned_to}
 use Rattle.rds_world.specs.State.{WorldState, distance}
 use Rattle.rds_world.specs.declared.world.Config.{Config}
 use Rattle.rds_world.specs.Station.{TheEncoderIsLawful}
+use Rattle.rds_world.proofs.WorldSlots.{events_are_lawful}
 use Rattle.rds_world.proofs.InTime.{in_time, input_reaches}
 
 -- the view of a receiver is that of its input
@@ -60,5 +61,5 @@ safe_world lawful safe config w (e ∷ before) st = λ views shows.
     let all : AllByRecursion (ListensTo config.late config.dwell (length before) (log d events)) (listeners d events 0 views) =
     all_listen config e before 0 w.receivers views st.due
     (λ n r at. (let same : n ≡ 0 + n = omega arith in subst (λ i. HasHeard config (input_of d i events) r) same (st.receivers.each n r at))) shows in
-    safe config.dwell config.late (length before) (plans_of d events) (log d events) (listeners d events 0 views) (lawful d events (omega (arith, some)) st.values)
+    safe config.dwell config.late (length before) (plans_of d events) (log d events) (listeners d events 0 views) (events_are_lawful lawful d events (omega (arith, some)) st.values)
     (All-from_recursion _ (listeners d events 0 views) all)

@@ -1,25 +1,19 @@
 -- Lemmas: of two free slots of a text, one after the other, one sends a segment, since each other turn is the text's.
-use Rattle.std.proofs.Common.{◌≡◌, ◌⊎◌, ◌+◌, ◌-◌, ◌%◌, ◌<◌, ◌≤◌, ℕ, Bool, true, false, nat_le, cond, List, [], ◌∷◌, ◌++◌, append_assoc, length, Option, Some, refl, sym, ap, ◌∙◌, subst, inl, inr, arith, is_ok}
-use Rattle.std.proofs.lemmas.Bool.{cases_eq, le-leb}
+use Rattle.std.proofs.Common.{◌≡◌, ◌⊎◌, ◌+◌, ◌-◌, ◌%◌, ◌<◌, ◌≤◌, ◌&&◌, ℕ, Bool, true, false, nat_le, cond, List, [], ◌∷◌, ◌++◌, append_assoc, Option, Some, refl, sym, ap, ◌∙◌, subst, inl, inr, arith, is_ok}
+use Rattle.std.proofs.lemmas.Bool.{cases_eq, le-leb, lt-leb}
 use Rattle.rds_fields.specs.declared.message.Message.{Message}
 use Rattle.rds_fields.specs.declared.message.Message.TheVariants.{Text}
 use Rattle.rds_assembly.specs.Body.{segment_of, text_body}
-use Rattle.rds_encoder.specs.Entries.{Entry, Move, Begin, Set, End, restart_before, slot_of, text_moves}
+use Rattle.rds_encoder.specs.Entries.{Entry, Restart, SetText, SetName, SetTags, Tick, Move, Begin, Set, End, restart_before, slot_of, text_moves}
 use Rattle.rds_encoder.specs.Laws.{EvenTurnsAreTheTexts, OnlyWhatIsOnAirCoversTheSlot, WhatIsOnAirBegan}
 use Rattle.rds_encoder.specs.Plan.{Broadcast, HasNumber, OnAir, endless, next_flag, on_air, plan_of}
 use Rattle.rds_encoder.specs.Reply.{reply_to}
-use Rattle.rds_encoder.specs.Sent.{next_address, one_if, sent_in, text_segment, turn_of}
+use Rattle.rds_encoder.specs.Sent.{count_from, is_free, next_address, one_if, sent_in, text_segment, turn_of}
 use Rattle.rds_receiver.specs.Receipts.{text_fragment}
 use Rattle.rds_safety.specs.FlagAlone.{SendsOneBetween}
-use Rattle.rds_safety.specs.Marks.{text_mark}
-use Rattle.rds_assembly.specs.Value.{IsText}
-use Rattle.rds_world.specs.declared.event.Command.{Command}
-use Rattle.rds_world.specs.declared.event.Command.TheVariants as command
-use Rattle.rds_world.specs.Event.{Event}
 use Rattle.rds_world.specs.FlagStation.{IsFreeIn, TheStationSendsOneIn}
-use Rattle.rds_world.specs.Slots.{commanded, entries, log}
-use Rattle.rds_world.proofs.InTime.{logged}
-use Rattle.rds_world.proofs.LawfulStation.{reaches, text_service}
+use Rattle.rds_world.specs.Station.{station_log}
+use Rattle.rds_world.proofs.LawfulStation.{logged_texts}
 
 -- a broadcast that is planned with one end is planned with another
 record IsPlannedToo (d end : ℕ) (h : List Move) (k : ℕ) (b : Broadcast) : Type 0 where
@@ -78,48 +72,52 @@ module _ (only : OnlyWhatIsOnAirCoversTheSlot) (began : WhatIsOnAirBegan) (even 
       by true (inr older) closed lasting = closed older
       by false q closed lasting = lasting q
 
-  -- the moves before the end of a slot
-  abbrev told_in : Event → List Event → List Move
-  told_in e before = text_moves (commanded e.command (entries before))
+  abbrev slot_after : List Entry → ℕ
+  slot_after told = slot_of (text_moves told)
 
   -- the broadcast is on air in each of these slots that it covers
-  abbrev IsOnWithin : Broadcast → List Event → Type 0
+  abbrev IsOnWithin : Broadcast → List Entry → Type 0
   IsOnWithin b [] = Unit {0}
-  IsOnWithin b (e ∷ before) = (b.start ≤ length before → length before ≤ b.end → on_air d (told_in e before) ≡ Some (endless b)) × IsOnWithin b before
+  IsOnWithin b (Restart ∷ before) = IsOnWithin b before
+  IsOnWithin b (SetText x ∷ before) = IsOnWithin b before
+  IsOnWithin b (SetName x ∷ before) = IsOnWithin b before
+  IsOnWithin b (SetTags pair ∷ before) = IsOnWithin b before
+  IsOnWithin b (Tick free ∷ before) = (b.start ≤ slot_after before → slot_after before ≤ b.end → on_air d (text_moves before) ≡ Some (endless b)) × IsOnWithin b before
 
-  on_within : (end k : ℕ) (b : Broadcast) (all : List Move) (events : List Event) (since : List Move) → HasNumber (plan_of d end all) k b → all ≡ since ++ text_moves (entries events) → IsOnWithin b events
-  on_within end k b all [] since p told = tt
-  on_within end k b all (e ∷ before) since p told =
-      let slot : slot_of (told_in e before) ≡ length before = text_service.same_slot e.command (entries before) ∙ reaches IsText text_mark text_moves text_service before in
-      let more = text_service.longer e.command (entries before) in (
-        λ from to. covered_is_on since e.free (told_in e before) end k b (subst (λ (h : List Move). HasNumber (plan_of d end h) k b) told p) (omega (arith, from, slot)) (omega (arith, to, slot)),
-        on_within end k b all before (since ++ End e.free ∷ more.0) p
-            (told ∙ ap (λ (h : List Move). since ++ End e.free ∷ h) more.1 ∙ sym (append_assoc since (End e.free ∷ more.0) (text_moves (entries before)))),
-      )
+  on_within : (end k : ℕ) (b : Broadcast) (all : List Move) (told : List Entry) (since : List Move) → HasNumber (plan_of d end all) k b → all ≡ since ++ text_moves told → IsOnWithin b told
+  on_within end k b all [] since p is = tt
+  on_within end k b all (Restart ∷ before) since p is = on_within end k b all before (since ++ Begin ∷ []) p (is ∙ sym (append_assoc since (Begin ∷ []) (text_moves before)))
+  on_within end k b all (SetText x ∷ before) since p is = on_within end k b all before (since ++ Set x ∷ []) p (is ∙ sym (append_assoc since (Set x ∷ []) (text_moves before)))
+  on_within end k b all (SetName x ∷ before) since p is = on_within end k b all before since p is
+  on_within end k b all (SetTags pair ∷ before) since p is = on_within end k b all before since p is
+  on_within end k b all (Tick free ∷ before) since p is = (
+    λ from to. covered_is_on since free (text_moves before) end k b (subst (λ (h : List Move). HasNumber (plan_of d end h) k b) is p) from to,
+    on_within end k b all before (since ++ End free ∷ []) p (is ∙ sym (append_assoc since (End free ∷ []) (text_moves before))),
+  )
 
   -- ---- turns
 
-  abbrev turn_after : List Event → ℕ
-  turn_after events = turn_of d (text_moves (entries events))
+  abbrev turn_after : List Entry → ℕ
+  turn_after told = turn_of d (text_moves told)
 
   loud : (h : List Move) (air : OnAir) → on_air d h ≡ Some air → nat_le (restart_before h + d) (slot_of h) ≡ true
   loud h air on = (let w = began d h air on in le-leb (restart_before h + d) (slot_of h) (omega (arith, w.0, w.1)))
 
-  -- a command other than a restart keeps the turn
-  same_turn : (c : Command) (es : List Entry) (air : OnAir) → on_air d (text_moves (commanded c es)) ≡ Some air → turn_of d (text_moves (commanded c es)) ≡ turn_of d (text_moves es)
-  same_turn command.Quiet es air on = refl
-  same_turn command.Restart es air on = absurd (cc)
-  same_turn (command.SetText x) es air on = refl
-  same_turn (command.SetName x) es air on = refl
-  same_turn (command.SetTags pair) es air on = refl
+  -- no slot passed since a later slot
+  none_since : (a : ℕ) (h : List Move) → slot_of h ≤ a → count_from is_free a h ≡ 0
+  none_since a [] le = refl
+  none_since a (Begin ∷ before) le = none_since a before le
+  none_since a (Set x ∷ before) le = none_since a before le
+  none_since a (End free ∷ before) le = rw (lt-leb a (slot_of before) (omega (arith, le)), none_since a before (omega (arith, le))) (by free)
+    where
+      by : (free : Bool) → one_if (free && false) + 0 ≡ 0
+      by true = refl
+      by false = refl
 
   -- each free slot has one turn
-  one_turn : (e : Event) (before : List Event) (air : OnAir) → on_air d (told_in e before) ≡ Some air → turn_after (e ∷ before) ≡ one_if e.free + turn_after before
-  one_turn e before air on = by e.free ∙ ap (λ (n : ℕ). one_if e.free + n) (same_turn e.command (entries before) air on)
-    where
-      by : (free : Bool) → turn_of d (End free ∷ told_in e before) ≡ one_if free + turn_of d (told_in e before)
-      by true = ap (λ (b : Bool). one_if b + turn_of d (told_in e before)) (loud (told_in e before) air on)
-      by false = refl
+  one_turn : (free : Bool) (before : List Entry) (air : OnAir) → on_air d (text_moves before) ≡ Some air → turn_after (Tick free ∷ before) ≡ one_if free + turn_after before
+  one_turn true before air on = ap (λ (b : Bool). one_if b + turn_after before) (loud (text_moves before) air on)
+  one_turn false before air on = refl
 
   -- a free slot with an even turn sends a segment of the text
   abbrev SendsSegment : Option Message → Type 0
@@ -134,80 +132,92 @@ module _ (only : OnlyWhatIsOnAirCoversTheSlot) (began : WhatIsOnAirBegan) (even 
     rw (loud (text_moves es) air on, (even (turn_of d (text_moves es))).0 number) (ap (text_segment d (text_moves es)) on),
   )
 
-  sends_now : (e : Event) (before : List Event) (air : OnAir) (from until : ℕ) → e.free ≡ true → on_air d (told_in e before) ≡ Some air → turn_after before % 2 ≡ 0 → from ≤ length before → length before < until
-      → SendsOneBetween text_fragment (log d (e ∷ before)) from until
-  sends_now e before air from until is on number since before_until =
-      let same = same_turn e.command (entries before) air on in
-      let w = sends_segment e.free (commanded e.command (entries before)) air is on (rw same number) in
+  sends_now : (free : Bool) (before : List Entry) (air : OnAir) (from until : ℕ) → free ≡ true → on_air d (text_moves before) ≡ Some air → turn_after before % 2 ≡ 0 → from ≤ slot_after before → slot_after before < until
+      → SendsOneBetween text_fragment (station_log d (Tick free ∷ before)) from until
+  sends_now free before air from until is on number since before_until =
+      let w = sends_segment free before air is on number in
       record {
-        slot = length before;
+        slot = slot_after before;
         message = Text w.0 w.1 w.2;
         fragment = record { flag = w.0; address = w.1; bytes = w.2 };
-        is_sent = inl (omega (arith, logged d before), sym w.3);
+        is_sent = inl (omega (arith, logged_texts d before), sym w.3);
         picked = refl;
         since = since;
         until = before_until;
       }
 
-  earlier : (e : Event) (before : List Event) (from until more : ℕ) → until ≤ more → SendsOneBetween text_fragment (log d before) from until → SendsOneBetween text_fragment (log d (e ∷ before)) from more
-  earlier e before from until more le w = record { slot = w.slot; message = w.message; fragment = w.fragment; is_sent = inr w.is_sent; picked = w.picked; since = w.since; until = omega (arith, w.until, le) }
+  earlier : (free : Bool) (before : List Entry) (from until more : ℕ) → until ≤ more → SendsOneBetween text_fragment (station_log d before) from until → SendsOneBetween text_fragment (station_log d (Tick free ∷ before)) from more
+  earlier free before from until more le w = record { slot = w.slot; message = w.message; fragment = w.fragment; is_sent = inr w.is_sent; picked = w.picked; since = w.since; until = omega (arith, w.until, le) }
 
-  free_before : (events : List Event) (s : ℕ) → IsFreeIn events s → s < length events
+  free_before : (told : List Entry) (s : ℕ) → IsFreeIn told s → s < slot_after told
   free_before [] s f = absurd f
-  free_before (e ∷ before) s (inl now) = omega (arith, now.0)
-  free_before (e ∷ before) s (inr f) = omega (arith, free_before before s f)
+  free_before (Restart ∷ before) s f = free_before before s f
+  free_before (SetText x ∷ before) s f = free_before before s f
+  free_before (SetName x ∷ before) s f = free_before before s f
+  free_before (SetTags pair ∷ before) s f = free_before before s f
+  free_before (Tick free ∷ before) s (inl now) = omega (arith, now.0)
+  free_before (Tick free ∷ before) s (inr f) = omega (arith, free_before before s f)
 
   -- if the turn is odd, the free slot before sent a segment
-  one_before : (b : Broadcast) (events : List Event) (s : ℕ) → IsOnWithin b events → IsFreeIn events s → b.start ≤ s → length events ≤ b.end + 1 → turn_after events % 2 ≡ 1
-      → SendsOneBetween text_fragment (log d events) s (length events)
-  one_before b [] s on free from to odd = absurd free
-  one_before b (e ∷ before) s on free from to odd = by e.free refl (λ g odd_too. one_before b before s on.1 g from (omega (arith, to)) odd_too) free
+  one_before : (b : Broadcast) (told : List Entry) (s : ℕ) → IsOnWithin b told → IsFreeIn told s → b.start ≤ s → slot_after told ≤ b.end + 1 → turn_after told % 2 ≡ 1
+      → SendsOneBetween text_fragment (station_log d told) s (slot_after told)
+  one_before b [] s on free_in from to odd = absurd free_in
+  one_before b (Restart ∷ before) s on free_in from to odd =
+      absurd (let none : turn_after (Restart ∷ before) ≡ 0 = none_since (slot_after before + d) (Begin ∷ text_moves before) (omega arith) in omega (arith, none, odd))
+  one_before b (SetText x ∷ before) s on free_in from to odd = one_before b before s on free_in from to odd
+  one_before b (SetName x ∷ before) s on free_in from to odd = one_before b before s on free_in from to odd
+  one_before b (SetTags pair ∷ before) s on free_in from to odd = one_before b before s on free_in from to odd
+  one_before b (Tick free ∷ before) s on free_in from to odd = by free refl (λ g odd_too. one_before b before s on.1 g from (omega (arith, to)) odd_too) free_in
     where
-      here : s ≤ length before
-      here = (let less = free_before (e ∷ before) s free in omega arith)
+      here : s ≤ slot_after before
+      here = (let less = free_before (Tick free ∷ before) s free_in in omega (arith, less))
 
-      air : on_air d (told_in e before) ≡ Some (endless b)
+      air : on_air d (text_moves before) ≡ Some (endless b)
       air = on.0 (omega (arith, here, from)) (omega (arith, to))
 
-      turns : turn_after (e ∷ before) ≡ one_if e.free + turn_after before
-      turns = one_turn e before (endless b) air
+      turns : turn_after (Tick free ∷ before) ≡ one_if free + turn_after before
+      turns = one_turn free before (endless b) air
 
-      by : (f : Bool) → e.free ≡ f → (IsFreeIn before s → turn_after before % 2 ≡ 1 → SendsOneBetween text_fragment (log d before) s (length before)) → IsFreeIn (e ∷ before) s
-          → SendsOneBetween text_fragment (log d (e ∷ before)) s (length (e ∷ before))
+      by : (f : Bool) → free ≡ f → (IsFreeIn before s → turn_after before % 2 ≡ 1 → SendsOneBetween text_fragment (station_log d before) s (slot_after before)) → IsFreeIn (Tick free ∷ before) s
+          → SendsOneBetween text_fragment (station_log d (Tick free ∷ before)) s (slot_after (Tick free ∷ before))
       by true is rest g =
-          let one : turn_after (e ∷ before) ≡ 1 + turn_after before = turns ∙ ap (λ (x : Bool). one_if x + turn_after before) is in
-          sends_now e before (endless b) s (length (e ∷ before)) is air (omega (arith, one, odd)) here (omega arith)
+          let one : turn_after (Tick free ∷ before) ≡ 1 + turn_after before = turns ∙ ap (λ (x : Bool). one_if x + turn_after before) is in
+          sends_now free before (endless b) s (slot_after (Tick free ∷ before)) is air (omega (arith, one, odd)) here (omega arith)
       by false is rest (inl now) = absurd (let bad : true ≡ false = sym now.1 ∙ is in cc)
       by false is rest (inr g) =
-          let none : turn_after (e ∷ before) ≡ 0 + turn_after before = turns ∙ ap (λ (x : Bool). one_if x + turn_after before) is in
-          earlier e before s (length before) (length (e ∷ before)) (omega arith) (rest g (omega (arith, none, odd)))
+          let none : turn_after (Tick free ∷ before) ≡ 0 + turn_after before = turns ∙ ap (λ (x : Bool). one_if x + turn_after before) is in
+          earlier free before s (slot_after before) (slot_after (Tick free ∷ before)) (omega arith) (rest g (omega (arith, none, odd)))
 
-  one_of_two : (b : Broadcast) (events : List Event) (s q until : ℕ) → IsOnWithin b events → IsFreeIn events s → IsFreeIn events q → s < q → q < until → b.start ≤ s → q ≤ b.end
-      → SendsOneBetween text_fragment (log d events) s until
-  one_of_two b [] s q until on free then less below from to = absurd free
-  one_of_two b (e ∷ before) s q until on free (inr then) less below from to =
-      earlier e before s until until (omega arith) (one_of_two b before s q until on.1 (is_earlier free) then less below from to)
+  one_of_two : (b : Broadcast) (told : List Entry) (s q until : ℕ) → IsOnWithin b told → IsFreeIn told s → IsFreeIn told q → s < q → q < until → b.start ≤ s → q ≤ b.end
+      → SendsOneBetween text_fragment (station_log d told) s until
+  one_of_two b [] s q until on one two less below from to = absurd one
+  one_of_two b (Restart ∷ before) s q until on one two less below from to = one_of_two b before s q until on one two less below from to
+  one_of_two b (SetText x ∷ before) s q until on one two less below from to = one_of_two b before s q until on one two less below from to
+  one_of_two b (SetName x ∷ before) s q until on one two less below from to = one_of_two b before s q until on one two less below from to
+  one_of_two b (SetTags pair ∷ before) s q until on one two less below from to = one_of_two b before s q until on one two less below from to
+  one_of_two b (Tick free ∷ before) s q until on one (inr two) less below from to =
+      earlier free before s until until (omega arith) (one_of_two b before s q until on.1 (is_earlier one) two less below from to)
     where
-      is_earlier : IsFreeIn (e ∷ before) s → IsFreeIn before s
-      is_earlier (inl now) = absurd (omega (arith, now.0, less, free_before before q then))
+      is_earlier : IsFreeIn (Tick free ∷ before) s → IsFreeIn before s
+      is_earlier (inl now) = absurd (omega (arith, now.0, less, free_before before q two))
       is_earlier (inr f) = f
-  one_of_two b (e ∷ before) s q until on (inl now) (inl here) less below from to = absurd (omega (arith, now.0, here.0, less))
-  one_of_two b (e ∷ before) s q until on (inr free) (inl here) less below from to =
-      let slot : q ≡ length before = here.0 in
-      let air : on_air d (told_in e before) ≡ Some (endless b) = on.0 (omega (arith, slot, less, from)) (omega (arith, slot, to)) in
+  one_of_two b (Tick free ∷ before) s q until on (inl now) (inl here) less below from to = absurd (omega (arith, now.0, here.0, less))
+  one_of_two b (Tick free ∷ before) s q until on (inr one) (inl here) less below from to =
+      let slot : q ≡ slot_after before = here.0 in
+      let air : on_air d (text_moves before) ≡ Some (endless b) = on.0 (omega (arith, slot, less, from)) (omega (arith, slot, to)) in
       elim (cases_eq (turn_after before % 2) 0) [
-        | inl even_turn ↦ sends_now e before (endless b) s until here.1 air even_turn (omega (arith, slot, less)) (omega (arith, slot, below))
+        | inl even_turn ↦ sends_now free before (endless b) s until here.1 air even_turn (omega (arith, slot, less)) (omega (arith, slot, below))
         | inr not_even ↦
-            earlier e before s (length before) until (omega (arith, slot, below))
-            (one_before b before s on.1 free from (omega (arith, slot, to)) (odd (turn_after before) not_even))
+            earlier free before s (slot_after before) until (omega (arith, slot, below))
+            (one_before b before s on.1 one from (omega (arith, slot, to)) (odd (turn_after before) not_even))
       ]
     where
       odd : (n : ℕ) → (n % 2 ≡ 0 → ⊥) → n % 2 ≡ 1
       odd n h = elim (cases_eq (n % 2) 1) [ inl one ↦ one | inr other ↦ absurd (h (omega (arith, other))) ]
 
 pub sends_one_in : OnlyWhatIsOnAirCoversTheSlot → WhatIsOnAirBegan → EvenTurnsAreTheTexts → TheStationSendsOneIn
-sends_one_in only began even d r events some lends k u b p from to =
+sends_one_in only began even d r told some lends k u b p from to =
     let two = lends k u b p from to in
-    let on = on_within only began even d some (length events - 1) k b (text_moves (entries events)) events [] p refl in
-    let w = one_of_two only began even d some b events two.one two.two (u + r) on two.one_free two.two_free two.later two.until (omega (arith, from, two.since)) (omega (arith, two.until, to)) in
+    let on = on_within only began even d some (slot_of (text_moves told) - 1) k b (text_moves told) told [] p refl in
+    let w = one_of_two only began even d some b told two.one two.two (u + r) on two.one_free two.two_free two.later two.until (omega (arith, from, two.since)) (omega (arith, two.until, to)) in
     record { slot = w.slot; message = w.message; fragment = w.fragment; is_sent = w.is_sent; picked = w.picked; since = omega (arith, two.since, w.since); until = w.until }

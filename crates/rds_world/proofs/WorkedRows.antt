@@ -1,8 +1,9 @@
--- Worked examples of due receptions, of inputs and of what may come first after a restart, calculated by hand. Lists
--- have the newest first.
+-- Worked examples of due receptions, of inputs, of what may come first after a restart and of the sets of a slot,
+-- calculated by hand. Lists have the newest first.
 use Rattle.std.proofs.Common.{◌≡◌, ◌-◌, ◌<◌, ℕ, List, [], ◌∷◌, Option, Some, None, true, refl, sym, ap, inl, inr, arith}
 use Rattle.rds_encoder.specs.Entries.{Move, Begin, Set, End}
 use Rattle.rds_encoder.specs.Plan.{plan_of}
+use Rattle.rds_encoder.specs.Spaced.{RestartsComeFirst}
 use Rattle.rds_fields.specs.declared.message.Message.{Message}
 use Rattle.rds_safety.specs.Late.{Input}
 use Rattle.rds_world.specs.declared.event.Reception.TheVariants.{Got}
@@ -57,3 +58,10 @@ last_is_not_safe (inr long) = (let lasted = long.1 in omega (arith, lasted))
 -- if it lasted for two slots, each text is safe
 after_two_slots : IsSafeAfter 1 (plan_of 1 5 (Begin ∷ End true ∷ End true ∷ Set (0x42 ∷ []) ∷ End true ∷ End true ∷ Set (0x41 ∷ []) ∷ End true ∷ [])) (0x43 ∷ [])
 after_two_slots = inr (refl, omega arith)
+
+-- a slot may have a restart and then two sets, and no restart after a set
+two_sets_after_a_restart : RestartsComeFirst (End true ∷ Set (0x42 ∷ []) ∷ Set (0x41 ∷ []) ∷ Begin ∷ End true ∷ Set (0x41 ∷ []) ∷ [])
+two_sets_after_a_restart = (tt, tt)
+
+no_restart_after_a_set : RestartsComeFirst (End true ∷ Begin ∷ Set (0x41 ∷ []) ∷ End true ∷ []) → ⊥
+no_restart_after_a_set first = first.0

@@ -2,7 +2,8 @@
 -- or name that it accepts. After a restart the flag is 0 again. So the first text or name has to be one that a receiver
 -- can join to what it holds: the empty text, or the newest one with flag 0 again. Lists have the newest first.
 use Rattle.std.specs.Prelude.{◌≡◌, ◌+◌, ◌-◌, ◌*◌, ◌<◌, ◌≤◌, ◌⊎◌}
-use Rattle.std.specs.Prelude.{ℕ, Bool, true, List, [], ◌∷◌, Option, Some, None, IfSome, is_ok, length, if◌then◌else◌}
+use Rattle.std.specs.Prelude.{ℕ, Bool, true, List, [], ◌∷◌, Option, Some, None, IfSome, is_ok, if◌then◌else◌}
+use Rattle.rds_encoder.specs.Entries.{Entry, Restart, SetText, SetName, SetTags, Tick}
 use Rattle.rds_encoder.specs.Entries.{Move, Begin, Set, End, name_moves, slot_of, text_moves}
 use Rattle.rds_encoder.specs.Plan.{Broadcast, HasNumber, on_air, plan_of}
 use Rattle.rds_encoder.specs.Reply.{reply_to}
@@ -15,6 +16,7 @@ use Rattle.rds_safety.specs.OwnClock.{IsTrueClock}
 use Rattle.rds_safety.specs.Safe.{Listener, ShowsNoTags}
 use Rattle.rds_world.specs.Event.{Event}
 use Rattle.rds_world.specs.Slots.{SetValues, entries, log, plans_of}
+use Rattle.rds_world.specs.Station.{AreSlots, station_log, station_plans}
 
 -- nothing was planned before, or x is empty
 abbrev pub IsEmptyAfter : List Broadcast → List ℕ → Type 0
@@ -89,94 +91,97 @@ TheStationKeepsEach =
 -- source, in which the last segment was sent
 abbrev pub TextsOfAStationAreOfTheirSource : Type 0
 TextsOfAStationAreOfTheirSource =
-    (d now : ℕ) (events : List Event) (r : Listener) → 0 < d → SetValues events
-    → IsFirstAfterRestart (IsSafeAfter d) d (text_moves (entries events)) → ListensByFlag now (log d events) r
-    → HearsOneIn (2 * d) text_fragment (plans_of d events).text now r.input
-    → IfSome r.view.text (IsOfItsSource (plans_of d events).text r.input (run_by_flag text_fragment r.input))
+    (d now : ℕ) (told : List Entry) (r : Listener) → 0 < d → AreSlots told
+    → IsFirstAfterRestart (IsSafeAfter d) d (text_moves told) → ListensByFlag now (station_log d told) r
+    → HearsOneIn (2 * d) text_fragment (station_plans d told).text now r.input
+    → IfSome r.view.text (IsOfItsSource (station_plans d told).text r.input (run_by_flag text_fragment r.input))
 
 -- the same for names; no name is empty, so the newest one with flag 0 comes first, unless the newest one has flag 1 and
 -- lasted for 2d slots
 abbrev pub NamesOfAStationAreOfTheirSource : Type 0
 NamesOfAStationAreOfTheirSource =
-    (d now : ℕ) (events : List Event) (r : Listener) → 0 < d → SetValues events
-    → IsFirstAfterRestart (IsSafeAfter d) d (name_moves (entries events)) → ListensByFlag now (log d events) r
-    → HearsOneIn (2 * d) name_fragment (plans_of d events).name now r.input
-    → IfSome r.view.name (IsOfItsSource (plans_of d events).name r.input (run_by_flag name_fragment r.input))
+    (d now : ℕ) (told : List Entry) (r : Listener) → 0 < d → AreSlots told
+    → IsFirstAfterRestart (IsSafeAfter d) d (name_moves told) → ListensByFlag now (station_log d told) r
+    → HearsOneIn (2 * d) name_fragment (station_plans d told).name now r.input
+    → IfSome r.view.name (IsOfItsSource (station_plans d told).name r.input (run_by_flag name_fragment r.input))
 
 -- if it hears a segment in each d slots in a row of a text, the tags shown are those of the text shown
 abbrev pub TagsOfAStationAreOfTheirText : Type 0
 TagsOfAStationAreOfTheirText =
-    (d now : ℕ) (events : List Event) (r : Listener) → 0 < d → SetValues events
-    → IsFirstAfterRestart (IsSafeAfter d) d (text_moves (entries events)) → ListensByFlag now (log d events) r
-    → HearsOneIn d text_fragment (plans_of d events).text now r.input
+    (d now : ℕ) (told : List Entry) (r : Listener) → 0 < d → AreSlots told
+    → IsFirstAfterRestart (IsSafeAfter d) d (text_moves told) → ListensByFlag now (station_log d told) r
+    → HearsOneIn d text_fragment (station_plans d told).text now r.input
     → ShowsNoTags r.view ⊎ ShowsEmptyText r.view
-    ⊎ ShowsTagsOfText d (plans_of d events).text (marks text_mark (log d events)) r.view
+    ⊎ ShowsTagsOfText d (station_plans d told).text (marks text_mark (station_log d told)) r.view
 
 -- if it hears a segment in each 2d slots in a row of a text, its source is new: each text that began by slot `now` is
 -- at most the next one after it, except the empty text, or except what is no news
 abbrev pub TextsOfAStationAreNew : Type 0
 TextsOfAStationAreNew =
-    (d now : ℕ) (events : List Event) (r : Listener) → 0 < d → SetValues events → ListensByFlag now (log d events) r
-    → HearsOneIn (2 * d) text_fragment (plans_of d events).text now r.input
-    → (IsFirstAfterRestart IsEmptyAfter d (text_moves (entries events))
-    → HasNewSource IsFilled (plans_of d events).text now r.input (run_by_flag text_fragment r.input))
-    × (IsFirstAfterRestart (IsSafeAfter d) d (text_moves (entries events))
-    → HasNewSource IsNews (plans_of d events).text now r.input (run_by_flag text_fragment r.input))
+    (d now : ℕ) (told : List Entry) (r : Listener) → 0 < d → AreSlots told → ListensByFlag now (station_log d told) r
+    → HearsOneIn (2 * d) text_fragment (station_plans d told).text now r.input
+    → (IsFirstAfterRestart IsEmptyAfter d (text_moves told)
+    → HasNewSource IsFilled (station_plans d told).text now r.input (run_by_flag text_fragment r.input))
+    × (IsFirstAfterRestart (IsSafeAfter d) d (text_moves told)
+    → HasNewSource IsNews (station_plans d told).text now r.input (run_by_flag text_fragment r.input))
 
 -- the same for names
 abbrev pub NamesOfAStationAreNew : Type 0
 NamesOfAStationAreNew =
-    (d now : ℕ) (events : List Event) (r : Listener) → 0 < d → SetValues events → ListensByFlag now (log d events) r
-    → HearsOneIn (2 * d) name_fragment (plans_of d events).name now r.input
-    → (IsFirstAfterRestart IsEmptyAfter d (name_moves (entries events))
-    → HasNewSource IsFilled (plans_of d events).name now r.input (run_by_flag name_fragment r.input))
-    × (IsFirstAfterRestart (IsSafeAfter d) d (name_moves (entries events))
-    → HasNewSource IsNews (plans_of d events).name now r.input (run_by_flag name_fragment r.input))
+    (d now : ℕ) (told : List Entry) (r : Listener) → 0 < d → AreSlots told → ListensByFlag now (station_log d told) r
+    → HearsOneIn (2 * d) name_fragment (station_plans d told).name now r.input
+    → (IsFirstAfterRestart IsEmptyAfter d (name_moves told)
+    → HasNewSource IsFilled (station_plans d told).name now r.input (run_by_flag name_fragment r.input))
+    × (IsFirstAfterRestart (IsSafeAfter d) d (name_moves told)
+    → HasNewSource IsNews (station_plans d told).name now r.input (run_by_flag name_fragment r.input))
 
 -- the slot was free
-abbrev pub IsFreeIn : List Event → ℕ → Type 0
+abbrev pub IsFreeIn : List Entry → ℕ → Type 0
 IsFreeIn [] slot = ⊥
-IsFreeIn (newest ∷ before) slot = ((slot ≡ length before) × (newest.free ≡ true)) ⊎ IsFreeIn before slot
+IsFreeIn (Restart ∷ before) slot = IsFreeIn before slot
+IsFreeIn (SetText x ∷ before) slot = IsFreeIn before slot
+IsFreeIn (SetName x ∷ before) slot = IsFreeIn before slot
+IsFreeIn (SetTags pair ∷ before) slot = IsFreeIn before slot
+IsFreeIn (Tick free ∷ before) slot = ((slot ≡ slot_of (text_moves before)) × (free ≡ true)) ⊎ IsFreeIn before slot
 
 -- two slots were free, both in slot `from` or later and before slot `before`
-pub record LendsTwoBetween (events : List Event) (from before : ℕ) : Type 0 where
+pub record LendsTwoBetween (told : List Entry) (from before : ℕ) : Type 0 where
   pub one : ℕ
   pub two : ℕ
-  pub one_free : IsFreeIn events one
-  pub two_free : IsFreeIn events two
+  pub one_free : IsFreeIn told one
+  pub two_free : IsFreeIn told two
   pub since : from ≤ one
   pub later : one < two
   pub until : two < before
 
 -- two of each r slots in a row of one broadcast were free
-abbrev pub LendsTwoIn : ℕ → List Broadcast → List Event → Type 0
-LendsTwoIn r plan events =
-    (k u : ℕ) (b : Broadcast) → HasNumber plan k b → b.start ≤ u → u + r ≤ b.end + 1
-    → LendsTwoBetween events u (u + r)
+abbrev pub LendsTwoIn : ℕ → List Broadcast → List Entry → Type 0
+LendsTwoIn r plan told =
+    (k u : ℕ) (b : Broadcast) → HasNumber plan k b → b.start ≤ u → u + r ≤ b.end + 1 → LendsTwoBetween told u (u + r)
 
 -- if two of each r slots in a row of a text are free, each r slots in a row of a text send a segment of it
 abbrev pub TheStationSendsOneIn : Type 0
 TheStationSendsOneIn =
-    (d r : ℕ) (events : List Event) → 0 < d → LendsTwoIn r (plans_of d events).text events
-    → SendsOneIn r text_fragment (plans_of d events).text (log d events)
+    (d r : ℕ) (told : List Entry) → 0 < d → LendsTwoIn r (station_plans d told).text told
+    → SendsOneIn r text_fragment (station_plans d told).text (station_log d told)
 
 -- then it is enough that a receiver gets r slots in a row of each 2d, whatever is sent in them
 abbrev pub WhoGetsSomeShowsTextsOfTheirSource : Type 0
 WhoGetsSomeShowsTextsOfTheirSource =
-    (d r now : ℕ) (events : List Event) (l : Listener) → 0 < d → SetValues events
-    → IsFirstAfterRestart (IsSafeAfter d) d (text_moves (entries events)) → ListensByFlag now (log d events) l
-    → LendsTwoIn r (plans_of d events).text events
-    → GetsSome r (2 * d) text_fragment (plans_of d events).text now l.input
-    → IfSome l.view.text (IsOfItsSource (plans_of d events).text l.input (run_by_flag text_fragment l.input))
+    (d r now : ℕ) (told : List Entry) (l : Listener) → 0 < d → AreSlots told
+    → IsFirstAfterRestart (IsSafeAfter d) d (text_moves told) → ListensByFlag now (station_log d told) l
+    → LendsTwoIn r (station_plans d told).text told
+    → GetsSome r (2 * d) text_fragment (station_plans d told).text now l.input
+    → IfSome l.view.text (IsOfItsSource (station_plans d told).text l.input (run_by_flag text_fragment l.input))
 
 -- it is enough that it loses at most 2d - 2r + 1 slots in a row, and gets r slots in a row after each loss
 abbrev pub WhoLosesFewShowsTextsOfTheirSource : Type 0
 WhoLosesFewShowsTextsOfTheirSource =
-    (d r most now : ℕ) (events : List Event) (l : Listener) (got : ℕ → Bool) → 0 < d → SetValues events
-    → IsFirstAfterRestart (IsSafeAfter d) d (text_moves (entries events)) → ListensByFlag now (log d events) l
-    → LendsTwoIn r (plans_of d events).text events → most + 2 * r ≤ 2 * d + 1
+    (d r most now : ℕ) (told : List Entry) (l : Listener) (got : ℕ → Bool) → 0 < d → AreSlots told
+    → IsFirstAfterRestart (IsSafeAfter d) d (text_moves told) → ListensByFlag now (station_log d told) l
+    → LendsTwoIn r (station_plans d told).text told → most + 2 * r ≤ 2 * d + 1
     → LosesInARow most r text_fragment now l.input got
-    → IfSome l.view.text (IsOfItsSource (plans_of d events).text l.input (run_by_flag text_fragment l.input))
+    → IfSome l.view.text (IsOfItsSource (station_plans d told).text l.input (run_by_flag text_fragment l.input))
 
 -- there are slots of a station with a spacing of d, and a receiver with the flag bit alone that got each of them on
 -- time and shows a text that nobody set

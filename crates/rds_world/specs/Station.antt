@@ -1,10 +1,77 @@
--- The law about a station, whatever its slots are.
-use Rattle.std.specs.Prelude.{ℕ, ◌<◌, List}
+-- A station, whatever it sets in its slots (this project's own rule): what follows from the entries of its encoder. In
+-- each slot it may restart and then set any number of texts, names and pairs of tags. The slots of a world, each with at
+-- most one command, are a case of this. Lists have the newest first, and the station's spacing is d.
+use Rattle.std.specs.Prelude.{◌≡◌, ◌<◌, ◌+◌, ◌-◌, ℕ, List, [], ◌∷◌, Option}
+use Rattle.std.specs.List.{All, AllByRecursion}
+use Rattle.rds_fields.specs.declared.message.Message.{Message}
+use Rattle.rds_assembly.specs.Value.{IsName, IsText}
+use Rattle.rds_encoder.specs.Entries.{Entry, Restart, SetText, SetName, SetTags, Tick, name_moves, slot_of, text_moves}
+use Rattle.rds_encoder.specs.Plan.{plan_of}
+use Rattle.rds_encoder.specs.Sent.{sent_in}
+use Rattle.rds_encoder.specs.Spaced.{RestartsComeFirst}
+use Rattle.rds_safety.specs.Plans.{AreLawful, Plans}
+use Rattle.rds_safety.specs.Safe.{AreSafe, Listener, ListensTo}
 use Rattle.rds_world.specs.Event.{Event}
-use Rattle.rds_safety.specs.Plans.{AreLawful}
-use Rattle.rds_world.specs.Slots.{SetValues, log, plans_of}
+use Rattle.rds_world.specs.Slots.{SetValues, entries, log, plans_of}
+
+-- the message sent in each slot that ended
+abbrev pub station_log : ℕ → List Entry → List (Option Message)
+station_log d [] = []
+station_log d (Restart ∷ before) = station_log d before
+station_log d (SetText x ∷ before) = station_log d before
+station_log d (SetName x ∷ before) = station_log d before
+station_log d (SetTags pair ∷ before) = station_log d before
+station_log d (Tick free ∷ before) = sent_in d free before ∷ station_log d before
+
+-- the plans of texts and of names; a broadcast that is still on air ends in the last slot that ended
+abbrev pub station_plans : ℕ → List Entry → Plans
+station_plans d told = record {
+  text = plan_of d (slot_of (text_moves told) - 1) (text_moves told);
+  name = plan_of d (slot_of (name_moves told) - 1) (name_moves told);
+}
+
+-- a text or name that the entry sets is valid
+abbrev pub IsValid : Entry → Type 0
+IsValid Restart = Unit {0}
+IsValid (SetText x) = IsText x
+IsValid (SetName x) = IsName x
+IsValid (SetTags pair) = Unit {0}
+IsValid (Tick free) = Unit {0}
+
+-- the newest entry, if there is one, is the end of a slot
+abbrev pub EndsASlot : List Entry → Type 0
+EndsASlot [] = Unit {0}
+EndsASlot (Restart ∷ before) = ⊥
+EndsASlot (SetText x ∷ before) = ⊥
+EndsASlot (SetName x ∷ before) = ⊥
+EndsASlot (SetTags pair ∷ before) = ⊥
+EndsASlot (Tick free ∷ before) = Unit {0}
+
+-- the entries are slots that ended: each text and name is valid, and each restart comes before the sets of its slot
+pub record AreSlots (told : List Entry) : Type 0 where
+  pub valid : AllByRecursion IsValid told
+  pub ended : EndsASlot told
+  pub texts : RestartsComeFirst (text_moves told)
+  pub names : RestartsComeFirst (name_moves told)
 
 -- the messages of an encoder with a spacing of d slots are lawful for its plans of texts and of names
 abbrev pub TheEncoderIsLawful : Type 0
-TheEncoderIsLawful = (d : ℕ) (events : List Event) → 0 < d → SetValues events
-    → AreLawful d (plans_of d events) (log d events)
+TheEncoderIsLawful =
+    (d : ℕ) (told : List Entry) → 0 < d → AreSlots told → AreLawful d (station_plans d told) (station_log d told)
+
+-- the slots of a world are such slots, with the same log and the same plans
+pub record AreSlotsToo (d : ℕ) (events : List Event) : Type 0 where
+  pub slots : AreSlots (entries events)
+  pub log : station_log d (entries events) ≡ log d events
+  pub plans : station_plans d (entries events) ≡ plans_of d events
+
+abbrev pub SlotsOfAWorldAreSlots : Type 0
+SlotsOfAWorldAreSlots = (d : ℕ) (events : List Event) → SetValues events → AreSlotsToo d events
+
+-- The headline for any station and any number of receivers: if each receiver of dwell m gets what was sent at most k
+-- slots before, in the order of sending, or nothing, their views at the end of slot t are safe.
+abbrev pub WhoHearsAStationIsSafe : Type 0
+WhoHearsAStationIsSafe =
+    (k m t : ℕ) (told : List Entry) (receivers : List Listener) → 0 < m → AreSlots told
+    → All (ListensTo k m t (station_log (m + k) told)) receivers
+    → AreSafe (m + k) m t (station_plans (m + k) told) (station_log (m + k) told) receivers

@@ -19,8 +19,8 @@ pub use event::{Command, MOST_RECEIVERS, Reception, SlotEvent};
 pub use reply::{Answer, Reply, StepRefused, WorldRefused};
 pub use slots::{PlayRefused, play};
 pub use station_laws::{
-    a_restart_mixes, a_station_heard_twice_is_safe, a_station_is_safe_by_the_flag,
-    on_air_is_delivered, only_what_was_on_air_is_shown, the_encoder_is_lawful,
-    the_station_turns_the_flag, two_slots_are_enough,
+    a_restart_mixes, a_station_heard_twice_is_safe, a_station_is_safe,
+    a_station_is_safe_by_the_flag, on_air_is_delivered, only_what_was_on_air_is_shown,
+    the_encoder_is_lawful, the_station_turns_the_flag, two_slots_are_enough,
 };
 pub use world::{Config, World};

@@ -8,7 +8,7 @@ ghost use Rattle.rds_world.specs.FlagStation.{TheEmptyTextIsEnough};
 ghost use Rattle.rds_world.specs.FlagStation.{TheStationKeepsEach, TheStationSendsOneIn, TheStationTurnsTheFlag};
 ghost use Rattle.rds_world.specs.FlagStation.{WhoGetsSomeShowsTextsOfTheirSource, WhoLosesFewShowsTextsOfTheirSource};
 ghost use Rattle.rds_world.specs.SafeSlots.{EveryWorldShowsOnlyWhatWasOnAir};
-ghost use Rattle.rds_world.specs.Station.{TheEncoderIsLawful};
+ghost use Rattle.rds_world.specs.Station.{SlotsOfAWorldAreSlots, TheEncoderIsLawful, WhoHearsAStationIsSafe};
 ghost use Rattle.rds_world.specs.TwiceStation.{WhoHearsAStationTwiceIsSafe};
 
 use rds_encoder::{
@@ -18,7 +18,7 @@ use rds_encoder::{
 };
 use rds_safety::{often_is_enough, safe_by_plans, safe_by_the_flag, safe_if_heard_twice};
 
-/// States that the messages of an encoder are lawful for its plans.
+/// States that the messages of an encoder are lawful for its plans, whatever it sets in its slots.
 pub fn the_encoder_is_lawful()
     ensures { TheEncoderIsLawful }
 {
@@ -26,6 +26,16 @@ pub fn the_encoder_is_lawful()
     on_air_from_its_start_on();
     planned_is_what_was_on_air();
     sent_is_of_what_is_on_air();
+}
+
+/// States the headline for each station, with any number of sets in a slot, and for any number of receivers. The slots of
+/// a world are a case of this.
+pub fn a_station_is_safe()
+    ensures safe { WhoHearsAStationIsSafe }
+    ensures world { SlotsOfAWorldAreSlots }
+{
+    the_encoder_is_lawful();
+    safe_by_plans();
 }
 
 /// States the headline: the receivers of each world show only what was on air.
