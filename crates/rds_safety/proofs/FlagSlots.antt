@@ -52,7 +52,7 @@ hears_text_before_tags laws d now plan log r law listens often t s u q k pair b 
     record { slot = one.slot; origin = one.origin; heard = one.heard; since = one.since; until = omega (arith, one.until, lasted, slot) }
 
 -- each entry is that of the log in its origin
-came_as_sent : (log : List (Option Message)) (input : Input) (t s : ℕ) (message : Message) → IsHeardInOrder log input → CameFrom input t s → SentIn log s (Some message) → HasEntry input.first input.heard t (Some message)
+pub came_as_sent : (log : List (Option Message)) (input : Input) (t s : ℕ) (message : Message) → IsHeardInOrder log input → CameFrom input t s → SentIn log s (Some message) → HasEntry input.first input.heard t (Some message)
 came_as_sent log input t s message order from sent =
     let w = entry_beside input.first input.origins input.heard t (Some s) (sym order.beside) from in
     let same : w.0 ≡ Some message = one_entry 0 log s w.0 (Some message) (order.each t (Some s) w.0 from w.1) sent in

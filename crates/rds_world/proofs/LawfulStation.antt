@@ -16,7 +16,7 @@ use Rattle.rds_receiver.specs.Receipts.{Fragment}
 use Rattle.rds_safety.specs.Lawful.{HasOne, HasFragment, HasTags, IsLawful, Kind, names, texts}
 use Rattle.rds_safety.specs.Marks.{IsMarkIn, Mark, Sends, Tagged, marks, name_mark, text_mark}
 use Rattle.rds_safety.specs.Plans.{AreLawful}
-use Rattle.rds_world.specs.Station.{AreSlots, EndsASlot, IsValid, TheEncoderIsLawful, station_log, station_plans}
+use Rattle.rds_world.specs.Station.{AreSlots, EndsASlot, IsFreeIn, IsValid, TheEncoderIsLawful, slots_in, station_log, station_plans}
 
 -- the laws about each encoder
 pub record EncoderLaws : Type 0 where
@@ -59,6 +59,16 @@ logged_texts d (SetText x ∷ before) = logged_texts d before
 logged_texts d (SetName x ∷ before) = logged_texts d before
 logged_texts d (SetTags pair ∷ before) = logged_texts d before
 logged_texts d (Tick free ∷ before) = omega (arith, logged_texts d before)
+
+-- a free slot ended
+pub free_before : (told : List Entry) (s : ℕ) → IsFreeIn told s → s < slots_in told
+free_before [] s f = absurd f
+free_before (Restart ∷ before) s f = free_before before s f
+free_before (SetText x ∷ before) s f = free_before before s f
+free_before (SetName x ∷ before) s f = free_before before s f
+free_before (SetTags pair ∷ before) s f = free_before before s f
+free_before (Tick free ∷ before) s (inl now) = omega (arith, now.0)
+free_before (Tick free ∷ before) s (inr f) = omega (arith, free_before before s f)
 
 text_service : IsService IsText text_moves
 text_service = record { none = refl; tick = λ free before. refl; longer = longer; values = values; logged = logged_texts }

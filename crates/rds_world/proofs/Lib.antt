@@ -5,7 +5,7 @@ pub mod LawfulStation
 pub mod WorldSlots
 pub mod InTime
 pub mod SafeWorld
-pub mod SentWhole
+pub mod StationDelivered
 pub mod Delivered
 pub mod FlagStation
 pub mod FlagSafeStation

@@ -27,7 +27,7 @@ shows_view config input r view has shows =
     let v = shows (tuned_to config input) has.groups has.stands in
     subst (λ (heard : List (Option Message)). ShowsView config.dwell input.first heard view) (same_heard config.head.pi has.groups v.0 input.heard v.1 has.spelled) v.2
 
-listens : (config : Config) (e : Event) (before : List Event) (i : ℕ) (r : ReceiverState) (view : ShownView)
+pub listens : (config : Config) (e : Event) (before : List Event) (i : ℕ) (r : ReceiverState) (view : ShownView)
     → AreDue config.late (e ∷ before) → HasHeard config (input_of (distance config) i (e ∷ before)) r → Shows r view
     → ListensTo config.late config.dwell (length before) (log (distance config) (e ∷ before)) record { input = input_of (distance config) i (e ∷ before); view = view }
 listens config e before i r view due has shows = record {

@@ -11,9 +11,9 @@ use Rattle.rds_encoder.specs.Reply.{reply_to}
 use Rattle.rds_encoder.specs.Sent.{count_from, is_free, next_address, one_if, sent_in, text_segment, turn_of}
 use Rattle.rds_receiver.specs.Receipts.{text_fragment}
 use Rattle.rds_safety.specs.FlagAlone.{SendsOneBetween}
-use Rattle.rds_world.specs.FlagStation.{IsFreeIn, TheStationSendsOneIn}
-use Rattle.rds_world.specs.Station.{station_log}
-use Rattle.rds_world.proofs.LawfulStation.{logged_texts}
+use Rattle.rds_world.specs.FlagStation.{TheStationSendsOneIn}
+use Rattle.rds_world.specs.Station.{IsFreeIn, slots_in, station_log}
+use Rattle.rds_world.proofs.LawfulStation.{free_before, logged_texts}
 
 -- a broadcast that is planned with one end is planned with another
 record IsPlannedToo (d end : ℕ) (h : List Move) (k : ℕ) (b : Broadcast) : Type 0 where
@@ -72,9 +72,6 @@ module _ (only : OnlyWhatIsOnAirCoversTheSlot) (began : WhatIsOnAirBegan) (even 
       by true (inr older) closed lasting = closed older
       by false q closed lasting = lasting q
 
-  abbrev slot_after : List Entry → ℕ
-  slot_after told = slot_of (text_moves told)
-
   -- the broadcast is on air in each of these slots that it covers
   abbrev IsOnWithin : Broadcast → List Entry → Type 0
   IsOnWithin b [] = Unit {0}
@@ -82,7 +79,7 @@ module _ (only : OnlyWhatIsOnAirCoversTheSlot) (began : WhatIsOnAirBegan) (even 
   IsOnWithin b (SetText x ∷ before) = IsOnWithin b before
   IsOnWithin b (SetName x ∷ before) = IsOnWithin b before
   IsOnWithin b (SetTags pair ∷ before) = IsOnWithin b before
-  IsOnWithin b (Tick free ∷ before) = (b.start ≤ slot_after before → slot_after before ≤ b.end → on_air d (text_moves before) ≡ Some (endless b)) × IsOnWithin b before
+  IsOnWithin b (Tick free ∷ before) = (b.start ≤ slots_in before → slots_in before ≤ b.end → on_air d (text_moves before) ≡ Some (endless b)) × IsOnWithin b before
 
   on_within : (end k : ℕ) (b : Broadcast) (all : List Move) (told : List Entry) (since : List Move) → HasNumber (plan_of d end all) k b → all ≡ since ++ text_moves told → IsOnWithin b told
   on_within end k b all [] since p is = tt
@@ -132,12 +129,12 @@ module _ (only : OnlyWhatIsOnAirCoversTheSlot) (began : WhatIsOnAirBegan) (even 
     rw (loud (text_moves es) air on, (even (turn_of d (text_moves es))).0 number) (ap (text_segment d (text_moves es)) on),
   )
 
-  sends_now : (free : Bool) (before : List Entry) (air : OnAir) (from until : ℕ) → free ≡ true → on_air d (text_moves before) ≡ Some air → turn_after before % 2 ≡ 0 → from ≤ slot_after before → slot_after before < until
+  sends_now : (free : Bool) (before : List Entry) (air : OnAir) (from until : ℕ) → free ≡ true → on_air d (text_moves before) ≡ Some air → turn_after before % 2 ≡ 0 → from ≤ slots_in before → slots_in before < until
       → SendsOneBetween text_fragment (station_log d (Tick free ∷ before)) from until
   sends_now free before air from until is on number since before_until =
       let w = sends_segment free before air is on number in
       record {
-        slot = slot_after before;
+        slot = slots_in before;
         message = Text w.0 w.1 w.2;
         fragment = record { flag = w.0; address = w.1; bytes = w.2 };
         is_sent = inl (omega (arith, logged_texts d before), sym w.3);
@@ -149,27 +146,18 @@ module _ (only : OnlyWhatIsOnAirCoversTheSlot) (began : WhatIsOnAirBegan) (even 
   earlier : (free : Bool) (before : List Entry) (from until more : ℕ) → until ≤ more → SendsOneBetween text_fragment (station_log d before) from until → SendsOneBetween text_fragment (station_log d (Tick free ∷ before)) from more
   earlier free before from until more le w = record { slot = w.slot; message = w.message; fragment = w.fragment; is_sent = inr w.is_sent; picked = w.picked; since = w.since; until = omega (arith, w.until, le) }
 
-  free_before : (told : List Entry) (s : ℕ) → IsFreeIn told s → s < slot_after told
-  free_before [] s f = absurd f
-  free_before (Restart ∷ before) s f = free_before before s f
-  free_before (SetText x ∷ before) s f = free_before before s f
-  free_before (SetName x ∷ before) s f = free_before before s f
-  free_before (SetTags pair ∷ before) s f = free_before before s f
-  free_before (Tick free ∷ before) s (inl now) = omega (arith, now.0)
-  free_before (Tick free ∷ before) s (inr f) = omega (arith, free_before before s f)
-
   -- if the turn is odd, the free slot before sent a segment
-  one_before : (b : Broadcast) (told : List Entry) (s : ℕ) → IsOnWithin b told → IsFreeIn told s → b.start ≤ s → slot_after told ≤ b.end + 1 → turn_after told % 2 ≡ 1
-      → SendsOneBetween text_fragment (station_log d told) s (slot_after told)
+  one_before : (b : Broadcast) (told : List Entry) (s : ℕ) → IsOnWithin b told → IsFreeIn told s → b.start ≤ s → slots_in told ≤ b.end + 1 → turn_after told % 2 ≡ 1
+      → SendsOneBetween text_fragment (station_log d told) s (slots_in told)
   one_before b [] s on free_in from to odd = absurd free_in
   one_before b (Restart ∷ before) s on free_in from to odd =
-      absurd (let none : turn_after (Restart ∷ before) ≡ 0 = none_since (slot_after before + d) (Begin ∷ text_moves before) (omega arith) in omega (arith, none, odd))
+      absurd (let none : turn_after (Restart ∷ before) ≡ 0 = none_since (slots_in before + d) (Begin ∷ text_moves before) (omega arith) in omega (arith, none, odd))
   one_before b (SetText x ∷ before) s on free_in from to odd = one_before b before s on free_in from to odd
   one_before b (SetName x ∷ before) s on free_in from to odd = one_before b before s on free_in from to odd
   one_before b (SetTags pair ∷ before) s on free_in from to odd = one_before b before s on free_in from to odd
   one_before b (Tick free ∷ before) s on free_in from to odd = by free refl (λ g odd_too. one_before b before s on.1 g from (omega (arith, to)) odd_too) free_in
     where
-      here : s ≤ slot_after before
+      here : s ≤ slots_in before
       here = (let less = free_before (Tick free ∷ before) s free_in in omega (arith, less))
 
       air : on_air d (text_moves before) ≡ Some (endless b)
@@ -178,15 +166,15 @@ module _ (only : OnlyWhatIsOnAirCoversTheSlot) (began : WhatIsOnAirBegan) (even 
       turns : turn_after (Tick free ∷ before) ≡ one_if free + turn_after before
       turns = one_turn free before (endless b) air
 
-      by : (f : Bool) → free ≡ f → (IsFreeIn before s → turn_after before % 2 ≡ 1 → SendsOneBetween text_fragment (station_log d before) s (slot_after before)) → IsFreeIn (Tick free ∷ before) s
-          → SendsOneBetween text_fragment (station_log d (Tick free ∷ before)) s (slot_after (Tick free ∷ before))
+      by : (f : Bool) → free ≡ f → (IsFreeIn before s → turn_after before % 2 ≡ 1 → SendsOneBetween text_fragment (station_log d before) s (slots_in before)) → IsFreeIn (Tick free ∷ before) s
+          → SendsOneBetween text_fragment (station_log d (Tick free ∷ before)) s (slots_in (Tick free ∷ before))
       by true is rest g =
           let one : turn_after (Tick free ∷ before) ≡ 1 + turn_after before = turns ∙ ap (λ (x : Bool). one_if x + turn_after before) is in
-          sends_now free before (endless b) s (slot_after (Tick free ∷ before)) is air (omega (arith, one, odd)) here (omega arith)
+          sends_now free before (endless b) s (slots_in (Tick free ∷ before)) is air (omega (arith, one, odd)) here (omega arith)
       by false is rest (inl now) = absurd (let bad : true ≡ false = sym now.1 ∙ is in cc)
       by false is rest (inr g) =
           let none : turn_after (Tick free ∷ before) ≡ 0 + turn_after before = turns ∙ ap (λ (x : Bool). one_if x + turn_after before) is in
-          earlier free before s (slot_after before) (slot_after (Tick free ∷ before)) (omega arith) (rest g (omega (arith, none, odd)))
+          earlier free before s (slots_in before) (slots_in (Tick free ∷ before)) (omega arith) (rest g (omega (arith, none, odd)))
 
   one_of_two : (b : Broadcast) (told : List Entry) (s q until : ℕ) → IsOnWithin b told → IsFreeIn told s → IsFreeIn told q → s < q → q < until → b.start ≤ s → q ≤ b.end
       → SendsOneBetween text_fragment (station_log d told) s until
@@ -203,12 +191,12 @@ module _ (only : OnlyWhatIsOnAirCoversTheSlot) (began : WhatIsOnAirBegan) (even 
       is_earlier (inr f) = f
   one_of_two b (Tick free ∷ before) s q until on (inl now) (inl here) less below from to = absurd (omega (arith, now.0, here.0, less))
   one_of_two b (Tick free ∷ before) s q until on (inr one) (inl here) less below from to =
-      let slot : q ≡ slot_after before = here.0 in
+      let slot : q ≡ slots_in before = here.0 in
       let air : on_air d (text_moves before) ≡ Some (endless b) = on.0 (omega (arith, slot, less, from)) (omega (arith, slot, to)) in
       elim (cases_eq (turn_after before % 2) 0) [
         | inl even_turn ↦ sends_now free before (endless b) s until here.1 air even_turn (omega (arith, slot, less)) (omega (arith, slot, below))
         | inr not_even ↦
-            earlier free before s (slot_after before) until (omega (arith, slot, below))
+            earlier free before s (slots_in before) until (omega (arith, slot, below))
             (one_before b before s on.1 one from (omega (arith, slot, to)) (odd (turn_after before) not_even))
       ]
     where

@@ -1,19 +1,25 @@
 -- Delivery: what is on air reaches receivers (this project's own rule). A receiver that got on time each free one of
--- some slots of a broadcast, enough of them and at most M slots, shows that broadcast. Lists have the newest first.
-use Rattle.std.specs.Prelude.{◌≡◌, ◌+◌, ◌*◌, ◌≤◌, [], ◌∷◌, ◌++◌}
+-- some slots of a broadcast, enough of them and at most M slots, shows that broadcast. The laws about a world are cases
+-- of those about a station. Lists have the newest first.
+use Rattle.std.specs.Prelude.{◌≡◌, ◌+◌, ◌-◌, ◌*◌, ◌<◌, ◌≤◌, [], ◌∷◌, ◌++◌}
 use Rattle.std.specs.Prelude.{ℕ, Bool, true, false, List, Some, length, slice_get, slice_index_or}
 use Rattle.std.specs.List.{AllByRecursion}
 use Rattle.rds_assembly.specs.Body.{segment_count, text_body}
+use Rattle.rds_encoder.specs.Delivery.{free_in}
+use Rattle.rds_encoder.specs.Entries.{Entry}
 use Rattle.rds_encoder.specs.Plan.{Broadcast, HasNumber}
 use Rattle.rds_encoder.specs.Sent.{one_if}
 use Rattle.rds_receiver.specs.Shown.{ShownView}
 use Rattle.rds_receiver.specs.State.{ReceiverState}
+use Rattle.rds_safety.specs.Late.{CameFrom}
+use Rattle.rds_safety.specs.Safe.{Listener, ListensTo}
 use Rattle.rds_world.specs.declared.event.Reception.{Reception}
 use Rattle.rds_world.specs.declared.event.Reception.TheVariants.{Got, Lost, Restart}
 use Rattle.rds_world.specs.Event.{Event}
 use Rattle.rds_world.specs.Slots.{plans_of}
 use Rattle.rds_world.specs.StandsAt.{Shows, StandsAt}
 use Rattle.rds_world.specs.State.{WorldState, distance}
+use Rattle.rds_world.specs.Station.{AreSlots, IsFreeIn, slots_in, station_log, station_plans}
 use Rattle.rds_world.specs.declared.world.Config.{Config}
 
 -- the number of free slots among these
@@ -76,3 +82,39 @@ ANameIsDelivered =
     → GotRecently config recent before view
     → LieIn (plans_of (distance config) (recent ++ before)).name recent before b
     → 8 ≤ free_slots recent → view.name ≡ Some b.bytes
+
+-- a receiver of dwell m that listens to a station, at most k slots late: of the later entries, which have at most m
+-- slots, it got each free slot on time
+pub record GotOfStation (k m : ℕ) (later earlier : List Entry) (r : Listener) : Type 0 where
+  pub slots : AreSlots (later ++ earlier)
+  pub listens : ListensTo k m (slots_in (later ++ earlier) - 1) (station_log (m + k) (later ++ earlier)) r
+  pub within : slots_in (later ++ earlier) ≤ slots_in earlier + m
+  pub got : (s : ℕ) → slots_in earlier ≤ s → IsFreeIn (later ++ earlier) s → CameFrom r.input s s
+
+-- the slots of the later entries lie in this broadcast of the plan
+pub record LieInBroadcast (plan : List Broadcast) (later earlier : List Entry) (b : Broadcast) : Type 0 where
+  pub number : ℕ
+  pub planned : HasNumber plan number b
+  pub from : b.start ≤ slots_in earlier
+  pub to : slots_in (later ++ earlier) ≤ b.end + 1
+
+-- a text of n segments is shown after 2 n free slots of its broadcast
+abbrev pub AStationDeliversAText : Type 0
+AStationDeliversAText =
+    (k m : ℕ) (later earlier : List Entry) (r : Listener) (b : Broadcast) → 0 < m → GotOfStation k m later earlier r
+    → LieInBroadcast (station_plans (m + k) (later ++ earlier)).text later earlier b
+    → 2 * segment_count (text_body b.bytes) ≤ free_in later → r.view.text ≡ Some b.bytes
+
+-- any text is shown after 32 free slots of its broadcast
+abbrev pub AStationDeliversAnyText : Type 0
+AStationDeliversAnyText =
+    (k m : ℕ) (later earlier : List Entry) (r : Listener) (b : Broadcast) → 0 < m → GotOfStation k m later earlier r
+    → LieInBroadcast (station_plans (m + k) (later ++ earlier)).text later earlier b
+    → 32 ≤ free_in later → r.view.text ≡ Some b.bytes
+
+-- a name is shown after eight free slots of its broadcast
+abbrev pub AStationDeliversAName : Type 0
+AStationDeliversAName =
+    (k m : ℕ) (later earlier : List Entry) (r : Listener) (b : Broadcast) → 0 < m → GotOfStation k m later earlier r
+    → LieInBroadcast (station_plans (m + k) (later ++ earlier)).name later earlier b
+    → 8 ≤ free_in later → r.view.name ≡ Some b.bytes

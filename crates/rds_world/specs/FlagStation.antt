@@ -3,8 +3,7 @@
 -- can join to what it holds: the empty text, or the newest one with flag 0 again. Lists have the newest first.
 use Rattle.std.specs.Prelude.{◌≡◌, ◌+◌, ◌-◌, ◌*◌, ◌<◌, ◌≤◌, ◌⊎◌}
 use Rattle.std.specs.Prelude.{ℕ, Bool, true, List, [], ◌∷◌, Option, Some, None, IfSome, is_ok, if◌then◌else◌}
-use Rattle.rds_encoder.specs.Entries.{Entry, Restart, SetText, SetName, SetTags, Tick}
-use Rattle.rds_encoder.specs.Entries.{Move, Begin, Set, End, name_moves, slot_of, text_moves}
+use Rattle.rds_encoder.specs.Entries.{Entry, Move, Begin, Set, End, name_moves, slot_of, text_moves}
 use Rattle.rds_encoder.specs.Plan.{Broadcast, HasNumber, on_air, plan_of}
 use Rattle.rds_encoder.specs.Reply.{reply_to}
 use Rattle.rds_receiver.specs.Receipts.{name_fragment, text_fragment}
@@ -16,7 +15,7 @@ use Rattle.rds_safety.specs.OwnClock.{IsTrueClock}
 use Rattle.rds_safety.specs.Safe.{Listener, ShowsNoTags}
 use Rattle.rds_world.specs.Event.{Event}
 use Rattle.rds_world.specs.Slots.{SetValues, entries, log, plans_of}
-use Rattle.rds_world.specs.Station.{AreSlots, station_log, station_plans}
+use Rattle.rds_world.specs.Station.{AreSlots, IsFreeIn, station_log, station_plans}
 
 -- nothing was planned before, or x is empty
 abbrev pub IsEmptyAfter : List Broadcast → List ℕ → Type 0
@@ -134,15 +133,6 @@ NamesOfAStationAreNew =
     → HasNewSource IsFilled (station_plans d told).name now r.input (run_by_flag name_fragment r.input))
     × (IsFirstAfterRestart (IsSafeAfter d) d (name_moves told)
     → HasNewSource IsNews (station_plans d told).name now r.input (run_by_flag name_fragment r.input))
-
--- the slot was free
-abbrev pub IsFreeIn : List Entry → ℕ → Type 0
-IsFreeIn [] slot = ⊥
-IsFreeIn (Restart ∷ before) slot = IsFreeIn before slot
-IsFreeIn (SetText x ∷ before) slot = IsFreeIn before slot
-IsFreeIn (SetName x ∷ before) slot = IsFreeIn before slot
-IsFreeIn (SetTags pair ∷ before) slot = IsFreeIn before slot
-IsFreeIn (Tick free ∷ before) slot = ((slot ≡ slot_of (text_moves before)) × (free ≡ true)) ⊎ IsFreeIn before slot
 
 -- two slots were free, both in slot `from` or later and before slot `before`
 pub record LendsTwoBetween (told : List Entry) (from before : ℕ) : Type 0 where

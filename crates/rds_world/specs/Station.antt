@@ -1,7 +1,7 @@
 -- A station, whatever it sets in its slots (this project's own rule): what follows from the entries of its encoder. In
 -- each slot it may restart and then set any number of texts, names and pairs of tags. The slots of a world, each with at
 -- most one command, are a case of this. Lists have the newest first, and the station's spacing is d.
-use Rattle.std.specs.Prelude.{◌≡◌, ◌<◌, ◌+◌, ◌-◌, ℕ, List, [], ◌∷◌, Option}
+use Rattle.std.specs.Prelude.{◌≡◌, ◌<◌, ◌+◌, ◌-◌, ◌⊎◌, ℕ, true, List, [], ◌∷◌, Option}
 use Rattle.std.specs.List.{All, AllByRecursion}
 use Rattle.rds_fields.specs.declared.message.Message.{Message}
 use Rattle.rds_assembly.specs.Value.{IsName, IsText}
@@ -23,12 +23,25 @@ station_log d (SetName x ∷ before) = station_log d before
 station_log d (SetTags pair ∷ before) = station_log d before
 station_log d (Tick free ∷ before) = sent_in d free before ∷ station_log d before
 
+-- the number of slots that ended
+abbrev pub slots_in : List Entry → ℕ
+slots_in told = slot_of (text_moves told)
+
 -- the plans of texts and of names; a broadcast that is still on air ends in the last slot that ended
 abbrev pub station_plans : ℕ → List Entry → Plans
 station_plans d told = record {
   text = plan_of d (slot_of (text_moves told) - 1) (text_moves told);
   name = plan_of d (slot_of (name_moves told) - 1) (name_moves told);
 }
+
+-- the slot was free
+abbrev pub IsFreeIn : List Entry → ℕ → Type 0
+IsFreeIn [] slot = ⊥
+IsFreeIn (Restart ∷ before) slot = IsFreeIn before slot
+IsFreeIn (SetText x ∷ before) slot = IsFreeIn before slot
+IsFreeIn (SetName x ∷ before) slot = IsFreeIn before slot
+IsFreeIn (SetTags pair ∷ before) slot = IsFreeIn before slot
+IsFreeIn (Tick free ∷ before) slot = ((slot ≡ slots_in before) × (free ≡ true)) ⊎ IsFreeIn before slot
 
 -- a text or name that the entry sets is valid
 abbrev pub IsValid : Entry → Type 0

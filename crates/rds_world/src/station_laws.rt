@@ -1,6 +1,7 @@
 //! Laws about a station and its receivers, whatever the slots are: the headline (receivers show only what was on air),
 //! delivery, and the promises to receivers with the flag bit alone.
 ghost use Rattle.rds_world.specs.Delivery.{ANameIsDelivered, ATextIsDelivered, AnyTextIsDelivered};
+ghost use Rattle.rds_world.specs.Delivery.{AStationDeliversAName, AStationDeliversAText, AStationDeliversAnyText};
 ghost use Rattle.rds_world.specs.FlagStation.{ARestartMixes, InOneLifeNothingIsAsked, NamesOfAStationAreNew};
 ghost use Rattle.rds_world.specs.FlagStation.{NamesOfAStationAreOfTheirSource, TagsOfAStationAreOfTheirText};
 ghost use Rattle.rds_world.specs.FlagStation.{TextsOfAStationAreNew, TextsOfAStationAreOfTheirSource};
@@ -55,11 +56,15 @@ pub fn a_station_heard_twice_is_safe()
 }
 
 /// States that a receiver shows a broadcast if it got on time each free one of some slots of it, at most M slots. For a
-/// text of n segments 2n free slots are enough, for any text 32, for a name eight.
+/// text of n segments 2n free slots are enough, for any text 32, for a name eight. The laws hold for each station, and
+/// so for a world.
 pub fn on_air_is_delivered()
     ensures text { ATextIsDelivered }
     ensures any_text { AnyTextIsDelivered }
     ensures name { ANameIsDelivered }
+    ensures station_text { AStationDeliversAText }
+    ensures station_any_text { AStationDeliversAnyText }
+    ensures station_name { AStationDeliversAName }
 {
     the_encoder_is_lawful();
     broadcasts_are_spaced();
