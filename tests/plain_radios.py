@@ -11,13 +11,17 @@ ways:
 The promises, with d = M + K:
 
 - text: the text shown is that of the broadcast in which the last segment heard was sent. Premise: of each 2 d slots in
-  a row of a text the radio heard a segment, and after each restart of the encoder the empty text came first.
+  a row of a text the radio heard a segment, and the first text after each restart of the encoder was safe: empty, or
+  the last one with flag 0 again, or any one if the last one had flag 1 and lasted for 2 d slots.
 - tag: each tag shown was sent for the text shown. Premise: that of text, and of each d slots in a row of a text the
   radio heard a segment.
 - behind: the broadcast of the text shown is the newest one or the one before, or the empty text came since. Premise:
-  that of text, up to the present slot.
-- name: the same as text. Premise: the radio heard a segment of each name, and each name has another flag than the one
-  before, or the same characters.
+  that of text, up to the present slot, and the first text after each restart was the empty one.
+- news: since the broadcast after that of the text shown, each text was empty or had the flag and the characters of one
+  of the two before it. Premise: that of text, up to the present slot.
+- name, news of names: the same as text and news, for names.
+- each name: the same as name. Premise: the radio heard a segment of each name, and each name has another flag than the
+  one before, or the same characters.
 """
 import collections
 import math
@@ -28,7 +32,7 @@ from tests.support import ran
 SLOTS = 96
 LONG_DWELL = "65535"
 LOST = "---- ---- ---- ----"
-PROMISES = ("text", "tag", "behind", "name")
+PROMISES = ("text", "tag", "behind", "news", "name", "news of names", "each name")
 # the reception of a slot without a group
 NOTHING, RESTART = "nothing", "restart"
 
@@ -46,25 +50,39 @@ class Broadcast:
         self.is_first = number == 0 and start > 0
 
 
-def commands(rng, spacing, empty_first, same_name_first):
-    """Gives the command of a station in each slot. After a restart the first text that is accepted is the empty one if
-    `empty_first`, and the first name is the one before if `same_name_first`."""
-    silent, name, fresh = spacing, None, set()
+class Service:
+    """Texts or names, as the encoder accepts them: from which slot on, how many since the restart, and the last one
+    with flag 0."""
+
+    def __init__(self, first, silent):
+        self.first, self.until, self.count, self.with_flag_0 = first, silent, 0, None
+
+    def restart(self, silent):
+        self.until, self.count = silent, 0
+
+    def accept(self, value, until):
+        """Returns the value to set: `first` says what comes first after a restart."""
+        if self.count == 0 and self.with_flag_0 is not None:
+            value = {"empty": "", "again": self.with_flag_0, "any": value}[self.first]
+        if self.count % 2 == 0:
+            self.with_flag_0 = value
+        self.count, self.until = self.count + 1, until
+        return value
+
+
+def commands(rng, spacing, first_text, first_name):
+    """Gives the command of a station in each slot. After a restart the first text that is accepted is the empty one, or
+    the last one with flag 0 again, or any one, and the first name one of the last two."""
+    services = {"text": Service(first_text, spacing), "name": Service(first_name, spacing)}
     for slot in range(SLOTS):
-        kind = rng.choices(("restart", "text", "name", "tags", "-"), weights=(2, 34, 12, 24, 24))[0]
+        kind = rng.choices(("restart", "text", "name", "tags", "-"), weights=(2, 34, 20, 24, 20))[0]
         tags = " ".join(str(it) for tag in rng.choices(plain_worlds.TAGS, k=2) for it in tag)
         given = {"text": rng.choice(plain_worlds.TEXTS), "name": rng.choice(plain_worlds.NAMES), "tags": f"1 1 {tags}"}
-        is_first = kind in fresh and slot >= silent
         if kind == "restart":
-            silent, fresh = slot + spacing, {"text", "name"}
-        elif kind == "text" and is_first and empty_first:
-            given["text"] = ""
-        elif kind == "name":
-            if is_first and same_name_first and name:
-                given["name"] = name
-            name = given["name"]
-        if is_first:
-            fresh.discard(kind)
+            for it in services.values():
+                it.restart(slot + spacing)
+        elif kind in services and slot >= services[kind].until:
+            given[kind] = services[kind].accept(given[kind], slot + 2 * spacing)
         yield random_scripts.Row(kind, given.get(kind, ""), "1" if rng.random() < 7 / 8 else "0", "")
 
 
@@ -90,7 +108,8 @@ def diary(rows, accepted):
 
 def sent(rng, dwell, late):
     """Returns the slots that an encoder sends, and the broadcasts of texts and of names."""
-    rows = list(commands(rng, dwell + late, rng.random() < 3 / 4, rng.random() < 3 / 4))
+    firsts = rng.choice(("empty", "empty", "again", "any")), rng.choice(("again", "again", "any"))
+    rows = list(commands(rng, dwell + late, *firsts))
     output = ran(["encode", "--pi", "C201", "--m", str(dwell), "--k", str(late)], plain_worlds.script(rows))[1]
     replies, groups, _, slots = outputs.parts_of(output, True)
     return [groups.get(slot, LOST) for slot in range(slots)], diary(rows, plain_worlds.accepted_in(replies))
@@ -207,6 +226,25 @@ def is_emptied(texts, now):
     return all(it.value == "" for it in texts[1:] if it.is_first and it.start <= now)
 
 
+def is_safe(broadcasts, spacing, now):
+    """Returns whether what came first after each restart was safe."""
+    with_flag_0, before = None, None
+    for it in broadcasts:
+        is_again = with_flag_0 is None or it.value in ("", with_flag_0)
+        is_after_long = before and before.flag and before.start + 2 * spacing <= before.end + 1
+        if it.is_first and it.start <= now and not (is_again or is_after_long):
+            return False
+        with_flag_0, before = with_flag_0 if it.flag else it.value, it
+    return True
+
+
+def has_news(broadcasts, first, newest):
+    """Returns whether one of these broadcasts is not empty and has the flag and the characters of neither of the two
+    before it."""
+    return any(it.value and all((it.flag, it.value) != (one.flag, one.value) for one in broadcasts[max(0, at - 2):at])
+               for at, it in enumerate(broadcasts) if first <= at <= newest)
+
+
 def turns(names, now):
     """Returns whether each name has another flag than the one before, or the same characters."""
     pairs = [(one, two) for one, two in zip(names, names[1:]) if two.start <= now]
@@ -231,10 +269,10 @@ class Judge:
     def hear(self, line, sent_in):
         self.heard.get(line[5], []).append(sent_in)
 
-    def is_heard(self, count, now):
-        """Returns whether the premise of a text holds: it was heard often enough, and the empty text came first after
-        restarts."""
-        return hears_one_in(count, self.texts, self.heard["2"], now) and is_emptied(self.texts, now)
+    def is_heard(self, count, broadcasts, group, now):
+        """Returns whether the premise of a text or a name holds: it was heard often enough, and what came first after
+        restarts was safe."""
+        return hears_one_in(count, broadcasts, self.heard[group], now) and is_safe(broadcasts, self.spacing, now)
 
     def of_text(self, view, slot):
         """Gives each promise on texts and tags that speaks of the view: its name, whether its premise holds, and
@@ -243,7 +281,7 @@ class Judge:
             return
         last, tagged = self.heard["2"][-1], self.heard["B"][-1:]
         source, newest = on_air_in(self.texts, last), sum(it.start <= slot for it in self.texts) - 1
-        premise = self.is_heard(2 * self.spacing, last)
+        premise = self.is_heard(2 * self.spacing, self.texts, "2", last)
         yield "text", premise, view["text"] == self.texts[source].value
         tags = {view[part] for part in ("tag1", "tag2") if part in view}
         if tags:
@@ -251,15 +289,21 @@ class Judge:
             sent_for = set().union(*(it.pieces for it in self.texts if it.value == view["text"]))
             yield "tag", premise and often, tags <= sent_for
         since = [it.value for it in self.texts[source + 1:newest + 1]]
-        yield "behind", self.is_heard(2 * self.spacing, slot), len(since) <= 1 or "" in since
+        heard = self.is_heard(2 * self.spacing, self.texts, "2", slot)
+        yield "behind", heard and is_emptied(self.texts, slot), len(since) <= 1 or "" in since
+        yield "news", heard, not has_news(self.texts, source + 2, newest)
 
-    def of_name(self, view):
-        """Gives the promise on names if it speaks of the view: its name, whether its premise holds, and whether it
+    def of_name(self, view, slot):
+        """Gives each promise on names that speaks of the view: its name, whether its premise holds, and whether it
         holds."""
         if "name" in view:
             last = self.heard["A"][-1]
-            premise = hears_each(self.names, self.heard["A"], last) and turns(self.names, last)
-            yield "name", premise, view["name"] == self.names[on_air_in(self.names, last)].value
+            source, newest = on_air_in(self.names, last), sum(it.start <= slot for it in self.names) - 1
+            is_right = view["name"] == self.names[source].value
+            yield "name", self.is_heard(2 * self.spacing, self.names, "A", last), is_right
+            heard = self.is_heard(2 * self.spacing, self.names, "A", slot)
+            yield "news of names", heard, not has_news(self.names, source + 2, newest)
+            yield "each name", hears_each(self.names, self.heard["A"], last) and turns(self.names, last), is_right
 
 
 def played(life, slots, judge):
@@ -271,5 +315,6 @@ def played(life, slots, judge):
             radio.hear(log[-1])
             judge.hear(log[-1], source)
         views.append(radio.view())
-        judgements += [(*it, slot, views[-1]) for it in (*judge.of_text(views[-1], slot), *judge.of_name(views[-1]))]
+        judged = (*judge.of_text(views[-1], slot), *judge.of_name(views[-1], slot))
+        judgements += [(*it, slot, views[-1]) for it in judged]
     return views, judgements, log

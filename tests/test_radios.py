@@ -28,4 +28,4 @@ class Radios(ProgramCase):
         for promise in PROMISES:
             self.check(f"{promise}: the premise holds often", seen[promise, True, True] > 1000, True)
             self.check(f"{promise}: some break it without the premise", seen[promise, False, False] > 20, True)
-        self.check("some mix that lose nothing, after a restart without the empty text", mixed_alone > 5, True)
+        self.check("some mix that lose nothing, after a restart with an unsafe text", mixed_alone > 5, True)
