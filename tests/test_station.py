@@ -1,16 +1,18 @@
-"""examples/station: `rdsrt encode` takes its rows and refuses no text, and a restart shows no mix to old radios.
+"""examples/station: `rdsrt encode` takes its rows and refuses no text and no name, and a restart shows no mix to old
+radios.
 
-The expected rows follow from the rules: nothing for the first M + K slots, then the empty text, and 2 (M + K) slots at
-least between texts.
+The expected rows follow from the rules: nothing for the first M + K slots, then the empty text and the last name with
+flag 0, and 2 (M + K) slots at least between texts and between names.
 """
 import concurrent.futures
+import itertools
 import os
 import random
 import subprocess
 import tempfile
 import time
 
-from tests.support import PROGRAM, SECONDS, Case, path
+from tests.support import PROGRAM, SECONDS, Case, bytes_of, path
 
 STATION = path("examples/station")
 SLOT = 104 / 1187.5
@@ -34,18 +36,22 @@ def encoded(rows, dwell):
                           timeout=SECONDS)
 
 
-def fed(words, texts):
-    """Returns status and rows of a station of 40 slots. Its file gets each of these texts after so many rows."""
-    with tempfile.TemporaryDirectory() as folder:
-        path, rows = os.path.join(folder, "now.txt"), []
-        call = [STATION, *words, "--one-in", "1", "--slots", "40", path]
+def fed(words, texts, folder=None, slots=40):
+    """Returns status and rows of a station. Its file gets each of these texts after so many rows, or with a folder its
+    file of names there."""
+    with tempfile.TemporaryDirectory() as own:
+        now, rows = os.path.join(own, "now.txt"), []
+        name, state = (os.path.join(folder or own, it) for it in ("name.txt", "state"))
+        words = words + ["--name", name, "--state", state] if folder else words
+        call = [STATION, *words, "--one-in", "1", "--slots", str(slots), now]
         with subprocess.Popen(call, stdout=subprocess.PIPE, text=True, bufsize=1) as station:
             for row in station.stdout:
                 rows.append(row)
                 if len(rows) in texts:
-                    with open(path + ".new", "w", encoding="utf-8") as file:
+                    written = name if folder else now
+                    with open(written + ".new", "w", encoding="utf-8") as file:
                         file.write(texts[len(rows)])
-                    os.replace(path + ".new", path)
+                    os.replace(written + ".new", written)
         return station.returncode, rows
 
 
@@ -53,26 +59,69 @@ def fed(words, texts):
 LIVES = [{1: "NIGHT TRAIN"}, {1: "JAZZ AT EIGHT", 15: "NEWS AT TEN"}, {1: "WEATHER REPORT"}]
 
 
+# the same for names, and the number of slots: the name on air at the first restart had no 8 slots, with M + K = 4
+NAMED = [({1: "JAZZ FM", 8: "NEWS HR"}, 18), ({1: "SPORT 1", 16: "NIGHT"}, 40), ({1: "WEATHER"}, 24)]
+SHORT_FROM = 13
+
+
+def named(remembers):
+    """Returns for each of NAMED the slots of a station and the names that it sets. It keeps its state if it
+    `remembers`."""
+    lives = []
+    with tempfile.TemporaryDirectory() as folder:
+        for names, slots in NAMED:
+            rows = fed(["--m", "4"], names, folder, slots)[1]
+            lives.append((log_of(rows), [row.split('"')[1] for row in rows if row.startswith("name")]))
+            if not remembers:
+                os.remove(os.path.join(folder, "state"))
+    return lives
+
+
+def log_of(rows):
+    """Returns the slots that `encode` sends for the rows of a station."""
+    return [line for line in encoded("".join(rows), 4).stdout.decode().splitlines() if line[0] != "#"]
+
+
 def joined(option):
     """Returns the slots of a station with this option, which is started once for each of LIVES, and the first and the
     last text flag of each life."""
     with concurrent.futures.ThreadPoolExecutor() as pool:
         lives = list(pool.map(lambda texts: fed(["--m", "4", option], texts)[1], LIVES))
-    logs = [[line for line in encoded("".join(rows), 4).stdout.decode().splitlines() if line[0] != "#"]
-            for rows in lives]
+    logs = [log_of(rows) for rows in lives]
     flags = [[int(line[7], 16) & 1 for line in log if line[5] == "2"] for log in logs]
     return [line for log in logs for line in log], [(each[0], each[-1]) for each in flags]
+
+
+def by_flag(slots, part):
+    """Returns the texts, or the names, that a radio with the flag bit alone shows of these slots."""
+    given = "".join(f"{line}\n" for line in slots).encode()
+    words = [PROGRAM, "decode", "--pi", "C201", "--m", "65535"]
+    shown = subprocess.run(words, input=given, stdout=subprocess.PIPE, stderr=subprocess.DEVNULL,
+                           timeout=SECONDS).stdout.decode()
+    return [line.split(" ", 2)[2].strip('"') for line in shown.splitlines() if f' {part} "' in line]
 
 
 def mixes(slots):
     """Returns the texts that a radio with the flag bit alone shows although no station set them, and how many texts it
     shows."""
-    given = "".join(f"{line}\n" for line in slots).encode()
-    words = [PROGRAM, "decode", "--pi", "C201", "--m", "65535"]
-    shown = subprocess.run(words, input=given, stdout=subprocess.PIPE, stderr=subprocess.DEVNULL,
-                           timeout=SECONDS).stdout.decode()
-    texts = [line.split(" ", 2)[2].strip('"') for line in shown.splitlines() if " text \"" in line]
+    texts = by_flag(slots, "text")
     return [it for it in texts if it and it not in [text for life in LIVES for text in life.values()]], len(texts)
+
+
+def without_segments(slots, address, since=0):
+    """Returns the slots without the name segments of this address from a slot on."""
+    return [LOST if slot >= since and line[5] == "A" and int(line[7:9], 16) & 1 == address else line
+            for slot, line in enumerate(slots)]
+
+
+def receptions(logs):
+    """Gives for each radio that hears each name once in 8 slots, if it lasts for 8 slots, what it lost and its slots:
+    in each life all first, all second or no segments, and perhaps all of the name that lasted for 5 slots."""
+    for lost in itertools.product((False, True), *[(None, 0, 1)] * len(logs)):
+        kept = [without_segments(log, address) for log, address in zip(logs, lost[1:])]
+        if lost[0]:
+            kept[0] = without_segments(without_segments(kept[0], 0, SHORT_FROM), 1, SHORT_FROM)
+        yield lost, [line for log in kept for line in log]
 
 
 class Rows(Case):
@@ -98,8 +147,40 @@ class Rows(Case):
         wanted = ["-,,1,\n", 'text,"",1,\n', "-,,1,\n", 'text,"HI",1,\n', "-,,1,\n"]
         told = rows_of(b"HI", "--at-once", "--slots", "5", "--m", "1", "--one-in", "1")
         self.check("the empty text first", told, (0, "".join(wanted), ""))
-        for words in ([], ["--m", "0", "file"], ["--k", "1025", "file"], ["--one-in", "0", "file"]):
+        for words in ([], ["--m", "0", "file"], ["--k", "1025", "file"], ["--one-in", "0", "file"],
+                      ["--name", "name", "file"], ["--state", "state", "file"]):
             self.check(f"refused {words}", subprocess.run([STATION, *words], capture_output=True).returncode, 2)
+
+    def test_the_rows_of_names_and_the_state(self):
+        """After a start the last name with flag 0 comes first, and the next one 2 (M + K) slots later."""
+        for state, name, names, after, told in (
+                (None, "JAZZ", {2: "JAZZ    "}, "JAZZ    \n", ""),
+                ("JAZZ    \n", "NEWS HR", {2: "JAZZ    ", 4: "NEWS HR "}, "JAZZ    \n", ""),
+                ("JAZZ    \n", "JAZZ", {2: "JAZZ    "}, "JAZZ    \n", ""),
+                ("JAZZ    \n", "", {}, "JAZZ    \n", ""),
+                (None, r"\x80$x", {2: r"\x80$x     "}, "\\x80$x     \n", ""),
+                (None, "SATURDAYS", {2: "SATURDAY"}, "SATURDAY\n",
+                 'station: name: sends "SATURDAY" in place of "SATURDAYS"\n'),
+                (None, r"a\x0A", {2: "a?      "}, "a?      \n",
+                 r'station: name: sends "a?" in place of "a\x0A"' + "\n")):
+            with tempfile.TemporaryDirectory() as folder:
+                for file, text in (("name", name), ("state", state), ("now", "")):
+                    if text is not None:
+                        with open(os.path.join(folder, file), "w", encoding="utf-8") as written:
+                            written.write(text)
+                words = ["--m", "1", "--one-in", "1", "--at-once", "--slots", "7", "--name", "name", "--state", "state"]
+                done = subprocess.run([STATION, *words, "now"], capture_output=True, cwd=folder, timeout=SECONDS)
+                wanted = ["-,,1,", 'text,"",1,', *(f'name,"{names[slot]}",1,' if slot in names else "-,,1,"
+                                                   for slot in range(2, 7))]
+                rows, notes = done.stdout.decode().splitlines(), done.stderr.decode()
+                self.check(f"rows of {name!r} after {state!r}", (rows, notes), (wanted, told))
+                kept = os.path.join(folder, "state")
+                self.check(f"state of {name!r}", bytes_of(kept).decode() if os.path.exists(kept) else None, after)
+        with tempfile.NamedTemporaryFile(mode="w", suffix=".state") as state:
+            state.write("SATURDAYS\n")
+            state.flush()
+            call = [STATION, "--slots", "1", "--name", "name", "--state", state.name, "now"]
+            self.check("a state that is no name", subprocess.run(call, capture_output=True).returncode, 1)
 
     def test_encode_takes_each_row_and_a_text_that_it_takes_stays(self):
         rng = random.Random(SEED)
@@ -147,3 +228,26 @@ class Restarts(Case):
         slots, flags = joined("--no-empty-first")
         self.check("without the empty text the flags meet", flags, [(0, 0), (0, 1), (0, 0)])
         self.check("and texts are mixed", len(mixes(slots)[0]) > 0, True)
+
+    def test_no_two_names_are_mixed_if_the_station_remembers_the_last_one_with_flag_0(self):
+        lives = named(remembers=True)
+        self.check("names", [names for _, names in lives],
+                   [["JAZZ FM ", "NEWS HR "], ["JAZZ FM ", "SPORT 1 ", "NIGHT   "], ["NIGHT   ", "WEATHER "]])
+        set_by_it = {name for _, names in lives for name in names}
+        for lost, slots in receptions([log for log, _ in lives]):
+            self.check(f"segments lost {lost}", [it for it in by_flag(slots, "name") if it not in set_by_it], [])
+        mixed = [lost for lost, slots in receptions([log for log, _ in named(remembers=False)])
+                 if not set(by_flag(slots, "name")) <= set_by_it]
+        self.check("without its state names are mixed", len(mixed) > 0, True)
+
+    def test_another_name_first_after_a_restart_is_mixed(self):
+        """In each 2 (M + K) = 16 slots of a name a segment is heard, and in each two slots of a text."""
+        rows = ["-,"] * 80
+        rows[8], rows[9], rows[40], rows[49] = "text,", "name,JAZZ FM ", "restart,", "text,"
+        for first, mixed in (("NEWS HR ", True), ("JAZZ FM ", False)):
+            rows[50], rows[66] = f"name,{first}", "name,NEWS HR "
+            done = encoded("".join(f"{row},1,\n" for row in rows), 8)
+            slots = [line for line in done.stdout.decode().splitlines() if line[0] != "#"]
+            heard = without_segments(slots[:40], 1) + slots[40:]
+            shown = by_flag(heard, "name")
+            self.check(f"{first} first", any(it not in ("JAZZ FM ", "NEWS HR ") for it in shown), mixed)

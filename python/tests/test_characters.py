@@ -3,7 +3,7 @@ import ctypes
 import unittest
 
 from rdsrt import _library
-from rdsrt import ContentType, Encoder, InvalidText, closest, type_name
+from rdsrt import ContentType, Encoder, InvalidText, closest, closest_name, type_name
 from rdsrt.characters import BYTES, CHARACTERS, MORE, PRINTED, coded, shown
 
 # bytes of the basic table that stay escapes, with the backslash, and the bytes that it leaves empty
@@ -57,6 +57,11 @@ class Characters(unittest.TestCase):
                            ("\u0301", ""), ("", ""), ("x" * 70, "x" * 64), ("x" * 63 + "…", "x" * 63 + "."),
                            ("\\x41" * 65, "\\x41" * 64)):
             self.assertEqual(closest(text), near, text)
+
+    def test_closest_names(self):
+        for name, near in (("JAZZ FM", "JAZZ FM"), ("SATURDAYS", "SATURDAY"), ("N’ROSES", "N'ROSES"), (r"a\x0A", "a?"),
+                           (r"\x80$x", r"\x80$x"), ("", "")):
+            self.assertEqual(closest_name(name), near, name)
 
     def test_a_text_that_can_be_sent_is_its_own_closest(self):
         for byte in (0x0A, 0x0B, 0x1F, *range(0x20, 0x100)):

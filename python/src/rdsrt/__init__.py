@@ -19,7 +19,7 @@ pickled and compared. Threads may use different objects at the same time. One th
 may read what it shows meanwhile. A Python without the global lock (free-threaded) needs a lock of yours for that.
 """
 from ._library import NoLibrary
-from .characters import InvalidText, closest
+from .characters import InvalidText, closest, closest_name
 from .logs import SLOT, Group, MalformedLine, format_group, read_log, slots
 from .objects import (Audit, Encoder, Fault, Held, NoText, OutOfText, Receiver, Refused, Silent, Wait,
                       library_version)
@@ -27,5 +27,5 @@ from .views import ContentType, Item, Tag, View, type_name
 
 __all__ = ["Audit", "ContentType", "Encoder", "Fault", "Group", "Held", "InvalidText", "Item", "MalformedLine",
            "NoLibrary", "NoText", "OutOfText", "Receiver", "Refused", "SLOT", "Silent", "Tag", "View", "Wait",
-           "closest", "format_group", "library_version", "read_log", "slots", "type_name"]
+           "closest", "closest_name", "format_group", "library_version", "read_log", "slots", "type_name"]
 __version__ = "0.1.0"

@@ -21,7 +21,7 @@ The backslash (0x5C) is shown as \\x5C, because a backslash begins an escape. Th
 import itertools
 import re
 import unicodedata
-from typing import Dict, Iterator, Optional, Tuple
+from typing import Dict, Iterable, Iterator, Optional, Tuple
 
 
 def _ascii(first: int, last: int) -> str:
@@ -41,8 +41,8 @@ CHARACTERS: Dict[int, str] = {first + place: character for table in (PRINTED, MO
 """The character of each byte that has one."""
 BYTES: Dict[str, int] = {character: byte for byte, character in CHARACTERS.items()}
 
-LONGEST_TEXT = 64
-"""The most bytes of a text."""
+LONGEST_TEXT, LONGEST_NAME = 64, 8
+"""The most bytes of a text and of a PTYN."""
 _CONTROLS = {0x0A, 0x0B, 0x1F}                               # the bytes below 0x20 that a text may have
 # what is sent for characters without a byte that do not come apart into others
 _NEAREST: Dict[str, str] = {
@@ -91,14 +91,15 @@ def _nearest(character: str) -> str:
     return "".join(it for it in pieces if it in BYTES) or "?"
 
 
-def _closest_symbols(text: str) -> Iterator[str]:
-    """Yields the characters and escapes of the closest text, each of which is one byte."""
+def _closest_symbols(text: str, controls: Iterable[int]) -> Iterator[str]:
+    """Yields the characters and escapes of the closest text, each of which is one byte. Of the bytes below 0x20 it may
+    have these."""
     place = 0
     while place < len(text):
         escape = _ESCAPE.match(text, place)
         if escape:
             byte = int(escape[1], 16)
-            yield escape[0] if byte >= 0x20 or byte in _CONTROLS else "?"
+            yield escape[0] if byte >= 0x20 or byte in controls else "?"
         elif text[place] == "\\":
             yield "\\x5C"
         elif text[place] in BYTES:
@@ -115,7 +116,13 @@ def closest(text: str) -> str:
     character that has no near one becomes ?. The text ends after 64 characters. An escape \\xHH stays if its byte can
     be sent. Any other backslash becomes \\x5C."""
     require_str("a text", text)
-    return "".join(itertools.islice(_closest_symbols(unicodedata.normalize("NFC", text)), LONGEST_TEXT))
+    return "".join(itertools.islice(_closest_symbols(unicodedata.normalize("NFC", text), _CONTROLS), LONGEST_TEXT))
+
+
+def closest_name(name: str) -> str:
+    """Returns the closest PTYN that can be sent, as `closest` does for texts. It ends after 8 characters."""
+    require_str("a PTYN", name)
+    return "".join(itertools.islice(_closest_symbols(unicodedata.normalize("NFC", name), ()), LONGEST_NAME))
 
 
 def symbols(text: str) -> Iterator[Tuple[int, int]]:
