@@ -1,12 +1,12 @@
 -- Worked examples of the definitions of safety, calculated by hand. Lists have the newest first.
-use Rattle.std.proofs.Common.{◌≡◌, ℕ, true, false, List, [], ◌∷◌, ◌++◌, take, drop, slice_index, Option, Some, None, refl, sym, ap, ◌∙◌, inl, inr, arith, replicate}
+use Rattle.std.proofs.Common.{◌≡◌, ◌+◌, ◌<◌, ◌≤◌, ℕ, true, false, List, [], ◌∷◌, ◌++◌, take, drop, slice_index, Option, Some, None, refl, sym, ap, ◌∙◌, inl, inr, arith, replicate}
 use Rattle.rds_fields.specs.declared.message.Message.{Message}
 use Rattle.rds_fields.specs.declared.message.Message.TheVariants.{Text}
 use Rattle.rds_encoder.specs.Entries.{Entry, Restart, SetText, SetName, SetTags, Tick, text_moves}
 use Rattle.rds_encoder.specs.Plan.{Broadcast, Covers, HasNumber, plan_of}
 use Rattle.rds_encoder.specs.Sent.{sent_in}
 use Rattle.rds_receiver.specs.Receipts.{Segment, text_fragment}
-use Rattle.rds_safety.specs.FlagAlone.{run_by_flag}
+use Rattle.rds_safety.specs.FlagAlone.{IsNews, run_by_flag}
 use Rattle.rds_safety.specs.Late.{CameFrom, HasEntry, Input, IsHeardLate, IsHeardOnTime}
 use Rattle.rds_safety.specs.Safe.{NamesPiece, WasOnAir}
 use Rattle.rds_safety.specs.Source.{IsSource, text_run}
@@ -232,3 +232,21 @@ artist = record { class = refl; real = omega arith; ends = omega arith; piece = 
 
 title : NamesPiece record { class = 1; start = 7; extra = 7 } abba_waterloo (1, waterloo)
 title = record { class = refl; real = omega arith; ends = omega arith; piece = refl }
+
+-- two songs, and the first one again with its flag after a restart: the second is news and the third is not
+abbrev first_then_other_then_first : List Broadcast
+first_then_other_then_first =
+    record { start = 24; end = 30; flag = false; bytes = first_song } ∷ record { start = 12; end = 13; flag = true; bytes = other_song }
+    ∷ record { start = 4; end = 11; flag = false; bytes = first_song } ∷ []
+
+again_is_no_news : IsNews first_then_other_then_first 2 record { start = 24; end = 30; flag = false; bytes = first_song } → ⊥
+again_is_no_news news = news.new 0 record { start = 4; end = 11; flag = false; bytes = first_song } (inr (inr (inl (refl, refl)))) (omega arith) (omega arith) refl refl
+
+other_is_news : IsNews first_then_other_then_first 1 record { start = 12; end = 13; flag = true; bytes = other_song }
+other_is_news = record { filled = λ none. (cc); new = new }
+  where
+    new : (j : ℕ) (a : Broadcast) → HasNumber first_then_other_then_first j a → j < 1 → 1 ≤ j + 2 → a.flag ≡ true → a.bytes ≡ other_song → ⊥
+    new j a (inl p) before near flag bytes = omega (arith, p.0, before)
+    new j a (inr (inl p)) before near flag bytes = omega (arith, p.0, before)
+    new j a (inr (inr (inl p))) before near flag bytes = (let bad : false ≡ true = ap (λ (b : Broadcast). b.flag) (sym p.1) ∙ flag in cc)
+    new j a (inr (inr (inr p))) before near flag bytes = p
