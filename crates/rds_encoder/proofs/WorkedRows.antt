@@ -9,17 +9,8 @@ use Rattle.rds_encoder.specs.declared.reply.Refusal.TheVariants.{Silent, Held, N
 use Rattle.rds_encoder.specs.Entries.{Entry, Restart, SetText, SetName, SetTags, Tick, name_moves, text_moves}
 use Rattle.rds_encoder.specs.Plan.{on_air, plan_of}
 use Rattle.rds_encoder.specs.Reply.{reply_to}
-use Rattle.rds_encoder.specs.Sent.{sent_in}
+use Rattle.rds_encoder.specs.Sent.{sent_in, sent_log}
 use Rattle.rds_encoder.specs.Tags.{pair_on_air, tags_reply}
-
--- the messages sent in the slots that ended
-abbrev sent : ℕ → List Entry → List (Option Message)
-sent m [] = []
-sent m (Restart ∷ before) = sent m before
-sent m (SetText x ∷ before) = sent m before
-sent m (SetName x ∷ before) = sent m before
-sent m (SetTags pair ∷ before) = sent m before
-sent m (Tick free ∷ before) = sent_in m free before ∷ sent m before
 
 abbrev free_slots : ℕ → List Entry
 free_slots n = replicate n (Tick true)
@@ -67,7 +58,7 @@ done_in_4 = refl
 abbrev accepted_in_4 : List Entry
 accepted_in_4 = other_slots 4 ++ Tick true ∷ SetText hi ∷ refused_in_3
 
-sent_to_8 : sent 4 accepted_in_4 ≡ nothing 4 ++ hi_segment false ∷ nothing 4
+sent_to_8 : sent_log 4 accepted_in_4 ≡ nothing 4 ++ hi_segment false ∷ nothing 4
 sent_to_8 = refl
 
 planned_to_8 : plan_of 4 8 (text_moves accepted_in_4) ≡ record { start = 4; end = 8; flag = false; bytes = hi } ∷ []
@@ -86,7 +77,7 @@ reaches_12 = Tick false ∷ SetText yo ∷ reaches_11
 done_in_12 : reply_to 4 (text_moves reaches_12) ≡ Ok tt
 done_in_12 = refl
 
-sent_in_12 : sent 4 (Tick true ∷ SetText yo ∷ reaches_12) ≡ yo_segment true ∷ nothing 12
+sent_in_12 : sent_log 4 (Tick true ∷ SetText yo ∷ reaches_12) ≡ yo_segment true ∷ nothing 12
 sent_in_12 = refl
 
 no_text_in_4 : tags_reply 4 (pair true (tag 4 0 3) (tag 1 7 7)) (free_slots 4) ≡ Err NoText
@@ -105,7 +96,7 @@ silent_in_8 = refl
 abbrev restarted_to_9 : List Entry
 restarted_to_9 = Tick true ∷ SetText yo ∷ Tick true ∷ SetText yo ∷ restarted
 
-sent_to_9 : sent 4 restarted_to_9 ≡ yo_segment false ∷ nothing 4 ++ hi_segment false ∷ nothing 4
+sent_to_9 : sent_log 4 restarted_to_9 ≡ yo_segment false ∷ nothing 4 ++ hi_segment false ∷ nothing 4
 sent_to_9 = refl
 
 planned_to_9 : plan_of 4 9 (text_moves restarted_to_9)
@@ -119,7 +110,7 @@ waterloo = 0x41 ∷ 0x42 ∷ 0x42 ∷ 0x41 ∷ 0x20 ∷ 0x2D ∷ 0x20 ∷ 0x57 �
 abbrev artist_and_title : PairFields
 artist_and_title = pair true (tag 4 0 3) (tag 1 7 7)
 
-tags_to_11 : sent 4 (free_slots 7 ++ SetTags artist_and_title ∷ Tick true ∷ SetText waterloo ∷ free_slots 4)
+tags_to_11 : sent_log 4 (free_slots 7 ++ SetTags artist_and_title ∷ Tick true ∷ SetText waterloo ∷ free_slots 4)
     ≡ Some (Tags artist_and_title) ∷ Some (Text false 3 (0x4C ∷ 0x4F ∷ 0x4F ∷ 0x0D ∷ [])) ∷ Some announcement
     ∷ Some (Text false 2 (0x41 ∷ 0x54 ∷ 0x45 ∷ 0x52 ∷ [])) ∷ None ∷ Some (Text false 1 (0x20 ∷ 0x2D ∷ 0x20 ∷ 0x57 ∷ [])) ∷ None
     ∷ Some (Text false 0 (0x41 ∷ 0x42 ∷ 0x42 ∷ 0x41 ∷ [])) ∷ nothing 4
@@ -156,7 +147,7 @@ out_of_text_in_3 = refl
 kept_in_3 : pair_on_air 1 to_slot_3 ≡ Some title
 kept_in_3 = refl
 
-whole_round : sent 1 (free_slots 6 ++ to_slot_3)
+whole_round : sent_log 1 (free_slots 6 ++ to_slot_3)
     ≡ Some (Tags title) ∷ hi_segment true ∷ Some announcement ∷ hi_segment true ∷ Some (Name false 1 (0x20 ∷ 0x46 ∷ 0x4D ∷ 0x20 ∷ [])) ∷ hi_segment true
     ∷ Some (Name false 0 (0x4A ∷ 0x41 ∷ 0x5A ∷ 0x5A ∷ [])) ∷ hi_segment false ∷ None ∷ []
 whole_round = refl

@@ -11,7 +11,8 @@ use Rattle.rds_fields.specs.Tag.{PairFields}
 use Rattle.rds_assembly.specs.Body.{name_body, segment_count, segment_of, text_body}
 use Rattle.rds_encoder.specs.declared.round.Turn.{Turn}
 use Rattle.rds_encoder.specs.declared.round.Turn.TheVariants as turn
-use Rattle.rds_encoder.specs.Entries.{Entry, Move, Begin, Set, End, name_moves, restart_before, slot_of, text_moves}
+use Rattle.rds_encoder.specs.Entries.{Entry, Restart, SetText, SetName, SetTags, Tick}
+use Rattle.rds_encoder.specs.Entries.{Move, Begin, Set, End, name_moves, restart_before, slot_of, text_moves}
 use Rattle.rds_encoder.specs.Plan.{OnAir, on_air}
 use Rattle.rds_encoder.specs.Round.{turn_in}
 use Rattle.rds_encoder.specs.Tags.{pair_on_air}
@@ -79,6 +80,15 @@ sent_in m free before =
     if is_turn m free (text_moves before)
     then sent_at_turn m (turn_in (turn_of m (text_moves before) % 8)) before
     else None
+
+-- the message sent in each slot that ended
+abbrev pub sent_log : ℕ → List Entry → List (Option Message)
+sent_log m [] = []
+sent_log m (Restart ∷ before) = sent_log m before
+sent_log m (SetText x ∷ before) = sent_log m before
+sent_log m (SetName x ∷ before) = sent_log m before
+sent_log m (SetTags pair ∷ before) = sent_log m before
+sent_log m (Tick free ∷ before) = sent_in m free before ∷ sent_log m before
 
 -- the group that is sent: the one written for the message with the station's head, and none without a message
 abbrev pub IsSent : Head → Option Message → Option Group → Type 0

@@ -4,7 +4,7 @@ use Rattle.rds_fields.specs.declared.message.Message.{Message}
 use Rattle.rds_fields.specs.declared.message.Message.TheVariants.{Text}
 use Rattle.rds_encoder.specs.Entries.{Entry, Restart, SetText, SetName, SetTags, Tick, text_moves}
 use Rattle.rds_encoder.specs.Plan.{Broadcast, Covers, HasNumber, plan_of}
-use Rattle.rds_encoder.specs.Sent.{sent_in}
+use Rattle.rds_encoder.specs.Sent.{sent_log}
 use Rattle.rds_receiver.specs.Receipts.{Segment, text_fragment}
 use Rattle.rds_safety.specs.FlagAlone.{IsNews, run_by_flag}
 use Rattle.rds_safety.specs.Late.{CameFrom, HasEntry, Input, IsHeardLate, IsHeardOnTime}
@@ -12,15 +12,6 @@ use Rattle.rds_safety.specs.Safe.{NamesPiece, WasOnAir}
 use Rattle.rds_safety.specs.Source.{IsSource, text_run}
 use Rattle.rds_safety.proofs.Entries.{before_end}
 use Rattle.rds_safety.proofs.OnTime.{nothing_heard, one_more}
-
--- what each slot that ended sent, by an encoder of dwell m
-abbrev sent : ℕ → List Entry → List (Option Message)
-sent m [] = []
-sent m (Restart ∷ before) = sent m before
-sent m (SetText x ∷ before) = sent m before
-sent m (SetName x ∷ before) = sent m before
-sent m (SetTags pair ∷ before) = sent m before
-sent m (Tick free ∷ before) = sent_in m free before ∷ sent m before
 
 abbrev free_slots : ℕ → List Entry
 free_slots n = replicate n (Tick true)
@@ -73,7 +64,7 @@ ng = song_segment 2 (0x4E ∷ 0x47 ∷ 0x0D ∷ 0x20 ∷ [])
 abbrev thir : Option Message
 thir = song_segment 0 (0x54 ∷ 0x48 ∷ 0x49 ∷ 0x52 ∷ [])
 
-sent_in_20 : HasEntry 0 (sent 4 three_songs) 20 thir
+sent_in_20 : HasEntry 0 (sent_log 4 three_songs) 20 thir
 sent_in_20 = inl (refl, refl)
 
 -- the receiver gets slots 6 and 8, with segments 1 and 2 of the first song, and each slot from 20 on
@@ -132,7 +123,7 @@ mix_was_not w = by w.source.slot w.source.sent w.broadcast w.source.planned w.so
 abbrev heard_in_24 : Input
 heard_in_24 = record {
   first = 0;
-  heard = take 4 (sent 4 (free_slots 4 ++ three_songs)) ++ heard_in_20.heard;
+  heard = take 4 (sent_log 4 (free_slots 4 ++ three_songs)) ++ heard_in_20.heard;
   origins = Some 24 ∷ Some 23 ∷ Some 22 ∷ Some 21 ∷ heard_in_20.origins;
 }
 
@@ -158,7 +149,7 @@ run_by_flag_in_20 = refl
 abbrev othe : Option Message
 othe = Some (Text true 0 (0x4F ∷ 0x54 ∷ 0x48 ∷ 0x45 ∷ []))
 
-sent_in_12 : HasEntry 0 (sent 4 three_songs) 12 othe
+sent_in_12 : HasEntry 0 (sent_log 4 three_songs) 12 othe
 sent_in_12 = inr (inr (inr (inr (inr (inr (inr (inr (inl (refl, refl)))))))))
 
 abbrev heard_with_other : Input
@@ -193,10 +184,10 @@ one_and_two_planned = refl
 
 -- each gets what was sent from slot 10 on
 abbrev handed : Input
-handed = record { first = 10; heard = take 3 (sent 4 one_and_two); origins = Some 12 ∷ Some 11 ∷ Some 10 ∷ [] }
+handed = record { first = 10; heard = take 3 (sent_log 4 one_and_two); origins = Some 12 ∷ Some 11 ∷ Some 10 ∷ [] }
 
 abbrev handed_less : Input
-handed_less = record { first = 10; heard = None ∷ take 2 (drop 1 (sent 4 one_and_two)); origins = None ∷ Some 11 ∷ Some 10 ∷ [] }
+handed_less = record { first = 10; heard = None ∷ take 2 (drop 1 (sent_log 4 one_and_two)); origins = None ∷ Some 11 ∷ Some 10 ∷ [] }
 
 source_with_it : IsSource (two_on_air ∷ one_on_air ∷ []) handed (text_run 4 handed) 1 two_on_air
 source_with_it = record { planned = inl (refl, refl); slot = 12; sent = inl (refl, refl); covers = record { from = omega arith; to = omega arith } }

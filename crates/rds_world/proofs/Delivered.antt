@@ -7,6 +7,7 @@ use Rattle.rds_assembly.specs.Body.{segment_count, text_body}
 use Rattle.rds_encoder.specs.Delivery.{free_in}
 use Rattle.rds_encoder.specs.Entries.{Entry, Tick, text_moves}
 use Rattle.rds_encoder.specs.Plan.{Broadcast, HasNumber}
+use Rattle.rds_encoder.specs.Sent.{sent_log}
 use Rattle.rds_receiver.specs.Shown.{ShownView}
 use Rattle.rds_safety.specs.Late.{CameFrom, Input}
 use Rattle.rds_safety.specs.Plans.{Plans}
@@ -21,7 +22,7 @@ use Rattle.rds_world.specs.Event.{Event}
 use Rattle.rds_world.specs.Slots.{commanded, entries, input_of, log, plans_of, received}
 use Rattle.rds_world.specs.StandsAt.{StandsAt}
 use Rattle.rds_world.specs.State.{distance}
-use Rattle.rds_world.specs.Station.{AreSlots, IsFreeIn, slots_in, station_log, station_plans}
+use Rattle.rds_world.specs.Station.{AreSlots, IsFreeIn, slots_in, station_plans}
 use Rattle.rds_world.specs.declared.world.Config.{Config}
 use Rattle.rds_world.proofs.InTime.{in_time, input_reaches}
 use Rattle.rds_world.proofs.LawfulStation.{free_before}
@@ -128,18 +129,18 @@ module _ (config : Config) (e : Event) (recent before : List Event) (view : Show
   due : StandsAt config gets.world events
   due = gets.stands
 
-  listening : ListensTo config.late config.dwell (slots_in (entries events) - 1) (station_log d (entries events)) receiver
+  listening : ListensTo config.late config.dwell (slots_in (entries events) - 1) (sent_log d (entries events)) receiver
   listening =
       let last : length (recent ++ before) ≡ slots_in (entries events) - 1 = omega (arith, slots_are events) in
       let same = slots_of_a_world d events due.values in
-      subst (λ (t : ℕ). ListensTo config.late config.dwell t (station_log d (entries events)) receiver) last
+      subst (λ (t : ℕ). ListensTo config.late config.dwell t (sent_log d (entries events)) receiver) last
       (subst (λ (sent : List (Option Message)). ListensTo config.late config.dwell (length (recent ++ before)) sent receiver) (sym same.log)
       (listens config e (recent ++ before) gets.number gets.receiver view due.due (due.receivers.each gets.number gets.receiver gets.there) gets.shows))
 
   got_of_station : GotOfStation config.late config.dwell told.later (entries before) receiver
   got_of_station = record {
     slots = subst AreSlots told.is (slots_of_a_world d events due.values).slots;
-    listens = subst (λ (es : List Entry). ListensTo config.late config.dwell (slots_in es - 1) (station_log d es) receiver) told.is listening;
+    listens = subst (λ (es : List Entry). ListensTo config.late config.dwell (slots_in es - 1) (sent_log d es) receiver) told.is listening;
     within = subst (λ (es : List Entry). slots_in es ≤ slots_in (entries before) + config.dwell) told.is within;
     got = λ s since free. came_in_own d gets.number (e ∷ recent) before gets.got s (omega (arith, since, slots_are before))
         (subst (λ (es : List Entry). IsFreeIn es s) (sym told.is) free);

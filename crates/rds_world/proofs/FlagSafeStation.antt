@@ -3,12 +3,13 @@ use Rattle.std.proofs.Common.{◌-◌, ◌*◌, ◌≤◌, ℕ, List, Option, ar
 use Rattle.rds_fields.specs.declared.message.Message.{Message}
 use Rattle.rds_encoder.specs.Entries.{name_moves, slot_of, text_moves}
 use Rattle.rds_encoder.specs.Plan.{Broadcast}
+use Rattle.rds_encoder.specs.Sent.{sent_log}
 use Rattle.rds_receiver.specs.Receipts.{Fragment, name_fragment, text_fragment}
 use Rattle.rds_safety.specs.FlagAlone.{HearsOneIn}
 use Rattle.rds_safety.specs.FlagLaws.{NamesByFlagAreNew, NamesByFlagAreOfTheirSource, TagsByFlagAreOfTheirText, TextsByFlagAreNew, TextsByFlagAreOfTheirSource, WhoGetsSomeHearsOneIn, WhoHearsOneInHearsEach, WhoHearsOneInHearsTextBeforeTags, WhoLosesFewGetsSome}
 use Rattle.rds_safety.specs.Late.{Input}
 use Rattle.rds_world.specs.FlagStation.{NamesOfAStationAreNew, NamesOfAStationAreOfTheirSource, TagsOfAStationAreOfTheirText, TextsOfAStationAreNew, TextsOfAStationAreOfTheirSource, TheStationSendsOneIn, WhoGetsSomeShowsTextsOfTheirSource, WhoLosesFewShowsTextsOfTheirSource}
-use Rattle.rds_world.specs.Station.{TheEncoderIsLawful, station_log, station_plans}
+use Rattle.rds_world.specs.Station.{TheEncoderIsLawful, station_plans}
 use Rattle.rds_world.proofs.FlagStation.{keeps_each, turns}
 
 -- a segment in each n slots is one in each m slots, if n is at most m
@@ -23,7 +24,7 @@ texts_are_safe lawful safe enough d now told r some slots first listens often =
     let moves = text_moves told in
     let flags = turns d (slot_of moves - 1) moves in
     let lasts = (keeps_each d (slot_of moves - 1) moves).1 first in
-    safe d now (station_plans d told).text (station_log d told) r law.text (flags.0 (flags.1 first)) listens ((enough d (2 * d) now text_fragment (station_plans d told).text r.input law.text.spaced often).1 lasts)
+    safe d now (station_plans d told).text (sent_log d told) r law.text (flags.0 (flags.1 first)) listens ((enough d (2 * d) now text_fragment (station_plans d told).text r.input law.text.spaced often).1 lasts)
 
 pub names_are_safe : TheEncoderIsLawful → NamesByFlagAreOfTheirSource → WhoHearsOneInHearsEach → NamesOfAStationAreOfTheirSource
 names_are_safe lawful safe enough d now told r some slots first listens often =
@@ -31,7 +32,7 @@ names_are_safe lawful safe enough d now told r some slots first listens often =
     let moves = name_moves told in
     let flags = turns d (slot_of moves - 1) moves in
     let lasts = (keeps_each d (slot_of moves - 1) moves).1 first in
-    safe d now (station_plans d told).name (station_log d told) r law.name (flags.0 (flags.1 first)) listens ((enough d (2 * d) now name_fragment (station_plans d told).name r.input law.name.spaced often).1 lasts)
+    safe d now (station_plans d told).name (sent_log d told) r law.name (flags.0 (flags.1 first)) listens ((enough d (2 * d) now name_fragment (station_plans d told).name r.input law.name.spaced often).1 lasts)
 
 pub tags_are_safe : TheEncoderIsLawful → TagsByFlagAreOfTheirText → WhoHearsOneInHearsEach → WhoHearsOneInHearsTextBeforeTags → TagsOfAStationAreOfTheirText
 tags_are_safe lawful safe enough before_tags d now told r some slots first listens often =
@@ -39,16 +40,16 @@ tags_are_safe lawful safe enough before_tags d now told r some slots first liste
     let moves = text_moves told in
     let flags = turns d (slot_of moves - 1) moves in
     let lasts = (keeps_each d (slot_of moves - 1) moves).1 first in
-    safe d now (station_plans d told).text (station_log d told) r law.text (flags.0 (flags.1 first)) listens
+    safe d now (station_plans d told).text (sent_log d told) r law.text (flags.0 (flags.1 first)) listens
     ((enough d (2 * d) now text_fragment (station_plans d told).text r.input law.text.spaced (oftener d (2 * d) text_fragment (station_plans d told).text now r.input (omega arith) often)).1 lasts)
-    (before_tags d now (station_plans d told).text (station_log d told) r law.text listens often)
+    (before_tags d now (station_plans d told).text (sent_log d told) r law.text listens often)
 
 pub texts_are_new : TheEncoderIsLawful → TextsByFlagAreNew → WhoHearsOneInHearsEach → TextsOfAStationAreNew
 texts_are_new lawful new enough d now told r some slots listens often =
     let law = lawful d told some slots in
     let lasts = keeps_each d (slot_of (text_moves told) - 1) (text_moves told) in
     let each = enough d (2 * d) now text_fragment (station_plans d told).text r.input law.text.spaced often in
-    let is_new = new d now (station_plans d told).text (station_log d told) r law.text listens in
+    let is_new = new d now (station_plans d told).text (sent_log d told) r law.text listens in
     (λ first. is_new.0 (each.0 (lasts.0 first)), λ first. is_new.1 (each.1 (lasts.1 first)))
 
 pub names_are_new : TheEncoderIsLawful → NamesByFlagAreNew → WhoHearsOneInHearsEach → NamesOfAStationAreNew
@@ -56,12 +57,12 @@ names_are_new lawful new enough d now told r some slots listens often =
     let law = lawful d told some slots in
     let lasts = keeps_each d (slot_of (name_moves told) - 1) (name_moves told) in
     let each = enough d (2 * d) now name_fragment (station_plans d told).name r.input law.name.spaced often in
-    let is_new = new d now (station_plans d told).name (station_log d told) r law.name listens in
+    let is_new = new d now (station_plans d told).name (sent_log d told) r law.name listens in
     (λ first. is_new.0 (each.0 (lasts.0 first)), λ first. is_new.1 (each.1 (lasts.1 first)))
 
 pub some_are_enough : TextsOfAStationAreOfTheirSource → TheStationSendsOneIn → WhoGetsSomeHearsOneIn → WhoGetsSomeShowsTextsOfTheirSource
 some_are_enough safe sends enough d r now told l some slots first listens lends gets =
-    safe d now told l some slots first listens (enough r (2 * d) now text_fragment (station_plans d told).text (station_log d told) l.input listens.order (sends d r told some lends) gets)
+    safe d now told l some slots first listens (enough r (2 * d) now text_fragment (station_plans d told).text (sent_log d told) l.input listens.order (sends d r told some lends) gets)
 
 pub few_losses_are_harmless : WhoGetsSomeShowsTextsOfTheirSource → WhoLosesFewGetsSome → WhoLosesFewShowsTextsOfTheirSource
 few_losses_are_harmless safe enough d r most now told l got some slots first listens lends few loses =

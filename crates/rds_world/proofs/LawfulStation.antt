@@ -10,13 +10,13 @@ use Rattle.rds_assembly.specs.Value.{IsName, IsText}
 use Rattle.rds_encoder.specs.Entries.{Entry, Restart, SetText, SetName, SetTags, Tick, Move, Begin, Set, End, name_moves, slot_of, text_moves}
 use Rattle.rds_encoder.specs.Laws.{ANameSegmentIsOfTheNameOnAir, ATextSegmentIsOfTheTextOnAir, HasOnAir, IsSegmentOf, TagsAreOfTheTextOnAir, ThePairEndsInTheText, ThePlanIsSpaced, WasAccepted, WhatIsOnAirBegan, WhatIsPlannedWasAccepted, WhatWasOnAirStaysPlanned}
 use Rattle.rds_encoder.specs.Plan.{Broadcast, HasNumber, OnAir, endless, on_air, plan_of}
-use Rattle.rds_encoder.specs.Sent.{sent_in}
+use Rattle.rds_encoder.specs.Sent.{sent_in, sent_log}
 use Rattle.rds_encoder.specs.Spaced.{IsSpaced, RestartsComeFirst}
 use Rattle.rds_receiver.specs.Receipts.{Fragment}
 use Rattle.rds_safety.specs.Lawful.{HasOne, HasFragment, HasTags, IsLawful, Kind, names, texts}
 use Rattle.rds_safety.specs.Marks.{IsMarkIn, Mark, Sends, Tagged, marks, name_mark, text_mark}
 use Rattle.rds_safety.specs.Plans.{AreLawful}
-use Rattle.rds_world.specs.Station.{AreSlots, EndsASlot, IsFreeIn, IsValid, TheEncoderIsLawful, slots_in, station_log, station_plans}
+use Rattle.rds_world.specs.Station.{AreSlots, EndsASlot, IsFreeIn, IsValid, TheEncoderIsLawful, slots_in, station_plans}
 
 -- the laws about each encoder
 pub record EncoderLaws : Type 0 where
@@ -49,10 +49,10 @@ record IsService (IsValue : List ℕ → Type 0) (moves : List Entry → List Mo
   tick : (free : Bool) (before : List Entry) → moves (Tick free ∷ before) ≡ End free ∷ moves before
   longer : (x : Entry) (before : List Entry) → (told : List Move) × (moves (x ∷ before) ≡ told ++ moves before)
   values : (x : Entry) (before : List Entry) → IsValid x → AllSetAre IsValue (moves before) → AllSetAre IsValue (moves (x ∷ before))
-  logged : (d : ℕ) (entries : List Entry) → length (station_log d entries) ≡ slot_of (moves entries)
+  logged : (d : ℕ) (entries : List Entry) → length (sent_log d entries) ≡ slot_of (moves entries)
 
 -- each slot that ended has its place in the log
-pub logged_texts : (d : ℕ) (entries : List Entry) → length (station_log d entries) ≡ slot_of (text_moves entries)
+pub logged_texts : (d : ℕ) (entries : List Entry) → length (sent_log d entries) ≡ slot_of (text_moves entries)
 logged_texts d [] = refl
 logged_texts d (Restart ∷ before) = logged_texts d before
 logged_texts d (SetText x ∷ before) = logged_texts d before
@@ -87,7 +87,7 @@ text_service = record { none = refl; tick = λ free before. refl; longer = longe
     values (SetTags pair) before value all = all
     values (Tick free) before value all = all
 
-pub logged_names : (d : ℕ) (entries : List Entry) → length (station_log d entries) ≡ slot_of (name_moves entries)
+pub logged_names : (d : ℕ) (entries : List Entry) → length (sent_log d entries) ≡ slot_of (name_moves entries)
 logged_names d [] = refl
 logged_names d (Restart ∷ before) = logged_names d before
 logged_names d (SetText x ∷ before) = logged_names d before
@@ -140,8 +140,8 @@ module _ (IsValue : List ℕ → Type 0) (of : Option Message → Mark) (moves :
       by None on = tt
       by (Some air) on = omega (arith, (laws.began d (moves before) air on).1)
 
-  marked : (d : ℕ) (entries : List Entry) → length (marks of (station_log d entries)) ≡ slot_of (moves entries)
-  marked d entries = all (station_log d entries) ∙ service.logged d entries
+  marked : (d : ℕ) (entries : List Entry) → length (marks of (sent_log d entries)) ≡ slot_of (moves entries)
+  marked d entries = all (sent_log d entries) ∙ service.logged d entries
     where
       all : (log : List (Option Message)) → length (marks of log) ≡ length log
       all [] = refl
@@ -162,10 +162,10 @@ module _ (IsValue : List ℕ → Type 0) (of : Option Message → Mark) (moves :
       }
 
   -- an entry that adds nothing to the log stays in its slot
-  same_slot : (d : ℕ) (x : Entry) (before : List Entry) → station_log d (x ∷ before) ≡ station_log d before → slot_of (moves before) ≤ slot_of (moves (x ∷ before))
+  same_slot : (d : ℕ) (x : Entry) (before : List Entry) → sent_log d (x ∷ before) ≡ sent_log d before → slot_of (moves before) ≤ slot_of (moves (x ∷ before))
   same_slot d x before same = omega (arith, service.logged d before, service.logged d (x ∷ before), ap (λ (log : List (Option Message)). length log) same)
 
-  sent_in_slot : (d : ℕ) (entries : List Entry) (slot : ℕ) (mark : Mark) → IsMarkIn (marks of (station_log d entries)) slot mark → WasSentIn of moves d entries slot mark
+  sent_in_slot : (d : ℕ) (entries : List Entry) (slot : ℕ) (mark : Mark) → IsMarkIn (marks of (sent_log d entries)) slot mark → WasSentIn of moves d entries slot mark
   sent_in_slot d [] slot mark sent = absurd sent
   sent_in_slot d (Restart ∷ before) slot mark sent = sent_before d Restart before slot mark (same_slot d Restart before refl) (sent_in_slot d before slot mark sent)
   sent_in_slot d (SetText x ∷ before) slot mark sent = sent_before d (SetText x) before slot mark (same_slot d (SetText x) before refl) (sent_in_slot d before slot mark sent)
@@ -250,7 +250,7 @@ no_tags_of_names (Some (Announce code bits aid)) pair e = cc
 no_tags_of_names (Some (Tags q)) pair e = cc
 no_tags_of_names (Some Other) pair e = cc
 
-texts_lawful : EncoderLaws → (d : ℕ) (told : List Entry) → 0 < d → AreSlots told → IsLawful d texts (station_plans d told).text (marks text_mark (station_log d told))
+texts_lawful : EncoderLaws → (d : ℕ) (told : List Entry) → 0 < d → AreSlots told → IsLawful d texts (station_plans d told).text (marks text_mark (sent_log d told))
 texts_lawful laws d told some slots = record {
   spaced = plan_spaced IsText text_mark text_moves text_service laws d told some slots.texts slots.ended;
   values = plan_values IsText text_mark text_moves text_service laws d told slots.valid;
@@ -258,13 +258,13 @@ texts_lawful laws d told some slots = record {
   tags = tags;
 }
   where
-    fragments : (slot : ℕ) (p : Fragment) → IsMarkIn (marks text_mark (station_log d told)) slot (Sends p) → HasOne (station_plans d told).text (HasFragment texts slot p)
+    fragments : (slot : ℕ) (p : Fragment) → IsMarkIn (marks text_mark (sent_log d told)) slot (Sends p) → HasOne (station_plans d told).text (HasFragment texts slot p)
     fragments slot p sent =
         let w = sent_in_slot IsText text_mark text_moves text_service d told slot (Sends p) sent in
         let air = laws.text d w.free w.before p.flag p.address p.bytes (text_of_mark (sent_in d w.free w.before) p w.is) in
         has_fragment texts slot p (station_plans d told).text air.0 air.2 (planned_then IsText text_mark text_moves text_service laws d told slot (Sends p) w air.0 air.1)
 
-    tags : (slot : ℕ) (pair : PairFields) → IsMarkIn (marks text_mark (station_log d told)) slot (Tagged pair) → HasOne (station_plans d told).text (HasTags d slot pair)
+    tags : (slot : ℕ) (pair : PairFields) → IsMarkIn (marks text_mark (sent_log d told)) slot (Tagged pair) → HasOne (station_plans d told).text (HasTags d slot pair)
     tags slot pair sent =
         let w = sent_in_slot IsText text_mark text_moves text_service d told slot (Tagged pair) sent in
         let air = laws.tags d w.free w.before pair (tags_of_mark (sent_in d w.free w.before) pair w.is) in
@@ -273,7 +273,7 @@ texts_lawful laws d told some slots = record {
         has_tags d slot pair (station_plans d told).text air.0 (omega (arith, air.3, w.reached)) (subst (λ (x : OnAir). BothEndIn (length x.bytes) pair) same own.2)
         (planned_then IsText text_mark text_moves text_service laws d told slot (Tagged pair) w air.0 air.1)
 
-names_lawful : EncoderLaws → (d : ℕ) (told : List Entry) → 0 < d → AreSlots told → IsLawful d names (station_plans d told).name (marks name_mark (station_log d told))
+names_lawful : EncoderLaws → (d : ℕ) (told : List Entry) → 0 < d → AreSlots told → IsLawful d names (station_plans d told).name (marks name_mark (sent_log d told))
 names_lawful laws d told some slots = record {
   spaced = plan_spaced IsName name_mark name_moves name_service laws d told some slots.names slots.ended;
   values = plan_values IsName name_mark name_moves name_service laws d told slots.valid;
@@ -281,7 +281,7 @@ names_lawful laws d told some slots = record {
   tags = λ slot pair sent. absurd (no_tags_of_names _ pair (sent_in_slot IsName name_mark name_moves name_service d told slot (Tagged pair) sent).is);
 }
   where
-    fragments : (slot : ℕ) (p : Fragment) → IsMarkIn (marks name_mark (station_log d told)) slot (Sends p) → HasOne (station_plans d told).name (HasFragment names slot p)
+    fragments : (slot : ℕ) (p : Fragment) → IsMarkIn (marks name_mark (sent_log d told)) slot (Sends p) → HasOne (station_plans d told).name (HasFragment names slot p)
     fragments slot p sent =
         let w = sent_in_slot IsName name_mark name_moves name_service d told slot (Sends p) sent in
         let air = laws.name d w.free w.before p.flag p.address p.bytes (name_of_mark (sent_in d w.free w.before) p w.is) in

@@ -8,11 +8,11 @@ use Rattle.rds_encoder.specs.Entries.{Entry, Restart, SetText, SetName, SetTags,
 use Rattle.rds_encoder.specs.Laws.{EvenTurnsAreTheTexts, OnlyWhatIsOnAirCoversTheSlot, WhatIsOnAirBegan}
 use Rattle.rds_encoder.specs.Plan.{Broadcast, HasNumber, OnAir, endless, next_flag, on_air, plan_of}
 use Rattle.rds_encoder.specs.Reply.{reply_to}
-use Rattle.rds_encoder.specs.Sent.{count_from, is_free, next_address, one_if, sent_in, text_segment, turn_of}
+use Rattle.rds_encoder.specs.Sent.{count_from, is_free, next_address, one_if, sent_in, sent_log, text_segment, turn_of}
 use Rattle.rds_receiver.specs.Receipts.{text_fragment}
 use Rattle.rds_safety.specs.FlagAlone.{SendsOneBetween}
 use Rattle.rds_world.specs.FlagStation.{TheStationSendsOneIn}
-use Rattle.rds_world.specs.Station.{IsFreeIn, slots_in, station_log}
+use Rattle.rds_world.specs.Station.{IsFreeIn, slots_in}
 use Rattle.rds_world.proofs.LawfulStation.{free_before, logged_texts}
 
 -- a broadcast that is planned with one end is planned with another
@@ -130,7 +130,7 @@ module _ (only : OnlyWhatIsOnAirCoversTheSlot) (began : WhatIsOnAirBegan) (even 
   )
 
   sends_now : (free : Bool) (before : List Entry) (air : OnAir) (from until : ℕ) → free ≡ true → on_air d (text_moves before) ≡ Some air → turn_after before % 2 ≡ 0 → from ≤ slots_in before → slots_in before < until
-      → SendsOneBetween text_fragment (station_log d (Tick free ∷ before)) from until
+      → SendsOneBetween text_fragment (sent_log d (Tick free ∷ before)) from until
   sends_now free before air from until is on number since before_until =
       let w = sends_segment free before air is on number in
       record {
@@ -143,12 +143,12 @@ module _ (only : OnlyWhatIsOnAirCoversTheSlot) (began : WhatIsOnAirBegan) (even 
         until = before_until;
       }
 
-  earlier : (free : Bool) (before : List Entry) (from until more : ℕ) → until ≤ more → SendsOneBetween text_fragment (station_log d before) from until → SendsOneBetween text_fragment (station_log d (Tick free ∷ before)) from more
+  earlier : (free : Bool) (before : List Entry) (from until more : ℕ) → until ≤ more → SendsOneBetween text_fragment (sent_log d before) from until → SendsOneBetween text_fragment (sent_log d (Tick free ∷ before)) from more
   earlier free before from until more le w = record { slot = w.slot; message = w.message; fragment = w.fragment; is_sent = inr w.is_sent; picked = w.picked; since = w.since; until = omega (arith, w.until, le) }
 
   -- if the turn is odd, the free slot before sent a segment
   one_before : (b : Broadcast) (told : List Entry) (s : ℕ) → IsOnWithin b told → IsFreeIn told s → b.start ≤ s → slots_in told ≤ b.end + 1 → turn_after told % 2 ≡ 1
-      → SendsOneBetween text_fragment (station_log d told) s (slots_in told)
+      → SendsOneBetween text_fragment (sent_log d told) s (slots_in told)
   one_before b [] s on free_in from to odd = absurd free_in
   one_before b (Restart ∷ before) s on free_in from to odd =
       absurd (let none : turn_after (Restart ∷ before) ≡ 0 = none_since (slots_in before + d) (Begin ∷ text_moves before) (omega arith) in omega (arith, none, odd))
@@ -166,8 +166,8 @@ module _ (only : OnlyWhatIsOnAirCoversTheSlot) (began : WhatIsOnAirBegan) (even 
       turns : turn_after (Tick free ∷ before) ≡ one_if free + turn_after before
       turns = one_turn free before (endless b) air
 
-      by : (f : Bool) → free ≡ f → (IsFreeIn before s → turn_after before % 2 ≡ 1 → SendsOneBetween text_fragment (station_log d before) s (slots_in before)) → IsFreeIn (Tick free ∷ before) s
-          → SendsOneBetween text_fragment (station_log d (Tick free ∷ before)) s (slots_in (Tick free ∷ before))
+      by : (f : Bool) → free ≡ f → (IsFreeIn before s → turn_after before % 2 ≡ 1 → SendsOneBetween text_fragment (sent_log d before) s (slots_in before)) → IsFreeIn (Tick free ∷ before) s
+          → SendsOneBetween text_fragment (sent_log d (Tick free ∷ before)) s (slots_in (Tick free ∷ before))
       by true is rest g =
           let one : turn_after (Tick free ∷ before) ≡ 1 + turn_after before = turns ∙ ap (λ (x : Bool). one_if x + turn_after before) is in
           sends_now free before (endless b) s (slots_in (Tick free ∷ before)) is air (omega (arith, one, odd)) here (omega arith)
@@ -177,7 +177,7 @@ module _ (only : OnlyWhatIsOnAirCoversTheSlot) (began : WhatIsOnAirBegan) (even 
           earlier free before s (slots_in before) (slots_in (Tick free ∷ before)) (omega arith) (rest g (omega (arith, none, odd)))
 
   one_of_two : (b : Broadcast) (told : List Entry) (s q until : ℕ) → IsOnWithin b told → IsFreeIn told s → IsFreeIn told q → s < q → q < until → b.start ≤ s → q ≤ b.end
-      → SendsOneBetween text_fragment (station_log d told) s until
+      → SendsOneBetween text_fragment (sent_log d told) s until
   one_of_two b [] s q until on one two less below from to = absurd one
   one_of_two b (Restart ∷ before) s q until on one two less below from to = one_of_two b before s q until on one two less below from to
   one_of_two b (SetText x ∷ before) s q until on one two less below from to = one_of_two b before s q until on one two less below from to

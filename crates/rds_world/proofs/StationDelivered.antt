@@ -14,7 +14,7 @@ use Rattle.rds_encoder.specs.Delivery.{ANameIsSentWhole, ATextIsSentWhole, IsOnT
 use Rattle.rds_encoder.specs.Entries.{Entry, Restart, SetText, SetName, SetTags, Tick, Move, Begin, Set, End, name_moves, slot_of, text_moves}
 use Rattle.rds_encoder.specs.Laws.{OnlyWhatIsOnAirCoversTheSlot, WhatIsOnAirWasOnAir}
 use Rattle.rds_encoder.specs.Plan.{Broadcast, HasNumber, OnAir, endless, on_air, plan_of}
-use Rattle.rds_encoder.specs.Sent.{one_if, sent_in}
+use Rattle.rds_encoder.specs.Sent.{one_if, sent_in, sent_log}
 use Rattle.rds_receiver.specs.Receipts.{Fragment, name_fragment, segments, text_fragment}
 use Rattle.rds_safety.specs.Late.{CameFrom, SentIn}
 use Rattle.rds_safety.specs.Lawful.{names, texts}
@@ -28,7 +28,7 @@ use Rattle.rds_safety.proofs.FlagSlots.{came_as_sent}
 use Rattle.rds_safety.proofs.HeldWhole.{CameSince, came_in, in_segments, shown_whole}
 use Rattle.rds_safety.proofs.Safety.{name_fragments_marked, text_fragments_marked}
 use Rattle.rds_world.specs.Delivery.{AStationDeliversAName, AStationDeliversAText, AStationDeliversAnyText, GotOfStation, LieInBroadcast}
-use Rattle.rds_world.specs.Station.{AreSlots, EndsASlot, IsFreeIn, TheEncoderIsLawful, slots_in, station_log, station_plans}
+use Rattle.rds_world.specs.Station.{AreSlots, EndsASlot, IsFreeIn, TheEncoderIsLawful, slots_in, station_plans}
 use Rattle.rds_world.proofs.LawfulStation.{logged_names, logged_texts}
 
 -- the laws about each encoder
@@ -150,7 +150,7 @@ record WasSentFree (d : ℕ) (later earlier : List Entry) (message : Message) : 
   slot : ℕ
   since : slots_in earlier ≤ slot
   free : IsFreeIn (later ++ earlier) slot
-  sent : SentIn (station_log d (later ++ earlier)) slot (Some message)
+  sent : SentIn (sent_log d (later ++ earlier)) slot (Some message)
 
 sent_free : (d : ℕ) (later earlier : List Entry) (message : Message) → IsSentAmong d later earlier message → WasSentFree d later earlier message
 sent_free d [] earlier message among = absurd among
@@ -255,7 +255,7 @@ module _ (laws : DeliveryLaws) (k m : ℕ) (some : 0 < m) (newer rest : List Ent
   lasts : 0 < m + k
   lasts = omega (arith, some)
 
-  law : AreLawful (m + k) (station_plans (m + k) told) (station_log (m + k) told)
+  law : AreLawful (m + k) (station_plans (m + k) told) (sent_log (m + k) told)
   law = laws.lawful (m + k) told lasts gets.slots
 
   own : CameFrom r.input first first
@@ -285,13 +285,13 @@ module _ (laws : DeliveryLaws) (k m : ℕ) (some : 0 < m) (newer rest : List Ent
       → CameSince (segments pick r.input.first r.input.heard) first p.address
   came pick message p is among =
       let w = sent_free (m + k) recent rest message among in
-      let heard = came_as_sent (station_log (m + k) told) r.input w.slot w.slot message gets.listens.late.order (gets.got w.slot w.since w.free) w.sent in
+      let heard = came_as_sent (sent_log (m + k) told) r.input w.slot w.slot message gets.listens.late.order (gets.got w.slot w.since w.free) w.sent in
       record { segment = came_in w.slot p; since = w.since; at = refl; is_in = in_segments pick r.input.first r.input.heard w.slot message p heard is }
 
   text_shown : (number : ℕ) → HasNumber (station_plans (m + k) told).text number b → 2 * segment_count (text_body b.bytes) ≤ free_in recent → r.view.text ≡ Some b.bytes
   text_shown number planned enough =
       let value : IsText b.bytes = law.text.values number b planned in
-      shown_whole laws.plan m (slots_in told - 1) first texts text_fragment text_mark (station_plans (m + k) told).text (station_log (m + k) told) r.input number b
+      shown_whole laws.plan m (slots_in told - 1) first texts text_fragment text_mark (station_plans (m + k) told).text (sent_log (m + k) told) r.input number b
       text_fragments_marked k law.text gets.listens.late gets.listens.now fresh planned from (omega (arith, to, some_slots newer rest)) soon
       IsWholeText text_service (λ cells held. all_text cells b.bytes value held) (one_segment b.bytes)
       (λ a within.
@@ -304,7 +304,7 @@ module _ (laws : DeliveryLaws) (k m : ℕ) (some : 0 < m) (newer rest : List Ent
   name_shown number planned enough =
       let value : IsName b.bytes = law.name.values number b planned in
       let two = two_segments b.bytes value in
-      shown_whole laws.plan m (slots_in told - 1) first names name_fragment name_mark (station_plans (m + k) told).name (station_log (m + k) told) r.input number b
+      shown_whole laws.plan m (slots_in told - 1) first names name_fragment name_mark (station_plans (m + k) told).name (sent_log (m + k) told) r.input number b
       name_fragments_marked k law.name gets.listens.late gets.listens.now fresh planned from (omega (arith, to, some_slots newer rest)) soon
       IsWholeName name_service (λ cells held. all_name cells b.bytes value held) (omega (arith, two))
       (λ a within.
@@ -319,7 +319,7 @@ split k m newer older earlier r gets =
     let e = parts newer older earlier in
     record {
       slots = subst AreSlots e gets.slots;
-      listens = subst (λ (es : List Entry). ListensTo k m (slots_in es - 1) (station_log (m + k) es) r) e gets.listens;
+      listens = subst (λ (es : List Entry). ListensTo k m (slots_in es - 1) (sent_log (m + k) es) r) e gets.listens;
       within = (let within = subst (λ (es : List Entry). slots_in es ≤ slots_in earlier + m) e gets.within in omega (arith, within, slots_rise older earlier));
       got = λ s since free. gets.got s (omega (arith, since, slots_rise older earlier)) (subst (λ (es : List Entry). IsFreeIn es s) (sym e) free);
     }

@@ -6,12 +6,13 @@ use Rattle.rds_assembly.specs.Value.{IsName, IsText}
 use Rattle.rds_encoder.specs.Entries.{Entry, Move, Begin, Set, End, Tick, name_moves, slot_of, text_moves}
 use Rattle.rds_encoder.specs.Plan.{plan_of}
 use Rattle.rds_encoder.specs.Spaced.{IsUnset, RestartsComeFirst}
+use Rattle.rds_encoder.specs.Sent.{sent_log}
 use Rattle.rds_safety.specs.Plans.{AreLawful, Plans}
 use Rattle.rds_world.specs.declared.event.Command.{Command}
 use Rattle.rds_world.specs.declared.event.Command.TheVariants.{Quiet, Restart, SetText, SetName, SetTags}
 use Rattle.rds_world.specs.Event.{Event}
 use Rattle.rds_world.specs.Slots.{SetValues, SetsAValue, commanded, entries, log, plans_of}
-use Rattle.rds_world.specs.Station.{AreSlots, AreSlotsToo, EndsASlot, IsValid, SlotsOfAWorldAreSlots, TheEncoderIsLawful, station_log, station_plans}
+use Rattle.rds_world.specs.Station.{AreSlots, AreSlotsToo, EndsASlot, IsValid, SlotsOfAWorldAreSlots, TheEncoderIsLawful, station_plans}
 
 -- one service: its moves in a slot are at most one restart or set, and then the end of the slot
 pub record IsService (moves : List Entry → List Move) : Type 0 where
@@ -97,17 +98,17 @@ ends_a_slot : (events : List Event) → EndsASlot (entries events)
 ends_a_slot [] = tt
 ends_a_slot (e ∷ before) = tt
 
-logged_before : (d : ℕ) (c : Command) (before : List Entry) → station_log d (commanded c before) ≡ station_log d before
+logged_before : (d : ℕ) (c : Command) (before : List Entry) → sent_log d (commanded c before) ≡ sent_log d before
 logged_before d Quiet before = refl
 logged_before d Restart before = refl
 logged_before d (SetText x) before = refl
 logged_before d (SetName x) before = refl
 logged_before d (SetTags pair) before = refl
 
-same_log : (d : ℕ) (events : List Event) → station_log d (entries events) ≡ log d events
+same_log : (d : ℕ) (events : List Event) → sent_log d (entries events) ≡ log d events
 same_log d [] = refl
 same_log d (e ∷ before) =
-    let older : station_log d (commanded e.command (entries before)) ≡ log d before = logged_before d e.command (entries before) ∙ same_log d before in
+    let older : sent_log d (commanded e.command (entries before)) ≡ log d before = logged_before d e.command (entries before) ∙ same_log d before in
     rw older refl
 
 -- the plans with these numbers of slots
@@ -132,4 +133,4 @@ pub events_are_lawful : TheEncoderIsLawful → (d : ℕ) (events : List Event) �
 events_are_lawful lawful d events some set =
     let same = slots_of_a_world d events set in
     subst (λ (sent : List (Option Message)). AreLawful d (plans_of d events) sent) same.log
-    (subst (λ (plans : Plans). AreLawful d plans (station_log d (entries events))) same.plans (lawful d (entries events) some same.slots))
+    (subst (λ (plans : Plans). AreLawful d plans (sent_log d (entries events))) same.plans (lawful d (entries events) some same.slots))

@@ -8,7 +8,7 @@ use Rattle.rds_assembly.specs.Body.{segment_count, text_body}
 use Rattle.rds_encoder.specs.Delivery.{free_in}
 use Rattle.rds_encoder.specs.Entries.{Entry}
 use Rattle.rds_encoder.specs.Plan.{Broadcast, HasNumber}
-use Rattle.rds_encoder.specs.Sent.{one_if}
+use Rattle.rds_encoder.specs.Sent.{one_if, sent_log}
 use Rattle.rds_receiver.specs.Shown.{ShownView}
 use Rattle.rds_receiver.specs.State.{ReceiverState}
 use Rattle.rds_safety.specs.Late.{CameFrom}
@@ -19,7 +19,7 @@ use Rattle.rds_world.specs.Event.{Event}
 use Rattle.rds_world.specs.Slots.{plans_of}
 use Rattle.rds_world.specs.StandsAt.{Shows, StandsAt}
 use Rattle.rds_world.specs.State.{WorldState, distance}
-use Rattle.rds_world.specs.Station.{AreSlots, IsFreeIn, slots_in, station_log, station_plans}
+use Rattle.rds_world.specs.Station.{AreSlots, IsFreeIn, slots_in, station_plans}
 use Rattle.rds_world.specs.declared.world.Config.{Config}
 
 -- the number of free slots among these
@@ -87,7 +87,7 @@ ANameIsDelivered =
 -- slots, it got each free slot on time
 pub record GotOfStation (k m : ℕ) (later earlier : List Entry) (r : Listener) : Type 0 where
   pub slots : AreSlots (later ++ earlier)
-  pub listens : ListensTo k m (slots_in (later ++ earlier) - 1) (station_log (m + k) (later ++ earlier)) r
+  pub listens : ListensTo k m (slots_in (later ++ earlier) - 1) (sent_log (m + k) (later ++ earlier)) r
   pub within : slots_in (later ++ earlier) ≤ slots_in earlier + m
   pub got : (s : ℕ) → slots_in earlier ≤ s → IsFreeIn (later ++ earlier) s → CameFrom r.input s s
 

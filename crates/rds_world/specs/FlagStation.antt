@@ -6,6 +6,7 @@ use Rattle.std.specs.Prelude.{ℕ, Bool, true, List, [], ◌∷◌, Option, Some
 use Rattle.rds_encoder.specs.Entries.{Entry, Move, Begin, Set, End, name_moves, slot_of, text_moves}
 use Rattle.rds_encoder.specs.Plan.{Broadcast, HasNumber, on_air, plan_of}
 use Rattle.rds_encoder.specs.Reply.{reply_to}
+use Rattle.rds_encoder.specs.Sent.{sent_log}
 use Rattle.rds_receiver.specs.Receipts.{name_fragment, text_fragment}
 use Rattle.rds_safety.specs.FlagAlone.{EachLasts, GetsSome, HearsOneIn, IsFilled, IsNews, ListensByFlag}
 use Rattle.rds_safety.specs.FlagAlone.{LosesInARow, SendsOneIn, TurnsTheFlag, run_by_flag}
@@ -15,7 +16,7 @@ use Rattle.rds_safety.specs.OwnClock.{IsTrueClock}
 use Rattle.rds_safety.specs.Safe.{Listener, ShowsNoTags}
 use Rattle.rds_world.specs.Event.{Event}
 use Rattle.rds_world.specs.Slots.{SetValues, entries, log, plans_of}
-use Rattle.rds_world.specs.Station.{AreSlots, IsFreeIn, station_log, station_plans}
+use Rattle.rds_world.specs.Station.{AreSlots, IsFreeIn, station_plans}
 
 -- nothing was planned before, or x is empty
 abbrev pub IsEmptyAfter : List Broadcast → List ℕ → Type 0
@@ -91,7 +92,7 @@ TheStationKeepsEach =
 abbrev pub TextsOfAStationAreOfTheirSource : Type 0
 TextsOfAStationAreOfTheirSource =
     (d now : ℕ) (told : List Entry) (r : Listener) → 0 < d → AreSlots told
-    → IsFirstAfterRestart (IsSafeAfter d) d (text_moves told) → ListensByFlag now (station_log d told) r
+    → IsFirstAfterRestart (IsSafeAfter d) d (text_moves told) → ListensByFlag now (sent_log d told) r
     → HearsOneIn (2 * d) text_fragment (station_plans d told).text now r.input
     → IfSome r.view.text (IsOfItsSource (station_plans d told).text r.input (run_by_flag text_fragment r.input))
 
@@ -100,7 +101,7 @@ TextsOfAStationAreOfTheirSource =
 abbrev pub NamesOfAStationAreOfTheirSource : Type 0
 NamesOfAStationAreOfTheirSource =
     (d now : ℕ) (told : List Entry) (r : Listener) → 0 < d → AreSlots told
-    → IsFirstAfterRestart (IsSafeAfter d) d (name_moves told) → ListensByFlag now (station_log d told) r
+    → IsFirstAfterRestart (IsSafeAfter d) d (name_moves told) → ListensByFlag now (sent_log d told) r
     → HearsOneIn (2 * d) name_fragment (station_plans d told).name now r.input
     → IfSome r.view.name (IsOfItsSource (station_plans d told).name r.input (run_by_flag name_fragment r.input))
 
@@ -108,16 +109,16 @@ NamesOfAStationAreOfTheirSource =
 abbrev pub TagsOfAStationAreOfTheirText : Type 0
 TagsOfAStationAreOfTheirText =
     (d now : ℕ) (told : List Entry) (r : Listener) → 0 < d → AreSlots told
-    → IsFirstAfterRestart (IsSafeAfter d) d (text_moves told) → ListensByFlag now (station_log d told) r
+    → IsFirstAfterRestart (IsSafeAfter d) d (text_moves told) → ListensByFlag now (sent_log d told) r
     → HearsOneIn d text_fragment (station_plans d told).text now r.input
     → ShowsNoTags r.view ⊎ ShowsEmptyText r.view
-    ⊎ ShowsTagsOfText d (station_plans d told).text (marks text_mark (station_log d told)) r.view
+    ⊎ ShowsTagsOfText d (station_plans d told).text (marks text_mark (sent_log d told)) r.view
 
 -- if it hears a segment in each 2d slots in a row of a text, its source is new: each text that began by slot `now` is
 -- at most the next one after it, except the empty text, or except what is no news
 abbrev pub TextsOfAStationAreNew : Type 0
 TextsOfAStationAreNew =
-    (d now : ℕ) (told : List Entry) (r : Listener) → 0 < d → AreSlots told → ListensByFlag now (station_log d told) r
+    (d now : ℕ) (told : List Entry) (r : Listener) → 0 < d → AreSlots told → ListensByFlag now (sent_log d told) r
     → HearsOneIn (2 * d) text_fragment (station_plans d told).text now r.input
     → (IsFirstAfterRestart IsEmptyAfter d (text_moves told)
     → HasNewSource IsFilled (station_plans d told).text now r.input (run_by_flag text_fragment r.input))
@@ -127,7 +128,7 @@ TextsOfAStationAreNew =
 -- the same for names
 abbrev pub NamesOfAStationAreNew : Type 0
 NamesOfAStationAreNew =
-    (d now : ℕ) (told : List Entry) (r : Listener) → 0 < d → AreSlots told → ListensByFlag now (station_log d told) r
+    (d now : ℕ) (told : List Entry) (r : Listener) → 0 < d → AreSlots told → ListensByFlag now (sent_log d told) r
     → HearsOneIn (2 * d) name_fragment (station_plans d told).name now r.input
     → (IsFirstAfterRestart IsEmptyAfter d (name_moves told)
     → HasNewSource IsFilled (station_plans d told).name now r.input (run_by_flag name_fragment r.input))
@@ -153,13 +154,13 @@ LendsTwoIn r plan told =
 abbrev pub TheStationSendsOneIn : Type 0
 TheStationSendsOneIn =
     (d r : ℕ) (told : List Entry) → 0 < d → LendsTwoIn r (station_plans d told).text told
-    → SendsOneIn r text_fragment (station_plans d told).text (station_log d told)
+    → SendsOneIn r text_fragment (station_plans d told).text (sent_log d told)
 
 -- then it is enough that a receiver gets r slots in a row of each 2d, whatever is sent in them
 abbrev pub WhoGetsSomeShowsTextsOfTheirSource : Type 0
 WhoGetsSomeShowsTextsOfTheirSource =
     (d r now : ℕ) (told : List Entry) (l : Listener) → 0 < d → AreSlots told
-    → IsFirstAfterRestart (IsSafeAfter d) d (text_moves told) → ListensByFlag now (station_log d told) l
+    → IsFirstAfterRestart (IsSafeAfter d) d (text_moves told) → ListensByFlag now (sent_log d told) l
     → LendsTwoIn r (station_plans d told).text told
     → GetsSome r (2 * d) text_fragment (station_plans d told).text now l.input
     → IfSome l.view.text (IsOfItsSource (station_plans d told).text l.input (run_by_flag text_fragment l.input))
@@ -168,7 +169,7 @@ WhoGetsSomeShowsTextsOfTheirSource =
 abbrev pub WhoLosesFewShowsTextsOfTheirSource : Type 0
 WhoLosesFewShowsTextsOfTheirSource =
     (d r most now : ℕ) (told : List Entry) (l : Listener) (got : ℕ → Bool) → 0 < d → AreSlots told
-    → IsFirstAfterRestart (IsSafeAfter d) d (text_moves told) → ListensByFlag now (station_log d told) l
+    → IsFirstAfterRestart (IsSafeAfter d) d (text_moves told) → ListensByFlag now (sent_log d told) l
     → LendsTwoIn r (station_plans d told).text told → most + 2 * r ≤ 2 * d + 1
     → LosesInARow most r text_fragment now l.input got
     → IfSome l.view.text (IsOfItsSource (station_plans d told).text l.input (run_by_flag text_fragment l.input))

@@ -7,21 +7,12 @@ use Rattle.rds_fields.specs.declared.message.Message.{Message}
 use Rattle.rds_assembly.specs.Value.{IsName, IsText}
 use Rattle.rds_encoder.specs.Entries.{Entry, Restart, SetText, SetName, SetTags, Tick, name_moves, slot_of, text_moves}
 use Rattle.rds_encoder.specs.Plan.{plan_of}
-use Rattle.rds_encoder.specs.Sent.{sent_in}
+use Rattle.rds_encoder.specs.Sent.{sent_log}
 use Rattle.rds_encoder.specs.Spaced.{RestartsComeFirst}
 use Rattle.rds_safety.specs.Plans.{AreLawful, Plans}
 use Rattle.rds_safety.specs.Safe.{AreSafe, Listener, ListensTo}
 use Rattle.rds_world.specs.Event.{Event}
 use Rattle.rds_world.specs.Slots.{SetValues, entries, log, plans_of}
-
--- the message sent in each slot that ended
-abbrev pub station_log : ℕ → List Entry → List (Option Message)
-station_log d [] = []
-station_log d (Restart ∷ before) = station_log d before
-station_log d (SetText x ∷ before) = station_log d before
-station_log d (SetName x ∷ before) = station_log d before
-station_log d (SetTags pair ∷ before) = station_log d before
-station_log d (Tick free ∷ before) = sent_in d free before ∷ station_log d before
 
 -- the number of slots that ended
 abbrev pub slots_in : List Entry → ℕ
@@ -70,12 +61,12 @@ pub record AreSlots (told : List Entry) : Type 0 where
 -- the messages of an encoder with a spacing of d slots are lawful for its plans of texts and of names
 abbrev pub TheEncoderIsLawful : Type 0
 TheEncoderIsLawful =
-    (d : ℕ) (told : List Entry) → 0 < d → AreSlots told → AreLawful d (station_plans d told) (station_log d told)
+    (d : ℕ) (told : List Entry) → 0 < d → AreSlots told → AreLawful d (station_plans d told) (sent_log d told)
 
 -- the slots of a world are such slots, with the same log and the same plans
 pub record AreSlotsToo (d : ℕ) (events : List Event) : Type 0 where
   pub slots : AreSlots (entries events)
-  pub log : station_log d (entries events) ≡ log d events
+  pub log : sent_log d (entries events) ≡ log d events
   pub plans : station_plans d (entries events) ≡ plans_of d events
 
 abbrev pub SlotsOfAWorldAreSlots : Type 0
@@ -86,5 +77,5 @@ SlotsOfAWorldAreSlots = (d : ℕ) (events : List Event) → SetValues events →
 abbrev pub WhoHearsAStationIsSafe : Type 0
 WhoHearsAStationIsSafe =
     (k m t : ℕ) (told : List Entry) (receivers : List Listener) → 0 < m → AreSlots told
-    → All (ListensTo k m t (station_log (m + k) told)) receivers
-    → AreSafe (m + k) m t (station_plans (m + k) told) (station_log (m + k) told) receivers
+    → All (ListensTo k m t (sent_log (m + k) told)) receivers
+    → AreSafe (m + k) m t (station_plans (m + k) told) (sent_log (m + k) told) receivers

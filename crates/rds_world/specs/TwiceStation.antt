@@ -2,15 +2,16 @@
 use Rattle.std.specs.Prelude.{◌+◌, ◌<◌, ℕ, List}
 use Rattle.std.specs.List.{All}
 use Rattle.rds_encoder.specs.Entries.{Entry}
+use Rattle.rds_encoder.specs.Sent.{sent_log}
 use Rattle.rds_safety.specs.Safe.{AreSafe, Listener}
 use Rattle.rds_safety.specs.Twice.{ListensTwice, lateness_of_two}
-use Rattle.rds_world.specs.Station.{AreSlots, station_log, station_plans}
+use Rattle.rds_world.specs.Station.{AreSlots, station_plans}
 
 -- whatever a station with a spacing of d slots sends, and whatever wrong messages its receivers get, none of them twice
 -- within w slots: if d is the dwell and the lateness of two receipts, the views of any number of receivers are safe
 abbrev pub WhoHearsAStationTwiceIsSafe : Type 0
 WhoHearsAStationTwiceIsSafe =
     (w k m t : ℕ) (told : List Entry) (receivers : List Listener) → 0 < m → AreSlots told
-    → All (ListensTwice w k m t (station_log (m + lateness_of_two w k) told)) receivers
+    → All (ListensTwice w k m t (sent_log (m + lateness_of_two w k) told)) receivers
     → AreSafe (m + lateness_of_two w k) m t (station_plans (m + lateness_of_two w k) told)
-    (station_log (m + lateness_of_two w k) told) receivers
+    (sent_log (m + lateness_of_two w k) told) receivers
