@@ -89,8 +89,8 @@ pub record IsNews (plan : List Broadcast) (k : ℕ) (b : Broadcast) : Type 0 whe
   pub filled : b.bytes ≢ []
   pub new : (j : ℕ) (a : Broadcast) → HasNumber plan j a → j < k → k ≤ j + 2 → a.flag ≡ b.flag → a.bytes ≡ b.bytes → ⊥
 
--- once the receiver heard a segment, it heard one of each later broadcast that by slot `now` another one followed that
--- Is holds of: a filled one, or news. It may miss the others
+-- once the receiver heard a segment, it heard one of each later broadcast whose next one began by slot `now`, if Is holds
+-- of the next one: that it is filled, or news. It may miss other broadcasts
 abbrev pub HearsEach : (List Broadcast → ℕ → Broadcast → Type 0) → (Message → Option Fragment) → List Broadcast → ℕ
     → Input → Type 0
 HearsEach Is pick plan now input =
@@ -110,7 +110,7 @@ HearsOneIn n pick plan now input =
     (k s t r : ℕ) (b : Broadcast) → HasNumber plan k b → b.start ≤ s → s + n ≤ b.end + 1 → s + n ≤ now
     → IsHeardFrom pick input t r → r < s → HearsOneBetween pick input s (s + n)
 
--- each broadcast lasts for at least n slots if another one follows that Is holds of
+-- each broadcast lasts for at least n slots, if Is holds of the next one
 abbrev pub EachLasts : (List Broadcast → ℕ → Broadcast → Type 0) → ℕ → List Broadcast → Type 0
 EachLasts Is n plan =
     (k : ℕ) (b next : Broadcast) → HasNumber plan k b → HasNumber plan (k + 1) next → Is plan (k + 1) next

@@ -73,14 +73,15 @@ abbrev pub TheEmptyTextIsEnough : Type 0
 TheEmptyTextIsEnough =
     (d : ℕ) (moves : List Move) → IsFirstAfterRestart IsEmptyAfter d moves → IsFirstAfterRestart (IsSafeAfter d) d moves
 
--- the flag turns with each broadcast, if the first one after each restart does no harm; what is safe does none
+-- the flag turns with each broadcast, if the first one after each restart does no harm; a safe one does no harm
 abbrev pub TheStationTurnsTheFlag : Type 0
 TheStationTurnsTheFlag =
     (d end : ℕ) (moves : List Move)
     → (IsFirstAfterRestart IsHarmlessAfter d moves → TurnsTheFlag (plan_of d end moves))
     × (IsFirstAfterRestart (IsSafeAfter d) d moves → IsFirstAfterRestart IsHarmlessAfter d moves)
 
--- each broadcast lasts for at least 2d slots if another one follows that is not the empty text, or that is news
+-- If the empty text comes first after each restart, each broadcast lasts for at least 2d slots before one that is filled.
+-- If a safe one comes first, each lasts for at least 2d slots before news.
 abbrev pub TheStationKeepsEach : Type 0
 TheStationKeepsEach =
     (d end : ℕ) (moves : List Move)
@@ -114,8 +115,9 @@ TagsOfAStationAreOfTheirText =
     → ShowsNoTags r.view ⊎ ShowsEmptyText r.view
     ⊎ ShowsTagsOfText d (station_plans d told).text (marks text_mark (sent_log d told)) r.view
 
--- if it hears a segment in each 2d slots in a row of a text, its source is new: each text that began by slot `now` is
--- at most the next one after it, except the empty text, or except what is no news
+-- If it hears a segment in each 2d slots in a row of a text, its source is new. If the empty text comes first after each
+-- restart, each text that began by slot `now` is at most the next one after the source, or is empty. If a safe one comes
+-- first, each news that began by slot `now` is at most the next one.
 abbrev pub TextsOfAStationAreNew : Type 0
 TextsOfAStationAreNew =
     (d now : ℕ) (told : List Entry) (r : Listener) → 0 < d → AreSlots told → ListensByFlag now (sent_log d told) r
