@@ -1,8 +1,8 @@
 //! `rdsrt` encodes, decodes, simulates and audits the text services of RDS.
 //!
-//! The program is the crate `rds_program`: its contract says which output each input has. `main` passes it the
-//! arguments of the command line, standard input and a buffered standard output: one write before each read, and one at
-//! the end. Notes for a person go to standard error.
+//! The program is the crate `rds_program`. `main` passes it the arguments of the command line, standard input and standard
+//! output. It writes a buffer of output before each read, and at the end. The contract of the call speaks of the status
+//! alone, since the buffer is shared in a `RefCell`. Notes for a person go to standard error.
 //!
 //! ```text
 //! rdsrt decode --pi C201
