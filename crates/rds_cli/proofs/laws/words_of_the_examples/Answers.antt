@@ -1,10 +1,10 @@
 use Rattle.std.proofs.Common.{refl}
 use Rattle.clap.proofs.OnLiterals.{clap_on_literals}
-use Rattle.rds_cli.specs.CommandLine.{late_app, log_app, log_readers_app, slots_app, station_app}
+use Rattle.rds_cli.specs.CommandLine.{audit_app, late_app, log_app, log_readers_app, slots_app, station_app}
 use Rattle.rds_cli.proofs.laws.words_of_the_examples.Goals as goal
 
 pub returns : goal.returns
-unfolding clap_on_literals log_app late_app station_app slots_app log_readers_app
+unfolding clap_on_literals log_app late_app station_app slots_app audit_app log_readers_app
 returns c = record {
   decode = record { taken = refl; ask = refl };
   decode_other = record { taken = refl; ask = refl };
@@ -15,6 +15,7 @@ returns c = record {
   sim_tp = record { taken = refl; ask = refl };
   audit = record { taken = refl; ask = refl };
   audit_late = record { taken = refl; ask = refl };
+  audit_running = record { taken = refl; ask = refl };
   witness = record { taken = refl; ask = refl };
   slots = record { taken = refl; ask = refl };
   slots_grain = record { taken = refl; ask = refl };
