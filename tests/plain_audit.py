@@ -76,7 +76,7 @@ class Reigns:
         current = self.all[-1] if self.all else None
         if current is None or flag != current["flag"] or slot - current["last"] >= self.dwell:
             start = self.start_of(slot, flag)
-            current = {"flag": flag, "start": start, "last": slot, "segments": {}, "ends": []}
+            current = {"flag": flag, "start": start, "opened": slot, "last": slot, "segments": {}, "ends": []}
             self.all.append(current)
         segments = current["segments"]
         if segments.get(address, data) != data:

@@ -1,4 +1,5 @@
 """The notes of the program on standard error: each note, and the calls without one."""
+import collections
 import os
 import pty
 import random
@@ -16,6 +17,7 @@ DECODE, AUDIT, WITNESS = (f"{it} --pi C201" for it in ("decode", "audit", "witne
 ENCODE, SIM = "encode --pi C201 --m 1", "sim --pi C201 --m 1"
 LOOKS = "; a log line looks like C201 2140 4849 0D20"
 NEXT = ". To look for lost slots that make a mix: rdsrt witness --pi C201 --m "
+RUNNING = ". If the station was on air before the log began: --running"
 # a malformed line of a log, and the cause; blocks are counted from 1
 LINES = [
     ("C201 21400 4849 0D20", "block 2 has 5 characters, expected 4"),
@@ -83,9 +85,27 @@ def note(text):
     return f"rdsrt: {text}\n"
 
 
-def earlier_of(slots, spacing):
-    """Returns the fault of the slots by the plain audit, whether it is of a name, and the earlier slot that it names or
-    None."""
+def where_of(fault, reigns, slot, spacing):
+    """Returns the end of the sentence on a fault: the slots that it names, from the reigns of the plain audit."""
+    if fault == "EarlyFlag":
+        return f", in slot {reigns[-2]['last']}"
+    if fault != "EarlyTag" or not reigns:
+        return ""
+    last = reigns[-1]
+    where = f", in slot {last['start']}"
+    if last["opened"] != last["start"]:
+        where += f" at the earliest; its first group is in slot {last['opened']}"
+    if len(reigns) > 1 and reigns[-2]["flag"] == last["flag"]:
+        # the audit forgets slots that are 2 (M + K) slots back
+        is_known = slot - reigns[-2]["last"] < 2 * spacing
+        begin = f"from slot {reigns[-2]['last'] + 1} to" if is_known else "for M + K slots or more up to slot"
+        where += f"; no segment {begin} {last['opened'] - 1}, so the text began anew"
+    return where
+
+
+def end_of(slots, spacing):
+    """Returns the fault of the slots by the plain audit, whether it is of a name, its slot, and the end of its sentence.
+    None if the slots pass."""
     services = {"text": plain_audit.Reigns(spacing, plain_audit.is_text_segment),
                 "name": plain_audit.Reigns(spacing, plain_audit.is_name_segment)}
     for slot, group in enumerate(slots):
@@ -97,9 +117,8 @@ def earlier_of(slots, spacing):
             elif group:
                 services["text"].take_tags(slot, plain_audit.tag_ends_of(group))
         except plain_audit.Broken as fault:
-            earlier = {"EarlyFlag": lambda: reigns[-2]["last"],
-                       "EarlyTag": lambda: reigns[-1]["start"] if reigns else None}.get(str(fault), lambda: None)()
-            return str(fault), bool(segment) and segment[0] == "name", earlier
+            is_name = bool(segment) and segment[0] == "name"
+            return str(fault), is_name, slot, where_of(str(fault), reigns, slot, spacing)
     return None
 
 
@@ -171,11 +190,12 @@ class Warnings(ProgramCase):
         slots = flags.count(b"C201 ")
         told = f"no group of C202 in {slots} slots (C201: {slots})"
         self.check("note on another programme: audit", noted("audit --pi C202", flags),
-                   (0, f"yes {slots}\n".encode(), note(f"{told}. The yes says nothing")))
+                   (0, f"yes {slots}\n".encode(), note(f"{told}: the yes says nothing")))
         self.check("note on another programme: decode", noted("decode --pi C202", flags), (0, b"", note(told)))
-        self.check("note on another programme: witness", noted("witness --pi C202", flags)[2], note(told))
+        self.check("note on another programme: witness", noted("witness --pi C202", flags)[2],
+                   note(f"{told}: the search says nothing"))
         self.check("note on an empty log", noted(AUDIT, b"")[2],
-                   note("no group of C201 in 0 slots. The yes says nothing"))
+                   note("no group of C201 in 0 slots: the yes says nothing"))
         self.check("note on lost slots alone", noted(DECODE, LOST * 3)[2], note("no group of C201 in 3 slots"))
         self.check("a single group of the programme is enough", noted(DECODE, flags + b"F000 2140 4849 0D20\n")[2], "")
         draw = random.Random(SEED)
@@ -192,31 +212,63 @@ class Warnings(ProgramCase):
     def test_a_no_names_its_slot_its_line_and_the_rule(self):
         for log, slot, line, m, k, rule in NOES:
             got = noted(f"{AUDIT} --m {m} --k {k}", log)
-            self.check(f"note on a no: {rule}", (got[0], got[2]),
-                       (1, note(f"slot {slot} (line {line}): {rule}{NEXT}{m}")))
+            told = f"slot {slot} (line {line}): {rule}{NEXT}{m}"
+            may_be_old = ("reused" in rule or "RT+ tags came" in rule) and slot < m + k
+            self.check(f"note on a no: {rule}", (got[0], got[2]), (1, note(told + RUNNING * may_be_old)))
+        running = noted(f"{AUDIT} --m 8 --running", worked_rows.FLAG_AFTER_FIVE)[2]
+        self.check("--running is not named again", RUNNING in running, False)
         name = b"C201 A540 504F 5020\n"
         changed = noted(f"{AUDIT} --m 4", name + name.replace(b"504F", b"4A41"))[2]
         self.check("note on a no of a name", changed,
                    note(f"slot 1 (line 2): a name (PTYN) changed without a flip of the A/B flag{NEXT}4"))
 
-    def test_the_earlier_slot_of_a_no_is_that_of_the_plain_audit(self):
-        """The earlier slot of a no, on logs by chance."""
+    def test_the_slots_of_a_no_are_those_of_the_plain_audit(self):
+        """The earlier slot of a no, the first group of its text, and a pause before it, on logs by chance."""
         draw = random.Random(SEED)
         groups = ["C201 2140 4849 0D20", "C201 2150 594F 0D20", "C201 A540 504F 5020", "C201 A550 4A41 5A5A",
                   "C201 B148 2002 0000", None]
-        early = 0
-        for _ in range(300):
+        seen = collections.Counter()
+        for at in range(1200):
             m, k = draw.randrange(1, 6), draw.randrange(3)
-            slots = [draw.choices(groups, (4, 4, 2, 2, 1, 20))[0] for _ in range(60)]
-            wanted = earlier_of([it and it.split() for it in slots], m + k)
+            slots = [draw.choices(groups, (4, 4 * (at % 3 > 0), 2, 2, 1, 20))[0] for _ in range(60)]
+            wanted = end_of([it and it.split() for it in slots], m + k)
             log = "".join(f"{it or '---- ---- ---- ----'}\n" for it in slots).encode()
             told = noted(f"{AUDIT} --m {m} --k {k}", log)[2]
-            slot = re.search(r", in slot (\d+)\. To look", told)
-            got = slot and int(slot.group(1))
-            early += wanted is not None and wanted[2] is not None
-            self.check(f"earlier slot, M {m}, K {k}, seed {SEED}", (got, "name (PTYN)" in told),
-                       (wanted and wanted[2], bool(wanted) and wanted[1]))
-        self.check("some no of these logs has an earlier slot", early > 50, True)
+            if wanted is None:
+                self.check(f"M {m}, K {k}, {log}", told.startswith(("rdsrt: judged in 60 slots: ", "rdsrt: no 2A")), True)
+                continue
+            fault, is_name, slot, where = wanted
+            rule = re.fullmatch(r"rdsrt: slot (\d+) \(line \d+\): (.*?)(, in slot .*)?\. To look .*?\n", told)
+            may_be_old = fault in ("EarlyFlag", "EarlyTag") and slot < m + k
+            got = rule and (int(rule[1]), rule[3] or "", "name (PTYN)" in rule[2], told.endswith(RUNNING + "\n"))
+            self.check(f"{fault}, M {m}, K {k}, {log}", got, (slot, where, is_name, may_be_old))
+            seen.update(word for word in ("in slot", "earliest", "no segment from", "no segment for") if word in where)
+        self.check("each kind of slot was named", (len(seen), min(seen.values()) > 5), (4, True))
+
+    def test_what_a_yes_covers_and_what_is_not_read(self):
+        text, other, name, tags = (b"C201 2140 4849 0D20\n", b"C201 2150 594F 0D20\n", b"C201 A540 504F 5020\n",
+                                   b"C201 B148 2002 0000\n")
+        second, plain = b"C201 2940 4849 0D20\n", b"C201 0000 0000 0000\n"
+        pause = LOST * 8
+        for log, words, told in (
+                (text, AUDIT, "judged in 1 slots: 1 text, 0 names, 0 pairs of tags"),
+                (text + pause + tags * 2 + other + name, f"{AUDIT} --m 8",
+                 "judged in 13 slots: 2 texts, 1 name, 2 pairs of tags"),
+                (tags + text, f"{AUDIT} --running", "judged in 2 slots: 1 text, 0 names, 0 pairs of tags"),
+                (text + second * 3, AUDIT,
+                 "judged in 4 slots: 1 text, 0 names, 0 pairs of tags; 3 groups 2B were not judged"),
+                (second * 320, AUDIT,
+                 "no 2A, 10A or 11A group of C201: the yes says nothing; 320 groups 2B were not judged"),
+                (plain * 2, AUDIT, "no 2A, 10A or 11A group of C201: the yes says nothing"),
+                (plain, WITNESS, "no 2A, 10A or 11A group of C201: the search says nothing"),
+                (second, WITNESS,
+                 "no 2A, 10A or 11A group of C201: the search says nothing; 1 groups 2B were not read"),
+                (plain, DECODE, "no 2A, 10A or 11A group of C201"),
+                (second * 2, DECODE, "no 2A, 10A or 11A group of C201; 2 groups 2B were not read"),
+                (text + second, DECODE, "1 groups 2B were not read")):
+            got = noted(words, log)
+            self.check(f"{words} of {log}", (got[0], got[2]), (0, note(told)))
+            self.check(f"{words} --quiet", noted(f"{words} --quiet", log), (0, got[1], ""))
 
     def test_a_refused_set_has_the_slot_from_which_it_is_accepted(self):
         silent = ("slot 0: text refused, the station is silent after a restart for 128 slots more; "
@@ -291,4 +343,6 @@ class WhereNotesGo(ProgramCase):
         for name, words, status, given, shown in worked_rows.rows():
             fine = status == 0 and b"C201 " in given and b"silent" not in shown and b"held" not in shown
             if fine and "C201" in words and not words.startswith(("encode", "sim")):
-                self.check(f"no note on the row {name}: {words}", noted(words, given)[2], "")
+                told = noted(words, given)[2]
+                wanted = told if re.fullmatch("rdsrt: judged in .*\n", told) and words.startswith("audit") else ""
+                self.check(f"no warning on the row {name}: {words}", told, wanted)
