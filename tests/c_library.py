@@ -125,20 +125,23 @@ def timed(seed, log):
     """Returns the received groups of a log with their times in microseconds, with timers and a clock that is set now
     and then, and the log of the slots that a receiver counts by these times."""
     roll = random.Random(seed)
-    groups, slots, last, ahead, time = b"", b"", None, EPOCH, EPOCH
+    # the time of the last group, the lost slots that timers told since then, and how far the clock is ahead
+    groups, slots, last, told, ahead = b"", b"", 0, 0, EPOCH
     for slot, line in enumerate(it for it in log.splitlines() if not it.startswith(b"#")):
         # just after the slot has begun, or just before it ends
         time = ahead + slot * NINETEEN_SLOTS // 19 + roll.randrange(80_000)
         if b"----" in line or roll.random() < 0.1:
-            groups += b"%d\n" % time if roll.random() < 0.2 else b""
+            # slots count from the first time, here that of a group
+            if groups and roll.random() < 0.2:
+                groups, told = groups + b"%d\n" % time, lost_slots(time - last)
             continue
-        lost = 0 if last is None else lost_slots(time - last)
-        if last is not None and roll.random() < 0.005:
+        lost = lost_slots(time - last) if groups else 0
+        if groups and roll.random() < 0.005:
             jump = roll.choice([-10_000_000, DAY + 1])
-            ahead, time, lost = ahead + jump, time + jump, int(DWELL)
+            ahead, time, lost = ahead + jump, time + jump, told + int(DWELL)
         groups += b"%d %s\n" % (time, line[:19])
         slots += LOST * lost + line[:19] + b"\n"
-        last = time
+        last, told = time, 0
     time += 2 * int(DWELL) * NINETEEN_SLOTS // 19
     return groups + b"%d\n" % time, slots + LOST * lost_slots(time - last)
 

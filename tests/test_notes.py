@@ -122,6 +122,25 @@ def end_of(slots, spacing):
     return None
 
 
+def scripts_with_a_bad_row(rng):
+    """Gives commands, scripts and the place of the first byte of their only bad row. Scripts have each line end and
+    empty lines, some have a byte order mark, and some are longer than the 8192 bytes of one read."""
+    for words, script, start in [(ENCODE, b"\n\nbad", 2), (ENCODE, b"\r\n\r\nbad\r\n", 4), (SIM, b"\rbad\r", 1)]:
+        yield words, script, start
+    ends = [[b"\n"], [b"\r\n"], [b"\r"], [b"\n", b"\r\n", b"\r"]]
+    bad = [b"bad", b'"b\na\r\nd"', b'text,"a\r\rb\n\nc",1,', b"-,,1", b'"x"\xEF,,,', b'text,"open\n\r\n']
+    for number in range(200):
+        line_ends, rows = rng.choice(ends), rng.choice([0, 1, 3, 30, 1200, 3000])
+        script = rng.choice([b"", b"", b"\xEF\xBB\xBF"])
+        for _ in range(rows):
+            script += b"".join(rng.choice(line_ends) for _ in range(rng.choice([0, 0, 0, 1, 4])))
+            script += rng.choice([b"-,,1,", b'"-","",0,', b"text,HI,1,"]) + rng.choice(line_ends)
+        script += b"".join(rng.choice(line_ends) for _ in range(rng.choice([0, 0, 1, 2, 9])))
+        row = rng.choice(bad)
+        after = rng.choice([b"", *line_ends, line_ends[0] + b"-,,1,\n" * rng.choice([1, 2000])])
+        yield rng.choice([ENCODE, SIM]), script + row + (b"" if b"open" in row else after), len(script)
+
+
 class Faults(ProgramCase):
     def test_a_malformed_line_is_shown_with_its_number_and_its_cause(self):
         for line, why in LINES:
@@ -157,6 +176,18 @@ class Faults(ProgramCase):
         first = noted(SIM, b"sing,HI,2,X\n")[2]
         self.check("the first cause of three is told", first,
                    note("fault row 1 (line 1): COMMAND is not one of -, restart, text, name, tags (lower case)"))
+
+    def test_the_line_of_a_malformed_row_is_that_of_a_plain_count(self):
+        for words, script, start in scripts_with_a_bad_row(random.Random(SEED)):
+            line = 1 + len(re.findall(rb"\r\n|\r|\n", script[:start]))
+            found = re.findall(r"\(line (\d+)\)", noted(words, script)[2])
+            self.check(f"seed {SEED}, line of the row at byte {start} of {script[:60]!r}", found, [str(line)])
+
+    def test_the_line_of_a_malformed_row_whose_bytes_come_in_several_reads(self):
+        for first, later, line in (("-,,1,\\r", "\\nbad", 2), ("\\n", "\\nbad\\n", 3), ("\\n\\nb", "ad\\n\\n", 3)):
+            call = f"(printf -- '{first}'; sleep 0.2; printf -- '{later}') | {PROGRAM} {ENCODE}"
+            done = subprocess.run(["bash", "-c", call], capture_output=True, timeout=SECONDS).stderr.decode()
+            self.check(f"{first} and {later}", re.findall(r"\(line (\d+)\)", done), [str(line)])
 
     def test_a_failed_read_or_write_has_the_reason_of_the_system(self):
         folder = os.open("/", os.O_RDONLY)

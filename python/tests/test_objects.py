@@ -276,13 +276,12 @@ class Threads(unittest.TestCase):
         self.assertEqual(sorted(shown), [(pi, "HI") for pi in range(8)])
 
     def test_each_call_keeps_the_lock_of_python(self):
-        """A call that gives it up runs while another thread reads or writes the struct."""
+        # a call that gives it up runs while another thread reads or writes the struct
         for name in _library.CALLS:
             call = getattr(_library.library(), f"rdsrt_{name}")
             self.assertTrue(call._flags_ & ctypes._FUNCFLAG_PYTHONAPI, name)
 
     def test_a_view_beside_slots_of_another_thread_is_no_mix(self):
-        """One thread changes the receiver, and others read its view."""
         texts = ["A" * 64, "B" * 64]
         rows = [[(0xC201, 0x2000 | flag << 4 | at, *[0x4141 + 0x0101 * flag] * 2) for at in range(16)] for flag in (0, 1)]
         receiver, done, wrong, before = Receiver(0xC201), threading.Event(), [], sys.getswitchinterval()

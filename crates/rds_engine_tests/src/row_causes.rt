@@ -546,7 +546,7 @@ fn notes_at_a_stop(rt: HostRuntime) -> Result<(), Fail> {
         thing: Thing::Text,
         refusal: Refusal::Silent(1),
     });
-    let lines: [(&[u8], u64); 7] = [
+    let lines: [(&[u8], u64); 11] = [
         (b"text,HI,1,\nx\n", 2),
         (b"text,HI,1,\nx", 2),
         (b"text,HI,1,\r\nx\r\n", 2),
@@ -554,6 +554,10 @@ fn notes_at_a_stop(rt: HostRuntime) -> Result<(), Fail> {
         (b"text,HI,1,\rx\r", 2),
         (b"\ntext,HI,1,\n\n\nx\n", 5),
         (b"text,HI,1,\n\n\"x\n\ny\"\n", 3),
+        (b"\n\ntext,HI,1,\n\nx", 5),
+        (b"\r\n\r\ntext,HI,1,\r\nx\r\n", 4),
+        (b"\r\rtext,HI,1,\r\r\"x\r\"", 5),
+        (b"\xEF\xBB\xBF\ntext,HI,1,\nx\n", 3),
     ];
     for (script, line) in lines {
         let (done, notes) = played(rt.alloc(), Form::Log, script)?;

@@ -1,7 +1,8 @@
-//! A reader that remembers whether one of its reads failed.
+//! A reader that remembers whether one of its reads failed, and what it read.
 ghost use Rattle.std.specs.Prelude.{◌≡◌, true};
 ghost use Rattle.rds_view_lines.specs.ReadFailed.{SomeReadFailed};
 
+use crate::line_ends::ReadSoFar;
 use rds_charset::TellingRead;
 use std::io::{self, ErrorKind, Read};
 
@@ -10,6 +11,7 @@ use std::io::{self, ErrorKind, Read};
 pub(crate) struct FailureFlag<R: TellingRead> {
     inner: R,
     failed: bool,
+    read: ReadSoFar,
     ghost told: { failed ≡ true → SomeReadFailed R.failures },
 }
 
@@ -25,7 +27,13 @@ impl<R: TellingRead> FailureFlag<R> {
         FailureFlag {
             inner,
             failed: false,
+            read: ReadSoFar::new(),
         }
+    }
+
+    /// Returns what was read so far.
+    pub(crate) fn read_so_far(&self) -> &ReadSoFar {
+        &self.read
     }
 
     /// Returns whether a read failed.
@@ -44,7 +52,10 @@ impl<R: TellingRead> Read for FailureFlag<R> {
 
     fn read(&mut self, buf: &mut [u8]) -> io::Result<usize> {
         match self.inner.read_one(buf) {
-            Some(count) => Ok(count),
+            Some(count) => {
+                self.read.take(&buf[..count]);
+                Ok(count)
+            }
             None => {
                 self.failed = true;
                 Err(io::Error::from(ErrorKind::Other))

@@ -9,6 +9,7 @@ mod answer_lines;
 mod failure_flag;
 mod form;
 mod laws;
+mod line_ends;
 mod notes;
 mod play;
 mod player;

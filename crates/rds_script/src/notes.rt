@@ -32,10 +32,10 @@ impl ScriptNotes {
 /// A malformed record of a script.
 #[derive(Clone, Copy, Debug, PartialEq, Eq)]
 pub struct BadRow {
-    /// The line on which the record starts, counted from 1.
+    /// The line on which the record starts: 1 + the number of line ends in the bytes before its first byte. LF, CR LF
+    /// and a lone CR end a line.
     ///
-    /// The number is exact, with one exception: if the script has empty lines, and this record ends with a carriage
-    /// return or with the script, it can be one too small.
+    /// No clause says so; tests compare it with a plain count.
     pub line: u64,
     /// Why it is not a row.
     pub cause: RowCause,

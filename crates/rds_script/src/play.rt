@@ -224,7 +224,7 @@ fn play_rows<R: TellingRead, W: TellingWrite>(
             Ok(()) => {}
             Err(RowRefused::NoRow(cause)) => {
                 *bad = Some(BadRow {
-                    line: line_of(turn + 1, script.line(), row),
+                    line: script.line_of(row),
                     cause,
                 });
                 return Err(LogFault::BadRow(turn + 1));
@@ -235,18 +235,4 @@ fn play_rows<R: TellingRead, W: TellingWrite>(
         lines.clear();
     }
     Err(LogFault::TooLong)
-}
-
-/// Finds the line on which a record starts, counted from 1. `number` is the number of the record, and `after` the line
-/// behind it.
-///
-/// `csv` notes the start of a record before it skips empty lines, and before the line feed of `\r\n`. So this function
-/// counts back from the end, by the line feeds inside the record and the one that ends it. Each row has a line of its
-/// own, so the line is `number` or more.
-fn line_of(number: u64, after: u64, row: &ByteRecord) -> u64 {
-    let inside = row.as_slice().iter().filter(|byte| **byte == b'\n').count();
-    after
-        .saturating_sub(inside as u64)
-        .saturating_sub(1)
-        .max(number)
 }

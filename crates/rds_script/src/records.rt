@@ -7,6 +7,7 @@ ghost use Rattle.rds_script.specs.Rows.{Record};
 ghost use Rattle.rds_script.specs.Play.{HasAllRecords};
 
 use crate::failure_flag::FailureFlag;
+use crate::line_ends::line_ends_in;
 use csv::{ByteRecord, Reader, ReaderBuilder};
 use rds_charset::TellingRead;
 use rds_view_lines::LogFault;
@@ -32,9 +33,24 @@ impl<R: TellingRead> Records<R> {
         }
     }
 
-    /// Returns the line behind the last record, counted from 1.
-    pub(crate) fn line(&self) -> u64 {
-        self.reader.position().line()
+    /// Returns the line on which the last record starts: 1 + the number of line ends before its first byte.
+    ///
+    /// `csv` notes the start of a record before the empty lines in front of it. So this function counts back from the end
+    /// of the record: by the line ends inside its fields, and by the one that ended it, unless the script did.
+    pub(crate) fn line_of(&self, row: &ByteRecord) -> u64 {
+        let read = self.reader.get_ref().read_so_far();
+        let end = self.reader.position();
+        let mut line = end
+            .line()
+            .saturating_add(read.lone_returns_before(end.byte()));
+        for field in row.iter() {
+            line = line.saturating_sub(line_ends_in(field));
+        }
+        if read.is_at_end() {
+            line
+        } else {
+            line.saturating_sub(1)
+        }
     }
 
     /// Reads the next record. Returns `false` at the end.

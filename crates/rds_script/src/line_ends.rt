@@ -1,0 +1,97 @@
+//! Counts the line ends of a script: LF, CR LF, or a lone CR, as `csv` takes them.
+//!
+//! `csv` counts the line feeds, so these functions count the other line ends: a return that no line feed follows.
+//!
+//! No clause says what they count, because the contract of `csv` says nothing of its positions and of how far it reads
+//! ahead (docs/PROVER.md, "What no contract can state"). Tests compare each line with a plain count.
+
+use arrayvec::ArrayVec;
+use memchr::memchr_iter;
+
+/// The most bytes that `csv` asks for in one read.
+const PIECE: usize = 8192;
+
+/// The lone returns of bytes that come in pieces. A return at the end counts until a line feed follows.
+#[derive(Clone, Copy)]
+struct LoneReturns {
+    count: u64,
+    after_return: bool,
+}
+
+impl LoneReturns {
+    /// Starts before the first byte.
+    fn new() -> LoneReturns {
+        LoneReturns {
+            count: 0,
+            after_return: false,
+        }
+    }
+
+    /// Counts the next bytes.
+    fn take(&mut self, bytes: &[u8]) {
+        if self.after_return && bytes.first() == Some(&b'\n') {
+            self.count = self.count.saturating_sub(1);
+        }
+        for place in memchr_iter(b'\r', bytes) {
+            if bytes.get(place.saturating_add(1)) != Some(&b'\n') {
+                self.count = self.count.saturating_add(1);
+            }
+        }
+        if let Some(last) = bytes.last() {
+            self.after_return = *last == b'\r';
+        }
+    }
+}
+
+/// Returns how many line ends these bytes have.
+pub(crate) fn line_ends_in(bytes: &[u8]) -> u64 {
+    let mut returns = LoneReturns::new();
+    returns.take(bytes);
+    let feeds = bytes.iter().filter(|byte| **byte == b'\n').count();
+    returns.count.saturating_add(feeds as u64)
+}
+
+/// The bytes that `csv` has read so far: how many, the last piece, and the lone returns before it.
+///
+/// A piece is counted when the next one replaces it.
+#[derive(Drop)]
+pub(crate) struct ReadSoFar {
+    bytes: u64,
+    last: ArrayVec<u8, PIECE>,
+    before: LoneReturns,
+}
+
+impl ReadSoFar {
+    /// Starts before the first byte.
+    pub(crate) fn new() -> ReadSoFar {
+        ReadSoFar {
+            bytes: 0,
+            last: ArrayVec::new(),
+            before: LoneReturns::new(),
+        }
+    }
+
+    /// Takes the bytes of one read. None is the end.
+    #[inline(never)]
+    pub(crate) fn take(&mut self, piece: &[u8]) {
+        self.before.take(self.last.as_slice());
+        self.last.clear();
+        let _ = self.last.try_extend_from_slice(piece);
+        self.bytes = self.bytes.saturating_add(piece.len() as u64);
+    }
+
+    /// Returns whether the last read found the end.
+    pub(crate) fn is_at_end(&self) -> bool {
+        self.last.is_empty()
+    }
+
+    /// Returns how many lone returns the first `place` bytes have. The place is in the last piece, or at its start.
+    pub(crate) fn lone_returns_before(&self, place: u64) -> u64 {
+        let unread = self.bytes.saturating_sub(place);
+        let last = self.last.as_slice();
+        let taken = (last.len() as u64).saturating_sub(unread) as usize;
+        let mut returns = self.before;
+        returns.take(&last[..taken.min(last.len())]);
+        returns.count
+    }
+}
