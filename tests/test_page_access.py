@@ -19,7 +19,7 @@ class Access:
         """Arrows choose the tabs."""
         b = self.b
         wanted = {
-            "log": ["tab-log", "log-example", "log-file", "log-pi", "log-m", "log-k", "log-share", "CANVAS",
+            "log": ["tab-log", "log-example", "log-file", "log-pi", "log-m", "log-k", "log-running", "log-share", "CANVAS",
                     "log-click",
                     "SUMMARY"],
             "script": ["tab-script", "script-example", "script-file", "script-m", "script-n", "script-slots", "command",

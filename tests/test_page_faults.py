@@ -111,18 +111,21 @@ class Faults:
 
     def test_an_empty_yes_and_a_refused_set_have_a_warning(self):
         b = self.b
-        means_nothing = "The program answers yes, and this yes means nothing."
+        noted, no_kind = "Nothing to auditThe program answers yes, with a note: ", "no 2A, 10A or 11A group of C201"
         rows = [
-            ("", "empty", f"Nothing to auditThe log has no slots. {means_nothing}"),
-            ("# a note\n", "empty", f"Nothing to auditThe log has no slots. {means_nothing}"),
-            (f"{NOTHING}\n" * 3, "empty", f"Nothing to auditThe log has no whole group in 3 slots. {means_nothing}"),
+            ("", "empty", f"{noted}no group of C201 in 0 slots: the yes says nothing."),
+            ("# a note\n", "empty", f"{noted}no group of C201 in 0 slots: the yes says nothing."),
+            (f"{NOTHING}\n" * 3, "empty", f"{noted}no group of C201 in 3 slots: the yes says nothing."),
+            ("C201 0000 0000 0000\n", "empty", f"{noted}{no_kind}: the yes says nothing."),
+            ("C201 2940 4849 0D20\n" * 2, "empty",
+             f"{noted}{no_kind}: the yes says nothing; 2 groups 2B were not judged."),
             (f"{HI}\n", "",
              "✓ Passes with M = 8 (0.70 s)The one slot keeps the rules. No receiver with this M shows a mix of two "
-             "texts, whichever groups it loses."),
+             "texts, whichever groups it loses.Judged in 1 slots: 1 text, 0 names, 0 pairs of tags."),
             (f"{HI}\n{NOTHING}\n", "",
              "✓ Passes with M = 8 (0.70 s)The recorded slot keeps the rules. No receiver with this M shows a mix "
-             "of the recorded texts, whichever groups it loses.1 of 2 slots is missing (no whole group). The yes "
-             "covers only the others."),
+             "of the recorded texts, whichever groups it loses.Judged in 2 slots: 1 text, 0 names, 0 pairs of tags.1 of 2 "
+             "slots is missing (no whole group). The yes covers only the others."),
             (f"{HI}\n" * 1188 + f"{NOTHING}\n" * 1812, "",
              "1,812 of 3,000 slots are missing (no whole group). The yes covers only the others."),
         ]

@@ -96,6 +96,21 @@ class Files:
         settle(b)
         self.check("an example keeps its M", text_of(b, "#verdict h2"), "✓ Passes with M = 8 (0.70 s)")
 
+    def test_a_dropped_log_is_a_recording(self):
+        """Its station was on air before it, unless a switch says that the log is complete."""
+        b = self.b
+        call(b, "probe.drop", "own.log", f"{HI}\nC201 B158 8002 0000\n")
+        settle(b)
+        self.check("a recording", (text_of(b, "#verdict h2"), of(b, "#log-running", "checked"),
+                                   text_of(b, "#audit-command")),
+                   ("✓ Passes with M = 128 (11.2 s)", True, "rdsrt audit --pi C201 --m 128 --k 0 --running"))
+        click(b, "#log-running")
+        settle(b)
+        self.check("a complete log", (text_of(b, "#verdict h2"), text_of(b, "#audit-command")),
+                   ("✗ EarlyTag with M = 128 (11.2 s)", "rdsrt audit --pi C201 --m 128 --k 0"))
+        first_examples(b)
+        self.check("an example is complete", of(b, "#log-running", "checked"), False)
+
     def test_a_file_is_read_as_the_program_reads_its_bytes(self):
         b = self.b
         mark, log, script = b"\xef\xbb\xbf", example("hi.log"), example("tunnel.csv")
