@@ -152,7 +152,7 @@ const verdict = (() => {
     const [first, last] = lost, slots = first === last ? `slot ${first}` : `slots ${first} to ${last}`;
     const what = make("code", { textContent: shown.join("; ") }), doSo = button(`Lose ${slots}`, () => does.lose(slot, first, last));
     $("witness")?.replaceChildren(make("b", { textContent: "A witness:" }),
-      ` a receiver that loses ${slots} shows a text that nobody sent: `, what, ". ", doSo);
+      ` a receiver that loses ${slots} shows what a receiver that loses nothing does not: `, what, ". ", doSo);
   }
 
   return { DWELLS, noOf, offerDwells, show, showDwell, showNone, showWitness };

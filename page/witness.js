@@ -1,5 +1,5 @@
 "use strict";
-/* After a no: the slots that a receiver has to lose to show what nobody sent. The program's command `witness` finds them. */
+/* After a no: the slots that a receiver has to lose to show what a receiver that loses nothing does not show. The program's command `witness` finds them. */
 const witness = (() => {
   const LOSE = /^lose (\d+)(?:-(\d+))?: ((\d+) .*)$/gm, UP_TO = / up to slot (\d+)$/m;
 

@@ -264,7 +264,7 @@ class LogTab:
         harmless = "".join(f"C201 21{flag}0 4849 0D20\n" for flag in (4, 5, 4)) + f"{NOTHING}\n" * 60
         said = verdict_of(b, harmless + example("flags.log").decode(), 8)
         self.check("a witness far behind the no",
-                   'loses slots 65 to 66 shows a text that nobody sent: 67 text "POP  FM"' in said, True)
+                   'loses slots 65 to 66 shows what a receiver that loses nothing does not: 67 text "POP  FM"' in said, True)
 
     def test_each_task_takes_at_most_four_clicks(self):
         """Is my encoder safe, what M for 15 s, when did the text change?"""
