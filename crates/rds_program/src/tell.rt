@@ -63,32 +63,47 @@ fn tell_warnings<N: TellingWrite>(task: Task, notes: &RunNotes, screen: &mut N) 
 
 /// Prints what was judged, and which groups of the programme were not read.
 fn tell_covered<N: TellingWrite>(task: Task, notes: &RunNotes, screen: &mut N) {
-    let counts = notes.log.heard.counts;
-    let second = counts.of(2, 'B');
-    let read = [(2, 'A'), (10, 'A'), (11, 'A')];
-    let none = read
-        .iter()
-        .all(|&(number, version)| counts.of(number, version) == 0);
+    // Prover: a value is copied by a new name before its second use (docs/PROVER.md, "Workarounds").
+    let asked = task;
+    let judges = is_audit(asked);
+    let second = notes.log.heard.counts.of(2, 'B');
     let mut note = begun();
-    match task {
-        Task::Audit(..) if !none => push_judged(notes, &mut note),
-        _ if !none && second == 0 => return,
-        _ if none => {
-            let _ = write!(note, "no 2A, 10A or 11A group of ");
-            push(notes.pi.as_slice(), &mut note);
-            push_says_nothing(task, &mut note);
-        }
-        _ => {}
+    if reads_nothing(notes) {
+        let _ = write!(note, "no 2A, 10A or 11A group of ");
+        push(notes.pi.as_slice(), &mut note);
+        let _ = write!(note, "{}", nothing_said(task));
+    } else if judges {
+        push_judged(notes, &mut note);
     }
+    let is_begun = note.len() > BEGUN.len();
     if second > 0 {
-        let verb = match task {
-            Task::Audit(..) => "judged",
-            _ => "read",
-        };
-        let join = if note.len() > BEGUN.len() { "; " } else { "" };
-        let _ = write!(note, "{join}{second} groups 2B were not {verb}");
+        push_second(second, judges, is_begun, &mut note);
     }
-    print(note, screen);
+    if is_begun || second > 0 {
+        print(note, screen);
+    }
+}
+
+/// Returns whether the command judges a log.
+fn is_audit(task: Task) -> bool {
+    match task {
+        Task::Audit(..) => true,
+        Task::Decode | Task::Encode(..) | Task::Simulate(..) | Task::Witness | Task::Slots(_) =>
+            false,
+    }
+}
+
+/// Returns whether the programme has no group of a text, a name or tags.
+fn reads_nothing(notes: &RunNotes) -> bool {
+    let counts = notes.log.heard.counts;
+    counts.of(2, 'A') == 0 && counts.of(10, 'A') == 0 && counts.of(11, 'A') == 0
+}
+
+/// Appends how many groups 2B there were.
+fn push_second(count: u64, judges: bool, is_begun: bool, note: &mut Note) {
+    let join = if is_begun { "; " } else { "" };
+    let verb = if judges { "judged" } else { "read" };
+    let _ = write!(note, "{join}{count} groups 2B were not {verb}");
 }
 
 /// Appends what an audit judged.
@@ -110,13 +125,13 @@ fn push_count(count: u64, one: &str, more: &str, note: &mut Note) {
     let _ = write!(note, "{count} {thing}");
 }
 
-/// Appends that a yes, or a search that found nothing, says nothing.
-fn push_says_nothing(task: Task, note: &mut Note) {
-    let _ = match task {
-        Task::Audit(..) => write!(note, ": the yes says nothing"),
-        Task::Witness => write!(note, ": the search says nothing"),
-        _ => Ok(()),
-    };
+/// Returns the end of a note on a log with nothing to read: what the answer is worth.
+fn nothing_said(task: Task) -> &'static str {
+    match task {
+        Task::Audit(..) => ": the yes says nothing",
+        Task::Witness => ": the search says nothing",
+        Task::Decode | Task::Encode(..) | Task::Simulate(..) | Task::Slots(_) => "",
+    }
 }
 
 /// Prints that something was set too early, and from when it is accepted.
@@ -165,7 +180,7 @@ fn tell_no_group<N: TellingWrite>(task: Task, notes: &RunNotes, screen: &mut N) 
         }
         let _ = write!(note, ")");
     }
-    push_says_nothing(task, &mut note);
+    let _ = write!(note, "{}", nothing_said(task));
     print(note, screen);
 }
 
@@ -220,9 +235,12 @@ fn push_running(no: NoNote, task: Task, note: &mut Note) {
         AuditFault::EarlyFlag | AuditFault::EarlyTag => no.slot < u64::from(no.spacing),
         AuditFault::Changed | AuditFault::NotOneText | AuditFault::TagOutside => false,
     };
-    if let Task::Audit(_, false) = task
-        && may_be_old
-    {
+    let takes_it = match task {
+        Task::Audit(_, running) => !running,
+        Task::Decode | Task::Encode(..) | Task::Simulate(..) | Task::Witness | Task::Slots(_) =>
+            false,
+    };
+    if takes_it && may_be_old {
         let _ = write!(
             note,
             ". If the station was on air before the log began: --running"
