@@ -17,5 +17,8 @@ pub mod ContentSteps
 pub mod ReignSteps
 pub mod Faults
 pub mod Recordings
+pub mod FirstTexts
+pub mod Settled
+pub mod SafeRecordings
 pub mod AuditSteps
 pub mod AuditRows

@@ -1,5 +1,5 @@
 -- Lemmas: logs that begin in the middle.
-use Rattle.std.proofs.Common.{◌≡◌, ◌+◌, ◌*◌, ◌<◌, ◌≤◌, ◌++◌, min, ℕ, zero, suc, Bool, true, false, List, [], ◌∷◌, Option, Some, None, length, refl, sym, ap, ◌∙◌, subst, inl, inr, arith}
+use Rattle.std.proofs.Common.{◌≡◌, ◌+◌, ◌*◌, min, ℕ, zero, suc, Bool, true, false, List, [], ◌∷◌, Option, Some, None, length, refl, sym, ap, ◌∙◌, subst, inl, inr, arith}
 use Rattle.std.specs.Prelude.{replicate}
 use Rattle.std.proofs.lemmas.Bool.{cond_both}
 use Rattle.rds_fields.specs.declared.message.Message.{Message}
@@ -10,13 +10,12 @@ use Rattle.rds_safety.specs.Marks.{IsMarkIn, Mark, Nothing, Tagged, marks, name_
 use Rattle.rds_audit.specs.declared.ages.Ages.{Ages}
 use Rattle.rds_audit.specs.declared.log_start.LogStart.{LogStart}
 use Rattle.rds_audit.specs.declared.log_start.LogStart.TheVariants.{Complete, Running}
-use Rattle.rds_audit.specs.Ages.{HasCurrent, HoldsAges, age_at, ages_at}
+use Rattle.rds_audit.specs.Ages.{HasCurrent, age_at, ages_at}
 use Rattle.rds_audit.specs.AuditStandsAt.{HoldsLog, HoldsMarks}
-use Rattle.rds_audit.specs.AuditState.{AuditState, ReignsState, no_content}
+use Rattle.rds_audit.specs.AuditState.{AuditState, no_content}
 use Rattle.rds_audit.specs.Lengths.{Gauge, name_gauge, text_gauge}
 use Rattle.rds_audit.specs.Recording.{IsJudgedAs, IsSilentAs, counted_as, from_first_text, has_text}
 use Rattle.rds_audit.specs.Reigns.{Reign, after_fragment, after_tags, joins, reigns}
-use Rattle.rds_audit.specs.Rules.{IsAfterFragment}
 use Rattle.rds_audit.proofs.ContentSteps.{empty_content}
 
 -- ---- before the first slot

@@ -1,5 +1,5 @@
 -- The laws about all logs that are audited. Lists have the newest first.
-use Rattle.std.specs.Prelude.{◌≡◌, ◌+◌, ◌<◌, ◌≤◌, ◌⊎◌, ◌↔◌, ℕ, List, [], ◌∷◌, Option, length}
+use Rattle.std.specs.Prelude.{◌≡◌, ◌+◌, ◌<◌, ◌≤◌, ◌⊎◌, ◌↔◌, ℕ, List, [], ◌∷◌, Option, length, map, option_map}
 use Rattle.std.specs.List.{All, AllByRecursion}
 use Rattle.rds_fields.specs.declared.message.Message.{Message}
 use Rattle.rds_fields.specs.Tag.{BothEndIn}
@@ -11,6 +11,7 @@ use Rattle.rds_safety.specs.Lawful.{HasFragment, IsLawful, IsFragmentOf, Kind}
 use Rattle.rds_safety.specs.Marks.{IsMarkIn, Mark, Sends}
 use Rattle.rds_safety.specs.OwnClock.{ListensByOwnClock}
 use Rattle.rds_safety.specs.Plans.{AreLawful, Plans}
+use Rattle.rds_audit.specs.Recording.{from_first_text, preceded}
 use Rattle.rds_audit.specs.Reigns.{Reign, SentTags, reigns}
 use Rattle.rds_audit.specs.Rules.{IsFaultOf, LogPasses}
 use Rattle.rds_safety.specs.Safe.{AreSafe, Listener, ListensTo}
@@ -83,6 +84,36 @@ pub record IsSafeLog (m k : ℕ) (log : List (Option Message)) : Type 0 where
 -- a log that passes with d = m + k is safe
 abbrev pub WhatPassesIsSafe : Type 0
 WhatPassesIsSafe = (m k : ℕ) (log : List (Option Message)) → 0 < m → LogPasses (m + k) log → IsSafeLog m k log
+
+-- the same receiver, when the station's slots are counted from n slots before: its entries were sent n slots later, and
+-- its own slots are the same
+abbrev pub later : ℕ → Listener → Listener
+later n r = record {
+  input = record {
+    first = r.input.first;
+    heard = r.input.heard;
+    origins = map (option_map (λ (s : ℕ). s + n)) r.input.origins;
+  };
+  view = r.view;
+}
+
+-- the recording is safe for the receivers of the log as it is, with all its tags: its plans have m + k slots in front of
+-- the log, and are lawful and dense without the tags before the first text segment; they make each slot safe for the
+-- receivers that listen to the log
+pub record IsSafeRecording (m k : ℕ) (log : List (Option Message)) : Type 0 where
+  pub plans : Plans
+  pub lawful : AreLawful (m + k) plans (from_first_text (preceded (m + k) log))
+  pub dense : AreDense (m + k) plans (from_first_text (preceded (m + k) log))
+  pub safe : (t : ℕ) (receivers : List Listener) → All (ListensTo k m t log) receivers
+      → AreSafe (m + k) m (t + (m + k)) plans (preceded (m + k) log) (map (later (m + k)) receivers)
+  pub own_clocks : (now : ℕ) (receivers : List Listener) → All (ListensByOwnClock (m + k) m now log) receivers
+      → AreSafe (m + k) m (now + (m + k)) plans (preceded (m + k) log) (map (later (m + k)) receivers)
+
+-- a log that passes as a recording with d = m + k is a safe recording
+abbrev pub WhatPassesAsARecordingIsSafe : Type 0
+WhatPassesAsARecordingIsSafe =
+    (m k : ℕ) (log : List (Option Message)) → 0 < m → LogPasses (m + k) (from_first_text (preceded (m + k) log))
+    → IsSafeRecording m k log
 
 -- some plans of the log are lawful and dense, and make each slot safe for any number of receivers of dwell m that are
 -- on time, whatever they lose and whenever they restart

@@ -8,7 +8,7 @@ ghost use Rattle.rds_fields.specs.Spells.{Spells};
 ghost use Rattle.rds_receiver.specs.Receipts.{Hears};
 ghost use Rattle.rds_audit.specs.declared.audit.AuditFault.{AuditFault};
 ghost use Rattle.rds_audit.specs.declared.log_start.LogStart.TheVariants as LogStart;
-ghost use Rattle.rds_audit.specs.AuditLaws.{IsSafeLog};
+ghost use Rattle.rds_audit.specs.AuditLaws.{IsSafeLog, IsSafeRecording};
 ghost use Rattle.rds_audit.specs.AuditStandsAt.{AuditStandsAt, HoldsLog, HoldsSlot, Judges, WhereTheAuditStands};
 ghost use Rattle.rds_audit.specs.Dense.{HasPlans};
 ghost use Rattle.rds_audit.specs.FlagLaws.{NamesAreSafeByFlag, TextsAreSafeByFlag};
@@ -21,7 +21,8 @@ use crate::audited::{Names, Texts};
 use crate::reigns::{Reigns, Tally};
 use crate::stored::StoredAudit;
 use crate::{
-    LogStart, one_fault, passes_by_plans, what_passes_is_safe, what_passes_is_safe_by_the_flag,
+    LogStart, one_fault, passes_by_plans, what_passes_as_a_recording_is_safe, what_passes_is_safe,
+    what_passes_is_safe_by_the_flag,
 };
 use rds_block::{Blocks, Group};
 use rds_encoder::Distance;
@@ -191,18 +192,22 @@ impl Audit {
     }
 
     /// Returns whether the log passes so far. A log that passes is safe for each receiver of dwell M whose groups come
-    /// at most K slots late.
+    /// at most K slots late. The log of a running station is safe as it is: its receivers may hear the tags before its
+    /// first text segment.
     pub fn passed(&self) -> bool
         ensures fault { IsTrue result ↔ (self.now.fault ≡ None) }
         ensures passes { WhereTheAuditStands self.now (λ d heard. IsTrue result ↔ LogPasses d heard) }
         ensures plans { WhereTheAuditStands self.now (λ d heard. IsTrue result ↔ HasPlans d heard) }
         ensures safe { WhereTheAuditStands self.now (λ d heard. (m k : ℕ) → 0 < m → m + k ≡ d
             → IsTrue result → IsSafeLog m k heard) }
+        ensures recording { (pi m k : ℕ) (log : List (Option Group)) → (s : AuditStandsAt pi (m + k) self.now log)
+            → self.now.start ≡ LogStart.Running → 0 < m → IsTrue result → IsSafeRecording m k s.heard }
     {
-        // Prover: calls of laws, which give the clauses `plans` and `safe` (docs/PROVER.md, "Idioms").
+        // Prover: calls of laws, which give the clauses `plans`, `safe` and `recording` (docs/PROVER.md, "Idioms").
         one_fault();
         passes_by_plans();
         what_passes_is_safe();
+        what_passes_as_a_recording_is_safe();
         self.fault.is_none()
     }
 

@@ -1,11 +1,12 @@
 //! Laws about all logs that are audited: when a log passes, that it has one fault at most, and what is safe if it
 //! passes.
 ghost use Rattle.rds_audit.specs.AuditLaws.{ALogHasOneFault, BroadcastsAreTheReigns, PassesExactlyByPlans};
-ghost use Rattle.rds_audit.specs.AuditLaws.{WhatHasAFaultDoesNotPass, WhatPassesIsSafe, WhatPassesIsSafeOnTime};
+ghost use Rattle.rds_audit.specs.AuditLaws.{WhatHasAFaultDoesNotPass, WhatPassesAsARecordingIsSafe};
+ghost use Rattle.rds_audit.specs.AuditLaws.{WhatPassesIsSafe, WhatPassesIsSafeOnTime};
 ghost use Rattle.rds_audit.specs.FlagLaws.{WhatPassesIsSafeByTheFlag, WithoutPauseFlagsAlternate};
 ghost use Rattle.rds_safety.specs.Lawful.{names, texts};
 
-use rds_safety::{plan_laws, safe_by_plans, safe_by_the_flag};
+use rds_safety::{own_clocks, plan_laws, safe_by_plans, safe_by_the_flag};
 
 /// States that a log passes exactly if it has plans of texts and of names that are lawful and dense.
 pub fn passes_by_plans()
@@ -29,6 +30,16 @@ pub fn what_passes_is_safe()
 {
     passes_by_plans();
     safe_by_plans();
+}
+
+/// States that the views of all receivers of a recording that passes are safe. They are receivers of the log as it is:
+/// they may hear the tags before its first text segment.
+pub fn what_passes_as_a_recording_is_safe()
+    ensures { WhatPassesAsARecordingIsSafe }
+{
+    passes_by_plans();
+    safe_by_plans();
+    own_clocks();
 }
 
 /// States that a log with a fault does not pass, and that it has only one fault.

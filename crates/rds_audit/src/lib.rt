@@ -13,8 +13,8 @@ mod stored;
 
 pub use audit::{Audit, AuditFault};
 pub use audit_laws::{
-    broadcasts_are_the_reigns, one_fault, passes_by_plans, what_passes_is_safe,
-    what_passes_is_safe_by_the_flag,
+    broadcasts_are_the_reigns, one_fault, passes_by_plans, what_passes_as_a_recording_is_safe,
+    what_passes_is_safe, what_passes_is_safe_by_the_flag,
 };
 pub use log_start::LogStart;
 pub use reigns::Tally;

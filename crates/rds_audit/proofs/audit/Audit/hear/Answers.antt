@@ -1,4 +1,4 @@
-use Rattle.std.proofs.Common.{Some, arith, refl, subst}
+use Rattle.std.proofs.Common.{Some, refl, subst}
 use Rattle.rds_fields.specs.declared.message.Message.TheVariants.{Announce, Name, Other, Tags, Text}
 use Rattle.rds_audit.specs.AuditStandsAt.{Judges}
 use Rattle.rds_audit.specs.AuditState.{AuditState}

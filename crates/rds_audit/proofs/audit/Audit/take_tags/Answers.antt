@@ -1,4 +1,4 @@
-use Rattle.std.proofs.Common.{◌≡◌, ◌⊎◌, ◌∙◌, Some, ap, false, inl, inr, refl, subst, sym, true}
+use Rattle.std.proofs.Common.{◌≡◌, ◌⊎◌, ◌∙◌, Some, inl, inr, refl, subst, sym, true}
 use Rattle.rds_fields.specs.declared.message.Message.TheVariants.{Tags}
 use Rattle.rds_audit.specs.declared.log_start.LogStart.TheVariants.{Complete}
 use Rattle.rds_audit.specs.AuditStandsAt.{Judges}

@@ -1,0 +1,5 @@
+use Rattle.rds_audit.proofs.SafeRecordings.{safe_recording}
+use Rattle.rds_audit.proofs.audit_laws.what_passes_as_a_recording_is_safe.Goals as goal
+
+pub returns : goal.returns
+returns c = safe_recording c.passes_by_plans.ensures c.safe_by_plans.ensures.own_clocks c.own_clocks.ensures.late c.own_clocks.ensures.slow
