@@ -1,13 +1,26 @@
 -- What the answer of an audit means.
-use Rattle.std.proofs.Common.{◌≡◌, ◌+◌, ℕ, Bool, true, false, List, Option, Ok, Err, refl}
+use Rattle.std.proofs.Common.{◌≡◌, ◌+◌, ◌<◌, ℕ, Bool, true, false, List, Option, Ok, Err, refl}
+use Rattle.std.proofs.Math.Nat.{le_refl}
 use Rattle.std.specs.Prelude.{Result}
 use Rattle.rds_block.specs.declared.group.Group.{Group}
 use Rattle.rds_charset.specs.Told.{Traffic}
+use Rattle.rds_fields.specs.declared.message.Message.{Message}
+use Rattle.rds_audit.specs.AuditLaws.{WhatPassesAsARecordingIsSafe, WhatPassesIsSafe}
+use Rattle.rds_audit.specs.Recording.{IsJudgedAs, from_first_text, preceded}
+use Rattle.rds_audit.specs.Rules.{LogPasses}
 use Rattle.rds_audit.specs.declared.audit.AuditFault.{AuditFault}
 use Rattle.rds_audit.specs.declared.log_start.LogStart.{LogStart}
-use Rattle.rds_log.specs.Audit.{Audits, Means, SlotsAreSafe, SlotsFail, SlotsHaveNoPlans, SlotsPass}
+use Rattle.rds_audit.specs.declared.log_start.LogStart.TheVariants.{Complete, Running}
+use Rattle.rds_log.specs.Audit.{Audits, IsSafe, Means, SlotsAreSafe, SlotsFail, SlotsHaveNoPlans, SlotsPass}
 use Rattle.rds_log.specs.declared.verdict.Verdict.TheVariants.{Yes, No}
 use Rattle.rds_view_lines.specs.declared.fault.LogFault.{LogFault}
+
+-- a log that passes is safe as it is
+pub safe_as_it_is : WhatPassesIsSafe → WhatPassesAsARecordingIsSafe → (start : LogStart) (m k : ℕ) (heard : List (Option Message)) → 0 < m
+    → ((judged : List (Option Message)) → IsJudgedAs start (m + k) heard judged → LogPasses (m + k) judged) → IsSafe start m k heard
+safe_as_it_is complete running Complete m k heard pos passes = complete m k heard pos (passes heard refl)
+safe_as_it_is complete running Running m k heard pos passes =
+    running m k heard pos (passes (from_first_text (preceded (m + k) heard)) (m + k, le_refl (m + k), refl))
 
 -- a yes goes with slots that pass, and a no with slots that fail
 pub meaning : (start : LogStart) (pi m k reads : ℕ) (r w : Traffic) (result : Result Bool LogFault)

@@ -9,7 +9,7 @@ use Rattle.rds_block.specs.declared.group.Group.{Group}
 use Rattle.rds_charset.specs.Told.{AppendsPrefix, HasFailed, IsCalm, PutsNothing, Traffic}
 use Rattle.rds_fields.specs.declared.message.Message.{Message}
 use Rattle.rds_receiver.specs.Receipts.{AreHeard}
-use Rattle.rds_audit.specs.AuditLaws.{IsSafeLog}
+use Rattle.rds_audit.specs.AuditLaws.{IsSafeLog, IsSafeRecording}
 use Rattle.rds_audit.specs.Dense.{HasPlans}
 use Rattle.rds_audit.specs.Rules.{IsFaultOf, LogPasses}
 use Rattle.rds_audit.specs.declared.audit.AuditFault.{AuditFault}
@@ -19,6 +19,7 @@ use Rattle.rds_audit.specs.AuditStandsAt.{AuditStandsAt}
 use Rattle.rds_audit.specs.AuditState.{AuditState}
 use Rattle.rds_audit.specs.Recording.{IsJudgedAs}
 use Rattle.rds_audit.specs.declared.log_start.LogStart.{LogStart}
+use Rattle.rds_audit.specs.declared.log_start.LogStart.TheVariants.{Complete, Running}
 use Rattle.rds_log.specs.LogLines.{AreLines, Line}
 use Rattle.rds_log.specs.LogWrites.{AreSlots}
 use Rattle.rds_log.specs.Reads.{BeginsWith, NextIsBad, ReadsUpTo}
@@ -46,14 +47,19 @@ pub record SlotsFail (start : LogStart) (pi d t : ℕ) (fault : AuditFault) (slo
   pub are : AreHeard pi slots heard
   pub fault_is : (judged : List (Option Message)) → IsJudgedAs start d heard judged → IsFaultOf d judged fault
 
+-- a log that begins so is safe as it is
+abbrev pub IsSafe : LogStart → ℕ → ℕ → List (Option Message) → Type 0
+IsSafe Complete m k heard = IsSafeLog m k heard
+IsSafe Running m k heard = IsSafeRecording m k heard
+
 -- no receiver of dwell m breaks any part of the promise over these slots, provided that no group reaches it more than k
 -- slots late; it may lose groups and restart at any time
 pub record SlotsAreSafe (start : LogStart) (pi m k : ℕ) (slots : List (Option Group)) : Type 0 where
   pub heard : List (Option Message)
   pub are : AreHeard pi slots heard
-  pub safe : (judged : List (Option Message)) → IsJudgedAs start (m + k) heard judged → IsSafeLog m k judged
+  pub safe : IsSafe start m k heard
 
--- these slots have no lawful and dense plans
+-- these slots, as they are judged, have no lawful and dense plans
 pub record SlotsHaveNoPlans (start : LogStart) (pi d : ℕ) (slots : List (Option Group)) : Type 0 where
   pub heard : List (Option Message)
   pub are : AreHeard pi slots heard
@@ -178,8 +184,8 @@ pub record BeginsWithNoPlans (start : LogStart) (pi d : ℕ) (r : Traffic) : Typ
   pub say : AreSlots lines slots
   pub none : SlotsHaveNoPlans start pi d slots
 
--- after a yes, the whole log is safe for every receiver of dwell m whose groups come at most k slots late; after a no,
--- the log has no lawful and dense plans
+-- after a yes, the whole log as it is is safe for every receiver of dwell m whose groups come at most k slots late;
+-- after a no, the first slots of the log, as they are judged, have no lawful and dense plans
 abbrev pub Means : LogStart → ℕ → ℕ → ℕ → Traffic → Result Bool LogFault → Type 0
 Means start pi m k r (Ok true) = WholeIsSafe start pi m k r
 Means start pi m k r (Ok false) = BeginsWithNoPlans start pi (m + k) r

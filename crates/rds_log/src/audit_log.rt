@@ -77,7 +77,8 @@ pub fn audit_within<R: TellingRead, W: TellingWrite>(
 
 /// Audits a log that begins so, and takes notes for a person. For a complete log the output and the answer are those of
 /// [`audit`]. For the log of a running station the answer is that of the log with M + K lost slots in front, or more,
-/// and without the tags before its first text segment. Slots count from the first line of the log.
+/// and without the tags before its first text segment. Slots count from the first line of the log. A yes speaks
+/// of receivers of the log as it is: they may hear these tags.
 pub fn audit_with_notes<R: TellingRead, W: TellingWrite>(
     reader: &mut R,
     writer: &mut W,

@@ -15,7 +15,9 @@ ghost use Rattle.rds_log.specs.declared.verdict.Verdict.{Verdict};
 ghost use Rattle.rds_audit.specs.declared.audit.AuditFault.{AuditFault};
 ghost use Rattle.rds_audit.specs.declared.log_start.LogStart.{LogStart};
 
-use rds_audit::{one_fault, passes_by_plans, what_passes_is_safe};
+use rds_audit::{
+    one_fault, passes_by_plans, what_passes_as_a_recording_is_safe, what_passes_is_safe,
+};
 
 /// Shows that the output of a log is a function of its bytes: a line has one meaning, the bytes write one output, and
 /// two calls of `decode` that end without a fault wrote the same.
@@ -45,7 +47,8 @@ pub fn bytes_have_one_verdict()
 }
 
 /// Shows the meaning of the answer to a log: slots that pass with M and K are safe for every receiver with dwell M
-/// whose groups come at most K slots late, and slots that do not pass have no lawful and dense plans.
+/// whose groups come at most K slots late, and slots that do not pass have no lawful and dense plans. The slots of a
+/// running station are safe as they are, with the tags before their first text segment.
 pub fn what_an_answer_means()
     ensures safe { (start : LogStart) (pi m k : ℕ) (slots : List (Option Group)) → 0 < m → SlotsPass start pi (m + k) slots
         → SlotsAreSafe start pi m k slots }
@@ -55,4 +58,5 @@ pub fn what_an_answer_means()
     one_fault();
     passes_by_plans();
     what_passes_is_safe();
+    what_passes_as_a_recording_is_safe();
 }

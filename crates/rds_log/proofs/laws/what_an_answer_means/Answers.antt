@@ -1,10 +1,11 @@
+use Rattle.rds_log.proofs.Meaning.{safe_as_it_is}
 use Rattle.rds_log.proofs.laws.what_an_answer_means.Goals as goal
 
 pub returns-clause-safe : goal.returns-clause-safe
 returns-clause-safe c start pi m k slots some pass = record {
   heard = pass.heard;
   are = pass.are;
-  safe = λ judged is. c.what_passes_is_safe.ensures.late m k judged some (pass.passes judged is);
+  safe = safe_as_it_is c.what_passes_is_safe.ensures.late c.what_passes_as_a_recording_is_safe.ensures start m k pass.heard some pass.passes;
 }
 
 pub returns-clause-no_plans : goal.returns-clause-no_plans
