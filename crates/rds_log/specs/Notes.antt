@@ -54,9 +54,10 @@ NotesFault r Memory noted = noted ≡ None
 abbrev pub NotesNo : LogStart → ℕ → ℕ → ℕ → Traffic → Option NoNote → Type 0
 NotesNo start pi d reads r noted = (note : NoNote) × (noted ≡ Some note) × Judges start pi d reads r (Ok (No note.slot note.fault))
 
--- the notes of an audit with this result: after a yes, the programmes of the log, and at a no, its slot and its fault
+-- the notes of an audit with this result: after a yes, the programmes of the log and no note of a no; at a no, its slot
+-- and its fault
 abbrev pub NotesVerdict : ℕ → Traffic → LogNotes → Result Verdict LogFault → Type 0
-NotesVerdict pi r notes (Ok (Yes n)) = HeardLog pi r notes.heard
+NotesVerdict pi r notes (Ok (Yes n)) = HeardLog pi r notes.heard × (notes.no ≡ None)
 NotesVerdict pi r notes (Ok (No slot fault)) =
     (note : NoNote) × (notes.no ≡ Some note) × (note.slot ≡ slot) × (note.fault ≡ fault)
 NotesVerdict pi r notes (Err fault) = NotesFault r fault notes.bad

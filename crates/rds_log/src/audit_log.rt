@@ -1,5 +1,5 @@
 //! The engine of `audit`: whether the groups of a station pass.
-ghost use Rattle.std.specs.Prelude.{◌≡◌, ◌≢◌, ◌≤◌, ◌+◌, ◌^◌, [], IfErr, Ok, false, true};
+ghost use Rattle.std.specs.Prelude.{◌≡◌, ◌≢◌, ◌≤◌, ◌+◌, ◌^◌, [], IfErr, None, Ok, false, true};
 ghost use Rattle.rds_charset.specs.Told.{traffic};
 ghost use Rattle.rds_audit.specs.declared.log_start.LogStart.TheVariants as LogStart;
 ghost use Rattle.rds_log.specs.Audit.{Answers, Audits, Judges, Means};
@@ -95,6 +95,7 @@ pub fn audit_with_notes<R: TellingRead, W: TellingWrite>(
     ensures reads { MadeReads (2 ^ 32) (R.reads reader.old) (R.reads reader.new) result }
     ensures heard { result ≡ Ok true
         → HeardLog pi (traffic R.remaining R.failures reader.old reader.new) notes.new.heard }
+    ensures yes { result ≡ Ok true → notes.new.no ≡ None }
     ensures no { result ≡ Ok false → NotesNo start pi (dwell + late) (2 ^ 32)
         (traffic R.remaining R.failures reader.old reader.new) notes.new.no }
     ensures fault { IfErr result (λ fault. fault ≢ faults.Write
@@ -130,6 +131,7 @@ fn judge<R: TellingRead>(
     requires reads { reads ≤ 2 ^ 32 }
     requires groups { notes.old.heard.groups ≡ 0 }
     requires heard { HeardLines pi [] notes.old.heard }
+    requires no { notes.old.no ≡ None }
     ensures judges { Judges start pi (dwell + late) reads (traffic R.remaining R.failures reader.old reader.new) result }
     ensures reads { MadeReads reads (R.reads reader.old) (R.reads reader.new) result }
     ensures notes { NotesVerdict pi (traffic R.remaining R.failures reader.old reader.new) notes.new result }

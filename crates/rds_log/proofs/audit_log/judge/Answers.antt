@@ -11,6 +11,7 @@ loop-notes-init g c =
     record {
       slots = omega (arith, few);
       groups = omega (arith, few, groups);
+      no = c.requires.no;
       stands = (
         [],
         c.new-source.ensures.stands _,
@@ -47,6 +48,7 @@ loop-notes-preserved g c =
     record {
       slots = omega (arith, before, less);
       groups = omega (arith, counted, less, groups);
+      no = c.loop-notes.invariant.no;
       stands = (
         line ∷ lines,
         further,
@@ -66,6 +68,7 @@ loop-notes-preserved-in_default g c =
     record {
       slots = omega (arith, before, less);
       groups = omega (arith, counted, less, groups);
+      no = c.loop-notes.invariant.no;
       stands = (
         line ∷ lines,
         further,

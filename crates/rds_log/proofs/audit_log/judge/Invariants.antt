@@ -1,4 +1,4 @@
-use Rattle.std.proofs.Common.{◌+◌, ◌^◌, ◌≤◌, List}
+use Rattle.std.proofs.Common.{◌≡◌, ◌+◌, ◌^◌, ◌≤◌, List, None}
 use Rattle.rds_log.specs.Audit.{HasAudited}
 use Rattle.rds_log.specs.Heard.{HeardLines}
 use Rattle.rds_log.specs.LogLines.{Line}
@@ -9,6 +9,7 @@ abbrev pub invariant-loop-notes : goal.invariant-loop-notes
 invariant-loop-notes g l = record {
   slots : l.slots + budget l.source ≤ 2 ^ 48 + 1;
   groups : l.notes.heard.groups + budget l.source ≤ 2 ^ 48 + 1;
+  no : l.notes.no ≡ None;
   stands : (lines : List Line) × SourceStandsAt l.source l.fn.reads (state_of g.R.Read.remaining g.R.TellingRead.failures g.R.TellingRead.reads l.initial.reader)
       (state_of g.R.Read.remaining g.R.TellingRead.failures g.R.TellingRead.reads l.reader) lines
       × HasAudited l.fn.start l.fn.pi (l.fn.dwell + l.fn.late) l.audit l.slots lines × HeardLines l.fn.pi lines l.notes.heard;
