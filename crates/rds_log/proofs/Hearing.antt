@@ -45,7 +45,7 @@ same_heard pi lines h after wanted groups first of_first s = record {
     wanted = rw wanted s.heard.wanted;
     counted = λ e.
         let counted = s.heard.counted (sym wanted ∙ e) in
-        record { groups = groups ∙ counted.groups; first = rw (first, of_first) counted.first };
+        record { groups = groups ∙ counted.groups; oldest = first ∙ counted.oldest; first = rw (first, of_first) counted.first };
   };
 }
 

@@ -1,7 +1,7 @@
 -- The programmes of a log's groups. This is the project's own rule. Lists have the newest first.
 use Rattle.std.specs.Prelude.{◌≡◌, ◌<◌, ◌+◌, ◌↔◌, ◌==◌, ◌∷◌, [], if◌then◌else◌}
 use Rattle.std.specs.Prelude.{ℕ, Bool, List, Option, Some, None, IsTrue, MatchOption, false}
-use Rattle.std.specs.Option.{option_map_or}
+use Rattle.std.specs.Option.{option_map_or, option_or}
 use Rattle.std.specs.Io.KnownBytes.{Consumes, IsAtEnd}
 use Rattle.rds_block.specs.declared.group.Group.{Group}
 use Rattle.rds_charset.specs.Told.{Traffic}
@@ -24,10 +24,17 @@ groups_in [] = 0
 groups_in (None ∷ before) = groups_in before
 groups_in (Some g ∷ before) = groups_in before + 1
 
--- if no group is of the wanted programme: the number of groups, and the number of groups with the programme of the
--- first
+-- the programme of the first group
+abbrev pub first_of : List (Option Group) → Option ℕ
+first_of [] = None
+first_of (None ∷ before) = first_of before
+first_of (Some g ∷ before) = option_or (first_of before) (Some g.pi)
+
+-- if no group is of the wanted programme: the number of groups, the programme of the first, and the number of groups
+-- with that programme
 pub record AreCounted (slots : List (Option Group)) (h : Heard) : Type 0 where
   pub groups : h.groups ≡ groups_in slots
+  pub oldest : h.first ≡ first_of slots
   pub first : MatchOption h.first (groups_in slots ≡ 0)
       (λ first. (h.of_first ≡ groups_of first slots) × (0 < h.of_first))
 
