@@ -6,6 +6,7 @@ pub mod Cutting
 pub mod Reading
 pub mod Hearing
 pub mod Noting
+pub mod LineCauses
 pub mod Decodes
 pub mod Audits
 pub mod KeptSlots

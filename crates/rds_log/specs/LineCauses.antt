@@ -1,5 +1,6 @@
--- The reasons why a line of a log is malformed, from its left: another form, or the first malformed block. Blocks count
--- from 1 in a cause, and from 0 in their places, which are 5 bytes apart. This is the project's own rule.
+-- The reason why a line of a log is malformed, the first one from its left: another form, or else the first malformed
+-- block. Blocks count from 1 in a cause, and from 0 in their places, which are 5 bytes apart. This is the project's own
+-- rule.
 use Rattle.std.specs.Prelude.{◌≡◌, ◌≢◌, ◌⊎◌, ◌<◌, ◌≤◌, ◌+◌, ◌-◌, ◌*◌}
 use Rattle.std.specs.Prelude.{ℕ, List, None, Some, drop, length, slice_index, take}
 use Rattle.memchr.specs.Find.{IsFirstByte, is_byte}
@@ -45,6 +46,12 @@ HasCommaBeforeSpace line = (place : ℕ) × IsFirstByte (is_byte comma) line (So
     × (IsFirstByte (is_byte space) line None
     ⊎ ((after : ℕ) × IsFirstByte (is_byte space) line (Some after) × (place < after)))
 
+-- the line has the form of a slot line: it begins with no brace, has no comma before any space, and has a space
+pub record HasSlotForm (line : Line) : Type 0 where
+  pub no_brace : slice_index line 0 ≢ brace
+  pub no_comma : HasCommaBeforeSpace line → ⊥
+  pub has_space : IsFirstByte (is_byte space) line None → ⊥
+
 -- the bytes of the line from the place of a block on
 abbrev pub rest_from : Line → ℕ → List ℕ
 rest_from line block = take (content_length line - 5 * block) (drop (5 * block) line)
@@ -55,12 +62,19 @@ pub record IsFirstNotGood (line : Line) (block : ℕ) : Type 0 where
   pub before : AreGoodBlocks line block
   pub not_good : IsGoodBlock line block → ⊥
 
+-- the blocks before this one are good, and it is malformed, in a line of the form of a slot line
+pub record IsFirstBad (line : Line) (block : ℕ) : Type 0 where
+  pub form : HasSlotForm line
+  pub first : IsFirstNotGood line block
+
+-- this is the cause; a line has at most one
 abbrev pub IsLineCause : Line → LineCause → Type 0
 IsLineCause line Json = slice_index line 0 ≡ brace
-IsLineCause line Script = HasCommaBeforeSpace line
-IsLineCause line NoSpace = IsFirstByte (is_byte space) line None
-IsLineCause line (EndsAfter n) = IsFirstNotGood line n × (content_length line < 5 * n)
-IsLineCause line (Length n count) = (block : ℕ) × (n ≡ block + 1) × IsFirstNotGood line block
+IsLineCause line Script = (slice_index line 0 ≢ brace) × HasCommaBeforeSpace line
+IsLineCause line NoSpace = (slice_index line 0 ≢ brace) × (HasCommaBeforeSpace line → ⊥)
+    × IsFirstByte (is_byte space) line None
+IsLineCause line (EndsAfter n) = IsFirstBad line n × (content_length line < 5 * n)
+IsLineCause line (Length n count) = (block : ℕ) × (n ≡ block + 1) × IsFirstBad line block
     × (5 * block ≤ content_length line) × StandBeforeSpace (rest_from line block) count × (count ≢ 4)
-IsLineCause line (Digit n) = (block : ℕ) × (n ≡ block + 1) × IsFirstNotGood line block
+IsLineCause line (Digit n) = (block : ℕ) × (n ≡ block + 1) × IsFirstBad line block
     × (5 * block ≤ content_length line) × StandBeforeSpace (rest_from line block) 4

@@ -6,10 +6,12 @@ ghost use Rattle.rds_receiver.specs.Receipts.{Tuning};
 ghost use Rattle.rds_view_lines.specs.Alike.{WriteAlike};
 ghost use Rattle.rds_log.specs.Audit.{AnswersVerdictOf, Audits, IsVerdictOf, SlotsAreSafe};
 ghost use Rattle.rds_log.specs.Audit.{SlotsFail, SlotsHaveNoPlans, SlotsPass};
+ghost use Rattle.rds_log.specs.LineCauses.{IsLineCause};
 ghost use Rattle.rds_log.specs.LogLines.{Line};
 ghost use Rattle.rds_log.specs.LineSays.{LineSays};
 ghost use Rattle.rds_log.specs.LogWrites.{LogWrites};
 ghost use Rattle.rds_log.specs.Decode.{DecodesAll};
+ghost use Rattle.rds_log.specs.declared.line_cause.LineCause.{LineCause};
 ghost use Rattle.rds_log.specs.declared.log_line.LogLine.{LogLine};
 ghost use Rattle.rds_log.specs.declared.verdict.Verdict.{Verdict};
 ghost use Rattle.rds_audit.specs.declared.audit.AuditFault.{AuditFault};
@@ -60,3 +62,9 @@ pub fn what_an_answer_means()
     what_passes_is_safe();
     what_passes_as_a_recording_is_safe();
 }
+
+/// Shows that a malformed line has at most one cause: the first one from its left.
+pub fn a_line_has_one_cause()
+    ensures { (line : Line) (one other : LineCause) → IsLineCause line one
+        → IsLineCause line other → one ≡ other }
+{}

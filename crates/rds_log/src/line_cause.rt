@@ -2,7 +2,10 @@
 ghost use Rattle.std.specs.Prelude.{◌≡◌, ◌<◌, ◌≤◌, ◌*◌, ◌+◌, ◌↔◌, ◌⊎◌, IfNone, IfSome, IsTrue, length};
 ghost use Rattle.rds_log.specs.LogLines.{content_length};
 ghost use Rattle.rds_log.specs.LineSays.{IsSkipped};
-ghost use Rattle.rds_log.specs.LineCauses.{AreGoodBlocks, EndsAfterFour, IsGoodAt, IsGoodBlock, IsLineCause, StandBeforeSpace};
+ghost use Rattle.memchr.specs.Find.{IsFirstByte, is_byte};
+ghost use Rattle.rds_assembly.specs.Body as chars;
+ghost use Rattle.rds_log.specs.LineCauses.{AreGoodBlocks, EndsAfterFour, HasCommaBeforeSpace, HasSlotForm};
+ghost use Rattle.rds_log.specs.LineCauses.{IsGoodAt, IsGoodBlock, IsLineCause, StandBeforeSpace};
 
 use crate::log_line::{block_at, content_length, is_skipped};
 use memchr::memchr;
@@ -50,25 +53,41 @@ pub(crate) fn cause_of(line: &[u8]) -> Option<LineCause>
     }
 }
 
-/// Returns the cause if the line has another form.
+/// Returns the cause if the line has another form than a slot line.
 fn form_cause(line: &[u8]) -> Option<LineCause>
     requires { 0 < length line.now }
-    ensures { IfSome result (IsLineCause line.now) }
+    ensures some { IfSome result (IsLineCause line.now) }
+    ensures none { IfNone result (HasSlotForm line.now) }
 {
     if line[0] == b'{' {
         return Some(LineCause::Json);
     }
-    match (memchr(b',', line), memchr(b' ', line)) {
-        (Some(_), None) => Some(LineCause::Script),
-        (Some(comma), Some(space)) if comma < space => Some(LineCause::Script),
-        (None, None) => Some(LineCause::NoSpace),
-        _ => None,
+    let space = memchr(b' ', line);
+    if has_comma_before(line, space) {
+        return Some(LineCause::Script);
+    }
+    match space {
+        Some(_) => None,
+        None => Some(LineCause::NoSpace),
+    }
+}
+
+/// Returns whether a comma comes before the first space, or anywhere if there is no space.
+fn has_comma_before(line: &[u8], space: Option<usize>) -> bool
+    requires { IsFirstByte (is_byte chars.space) line.now space }
+    ensures { IsTrue result ↔ HasCommaBeforeSpace line.now }
+{
+    match (memchr(b',', line), space) {
+        (Some(comma), Some(space)) => comma < space,
+        (Some(_), None) => true,
+        (None, _) => false,
     }
 }
 
 /// Returns the mistake in the first malformed block. `None` if all four are good.
 fn blocks_cause(line: &[u8], length: usize) -> Option<LineCause>
-    requires { length ≡ content_length line.now }
+    requires length { length ≡ content_length line.now }
+    requires form { HasSlotForm line.now }
     ensures some { IfSome result (IsLineCause line.now) }
     ensures none { IfNone result (AreGoodBlocks line.now 4) }
 {
@@ -83,6 +102,7 @@ fn blocks_cause(line: &[u8], length: usize) -> Option<LineCause>
 /// Returns the mistake in this block. `None` if it is good. The blocks before it are good.
 fn block_cause(line: &[u8], length: usize, block: usize) -> Option<LineCause>
     requires length { length ≡ content_length line.now }
+    requires form { HasSlotForm line.now }
     requires few { block < 4 }
     requires before { AreGoodBlocks line.now block }
     ensures some { IfSome result (IsLineCause line.now) }

@@ -1,4 +1,4 @@
-use Rattle.std.proofs.Common.{◌≡◌, ◌++◌, [], ℕ, List, ap, sym, ◌∙◌, take, refl}
+use Rattle.std.proofs.Common.{◌≡◌, ◌++◌, ℕ, List, ap, ◌∙◌, take}
 use Rattle.rds_log.proofs.Cutting.{kept_in_room}
 use Rattle.rds_log.proofs.cutter.Cutter.copy_start.Goals as goal
 

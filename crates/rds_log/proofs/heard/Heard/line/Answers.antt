@@ -1,4 +1,4 @@
-use Rattle.std.proofs.Common.{◌∙◌, rules, sym}
+use Rattle.std.proofs.Common.{rules}
 use Rattle.rds_log.proofs.Hearing.{heard_line, same_heard}
 use Rattle.rds_log.proofs.heard.Heard.line.Goals as goal
 
