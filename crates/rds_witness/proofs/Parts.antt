@@ -11,34 +11,73 @@ use Rattle.rds_receiver.specs.OneView.{same_view}
 use Rattle.rds_receiver.specs.Receipts.{Tuning}
 use Rattle.rds_receiver.specs.Shown.{IsView, ShownView}
 use Rattle.rds_view_lines.specs.NoChange.{view_of_none}
-use Rattle.rds_view_lines.specs.Output.{change, changes_of, is_same_tag, is_same_text, item_change, line_of, newest, slot_stamp, tag_change, tag_content, text_change, text_content, unless_same}
+use Rattle.rds_view_lines.specs.Output.{change, changes_of, is_same_item, is_same_tag, is_same_text, item_content, item_change, line_of, newest, slot_stamp, tag_change, tag_content, text_change, text_content, unless_same}
 use Rattle.rds_log.specs.LogWrites.{AreViews}
 use Rattle.rds_witness.specs.Lines.{shown_line}
 use Rattle.rds_witness.specs.Lost.{got}
 use Rattle.rds_witness.specs.Mix.{Has, IsMix, IsNew, Name, Shows, Tag, Text, Thing}
-use Rattle.rds_witness.specs.Prints.{HasPart}
+use Rattle.rds_witness.specs.Prints.{BeginsLine, HasLine}
 use Rattle.rds_witness.specs.declared.burst.Burst.{Burst}
 
-part_here : (x : List ℕ) → HasPart x x
-part_here x = record { front = []; back = []; cut = sym (append-nil x) }
+-- ---- where a line begins
 
-part_left : (part a b : List ℕ) → HasPart part a → HasPart part (a ++ b)
-part_left part a b h = record {
+begins_next : (a b : List ℕ) → BeginsLine a → BeginsLine b → BeginsLine (a ++ b)
+begins_next a b first (inl none) = subst BeginsLine (sym (ap (λ (l : List ℕ). a ++ l) none ∙ append-nil a)) first
+begins_next a b first (inr (before, ends)) = inr (a ++ before, ap (λ (l : List ℕ). a ++ l) ends ∙ sym (append_assoc a before (codes "\n")))
+
+after_line : (stamp part content : List ℕ) → BeginsLine (line_of stamp part content)
+after_line stamp part content = inr (stamp ++ part ++ content, refl)
+
+unless_line : (b : Bool) (stamp part content : List ℕ) → BeginsLine (unless_same b (line_of stamp part content))
+unless_line true stamp part content = inl refl
+unless_line false stamp part content = after_line stamp part content
+
+after_text : (stamp part : List ℕ) (before now : Option (List ℕ)) → BeginsLine (text_change stamp part before now)
+after_text stamp part before now = unless_line (is_same_text before now) stamp part (text_content now)
+
+after_item : (stamp part : List ℕ) (before now : Option (Bool × Bool)) → BeginsLine (item_change stamp part before now)
+after_item stamp part before now = unless_line (is_same_item before now) stamp part (item_content now)
+
+after_tag : (stamp part : List ℕ) (before now : Option (ℕ × List ℕ)) → BeginsLine (tag_change stamp part before now)
+after_tag stamp part before now = unless_line (is_same_tag before now) stamp part (tag_content now)
+
+after_change : (stamp : List ℕ) (v w : ShownView) → BeginsLine (change stamp v w)
+after_change stamp v w =
+    let a = text_change stamp (codes "text") v.text w.text in
+    let b = text_change stamp (codes "name") v.name w.name in
+    let c = item_change stamp (codes "item") v.item w.item in
+    let d = tag_change stamp (codes "tag1") v.one w.one in
+    let e = tag_change stamp (codes "tag2") v.two w.two in
+    begins_next (((a ++ b) ++ c) ++ d) e (begins_next ((a ++ b) ++ c) d (begins_next (a ++ b) c (begins_next a b (after_text stamp (codes "text") v.text w.text) (after_text stamp (codes "name") v.name w.name)) (after_item stamp (codes "item") v.item w.item)) (after_tag stamp (codes "tag1") v.one w.one)) (after_tag stamp (codes "tag2") v.two w.two)
+
+after_changes : (views : List ShownView) → BeginsLine (changes_of views)
+after_changes [] = inl refl
+after_changes (view ∷ older) = begins_next (changes_of older) (change (slot_stamp (length older)) (newest older) view) (after_changes older) (after_change (slot_stamp (length older)) (newest older) view)
+
+-- ---- a line among others
+
+line_here : (x : List ℕ) → HasLine x x
+line_here x = record { front = []; back = []; begins = inl refl; cut = sym (append-nil x) }
+
+line_left : (line a b : List ℕ) → HasLine line a → HasLine line (a ++ b)
+line_left line a b h = record {
   front = h.front;
   back = h.back ++ b;
-  cut = ap (λ (l : List ℕ). l ++ b) h.cut ∙ append_assoc (h.front ++ part) h.back b;
+  begins = h.begins;
+  cut = ap (λ (l : List ℕ). l ++ b) h.cut ∙ append_assoc (h.front ++ line) h.back b;
 }
 
-part_right : (part a b : List ℕ) → HasPart part b → HasPart part (a ++ b)
-part_right part a b h = record {
+line_right : (line a b : List ℕ) → BeginsLine a → HasLine line b → HasLine line (a ++ b)
+line_right line a b first h = record {
   front = a ++ h.front;
   back = h.back;
-  cut = ap (λ (l : List ℕ). a ++ l) h.cut ∙ sym (append_assoc a (h.front ++ part) h.back)
-      ∙ ap (λ (l : List ℕ). l ++ h.back) (sym (append_assoc a h.front part));
+  begins = begins_next a h.front first h.begins;
+  cut = ap (λ (l : List ℕ). a ++ l) h.cut ∙ sym (append_assoc a (h.front ++ line) h.back)
+      ∙ ap (λ (l : List ℕ). l ++ h.back) (sym (append_assoc a h.front line));
 }
 
-part_is : (part whole : List ℕ) → whole ≡ part → HasPart part whole
-part_is part whole same = subst (HasPart part) (sym same) (part_here part)
+line_is : (line whole : List ℕ) → whole ≡ line → HasLine line whole
+line_is line whole same = subst (HasLine line) (sym same) (line_here line)
 
 not_true : (b : Bool) → (b ≡ true → ⊥) → b ≡ false
 not_true true isnt = absurd (isnt refl)
@@ -68,7 +107,7 @@ tag_line stamp part before after c x isnt has =
     ap (λ (o : Option (ℕ × List ℕ)). tag_change stamp part before o) has
     ∙ ap (λ (b : Bool). unless_same b (line_of stamp part (tag_content (Some (c, x))))) (tag_differs before c x isnt)
 
-change_has : (slot : ℕ) (v w : ShownView) (thing : Thing) → (Shows v thing → ⊥) → Has w thing → HasPart (shown_line slot thing) (change (slot_stamp slot) v w)
+change_has : (slot : ℕ) (v w : ShownView) (thing : Thing) → (Shows v thing → ⊥) → Has w thing → HasLine (shown_line slot thing) (change (slot_stamp slot) v w)
 change_has slot v w (Text x) isnt has =
     let stamp = slot_stamp slot in
     let a = text_change stamp (codes "text") v.text w.text in
@@ -77,7 +116,7 @@ change_has slot v w (Text x) isnt has =
     let d = tag_change stamp (codes "tag1") v.one w.one in
     let e = tag_change stamp (codes "tag2") v.two w.two in
     let line = shown_line slot (Text x) in
-    part_left line (((a ++ b) ++ c) ++ d) e (part_left line ((a ++ b) ++ c) d (part_left line (a ++ b) c (part_left line a b (part_is line a (text_line stamp (codes "text") v.text w.text x isnt has)))))
+    line_left line (((a ++ b) ++ c) ++ d) e (line_left line ((a ++ b) ++ c) d (line_left line (a ++ b) c (line_left line a b (line_is line a (text_line stamp (codes "text") v.text w.text x isnt has)))))
 change_has slot v w (Name x) isnt has =
     let stamp = slot_stamp slot in
     let a = text_change stamp (codes "text") v.text w.text in
@@ -86,7 +125,7 @@ change_has slot v w (Name x) isnt has =
     let d = tag_change stamp (codes "tag1") v.one w.one in
     let e = tag_change stamp (codes "tag2") v.two w.two in
     let line = shown_line slot (Name x) in
-    part_left line (((a ++ b) ++ c) ++ d) e (part_left line ((a ++ b) ++ c) d (part_left line (a ++ b) c (part_right line a b (part_is line b (text_line stamp (codes "name") v.name w.name x isnt has)))))
+    line_left line (((a ++ b) ++ c) ++ d) e (line_left line ((a ++ b) ++ c) d (line_left line (a ++ b) c (line_right line a b (after_text stamp (codes "text") v.text w.text) (line_is line b (text_line stamp (codes "name") v.name w.name x isnt has)))))
 change_has slot v w (Tag One class x) isnt has =
     let stamp = slot_stamp slot in
     let a = text_change stamp (codes "text") v.text w.text in
@@ -95,7 +134,7 @@ change_has slot v w (Tag One class x) isnt has =
     let d = tag_change stamp (codes "tag1") v.one w.one in
     let e = tag_change stamp (codes "tag2") v.two w.two in
     let line = shown_line slot (Tag One class x) in
-    part_left line (((a ++ b) ++ c) ++ d) e (part_right line ((a ++ b) ++ c) d (part_is line d (tag_line stamp (codes "tag1") v.one w.one class x (λ (h : v.one ≡ Some (class, x)). isnt (inl h)) has)))
+    line_left line (((a ++ b) ++ c) ++ d) e (line_right line ((a ++ b) ++ c) d (begins_next (a ++ b) c (begins_next a b (after_text stamp (codes "text") v.text w.text) (after_text stamp (codes "name") v.name w.name)) (after_item stamp (codes "item") v.item w.item)) (line_is line d (tag_line stamp (codes "tag1") v.one w.one class x (λ (h : v.one ≡ Some (class, x)). isnt (inl h)) has)))
 change_has slot v w (Tag Two class x) isnt has =
     let stamp = slot_stamp slot in
     let a = text_change stamp (codes "text") v.text w.text in
@@ -104,7 +143,7 @@ change_has slot v w (Tag Two class x) isnt has =
     let d = tag_change stamp (codes "tag1") v.one w.one in
     let e = tag_change stamp (codes "tag2") v.two w.two in
     let line = shown_line slot (Tag Two class x) in
-    part_right line (((a ++ b) ++ c) ++ d) e (part_is line e (tag_line stamp (codes "tag2") v.two w.two class x (λ (h : v.two ≡ Some (class, x)). isnt (inr h)) has))
+    line_right line (((a ++ b) ++ c) ++ d) e (begins_next ((a ++ b) ++ c) d (begins_next (a ++ b) c (begins_next a b (after_text stamp (codes "text") v.text w.text) (after_text stamp (codes "name") v.name w.name)) (after_item stamp (codes "item") v.item w.item)) (after_tag stamp (codes "tag1") v.one w.one)) (line_is line e (tag_line stamp (codes "tag2") v.two w.two class x (λ (h : v.two ≡ Some (class, x)). isnt (inr h)) has))
 
 newest_view : (t : Tuning) (slots : List (Option Group)) (views : List ShownView) → AreViews t slots views → IsView t slots (newest views)
 newest_view t [] [] are = view_of_none t
@@ -125,14 +164,14 @@ got_length lost log (suc n) = (let rest = got_length lost log n in omega (arith,
 
 -- the lines of the changes up to any slot behind the one in which the thing is new
 prints_by : (t : Tuning) (log : List (Option Group)) (lost : Option Burst) (slot : ℕ) (thing : Thing) (n : ℕ) (views : List ShownView) → IsNew t log lost slot thing → slot < n
-    → AreViews t (got lost log n) views → HasPart (shown_line slot thing) (changes_of views)
+    → AreViews t (got lost log n) views → HasLine (shown_line slot thing) (changes_of views)
 unfolding got
 prints_by t log lost slot thing zero views new less are = absurd (omega arith)
 prints_by t log lost slot thing (suc n) [] new less are = absurd are
 prints_by t log lost slot thing (suc n) (view ∷ older) new less are =
     let line = shown_line slot thing in
     elim (cases_lt slot n) [
-      | inl before ↦ part_left line (changes_of older) (change (slot_stamp (length older)) (newest older) view) (prints_by t log lost slot thing n older new before are.1)
+      | inl before ↦ line_left line (changes_of older) (change (slot_stamp (length older)) (newest older) view) (prints_by t log lost slot thing n older new before are.1)
       | inr from ↦ (
           let here : slot ≡ n = omega arith in
           let count : length older ≡ n = as_many t (got lost log n) older are.1 ∙ got_length lost log n in
@@ -144,10 +183,10 @@ prints_by t log lost slot thing (suc n) (view ∷ older) new less are =
           let place : length older ≡ slot = count ∙ sym here in
           let isnt : Shows (newest older) thing → ⊥ = subst (λ (v : ShownView). Shows v thing → ⊥) (sym old) new.not_shown in
           let has : Has view thing = subst (λ (v : ShownView). Has v thing) (sym now) new.has in
-          let changed : HasPart line (change (slot_stamp slot) (newest older) view) = change_has slot (newest older) view thing isnt has in
-          part_right line (changes_of older) (change (slot_stamp (length older)) (newest older) view) (subst (λ (k : ℕ). HasPart line (change (slot_stamp k) (newest older) view)) (sym place) changed))
+          let changed : HasLine line (change (slot_stamp slot) (newest older) view) = change_has slot (newest older) view thing isnt has in
+          line_right line (changes_of older) (change (slot_stamp (length older)) (newest older) view) (after_changes older) (subst (λ (k : ℕ). HasLine line (change (slot_stamp k) (newest older) view)) (sym place) changed))
     ]
 
 pub prints : (t : Tuning) (log : List (Option Group)) (burst : Burst) (slot : ℕ) (thing : Thing) (views : List ShownView) → IsMix t log burst slot thing
-    → AreViews t (got (Some burst) log (length log)) views → HasPart (shown_line slot thing) (changes_of views)
+    → AreViews t (got (Some burst) log (length log)) views → HasLine (shown_line slot thing) (changes_of views)
 prints t log burst slot thing views mix are = prints_by t log (Some burst) slot thing (length log) views mix.new mix.place.inside are

@@ -1,8 +1,13 @@
--- A line among others.
-use Rattle.std.specs.Prelude.{◌≡◌, ◌++◌, ℕ, List}
+-- A line among other lines.
+use Rattle.std.specs.Prelude.{◌≡◌, ◌⊎◌, ◌++◌, [], ℕ, List, codes}
 
--- the part is somewhere in the whole
-pub record HasPart (part whole : List ℕ) : Type 0 where
+-- a line begins after these bytes: there are none, or the last one is a line feed
+abbrev pub BeginsLine : List ℕ → Type 0
+BeginsLine front = (front ≡ []) ⊎ ((before : List ℕ) × (front ≡ before ++ codes "\n"))
+
+-- the line is one of the whole: it begins the whole or comes after a line feed
+pub record HasLine (line whole : List ℕ) : Type 0 where
   pub front : List ℕ
   pub back : List ℕ
-  pub cut : whole ≡ front ++ part ++ back
+  pub begins : BeginsLine front
+  pub cut : whole ≡ front ++ line ++ back

@@ -11,7 +11,7 @@ ghost use Rattle.rds_witness.specs.Lines.{shown_line};
 ghost use Rattle.rds_witness.specs.Lost.{got};
 ghost use Rattle.rds_witness.specs.Mix.{IsMix, Thing};
 ghost use Rattle.rds_witness.specs.Part.{IsPart};
-ghost use Rattle.rds_witness.specs.Prints.{HasPart};
+ghost use Rattle.rds_witness.specs.Prints.{HasLine};
 ghost use Rattle.rds_witness.specs.declared.burst.Burst.{Burst};
 
 /// Shows the meaning of a mix by `decode`: the output for the slots of the log without the burst has the line of the
@@ -19,7 +19,7 @@ ghost use Rattle.rds_witness.specs.declared.burst.Burst.{Burst};
 pub fn what_a_mix_means()
     ensures prints { (t : Tuning) (log : List (Option Group)) (burst : Burst) (slot : ℕ) (thing : Thing)
         (views : List ShownView) → IsMix t log burst slot thing
-        → AreViews t (got (Some burst) log (length log)) views → HasPart (shown_line slot thing) (changes_of views) }
+        → AreViews t (got (Some burst) log (length log)) views → HasLine (shown_line slot thing) (changes_of views) }
     ensures whole { (log : List (Option Group)) → got None log (length log) ≡ reverse log }
 {}
 
