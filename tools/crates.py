@@ -58,9 +58,14 @@ def rlib(name):
     return os.path.join(folder(name), "out/rlib", f"{name}.rlib")
 
 
+def library(name):
+    """Returns the file that a proved library always has."""
+    return os.path.join(rlib(name), "format")
+
+
 def newest_source(name, uses):
-    """Returns when crates.txt or a source of the crate or of one below it was last written, or one of its files added."""
-    changed = [LIST]
+    """Returns when a source of the crate or of one below it was last written, or one of its files added."""
+    changed = []
     for crate in [*below(name, uses), name]:
         for part in ("src", "specs", "proofs"):
             for at, _, found in os.walk(os.path.join(folder(crate), part)):
@@ -68,15 +73,43 @@ def newest_source(name, uses):
     return max(map(os.path.getmtime, changed))
 
 
+def record_of(name, made):
+    """Returns the file that lists the libraries of a built file. That of a library is its own `format`."""
+    return made if made == library(name) else f"{made}.libraries"
+
+
+def record_libraries(made, name, uses):
+    """Lists the libraries of a program or an archive beside it, as the compiler does in the `format` of a library."""
+    with open(record_of(name, made), "w", encoding="utf-8") as file:
+        file.writelines(f"dep {it}\n" for it in uses[name])
+
+
+def has_other_libraries(made, name, uses):
+    """Returns whether the crate's line of crates.txt names other libraries than those that the file was built with. If
+    no list says these, it returns whether crates.txt is newer than the file."""
+    record, when = record_of(name, made), os.path.getmtime(made)
+    if not os.path.exists(record) or os.path.getmtime(record) < when:
+        return when < os.path.getmtime(LIST)
+    with open(record, encoding="utf-8") as file:
+        return {line.split()[1] for line in file if line.startswith("dep ")} - {"std"} != {*uses[name]}
+
+
 def is_stale(made, name, uses):
-    """Returns whether a built file of the crate is missing, or older than a source of the crate or of one below it."""
-    return not os.path.exists(made) or os.path.getmtime(made) < newest_source(name, uses)
+    """Returns whether a built file of the crate is missing, is older than a source of the crate or of one below it, or
+    was built with other libraries than crates.txt lists, or one below was. A library is also stale if it is older than
+    one below it, because `rt check` builds libraries again: the compiler would refuse the two together."""
+    if not os.path.exists(made):
+        return True
+    lower = {it: library(it) for it in below(name, uses) if os.path.exists(library(it))}
+    newest = [newest_source(name, uses), *(map(os.path.getmtime, lower.values()) if made == library(name) else [])]
+    built = {**lower, name: made}
+    return os.path.getmtime(made) < max(newest) or any(has_other_libraries(at, it, uses) for it, at in built.items())
 
 
 def is_left(name, uses):
     """Returns whether `rt ci` or tools/build left the library of the crate, which has no stamp then, and it is not stale."""
-    made = rlib(name)
-    return not is_stale(made, name, uses) and not os.path.exists(os.path.join(os.path.dirname(made), "stamp"))
+    stamp = os.path.join(os.path.dirname(rlib(name)), "stamp")
+    return not is_stale(library(name), name, uses) and not os.path.exists(stamp)
 
 
 def compile_words(name, uses, jobs, *more):
