@@ -3,7 +3,7 @@ import os
 import re
 import subprocess
 
-from tests.support import PROGRAM, ROOT, SECONDS, Case, bytes_of, needs, text_of
+from tests.support import PROGRAM, ROOT, SECONDS, Case, bytes_of, needs, temporary_folder, text_of
 
 # a station whose 11A is another application's: a text, that application announced, and its groups
 OTHER = "C201 2140 4849 0D20\nC201 3156 1234 ABCD\nC201 B140 2008 1234\n---- ---- ---- ----\n"
@@ -27,15 +27,29 @@ FAULTS = [
     ("a tag that is too long", [HI, *[LOST] * 3, THREE], "no 4 TagOutside", [HI, *[LOST] * 3, TWO]),
 ]
 
+# names of logs, and the answers of the audit
+LOGS = {"a": f"{HI}\n", "b c": f"{HI}\n" * 2, "bad": f"{HI}\nx\n", "changed": f"{HI}\n{HA}\n"}
+ANSWERS = {"a": ["yes 1"], "b c": ["yes 2"], "bad": ["fault line 2"], "changed": ["no 1 Changed"]}
+
+
+def statuses(folder, name):
+    """Returns the exit status of each log, which parallel writes to this file."""
+    with open(os.path.join(folder, name), encoding="utf-8", newline="\n") as file:
+        rows = [line.split("\t") for line in file.read().splitlines()]
+    at = rows[0].index("Exitval")
+    return {re.search(r"logs/(.*)\.log", row[-1])[1].replace("\\", ""): int(row[at]) for row in rows[1:]}
+
+
+def done(call, given=b"", at=ROOT):
+    """Runs a line of the guide in a folder, with the built program as ./rdsrt."""
+    environment = {**os.environ, "RDSRT": PROGRAM, "LC_ALL": "C.UTF-8"}
+    words = ["bash", "-c", call.replace("./rdsrt", '"$RDSRT"')]
+    return subprocess.run(words, cwd=at, input=given, capture_output=True, timeout=SECONDS, env=environment)
+
 
 def ran(call, given=b""):
-    """Returns the output of a line of the guide, with the built program as ./rdsrt."""
-    environment = {**os.environ, "RDSRT": PROGRAM}
-    words = ["bash", "-c", call.replace("./rdsrt", '"$RDSRT"')]
-    done = subprocess.run(words, cwd=ROOT, input=given, stdout=subprocess.PIPE, stderr=subprocess.DEVNULL,
-                          timeout=SECONDS,
-                          env=environment)
-    return done.stdout.decode()
+    """Returns the output of a line of the guide."""
+    return done(call, given).stdout.decode()
 
 
 class Guide(Case):
@@ -93,6 +107,29 @@ class Guide(Case):
         self.check("rows of a station", (len(slots), replies), (400, ["# 128 text ok", "# 384 text ok"]))
         self.check("its first group", [at for at, line in enumerate(slots) if line[0] != "-"][0], 128)
 
+    @needs("parallel", package="parallel")
+    def test_the_lines_of_parallel(self):
+        audit, decode = re.search(r"^ +(parallel .* audit .*)\n +(parallel .* decode .*)$", self.text, re.M).groups()
+        folder = temporary_folder(self)
+        os.mkdir(os.path.join(folder, "logs"))
+        for name, log in LOGS.items():
+            with open(os.path.join(folder, f"logs/{name}.log"), "w", encoding="ascii") as file:
+                file.write(log)
+        run = done(audit, at=folder)
+        self.check("the answers", run.stdout.decode().splitlines(),
+                   [f"logs/{name}.log\t{line}" for name in sorted(LOGS) for line in ANSWERS[name]])
+        self.check("a warning has the name of its log", run.stderr.decode().count("logs/bad.log\trdsrt: fault line 2"), 1)
+        self.check("two logs do not pass", (run.returncode, statuses(folder, "audits.tsv")),
+                   (2, {"a": 0, "b c": 0, "bad": 1, "changed": 1}))
+        done(decode, at=folder)
+        self.check("the statuses of decode", statuses(folder, "decodes.tsv"),
+                   {"a": 0, "b c": 0, "bad": 1, "changed": 0})
+        with open(os.path.join(folder, "logs/b c.txt"), encoding="utf-8") as file:
+            self.check("the output of decode for one log", file.read(), '0 text "HI"\n')
+        for name in ("bad", "changed"):
+            os.remove(os.path.join(folder, f"logs/{name}.log"))
+        self.check("the others pass", done(audit, at=folder).returncode, 0)
+
     @needs("jq", package="jq")
     def test_the_line_of_jq(self):
         call = re.search(r"^- \*\*jq\*\*: `(.*)`$", self.text, re.M)[1]
@@ -101,7 +138,7 @@ class Guide(Case):
 
     def test_each_example_program_has_help(self):
         """test_gnuradio asks the programs of GNU Radio."""
-        for name in ("json", "many-logs", "monitor", "slots", "station"):
+        for name in ("json", "monitor", "slots", "station"):
             done = subprocess.run([os.path.join(ROOT, "examples", name), "--help"], capture_output=True,
                                   timeout=SECONDS)
             self.check(f"{name} --help", (done.returncode, name.encode() in done.stdout, done.stderr), (0, True, b""))
