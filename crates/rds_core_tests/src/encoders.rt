@@ -3,11 +3,7 @@
 use crate::same::same;
 use rds_assembly::{Name, Text};
 use rds_block::Place;
-use rds_encoder::{
-    Distance, Encoder, Refusal, Wait, broadcasts_are_spaced, even_turns_are_the_texts,
-    numbers_name_broadcasts, on_air_from_its_start_on, on_air_is_sent_whole,
-    on_air_is_what_covers_the_slot, planned_is_what_was_on_air, sent_is_of_what_is_on_air,
-};
+use rds_encoder::{Distance, Encoder, Refusal, Wait};
 use rds_fields::{Dwell, Head, Late, Tag, TagPair, Which};
 use std::process::Abort;
 use std::test::Fail;
@@ -177,19 +173,5 @@ fn latenesses(rt: HostRuntime) -> Result<(), Fail> {
     let dwell = Dwell::new(65535).ok_or("dwell")?;
     let late = Late::new(1024).ok_or("late")?;
     same(&rt, Distance::new(dwell, late).get(), 66559);
-    Ok(())
-}
-
-/// Laws do nothing when they run.
-#[test]
-fn laws(_rt: HostRuntime) -> Result<(), Fail> {
-    on_air_is_what_covers_the_slot();
-    on_air_from_its_start_on();
-    planned_is_what_was_on_air();
-    broadcasts_are_spaced();
-    numbers_name_broadcasts();
-    sent_is_of_what_is_on_air();
-    even_turns_are_the_texts();
-    on_air_is_sent_whole();
     Ok(())
 }

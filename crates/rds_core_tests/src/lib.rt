@@ -11,8 +11,6 @@ mod characters;
 #[cfg(test)]
 mod encoders;
 #[cfg(test)]
-mod laws;
-#[cfg(test)]
 mod messages;
 #[cfg(test)]
 mod receivers;

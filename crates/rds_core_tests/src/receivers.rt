@@ -3,7 +3,7 @@
 use crate::same::same;
 use rds_block::Group;
 use rds_fields::{Dwell, Which};
-use rds_receiver::{Receiver, heard, one_view, run_is_the_longest};
+use rds_receiver::{Receiver, heard};
 use std::process::Abort;
 use std::test::Fail;
 
@@ -105,14 +105,6 @@ fn foreign_encoder(rt: HostRuntime) -> Result<(), Fail> {
         (Some([PI, 0xA150, 0x4A0D, 0x5A5A]), jazz),
     ];
     assert_slots(&rt, 4, &rows)
-}
-
-/// Laws do nothing when they run.
-#[test]
-fn laws(_rt: HostRuntime) -> Result<(), Fail> {
-    run_is_the_longest();
-    one_view();
-    Ok(())
 }
 
 /// A slot with nothing new, before the dwell ends, leaves the view unchanged.

@@ -3,10 +3,7 @@
 use crate::same::same;
 use rds_charset::{TellingRead, Told};
 use rds_fields::Dwell;
-use rds_log::{
-    bytes_have_one_verdict, bytes_write_one_output, decode, decode_within, what_an_answer_means,
-};
-use rds_script::{rows_write_one_output, script_writes_one_output};
+use rds_log::{decode, decode_within};
 use rds_view_lines::LogFault;
 use std::alloc::Global;
 use std::cell::Cell;
@@ -215,14 +212,4 @@ fn reader_fails(rt: HostRuntime) -> Result<(), Fail> {
         same(&rt, (seen.reads, seen.writes), (fails_at, fails_at - 1));
     }
     Ok(())
-}
-
-/// The laws have no body of their own; they are called as any other public function is.
-#[test]
-fn one_output() {
-    bytes_write_one_output();
-    bytes_have_one_verdict();
-    what_an_answer_means();
-    rows_write_one_output();
-    script_writes_one_output();
 }
