@@ -1,5 +1,4 @@
-"""The pages that people meet first: commands, links, names, pictures, word counts, and the one wording of the
-faults."""
+"""The pages that people meet first: commands, links, pictures, and the one wording of the faults."""
 import glob
 import os
 import re
@@ -62,6 +61,16 @@ def slugs(path):
     return {re.sub(r"[^\w\- ]", "", it.lower()).replace(" ", "-") for it in headings}
 
 
+def broken_links(path, text):
+    """Gives the relative links in the text of a page that lead to no file or to no heading."""
+    for link in re.findall(r"\]\(([^)\s]+)\)", re.sub(r"```.*?```", "", text, flags=re.S)):
+        name, _, anchor = link.partition("#")
+        to = os.path.normpath(os.path.join(os.path.dirname(path), name)) if name else path
+        is_there = os.path.exists(os.path.join(ROOT, to)) and (not anchor or anchor in slugs(to))
+        if not link.startswith(("http:", "https:")) and not is_there:
+            yield link
+
+
 def plain(text):
     """Returns only the words, without line ends and signs of comments, roff and code."""
     joined = re.sub(r'"\s*\+\s*"', "", text)
@@ -92,14 +101,9 @@ class Pages(Case):
     def test_each_link_and_each_named_section_exists(self):
         """Each relative link leads to a file, and each anchor to a heading; each section that is named is there."""
         for path in all_pages():
-            text = re.sub(r"```.*?```", "", text_of(path), flags=re.S)
-            for target in re.findall(r"\]\(([^)\s]+)\)", text):
-                if target.startswith(("http:", "https:")):
-                    continue
-                name, _, anchor = target.partition("#")
-                to = os.path.normpath(os.path.join(os.path.dirname(path), name)) if name else path
-                there = os.path.exists(os.path.join(ROOT, to))
-                self.check(f"{path}: link to {target}", there and (not anchor or anchor in slugs(to)), True)
+            self.check(f"{path}: links that lead nowhere", [*broken_links(path, text_of(path))], [])
+        for link in ("docs/NOWHERE.md", "README.md#nowhere", "#nowhere"):
+            self.check(f"a link to {link} leads nowhere", [*broken_links("README.md", f"See [it]({link}).")], [link])
         sources = [os.path.relpath(it, ROOT) for kind in ("md", "h", "c", "js", "py", "rt", "html")
                    for it in glob.glob(os.path.join(ROOT, f"**/*.{kind}"), recursive=True) if "/out/" not in it]
         named = r"\b(README|CONTRIBUTING|CHANGELOG|(?:docs/)?[A-Z]{5,})(?:\.md)?[)`]*, \"([A-Z][^\"\n]*)\""
