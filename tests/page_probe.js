@@ -270,13 +270,20 @@ const probe = (() => {
     return Array.from({ length: count }, (_, s) => `${row(s)},${s % 3 ? 1 : 0},GLGGGGGG\n`).join("");
   }
 
-  /* Milliseconds of the commands, of opening and of frames, over so many slots; `many` keeps the script and its log. */
-  async function large(count) {
+  /* Keeps a script of so many slots and its log in `many`; answers the audit of the log. */
+  function fill(count) {
     many.script = scriptOf(count);
-    const encoded = rdsrt.run(["encode", "--pi", "C201"], many.script.replaceAll("GLGGGGGG", ""));
-    many.log = encoded.output;
-    const audit = rdsrt.run(["audit", "--pi", "C201"], many.log), decode = rdsrt.run(["decode", "--pi", "C201"], many.log);
-    const told = { encode: encoded.ms, audit: audit.ms, decode: decode.ms, heap: decode.heap, verdict: audit.output };
+    many.encoded = rdsrt.run(["encode", "--pi", "C201"], many.script.replaceAll("GLGGGGGG", ""));
+    many.log = many.encoded.output;
+    many.audit = rdsrt.run(["audit", "--pi", "C201"], many.log);
+    return many.audit.output;
+  }
+
+  /* Milliseconds of the commands, of opening and of frames, over so many slots. */
+  async function large(count) {
+    fill(count);
+    const decode = rdsrt.run(["decode", "--pi", "C201"], many.log);
+    const told = { encode: many.encoded.ms, audit: many.audit.ms, decode: decode.ms, heap: decode.heap };
     page.tab("log");
     told.openLog = await opening(logTab, many.log);
     told.logFrame = frame(logTab.timeline);
@@ -306,7 +313,7 @@ const probe = (() => {
   }
 
   return {
-    axis, choose, chosenLine, colour, column, columnsOf, contrasts, drop, dropAll, faint, idle, isRed, labels, large, longestTask,
+    axis, choose, chosenLine, colour, column, columnsOf, contrasts, drop, dropAll, faint, fill, idle, isRed, labels, large, longestTask,
     many, onOverview, pick, pictured, place, run, sharesOf, swatches, tempt, ticks, typeAndLeave,
   };
 })();

@@ -166,7 +166,7 @@ def browsers():
 class PageCase(Case):
     """A test of the page in one browser: `b` drives it."""
 
-    # the limits of time need a quiet machine
+    # a page that other tests slow down may need longer than the waits allow
     alone = True
     # whether the console must stay empty, and nothing may be fetched
     is_quiet = True

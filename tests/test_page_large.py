@@ -1,0 +1,68 @@
+"""Many slots: the page answers as the program does, and shows a long log in windows. bench/page measures how long that
+takes."""
+import json
+
+from tests.page_support import ChromiumCase, call, first_examples, idle, of, program, text_of
+
+SLOTS = 100_000
+# a day of slots: a text every 342 slots, in two segments
+DAY = 982_000
+
+
+def day_of_slots():
+    """Returns the log of a day."""
+    out = []
+    for slot in range(DAY):
+        number = slot // 342
+        text = f"{number:04d}JAZ".encode() + b"\r"
+        half = text[:4] if slot % 2 == 0 else text[4:]
+        out.append(f"C201 21{4 + number % 2}{slot % 2} {half[:2].hex().upper()} {half[2:].hex().upper()}")
+    return "\n".join(out) + "\n"
+
+
+def give_day(b, log):
+    """Makes the log a file of the page, `day`, and opens the text of the log tab."""
+    b.run("window.pieces = []")
+    for at in range(0, len(log), 4_000_000):
+        b.run(f"pieces.push({json.dumps(log[at:at + 4_000_000])})")
+    b.run("window.day = new File([pieces.join('')], 'day.log'); window.pieces = null; undefined")
+    b.run("document.querySelector('#log-text').closest('details').open = true")
+
+
+def take_day(b):
+    """Closes the text, and shows the first examples again."""
+    b.run("window.day = null; document.querySelector('#log-text').closest('details').open = false")
+    call(b, "probe.choose", "log-find", "")
+    first_examples(b)
+
+
+class Chromium(ChromiumCase):
+    def test_100000_slots_are_answered_as_by_the_program(self):
+        b = self.b
+        self.check("they pass", b.run(f"probe.fill({SLOTS})"), f"yes {SLOTS}\n")
+        for words, what in ((["decode", "--pi", "C201"], "log"), (["sim", "--pi", "C201"], "script")):
+            data = b.run(f"probe.many.{what}").encode()
+            got = b.run(f"rdsrt.run({json.dumps(words)}, probe.many.{what}).output")
+            self.check(f"{words[0]} of many slots", got == program(words, data)[1], True)
+
+    def test_the_log_of_a_day_is_shown_in_windows(self):
+        b = self.b
+        log = day_of_slots()
+        give_day(b, log)
+        b.run("page.openFile(day)")
+        call(b, "probe.choose", "log-m", 100)
+        idle(b)
+        b.run("logTab.timeline.move(981999); undefined")
+        idle(b)
+        self.check("its verdict", text_of(b, "#verdict h2"), "✓ Passes with M = 100 (8.76 s)")
+        text = of(b, "#log-text", "value")
+        self.check("its text is a window around the slot",
+                   (len(text) <= 100_000, text.endswith(log[-20:]), of(b, "#log-text", "readOnly")), (True,) * 3)
+        before, after = json.dumps(log[:10_000_000]), json.dumps(log[:100_000])
+        b.run(f"window.day = new File([{before}, 'bad\\n', {after}], 'bad.log'); undefined")
+        b.run("page.openFile(day)")
+        idle(b)
+        b.run("[...document.querySelectorAll('#verdict button')].at(-1).click()")
+        self.check("the line of a fault is shown", (text_of(b, "#verdict h2"), call(b, "probe.chosenLine", "log-text")),
+                   ("Line 500,001 is malformed", "bad"))
+        take_day(b)
