@@ -134,11 +134,10 @@ def shown_by_the_clock(rng, slots, may_lose):
     return list(itertools.accumulate(range(len(slots)), lambda view, slot: views.get(slot, view), initial={}))[1:]
 
 
-def clocks(late, may_lose):
-    """Gives all wrong views of receivers whose clocks may lose so many slots within a dwell."""
-    for seed in range(WORLDS):
-        rng = random.Random(seed)
-        slots, diary = encoded(rng, late)
-        pair = [shown_by_the_clock(rng, slots, may_lose) for _ in range(2)]
-        for slot, views in enumerate(zip(*pair)):
-            yield from ((f"seed {seed}", *it) for it in diary.wrongs(slot, DWELL + late, views))
+def clocks(seed, late, may_lose):
+    """Returns the slots of a station, and the wrong views of two receivers whose clocks may lose so many slots within a
+    dwell."""
+    rng = random.Random(seed)
+    slots, diary = encoded(rng, late)
+    pair = [shown_by_the_clock(rng, slots, may_lose) for _ in range(2)]
+    return slots, [it for slot, views in enumerate(zip(*pair)) for it in diary.wrongs(slot, DWELL + late, views)]

@@ -1,19 +1,25 @@
 """What all tests share: paths, the program, time limits, calls of programs, and the base classes.
 
 RDSRT_TARGET=aarch64 in the environment gives the tests the program for 64-bit Arm, which runs under an emulator.
+RDSRT_CASE=12 makes the tests with cases by chance try case 12 alone.
 """
 import atexit
+import difflib
 import os
+import pprint
 import shutil
 import subprocess
 import sys
 import tempfile
+import traceback
 import unittest
 
 ROOT = os.path.dirname(os.path.dirname(os.path.abspath(__file__)))
 # the tests import crates and targets from there
 sys.path.insert(1, os.path.join(ROOT, "tools"))
 TARGET = os.environ.get("RDSRT_TARGET")
+# the number of the one case that is tried of those by chance
+ONLY = os.environ.get("RDSRT_CASE")
 # seconds after which a call has failed: much longer than it takes, for a busy machine or an emulator
 SLOWER = 15 if TARGET else 1
 SECONDS = 60 * SLOWER
@@ -118,17 +124,99 @@ def temporary_folder(test):
     return folder.name
 
 
+# ---- what a failed check shows
+
+# a longer input is kept in a file
+MOST_SHOWN = 4000
+KEPT = path("tests/out")
+# lines of a comparison, and equal lines around those that differ
+MOST_LINES, CONTEXT = 60, 2
+# files of the stack that have no check of their own
+NOT_TESTS = tuple(os.path.join("tests", it) for it in ("support.py", "worker.py", "__main__.py"))
+
+
+def readable(value):
+    """Returns the value with text in place of bytes."""
+    if isinstance(value, bytes):
+        return value.decode("utf-8", "backslashreplace")
+    if isinstance(value, dict):
+        return {readable(key): readable(it) for key, it in value.items()}
+    if isinstance(value, (list, tuple, set)):
+        return {list: list, tuple: tuple, set: set}.get(type(value), tuple)(map(readable, value))
+    return value
+
+
+def in_lines(value):
+    """Returns a value as lines. Characters that a terminal does not show are escaped."""
+    text = value if isinstance(value, str) else pprint.pformat(value, width=110, sort_dicts=True)
+    return ["".join(it if it.isprintable() else ascii(it)[1:-1] for it in line) for line in text.split("\n")]
+
+
+def difference(got, wanted):
+    """Returns how the values differ: the first lines that do, or both values if each is one line."""
+    ours, theirs = (in_lines(readable(it)) for it in (got, wanted))
+    if ours == theirs:
+        return f"got {got!r:.2000}, expected {wanted!r:.2000}"
+    if len(ours) == len(theirs) == 1:
+        return f"got      {readable(got)!r:.2000}\nexpected {readable(wanted)!r:.2000}"
+    first = next((at for at, (it, other) in enumerate(zip(ours, theirs)) if it != other), min(len(ours), len(theirs)))
+    parts = [[it[:500] for it in lines[max(0, first - CONTEXT):first + MOST_LINES // 2]] for lines in (theirs, ours)]
+    found = [it if it[:2] != "@@" else ".." for it in difflib.unified_diff(*parts, n=CONTEXT, lineterm="")]
+    return "\n".join([f"line {first + 1} differs: - is expected, + is what the test got", *found[3:]])
+
+
+def line_of_the_check(frames):
+    """Returns the file and line of the check among these frames of a stack, and the lines that called it."""
+    own = [f"{os.path.relpath(it.filename, ROOT)}:{it.lineno}" for it in reversed(frames)
+           if it.filename.startswith(ROOT + os.sep) and not it.filename.endswith(NOT_TESTS)]
+    return own[0] + (f" (from {', '.join(own[1:])})" if own[1:] else "") if own else ""
+
+
 class Case(unittest.TestCase):
     """A test of many checks. It goes on after a check that failed."""
 
     # whether nothing else may run meanwhile
     alone = False
+    # the number of the case by chance that is tried now
+    number = None
 
-    def check(self, name, got, wanted):
-        """Compares two values, as a subtest of this name."""
+    def check(self, name, got, wanted, given=None):
+        """Compares two values, as a subtest of this name. A failure shows the line of the check, how the values differ,
+        and the input `given`."""
+        if got == wanted:
+            return
+        parts = [line_of_the_check(traceback.extract_stack()), difference(got, wanted)]
+        if given is not None:
+            parts.append(self.input_of(given))
+        if self.number is not None:
+            parts.append(f"this case alone: RDSRT_CASE={self.number} python3 -m unittest {self.id()}")
         with self.subTest(name):
-            if got != wanted:
-                self.fail(f"got {got!r:.2000}, expected {wanted!r:.2000}")
+            self.fail("\n".join(parts))
+
+    def input_of(self, given):
+        """Returns the input of a failed check. A long one is kept in a file, whose name is returned with the start."""
+        text = readable(given)
+        if len(text) <= MOST_SHOWN:
+            return f"the input:\n{text}"
+        os.makedirs(KEPT, exist_ok=True)
+        handle, at = tempfile.mkstemp(".txt", f"{self.id().removeprefix('tests.')}-", KEPT)
+        with open(handle, "wb") as file:
+            file.write(given if isinstance(given, bytes) else text.encode())
+        begin = "\n".join(text.split("\n", 10)[:10])[:MOST_SHOWN]
+        return f"the whole input is in {os.path.relpath(at, ROOT)}. It begins:\n{begin}"
+
+    def cases(self, given):
+        """Gives the number of each case by chance and the case, or the one whose number is RDSRT_CASE alone."""
+        for number, case in enumerate(given):
+            if ONLY is None or number == int(ONLY):
+                self.number = number
+                yield number, case
+        self.number = None
+
+    def check_all(self, name, got, wanted):
+        """Compares what all cases by chance have together. It has no meaning for one case."""
+        if ONLY is None:
+            self.check(name, got, wanted)
 
 
 class ProgramCase(Case):

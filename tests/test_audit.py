@@ -45,29 +45,36 @@ def changed(rng, slots):
     return changed
 
 
+def logs_of_our_encoder():
+    """Gives dwell, lateness, the replies of an encoder over a script by chance, and its log with seven changed ones."""
+    rng = random.Random(SEED)
+    for _ in range(300):
+        dwell, late = rng.choice((1, 2, 4, 8, 16)), rng.choice((0, 0, 1, 3))
+        _, log = ran(["encode", "--pi", "C201", "--m", str(dwell), "--k", str(late)], random_script(rng))
+        lines = log.decode().splitlines()
+        notes = [(int(slot), answer) for slot, _, answer in (it[2:].partition(" ") for it in lines if it[0] == "#")]
+        slots = [None if line[0] == "-" else line.split() for line in lines if line[0] != "#"]
+        yield dwell, late, notes, [slots] + [changed(rng, slots) for _ in range(7)]
+
+
 class BesideThePlainAudit(ProgramCase):
     def test_logs_of_our_encoder_and_each_with_one_change(self):
-        rng, answers, dense = random.Random(SEED), collections.Counter(), 0
-        for number in range(300):
-            dwell, late = rng.choice((1, 2, 4, 8, 16)), rng.choice((0, 0, 1, 3))
-            options = ["--m", str(dwell), "--k", str(late)]
-            _, log = ran(["encode", "--pi", "C201", *options], random_script(rng))
-            lines = log.decode().splitlines()
-            notes = [(int(slot), answer) for slot, _, answer in (it[2:].partition(" ") for it in lines if it[0] == "#")]
-            slots = [None if line[0] == "-" else line.split() for line in lines if line[0] != "#"]
-            logs = [slots] + [changed(rng, slots) for _ in range(7)]
+        answers, dense = collections.Counter(), 0
+        for number, (dwell, late, notes, logs) in self.cases(logs_of_our_encoder()):
+            options, slots = ["--m", str(dwell), "--k", str(late)], logs[0]
             wanted = [plain_audit.audit(log, dwell + late) for log in logs]
             answers.update(line.split()[-1] if line.startswith("no") else "yes" for line in wanted)
             if plain_audit.is_dense(notes, slots, dwell + late):
                 dense += 1
-                self.check(f"seed {SEED}, dense log {number} by the plain audit", wanted[0], f"yes {len(slots)}\n")
+                self.check(f"seed {SEED}, dense log {number} by the plain audit", wanted[0], f"yes {len(slots)}\n",
+                           lines_of(slots))
             for at, (log, answer) in enumerate(zip(logs, wanted)):
                 status = 0 if answer.startswith("yes") else 1
                 self.check(f"seed {SEED}, log {at} of script {number}, {options}",
-                           ran([*AUDIT, *options], lines_of(log)), (status, answer.encode()))
-        self.check("dense logs", dense > 100, True)
+                           ran([*AUDIT, *options], lines_of(log)), (status, answer.encode()), lines_of(log))
+        self.check_all("dense logs", dense > 100, True)
         kinds = {"yes", "Changed", "NotOneText", "EarlyFlag", "EarlyTag", "TagOutside"}
-        self.check("answers", (set(answers), min(answers.values()) > 4), (kinds, True))
+        self.check_all("answers", (set(answers), min(answers.values(), default=0) > 4), (kinds, True))
 
 
 def lines_of(slots):
@@ -91,21 +98,23 @@ class Recordings(ProgramCase):
 
     def test_a_recording_of_a_station_that_passes_passes(self):
         recordings, early = 0, 0
-        for options, spacing, slots, first in self.logs():
+        for number, (options, spacing, slots, first) in self.cases(self.logs()):
             rest = slots[first:]
-            wanted = plain_audit.audit(rest, spacing, is_running=True)
-            self.check(f"seed {SEED_OF_RECORDINGS}, {options}, from slot {first} of {lines_of(slots)}",
-                       ran([*AUDIT, *options, "--running"], lines_of(rest))[1], wanted.encode())
+            wanted, name = plain_audit.audit(rest, spacing, is_running=True), f"seed {SEED_OF_RECORDINGS}, log {number}"
+            self.check(f"{name}, {options} --running", ran([*AUDIT, *options, "--running"], lines_of(rest))[1],
+                       wanted.encode(), lines_of(rest))
             if plain_audit.audit(slots, spacing).startswith("yes"):
-                self.check("passes", wanted, f"yes {len(rest)}\n")
+                self.check(f"{name}, {options}, passes from slot {first} on", wanted, f"yes {len(rest)}\n",
+                           lines_of(slots))
                 recordings += 1
                 early += plain_audit.audit(rest, spacing).endswith("EarlyTag\n")
-        self.check("recordings, and those that fail without --running", (recordings > 300, early > 20), (True, True))
+        self.check_all("recordings, and those that fail without --running", (recordings > 300, early > 20),
+                       (True, True))
 
     def test_the_answer_is_that_of_lost_slots_in_front_and_more_change_nothing(self):
         """If no tags come before the first text segment."""
         compared = 0
-        for options, spacing, slots, first in self.logs():
+        for number, (options, spacing, slots, first) in self.cases(self.logs()):
             rest = slots[first:]
             begin = next((it for it in rest if it and it[1][0] in "2B"), None)
             if begin is None or begin[1][0] == "B":
@@ -114,21 +123,21 @@ class Recordings(ProgramCase):
             recorded = ran([*AUDIT, *options, "--running"], lines_of(rest))[1].split()
             for lost in (spacing, spacing + 1, 3 * spacing + 7):
                 given = lines_of([None] * lost + rest)
-                answer, number, *fault = ran([*AUDIT, *options], given)[1].split()
-                self.check(f"{lost} lost slots in front, {options}", [answer, b"%d" % (int(number) - lost), *fault],
-                           recorded)
-        self.check("recordings that begin with a text segment", compared > 200, True)
+                answer, slot, *fault = ran([*AUDIT, *options], given)[1].split()
+                self.check(f"seed {SEED_OF_RECORDINGS}, log {number}, {options}, {lost} lost slots in front",
+                           [answer, b"%d" % (int(slot) - lost), *fault], recorded, lines_of(rest))
+        self.check_all("recordings that begin with a text segment", compared > 200, True)
 
 
 class BesidePlainPlans(ProgramCase):
     def test_a_no_comes_in_the_first_slot_up_to_which_no_plan_exists(self):
         rng, answers = random.Random(SEED_OF_PLANS), collections.Counter()
-        for number in range(plain_plans.LOGS):
-            dwell, log = plain_plans.random_log(rng)
+        logs = (plain_plans.random_log(rng) for _ in range(plain_plans.LOGS))
+        for number, (dwell, log) in self.cases(logs):
             answer, ruled = plain_plans.answer_by_the_rules(log, dwell)
-            name = f"seed {SEED_OF_PLANS}, short log {number}"
-            self.check(f"{name}: plans and rules", plain_plans.first_of_a_log(log, dwell), ruled)
+            name, given = f"seed {SEED_OF_PLANS}, short log {number}, dwell {dwell}", plain_plans.lines_of(log)
+            self.check(f"{name}: plans and rules", plain_plans.first_of_a_log(log, dwell), ruled, given)
             words, status = ["audit", "--pi", "C201", "--m", str(dwell)], 0 if answer.startswith("yes") else 1
-            self.check(f"{name}: the audit", ran(words, plain_plans.lines_of(log)), (status, answer.encode()))
+            self.check(f"{name}: the audit", ran(words, given), (status, answer.encode()), given)
             answers[answer.split()[-1]] += 1
-        self.check("answers to short logs", (len(answers), min(answers.values()) > 9), (6, True))
+        self.check_all("answers to short logs", (len(answers), min(answers.values(), default=0) > 9), (6, True))

@@ -130,7 +130,7 @@ class BesideThePackage(PackageCase):
         """The last output is longer than a pipe holds."""
         names, log = dict(self.names), os.path.join(self.folder, "log")
         names["PYTHONPATH"] += os.pathsep + path("python/tests")
-        for seed, (dwell, slots) in enumerate([(8, 2000), (16, 2000), (32, 2000)] * 3 + [(8, 30_000)]):
+        for seed, (dwell, slots) in self.cases([(8, 2000), (16, 2000), (32, 2000)] * 3 + [(8, 30_000)]):
             words = [sys.executable, "-c", BY_CHANCE, str(seed), str(dwell), str(slots), log]
             done = subprocess.run(words, stdout=subprocess.PIPE, timeout=SECONDS, env=names, check=True)
             wanted = changes([json.loads(it) for it in done.stdout.splitlines()])
@@ -138,5 +138,6 @@ class BesideThePackage(PackageCase):
             done = subprocess.run(["sh", "-c", call, PROGRAM, str(dwell), log, JSON], stdout=subprocess.PIPE,
                                   timeout=SECONDS)
             got = changes([json.loads(it) for it in done.stdout.splitlines()])
-            first = next((it for it in zip(got, wanted) if it[0] != it[1]), (len(got), len(wanted)))
-            self.check(f"log {seed} beside the package, {first}", (got == wanted, len(got) > 50), (True, True))
+            with open(log, "rb") as file:
+                self.check(f"log {seed} beside the package, M {dwell}", got, wanted, file.read())
+            self.check(f"log {seed} has changes", len(got) > 50, True)

@@ -24,7 +24,7 @@ class Logs(ProgramCase):
     def test_a_megabyte_of_random_bytes(self):
         lines = noise().split(b"\n")
         bad = next(n for n, it in enumerate(lines, 1) if it not in (b"", b"\r") and it[:1] not in (b"<", b"#", b"%"))
-        self.check(f"seed {SEED}", ran(DECODE, noise()), (1, b"fault line %d\n" % bad))
+        self.check(f"seed {SEED}", ran(DECODE, noise()), (1, b"fault line %d\n" % bad), noise())
 
 
 class Scripts(ProgramCase):
@@ -35,7 +35,7 @@ class Scripts(ProgramCase):
         for name, words, mark, _ in self.COMMANDS:
             status, output = ran(words, noise())
             fault = re.fullmatch(rb"%sfault row [0-9]+\n" % mark, output)
-            self.check(f"{name}, seed {SEED}", (status, bool(fault)), (1, True))
+            self.check(f"{name}, seed {SEED}", (status, bool(fault)), (1, True), noise())
 
     def test_a_row_of_30_mb(self):
         for name, words, mark, written in self.COMMANDS:

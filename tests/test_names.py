@@ -20,7 +20,7 @@ PATH = rf"(?<![\w/.$-])(?:\.\./)*({FOLDER}|{FILE})"
 # one name, or several in a row
 NAMES = r"((?:`?\w+`?(?:, and |, | and )?)+)"
 # files that a command or a user makes
-MADE = {"hi.c", "page/out", "page/out/index.html", "crates/rds_ffi/out/librds_ffi.a",
+MADE = {"hi.c", "tests/out", "page/out", "page/out/index.html", "crates/rds_ffi/out/librds_ffi.a",
         "crates/NAME/must-fail/what_is_wrong.edit"}
 # paragraphs that each cite one name that does not exist
 STALE = ["The crate rds_nowhere.", "See `specs/Nowhere`.", "See tests/nowhere.py.", "The edit restores_no_faults.",

@@ -178,10 +178,10 @@ class Faults(ProgramCase):
                    note("fault row 1 (line 1): COMMAND is not one of -, restart, text, name, tags (lower case)"))
 
     def test_the_line_of_a_malformed_row_is_that_of_a_plain_count(self):
-        for words, script, start in scripts_with_a_bad_row(random.Random(SEED)):
+        for number, (words, script, start) in self.cases(scripts_with_a_bad_row(random.Random(SEED))):
             line = 1 + len(re.findall(rb"\r\n|\r|\n", script[:start]))
             found = re.findall(r"\(line (\d+)\)", noted(words, script)[2])
-            self.check(f"seed {SEED}, line of the row at byte {start} of {script[:60]!r}", found, [str(line)])
+            self.check(f"seed {SEED}, script {number}, line of the row at byte {start}", found, [str(line)], script)
 
     def test_the_line_of_a_malformed_row_whose_bytes_come_in_several_reads(self):
         for first, later, line in (("-,,1,\\r", "\\nbad", 2), ("\\n", "\\nbad\\n", 3), ("\\n\\nb", "ad\\n\\n", 3)):
@@ -230,15 +230,15 @@ class Warnings(ProgramCase):
         self.check("note on lost slots alone", noted(DECODE, LOST * 3)[2], note("no group of C201 in 3 slots"))
         self.check("a single group of the programme is enough", noted(DECODE, flags + b"F000 2140 4849 0D20\n")[2], "")
         draw = random.Random(SEED)
-        for _ in range(100):
-            groups = [draw.choice((0xC201, 0xF000, 0x1234, None)) for _ in range(draw.randrange(40))]
+        logs = ([draw.choice((0xC201, 0xF000, 0x1234, None)) for _ in range(draw.randrange(40))] for _ in range(100))
+        for number, groups in self.cases(logs):
             log = b"".join(b"%04X 0000 0000 0000\n" % it if it else LOST for it in groups)
             heard = [it for it in groups if it]
             told = f"no group of ABCD in {len(groups)} slots"
             if heard:
                 others = len(heard) - heard.count(heard[0])
                 told += f" ({heard[0]:04X}: {heard.count(heard[0])}{f', others: {others}' if others else ''})"
-            self.check(f"programmes of a log, seed {SEED}", noted("decode --pi ABCD", log)[2], note(told))
+            self.check(f"programmes of log {number}, seed {SEED}", noted("decode --pi ABCD", log)[2], note(told), log)
 
     def test_a_no_names_its_slot_its_line_and_the_rule(self):
         for log, slot, line, m, k, rule in NOES:
@@ -259,22 +259,25 @@ class Warnings(ProgramCase):
         groups = ["C201 2140 4849 0D20", "C201 2150 594F 0D20", "C201 A540 504F 5020", "C201 A550 4A41 5A5A",
                   "C201 B148 2002 0000", None]
         seen = collections.Counter()
-        for at in range(1200):
-            m, k = draw.randrange(1, 6), draw.randrange(3)
-            slots = [draw.choices(groups, (4, 4 * (at % 3 > 0), 2, 2, 1, 20))[0] for _ in range(60)]
+        logs = ((draw.randrange(1, 6), draw.randrange(3),
+                 [draw.choices(groups, (4, 4 * (at % 3 > 0), 2, 2, 1, 20))[0] for _ in range(60)])
+                for at in range(1200))
+        for number, (m, k, slots) in self.cases(logs):
+            name = f"seed {SEED}, log {number}, M {m}, K {k}"
             wanted = end_of([it and it.split() for it in slots], m + k)
             log = "".join(f"{it or '---- ---- ---- ----'}\n" for it in slots).encode()
             told = noted(f"{AUDIT} --m {m} --k {k}", log)[2]
             if wanted is None:
-                self.check(f"M {m}, K {k}, {log}", told.startswith(("rdsrt: judged in 60 slots: ", "rdsrt: no 2A")), True)
+                self.check(f"{name}: a yes", told.startswith(("rdsrt: judged in 60 slots: ", "rdsrt: no 2A")), True,
+                           log)
                 continue
             fault, is_name, slot, where = wanted
             rule = re.fullmatch(r"rdsrt: slot (\d+) \(line \d+\): (.*?)(, in slot .*)?\. To look .*?\n", told)
             may_be_old = fault in ("EarlyFlag", "EarlyTag") and slot < m + k
             got = rule and (int(rule[1]), rule[3] or "", "name (PTYN)" in rule[2], told.endswith(RUNNING + "\n"))
-            self.check(f"{fault}, M {m}, K {k}, {log}", got, (slot, where, is_name, may_be_old))
+            self.check(f"{name}: {fault}", got, (slot, where, is_name, may_be_old), log)
             seen.update(word for word in ("in slot", "earliest", "no segment from", "no segment for") if word in where)
-        self.check("each kind of slot was named", (len(seen), min(seen.values()) > 5), (4, True))
+        self.check_all("each kind of slot was named", (len(seen), min(seen.values(), default=0) > 5), (4, True))
 
     def test_what_a_yes_covers_and_what_is_not_read(self):
         text, other, name, tags = (b"C201 2140 4849 0D20\n", b"C201 2150 594F 0D20\n", b"C201 A540 504F 5020\n",

@@ -94,20 +94,20 @@ class Faults:
             end = dice.choice(["\n", "\r\n", "\r", None])
             scripts.append("".join(row.replace("\n", end or "\n") + (end or dice.choice(["\n", "\r\n", "\r"]))
                                    for row in rows))
-        for script in scripts:
+        for number, script in self.cases(scripts):
             # the program counts line feeds, so it gets the script with only line feeds
             plain = re.sub("\r\n?", "\n", script).rstrip("\n") + "\n"
             told = BAD_ROW.search("".join(run_program(["sim", "--pi", "C201"], plain.encode())[2]))
             open_script(b, script, m=128, k=0)
             got = BAD_ROW.search(text_of(b, "#script-fault"))
-            self.check(f"seed {SEED}, the row of {script!r}", got and got[1], told and told[1])
+            self.check(f"seed {SEED}, the row of script {number}", got and got[1], told and told[1], script)
             if not told or not got:
                 continue
             click(b, "#script-fault button")
-            self.check(f"seed {SEED}, the line of {script!r}", call(b, "probe.chosenLine", "script-text"),
-                       plain.split("\n")[int(told[2]) - 1])
+            self.check(f"seed {SEED}, the line of script {number}", call(b, "probe.chosenLine", "script-text"),
+                       plain.split("\n")[int(told[2]) - 1], script)
             seen.add(plain.split("\n")[int(told[2]) - 1])
-        self.check("several kinds of bad rows", len(seen) > 4 or seen, True)
+        self.check_all("several kinds of bad rows", len(seen) > 4 or seen, True)
 
     def test_an_empty_yes_and_a_refused_set_have_a_warning(self):
         b = self.b

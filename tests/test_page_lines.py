@@ -35,7 +35,7 @@ class Lines:
     def same(self, name, words, data):
         """Compares the page's status, output and notes with those of the program."""
         got = call(self.b, "probe.run", words, list(data))
-        self.check(f"{name}: {' '.join(words)}", got, run_program(words, data))
+        self.check(f"{name}: {' '.join(words)}", got, run_program(words, data), data)
 
     def test_the_lines_of_examples(self):
         calls = [["decode", "--pi", "C201"], ["decode", "--pi", "F201", "--m", "8"],
@@ -65,9 +65,9 @@ class Lines:
 
     def test_logs_and_scripts_by_chance(self):
         dice = random.Random(SEED)
-        for number in range(120):
-            data, m = some_log(dice), str(dice.choice([1, 2, 5, 8, 128, 65535]))
-            k = str(dice.choice([0, 0, 1, 7, 1024]))
+        logs = ((some_log(dice), str(dice.choice([1, 2, 5, 8, 128, 65535])), str(dice.choice([0, 0, 1, 7, 1024])))
+                for _ in range(120))
+        for number, (data, m, k) in self.cases(logs):
             self.same(f"seed {SEED}, log {number}", ["decode", "--pi", "C201", "--m", m], data)
             self.same(f"seed {SEED}, log {number}", ["audit", "--pi", "C201", "--m", m, "--k", k], data)
         for number in range(120):

@@ -123,7 +123,7 @@ class LogTab:
                 answers = [program(["audit", "--pi", "C201", "--m", str(m), "--k", str(k)],
                                    log.encode())[0] for m in DWELLS]
                 self.check(f"seed {SEED}, answers for log {number}, K {k}", got,
-                           [f"{m:,} {'✗' if no else '✓'}" for m, no in zip(DWELLS, answers)])
+                           [f"{m:,} {'✗' if no else '✓'}" for m, no in zip(DWELLS, answers)], log)
         call(b, "logTab.open", EVERY_100, {"pi": "C201", "m": 128, "k": 0})
         click(b, "#dwells [data-m='64']")
         self.check("a button chooses its dwell", (of(b, "#log-m", "value"), text_of(b, "#verdict h2")),
@@ -135,26 +135,24 @@ class LogTab:
         """Until then the verdict is not green."""
         b = self.b
         dice, offered = random.Random(SEED), 0
-        for number in range(60):
-            log, m = with_times(dice), dice.choice([8, 128])
+        for number, (log, m) in self.cases((with_times(dice), dice.choice([8, 128])) for _ in range(60)):
             call(b, "logTab.open", log, {"pi": "C201", "m": m, "k": 0})
             done = subprocess.run([os.path.join(EXAMPLES, "slots"), "--m", str(m)], input=log.encode(),
                                   capture_output=True, timeout=SECONDS)
             has_more = len(done.stdout.splitlines()) > b.run("logTab.state.times.timed")
             is_offered = "Add the lost slots" in text_of(b, "#verdict")
-            self.check(f"seed {SEED}, times {number}: offered", is_offered, has_more)
+            self.check(f"seed {SEED}, times {number}: offered", is_offered, has_more, log)
             if not is_offered:
                 continue
             offered += 1
             self.check(f"seed {SEED}, times {number}: no green",
-                       of(b, "#verdict", "className") in ("verdict empty", "verdict no"),
-                       True)
+                       of(b, "#verdict", "className") in ("verdict empty", "verdict no"), True, log)
             buttons = "[...document.querySelectorAll('#verdict button')]"
             b.run(f"{buttons}.find(it => it.textContent === 'Add the lost slots').click()")
             idle(b)
             self.check(f"seed {SEED}, times {number}: added as by examples/slots", of(b, "#log-text", "value"),
-                       done.stdout.decode())
-        self.check("lost slots were offered", offered > 20, True)
+                       done.stdout.decode(), log)
+        self.check_all("lost slots were offered", offered > 20, True)
         hour = f"{HI} @2026/11/26 10:00:00.00\nC201 2150 4A4F 0D20 @2026/11/26 11:00:00.00\n"
         call(b, "logTab.open", hour, {"pi": "C201", "m": 128, "k": 0})
         said = ("Lost slots: By the times of the lines, 41,105 slots are not in this log. "
@@ -182,7 +180,8 @@ class LogTab:
             before = "\n".join(good[:int(bad[1]) - 1]) + "\n" if bad else log
             slots = program(["decode", "--pi", "C201", "--m", "1"], before.encode())[0]
             count = sum(1 for line in before.split("\n") if line.strip("\r") and line[0] not in "<#%")
-            self.check(f"seed {SEED}, slots of odd log {number}", (b.run("logTab.state.log.count"), slots), (count, 0))
+            self.check(f"seed {SEED}, slots of odd log {number}", (b.run("logTab.state.log.count"), slots), (count, 0),
+                       log)
 
     def test_the_list_has_each_change_and_can_be_filtered(self):
         """A row goes to its slot."""
@@ -242,20 +241,21 @@ class LogTab:
         dice, found = random.Random(SEED), 0
         groups = GROUPS[:8] + ["C201 2150 4E45 5753", "C201 2151 2046 4D0D", "C201 A150 4A41 5A5A",
                                "C201 A151 2046 4D20"]
-        for number in range(40):
-            m, log = dice.choice([2, 4, 8]), "".join(f"{dice.choice(groups)}\n" for _ in range(dice.randrange(4, 60)))
+        logs = ((dice.choice([2, 4, 8]), "".join(f"{dice.choice(groups)}\n" for _ in range(dice.randrange(4, 60))))
+                for _ in range(40))
+        for number, (m, log) in self.cases(logs):
             options, said = ["--pi", "C201", "--m", str(m)], verdict_of(b, log, m)
             if program(["audit", *options], log.encode())[0] == 0:
-                self.check(f"seed {SEED}, log {number} passes", "✓ Passes with M = " in said, True)
+                self.check(f"seed {SEED}, log {number} passes", "✓ Passes with M = " in said, True, log)
                 continue
             told = program(["witness", *options], log.encode())[1].splitlines()
             its = b.run("logTab.state.witness")
             slots = its["lost"] and "-".join(map(str, sorted(set(its["lost"]))))
             self.check(f"seed {SEED}, witness of log {number}, M {m}",
                        [f"lose {slots}: {line}" for line in its["shown"]]
-                       or ["no witness found with one burst lost"], told)
+                       or ["no witness found with one burst lost"], told, log)
             found += bool(its["shown"])
-        self.check("witnesses were found", found > 5, True)
+        self.check_all("witnesses were found", found > 5, True)
         verdict_of(b, example("flags.log").decode(), 8)
         b.run("verdict.showWitness({ lost: null, shown: [], failure: 'no memory for this input' }, {})")
         self.check("a search that fails", text_of(b, "#witness"),

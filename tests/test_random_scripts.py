@@ -1,6 +1,7 @@
 """Arguments and scripts by chance: each of the four commands beside the others, and bad rows and lines at any depth."""
 import bisect
 import collections
+import functools
 import itertools
 import random
 
@@ -19,28 +20,29 @@ class Scripts(ProgramCase):
     """Scripts of good rows for each dwell and lateness, and each with a bad row at some depths."""
 
     def setUp(self):
-        self.rng, self.seen = random.Random(SEED), collections.Counter()
+        self.seen = collections.Counter()
 
     def test_all_commands_agree_on_scripts_by_chance(self):
-        for dwell, late in 4 * list(itertools.product(random_scripts.DWELLS, random_scripts.LATENESSES)):
+        stations = 4 * list(itertools.product(random_scripts.DWELLS, random_scripts.LATENESSES))
+        for number, (dwell, late) in self.cases([*stations, (65535, 0), (65535, 1024)]):
+            # each script can be made without those before it
+            self.rng = random.Random(f"{SEED} {number}")
             count = self.rng.choice((0, 1, 2, 3, 10, 50, 200, 600))
             # some scripts are long enough that texts follow one another
             count += 3 * (dwell + late) if dwell <= 1000 and self.rng.random() < 0.5 else 0
-            self.family(dwell, late, count)
-        self.family(65535, 0, 70_000)
-        self.family(65535, 1024, 70_000)
+            self.family(number, dwell, late, count if number < len(stations) else 70_000)
         replies = {"ok", "silent", "held", "notext", "outoftext", "restart"}
-        self.check("replies", replies - {it for it, times in self.seen.items() if times > 20}, set())
-        self.check("receivers that showed something", {f"view of {it}" for it in range(8)} - set(self.seen), set())
-        self.check("faults", self.seen["bad row"] > 500, True)
+        self.check_all("replies", replies - {it for it, times in self.seen.items() if times > 20}, set())
+        self.check_all("receivers that showed something", {f"view of {it}" for it in range(8)} - set(self.seen), set())
+        self.check_all("faults", self.seen["bad row"] > 500, True)
 
-    def family(self, dwell, late, count):
+    def family(self, number, dwell, late, count):
         """Plays a script of so many rows, the same with a bad row, and its log with a bad line."""
         rng = self.rng
         asked, receivers = random_scripts.station(rng, dwell, late), rng.randrange(9)
         kept = list(random_scripts.rows(rng, count, receivers, late))
         rows = [row for row, _ in kept]
-        name = f"seed {SEED}, script of {count} rows, {receivers} receivers, {asked}"
+        name = f"seed {SEED}, script {number} of {count} rows, {receivers} receivers, {asked}"
         words, log = self.good_script(asked, name, rows)
         for depth in {0, count, *(rng.randrange(count + 1) for _ in range(2))}:
             lasts = kept[depth - 1][1] if depth else [-1] * receivers
@@ -50,8 +52,10 @@ class Scripts(ProgramCase):
     def good_script(self, asked, name, rows):
         """Plays good rows with `sim` and `encode`, and the log with `decode` and `audit`. Returns the arguments and the
         log."""
-        check, words = self.check, {command: random_scripts.words(self.rng, command, asked) for command in COMMANDS}
-        status, simulated = ran(words["sim"], b"".join(map(random_scripts.line, rows)))
+        words = {command: random_scripts.words(self.rng, command, asked) for command in COMMANDS}
+        script = b"".join(map(random_scripts.line, rows))
+        check = functools.partial(self.check, given=script)
+        status, simulated = ran(words["sim"], script)
         check(f"{name}: end of sim", status, 0)
         status, log = ran(words["encode"], b"".join(random_scripts.line(row._replace(receptions="")) for row in rows))
         check(f"{name}: end of encode", status, 0)
@@ -74,7 +78,8 @@ class Scripts(ProgramCase):
             check(f"{name}: decode as the first receiver", shown.decode().splitlines(), views[0])
         blocks = [groups[slot].split() if slot in groups else None for slot in range(len(rows))]
         answer = plain_audit.audit(blocks, asked.dwell + asked.late)
-        check(f"{name}: audit", ran(words["audit"], log), (0 if answer.startswith("yes") else 1, answer.encode()))
+        self.check(f"{name}: audit", ran(words["audit"], log), (0 if answer.startswith("yes") else 1, answer.encode()),
+                   log)
         self.seen.update(rest.split(" ")[0] or what for _, what, rest in replies)
         self.seen.update(f"view of {number}" for number in views)
         return words, log
@@ -86,8 +91,9 @@ class Scripts(ProgramCase):
             before, after = (b"".join(map(random_scripts.line, it)) for it in (good[:depth], good[depth:]))
             bad = random_scripts.bad_line(self.rng, depth, asked.late, lasts, command == "encode")
             _, wanted = ran(words[command], before)
-            got = ran(words[command], before + bad + after)
-            self.check(f"{name} of {command}, {bad!r}", got, (1, wanted + mark + b"fault row %d\n" % (depth + 1)))
+            given = before + bad + after
+            self.check(f"{name} of {command}, {bad!r}", ran(words[command], given),
+                       (1, wanted + mark + b"fault row %d\n" % (depth + 1)), given)
             self.seen["bad row"] += 1
 
     def bad_line_at(self, name, words, log, depth):
@@ -98,15 +104,16 @@ class Scripts(ProgramCase):
         given = b"".join((*lines[:place], self.rng.choice(BAD_LINES), *lines[place:]))
         fault = b"fault line %d\n" % (place + 1)
         _, wanted = ran(words["decode"], b"".join(lines[:place]))
-        self.check(f"{name} of decode", ran(words["decode"], given), (1, wanted + fault))
+        self.check(f"{name} of decode", ran(words["decode"], given), (1, wanted + fault), given)
         status, wanted = ran(words["audit"], b"".join(lines[:place]))
-        self.check(f"{name} of audit", ran(words["audit"], given), (1, wanted if status else fault))
+        self.check(f"{name} of audit", ran(words["audit"], given), (1, wanted if status else fault), given)
 
 
 class Arguments(ProgramCase):
     def test_good_arguments_are_taken_and_a_wrong_one_is_refused(self):
-        rng, most = random.Random(SEED), 0
-        for _ in range(300):
+        most = 0
+        for number, _ in self.cases(range(300)):
+            rng = random.Random(f"{SEED} {number}")
             asked = random_scripts.station(rng, rng.choice(random_scripts.DWELLS),
                                            rng.choice(random_scripts.LATENESSES))
             for command in COMMANDS:
@@ -116,4 +123,4 @@ class Arguments(ProgramCase):
                 words = random_scripts.refused_words(rng, command, asked)
                 status, output = ran(words, HI)
                 self.check(f"seed {SEED}, refused {words}", (status, output[:7]), (2, b"error: "))
-        self.check("eleven words", most, 11)
+        self.check_all("eleven words", most, 11)

@@ -111,10 +111,10 @@ class ByChance(Case):
             status, lines, told = ran(given)
             places = [at for at, line in enumerate(lines) if line != LOST]
             written = [int(lines[at][15:19], 16) for at in places]
-            self.check(f"seed {SEED}, each group once, {spread}", (written, status, told), (slots, 0, ""))
+            self.check(f"seed {SEED}, each group once, {spread}", (written, status, told), (slots, 0, ""), given)
             gaps = [b - a - (d - c) for a, b, c, d in zip(places, places[1:], slots, slots[1:])]
-            self.check(f"seed {SEED}, no slot too few, {spread}", min(gaps), 0)
-            self.check(f"seed {SEED}, and none too many, {spread}", max(gaps) == 0, is_exact)
+            self.check(f"seed {SEED}, no slot too few, {spread}", min(gaps), 0, given)
+            self.check(f"seed {SEED}, and none too many, {spread}", max(gaps) == 0, is_exact, given)
 
 
 class Live(Case):

@@ -195,8 +195,9 @@ class Rows(Case):
                 words = [STATION, "--no-empty-first", "--at-once", "--slots", "2", "--m", "1", file.name]
                 rows = subprocess.run(words, capture_output=True, timeout=SECONDS).stdout.decode()
                 plain = f'-,,1,\ntext,"{text.replace(chr(34), chr(34) * 2)}",0,\n'
-                self.check(f"seed {SEED}, {text!r} by encode", encoded(rows, 1).returncode, 0)
-                self.check(f"seed {SEED}, {text!r} beside encode", rows == plain, encoded(plain, 1).returncode == 0)
+                self.check(f"seed {SEED}, {text!r} by encode", encoded(rows, 1).returncode, 0, rows)
+                self.check(f"seed {SEED}, {text!r} beside encode", rows == plain, encoded(plain, 1).returncode == 0,
+                           rows)
 
 
 class Live(Case):

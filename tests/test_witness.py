@@ -89,42 +89,50 @@ class Case(ProgramCase):
         found = re.fullmatch(r"lose (\d+)(?:-(\d+))?: ((\d+) .*)", printed)
         first, last, line, slot = int(found[1]), int(found[2] or found[1]), found[3], int(found[4])
         emptied = [LOST if first <= at <= last else it for at, it in enumerate(slots)]
-        self.check(f"{name}: {printed}: without the slots", line in decoded(emptied, dwell), True)
+        self.check(f"{name}: {printed}: without the slots", line in decoded(emptied, dwell), True,
+                   logged(slots))
         known = {thing_of(it) for it in decoded(slots[:slot + dwell], dwell)}
-        self.check(f"{name}: {printed}: with them", thing_of(line) in known, False)
+        self.check(f"{name}: {printed}: with them", thing_of(line) in known, False, logged(slots))
         return (first, last), slot
+
+
+def logs_by_chance():
+    """Gives a dwell and a log, and with each tenth log another programme and a number of times."""
+    rng, elsewhere = random.Random(SEED), random.Random(SEED_ELSEWHERE)
+    for number in range(LOGS):
+        dwell, slots = rng.choice((2, 3, 4, 6)), random_log(rng)
+        other = (f"{elsewhere.randrange(65536):04X}", elsewhere.choice((2, 40, 1000, 10_000)))
+        yield dwell, slots, other if number % 10 == 0 else None
 
 
 class ByChance(Case):
     def test_a_mix_is_found_exactly_if_the_plain_search_finds_one(self):
         """Both find it in the same slot."""
-        rng, elsewhere_rng, found, several = random.Random(SEED), random.Random(SEED_ELSEWHERE), 0, 0
-        for number in range(LOGS):
-            dwell, slots = rng.choice((2, 3, 4, 6)), random_log(rng)
+        found, several = 0, 0
+        for number, (dwell, slots, other) in self.cases(logs_by_chance()):
             status, lines = witness(slots, dwell)
             name, best = f"seed {SEED}, log {number}, dwell {dwell}", first_mix(slots, dwell)
             got = {self.confirm(name, slots, dwell, it) for it in lines if it != NONE}
             self.check(f"{name}: first mix", (status, {slot for _, slot in got}),
-                       (0, set()) if best is None else (1, {best}))
+                       (0, set()) if best is None else (1, {best}), logged(slots))
             for burst, slot in got:
                 self.check(f"{name}: each mix of slot {slot} has a line", [it.partition(": ")[2] for it in lines],
-                           mixes_of(slots, dwell, burst, slot))
+                           mixes_of(slots, dwell, burst, slot), logged(slots))
                 several += len(lines) > 1
             found += bool(got)
-            if number % 10 == 0:
-                self.elsewhere(name, slots, dwell, (status, lines), elsewhere_rng)
-        self.check("logs with a mix, and without", LOGS // 15 < found < LOGS - LOGS // 15, True)
-        self.check("logs with several mixes in one slot", several > 5, True)
+            if other is not None:
+                self.elsewhere(name, slots, dwell, (status, lines), *other)
+        self.check_all("logs with a mix, and without", LOGS // 15 < found < LOGS - LOGS // 15, True)
+        self.check_all("logs with several mixes in one slot", several > 5, True)
 
-    def elsewhere(self, name, slots, dwell, answer, rng):
+    def elsewhere(self, name, slots, dwell, answer, pi, times):
         """Checks that the answer is the same for another programme, and for longer slots and dwells."""
-        pi, times = f"{rng.randrange(65536):04X}", rng.choice((2, 40, 1000, 10_000))
         others = [it if it == LOST else pi + it[4:] for it in slots]
         status, output = ran(["witness", "--pi", pi, "--m", str(dwell)], logged(others))
-        self.check(f"{name}: programme {pi}", (status, output.decode().splitlines()), answer)
+        self.check(f"{name}: programme {pi}", (status, output.decode().splitlines()), answer, logged(others))
         longer = [it for line in slots for it in [line] + [LOST] * (times - 1)]
         self.check(f"{name}: {times} times as long", witness(longer, dwell * times),
-                   (answer[0], moved(answer[1], times)))
+                   (answer[0], moved(answer[1], times)), logged(slots))
 
 
 class Worked(Case):

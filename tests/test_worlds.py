@@ -13,7 +13,7 @@ class Worlds(ProgramCase):
     def test_receivers_show_what_was_on_air(self):
         """All that two receivers show is right, whatever they lose and however late groups come."""
         seen = collections.Counter()
-        for seed in range(WORLDS):
+        for _, seed in self.cases(range(WORLDS)):
             rng, late = random.Random(seed), seed % 4
             rows, lasts = [], [-1, -1]
             for slot, row in enumerate(random_rows(rng)):
@@ -25,10 +25,10 @@ class Worlds(ProgramCase):
             diary = Diary(rows, accepted_in(replies))
             views = [shown(changes[receiver], SLOTS) for receiver in range(2)]
             found = [it for slot, pair in enumerate(zip(*views)) for it in diary.wrongs(slot, DWELL + late, pair)]
-            self.check(f"seed {seed}: wrong views", (status, found), (0, []))
+            self.check(f"seed {seed}, M {DWELL}, K {late}: wrong views", (status, found), (0, []), script(rows))
             seen.update(part for pair in zip(*views) for view in pair for part in view)
         parts = ("text", "name", "item", "tag1", "tag2")
-        self.check("slots with each part", min(seen[it] for it in parts) > 100, True)
+        self.check_all("slots with each part", min(seen[it] for it in parts) > 100, True)
 
     def test_some_receivers_of_twice_the_dwell_show_a_mix(self):
         found = []

@@ -5,7 +5,10 @@ WHY]` comes after it. So a process that ends in the middle of a test leaves the 
 """
 import json
 import sys
+import traceback
 import unittest
+
+from tests.support import line_of_the_check
 
 # the reports of one test that are kept
 MOST_REPORTS = 10
@@ -42,8 +45,12 @@ class Outcomes(unittest.TestResult):
         self.reports = []
 
     def report(self, test, error):
-        kind, value, _ = error
-        text = str(value) if issubclass(kind, AssertionError) else self._exc_info_to_string(error, test)
+        kind, value, trace = error
+        if issubclass(kind, AssertionError):
+            # a check names its line itself
+            text = "\n".join(it for it in (line_of_the_check(traceback.extract_tb(trace)), str(value)) if it)
+        else:
+            text = self._exc_info_to_string(error, test)
         if isinstance(test, unittest.suite._ErrorHolder):
             self.set_up = "failed", f"{test.id()}: {text}"
             if test.id().startswith("tearDown"):
