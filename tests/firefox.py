@@ -1,88 +1,33 @@
-"""A headless Firefox, driven by WebDriver BiDi over a WebSocket: no package beyond the browser itself.
+"""Drives a headless Firefox by WebDriver BiDi, over the WebSocket of Debian's python3-websocket.
 
-https://w3c.github.io/webdriver-bidi says what its methods take and give. It has the calls of browser.Browser that most
-cases need. Debian has no geckodriver, so Selenium cannot drive it.
+https://w3c.github.io/webdriver-bidi explains its methods. The driver has the calls of browser.Browser that most tests
+need. Debian has no geckodriver, so Selenium cannot drive Firefox.
 """
-import base64
 import json
 import os
 import re
 import shutil
-import socket
-import struct
 import subprocess
 import tempfile
 import threading
 
+# it also lets Python look among Debian's packages
 from tests import browser
 
+try:
+    import websocket
+except ImportError:
+    websocket = None
+
+PACKAGES = "firefox-esr python3-websocket"
 NAMES = ("firefox-esr", "firefox")
 SECONDS = 60
 PREFERENCES = {"ui.prefersReducedMotion": 1, "browser.shell.checkDefaultBrowser": False}
 
 
 def program():
-    """The browser of this machine; None where there is none."""
-    return browser.first_of(NAMES)
-
-
-class Socket:
-    """A WebSocket of text messages, as a client (RFC 6455)."""
-
-    TEXT, CLOSE, PING = 1, 8, 9
-
-    def __init__(self, host, port, path):
-        self.socket = socket.create_connection((host, port), SECONDS)
-        key = base64.b64encode(os.urandom(16)).decode()
-        words = [f"GET {path} HTTP/1.1", f"Host: {host}:{port}", "Upgrade: websocket", "Connection: Upgrade",
-                 f"Sec-WebSocket-Key: {key}", "Sec-WebSocket-Version: 13", "", ""]
-        self.socket.sendall("\r\n".join(words).encode())
-        self.left = b""
-        while b"\r\n\r\n" not in self.left:
-            self.left += self.read()
-        head, _, self.left = self.left.partition(b"\r\n\r\n")
-        if b" 101 " not in head.splitlines()[0]:
-            raise OSError(head.decode())
-
-    def read(self):
-        piece = self.socket.recv(1 << 16)
-        if not piece:
-            raise EOFError("the browser ended")
-        return piece
-
-    def take(self, count):
-        pieces, size = [self.left], len(self.left)
-        while size < count:
-            pieces.append(self.read())
-            size += len(pieces[-1])
-        data = b"".join(pieces)
-        self.left = data[count:]
-        return data[:count]
-
-    def send(self, text):
-        data, mask = text.encode(), os.urandom(4)
-        length = len(data)
-        size = (struct.pack("!B", 0x80 | length) if length < 126 else
-                struct.pack("!BH", 0x80 | 126, length) if length < 1 << 16 else struct.pack("!BQ", 0x80 | 127, length))
-        whole = (mask * (length // 4 + 1))[:length]
-        masked = (int.from_bytes(data, "big") ^ int.from_bytes(whole, "big")).to_bytes(length, "big")
-        self.socket.sendall(bytes([0x80 | self.TEXT]) + size + mask + masked)
-
-    def receive(self):
-        """The next text message."""
-        message = b""
-        while True:
-            first, second = self.take(2)
-            size = second & 127
-            if size > 125:
-                size = int.from_bytes(self.take(2 if size == 126 else 8), "big")
-            data = self.take(size)
-            if first & 15 == self.CLOSE:
-                raise EOFError("the browser ended")
-            if first & 15 < self.CLOSE:
-                message += data
-                if first & 0x80:
-                    return message.decode()
+    """Returns the browser of this machine; None if the browser or the package is missing."""
+    return browser.first_of(NAMES) if websocket else None
 
 
 def value_of(remote):
@@ -104,7 +49,10 @@ class Browser(browser.Driven):
                              for name, value in PREFERENCES.items())
         words = [program(), "--headless", "--remote-debugging-port", "0", "--profile", self.folder]
         self.process = subprocess.Popen(words, stdout=subprocess.DEVNULL, stderr=subprocess.PIPE)
-        self.socket = Socket(*self.address(), "/session")
+        host, port = self.address()
+        # Firefox refuses a client that names an origin
+        self.socket = websocket.create_connection(f"ws://{host}:{port}/session", timeout=SECONDS, suppress_origin=True,
+                                                  skip_utf8_validation=True, http_no_proxy=[host])
         # a full pipe would stop the browser
         threading.Thread(target=self.process.stderr.read, daemon=True).start()
         self.ask("session.new", capabilities={})
@@ -125,7 +73,10 @@ class Browser(browser.Driven):
         self.number += 1
         self.socket.send(json.dumps({"id": self.number, "method": method, "params": params}))
         while True:
-            got = json.loads(self.socket.receive())
+            text = self.socket.recv()
+            if not text:
+                raise EOFError("the browser ended")
+            got = json.loads(text)
             if got.get("id") != self.number:
                 self.events.append(got)
             elif got["type"] == "error":
@@ -166,8 +117,9 @@ class Browser(browser.Driven):
     def close(self):
         try:
             self.ask("browser.close")
-        except (OSError, EOFError, RuntimeError):
+        except (OSError, EOFError, RuntimeError, websocket.WebSocketException):
             self.process.kill()
+        self.socket.shutdown()
         try:
             self.process.wait(SECONDS)
         except subprocess.TimeoutExpired:

@@ -209,4 +209,4 @@ class ChromiumCase(PageCase):
 
 
 class FirefoxCase(PageCase):
-    driver, name, packages = firefox, "Firefox", "firefox-esr"
+    driver, name, packages = firefox, "Firefox", firefox.PACKAGES
