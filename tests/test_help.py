@@ -3,7 +3,7 @@ import os
 import subprocess
 import tempfile
 
-from tests.calls import ALL_OPTIONS, COMMANDS, DECODE
+from tests.calls import ALL_OPTIONS, COMMANDS, DECODE, OF_A_STATION
 from tests.support import PROGRAM, PROMPT, SECONDS, ProgramCase, bytes_of, ran
 from tests.worked_rows import HI
 
@@ -15,18 +15,21 @@ SHOWN = [
     ("help_of_sim", ["sim", "--help"], 0),
     ("help_of_audit", ["audit", "--help"], 0),
     ("help_of_witness", ["witness", "--help"], 0),
+    ("help_of_slots", ["slots", "--help"], 0),
     ("help", ["help"], 0),
     ("help_of_decode", ["help", "decode"], 0),
     ("help_of_encode", ["help", "encode"], 0),
     ("help_of_sim", ["help", "sim"], 0),
     ("help_of_audit", ["help", "audit"], 0),
     ("help_of_witness", ["help", "witness"], 0),
+    ("help_of_slots", ["help", "slots"], 0),
     ("help", ["-h"], 0),
     ("short_help_of_decode", ["decode", "-h"], 0),
     ("short_help_of_encode", ["encode", "-h"], 0),
     ("short_help_of_sim", ["sim", "-h"], 0),
     ("short_help_of_audit", ["audit", "-h"], 0),
     ("short_help_of_witness", ["witness", "-h"], 0),
+    ("short_help_of_slots", ["slots", "-h"], 0),
     ("help_of_no_command", ["help", "nonsense"], 2),
     ("version", ["--version"], 0),
     ("no_subcommand", [], 2),
@@ -46,7 +49,10 @@ DECIDED = [
     ([*DECODE, *["C201"] * 1000], 2), (["help", "nonsense"], 2), (["help", "--pi"], 2),
     (["--help"], 0), (["-h"], 0), (["help"], 0), (["--version"], 0), (["-V"], 0), ([*DECODE, "--help"], 0),
     *((words, 0) for name in COMMANDS for words in ([name, "--help"], [name, "-h"], ["help", name])),
-    *(([name, "--pi", given], 2) for name in COMMANDS for given in ("", "C20", " C201", "C2011", "C20G")),
+    (["slots", "--pi", "C201"], 2), (["slots", "--m", "0"], 2), (["slots", "--grain", "88"], 2),
+    (["slots", "--grain", "-1"], 2), (["slots", "--grain", "8", "--grain", "8"], 2), ([*DECODE, "--grain", "8"], 2),
+    ([*DECODE, "--running"], 2), (["audit", "--pi", "C201", "--running", "--running"], 2),
+    *(([name, "--pi", given], 2) for name in OF_A_STATION for given in ("", "C20", " C201", "C2011", "C20G")),
 ]
 
 

@@ -5,7 +5,7 @@ import shlex
 import subprocess
 import tempfile
 
-from tests.calls import AUDIT, DECODE, ENCODE, SHOWS_HI, SIM
+from tests.calls import AUDIT, DECODE, ENCODE, SHOWS_HI, SIM, SLOTS, TIMED
 from tests.support import PROGRAM, ROOT, SECONDS, ProgramCase, ran_by_shell
 from tests.worked_rows import ENCODED_SCRIPT, HI, TAGS_ON_AIR
 
@@ -16,6 +16,7 @@ COMMANDS = [
     (SIM, TAGS_ON_AIR, b"fault read\n"),
     (ENCODE, ENCODED_SCRIPT, b"# fault read\n"),
     (AUDIT, HI, b"fault read\n"),
+    (SLOTS, TIMED, b"# fault read\n"),
 ]
 # a command with more output than a pipe holds
 MANY = {"decode": (HI + b"C201 2150 594F 0D20\n") * 10_000, "sim": b"text,HI,1,G\n" * 20_000,
@@ -31,6 +32,11 @@ TURNS = [
     ([*ENCODE, "--m", "1"], [
         (b"text,HI,1,\n", b"# 0 text silent 1\n---- ---- ---- ----\n"),
         (b"text,HI,1,\n", b"# 1 text ok\nC201 2140 4849 0D20\n"),
+    ]),
+    # 0.3 s less 0.02 s are 3.2 slots, so the second group comes in the fourth
+    (SLOTS, [
+        (b"C201 2140 4849 0D20 1.0 x\n", b"C201 2140 4849 0D20 1.0\n"),
+        (b"C201 2150 594F 0D20 1.3\n", b"---- ---- ---- ----\n" * 3 + b"C201 2150 594F 0D20 1.3\n"),
     ]),
 ]
 

@@ -6,7 +6,7 @@ import itertools
 import random
 
 from tests import outputs, plain_audit, random_scripts
-from tests.calls import COMMANDS
+from tests.calls import OF_A_STATION
 from tests.support import ProgramCase, ran
 from tests.worked_rows import HI
 
@@ -52,7 +52,7 @@ class Scripts(ProgramCase):
     def good_script(self, asked, name, rows):
         """Plays good rows with `sim` and `encode`, and the log with `decode` and `audit`. Returns the arguments and the
         log."""
-        words = {command: random_scripts.words(self.rng, command, asked) for command in COMMANDS}
+        words = {command: random_scripts.words(self.rng, command, asked) for command in OF_A_STATION}
         script = b"".join(map(random_scripts.line, rows))
         check = functools.partial(self.check, given=script)
         status, simulated = ran(words["sim"], script)
@@ -116,7 +116,7 @@ class Arguments(ProgramCase):
             rng = random.Random(f"{SEED} {number}")
             asked = random_scripts.station(rng, rng.choice(random_scripts.DWELLS),
                                            rng.choice(random_scripts.LATENESSES))
-            for command in COMMANDS:
+            for command in OF_A_STATION:
                 words = random_scripts.words(rng, command, asked)
                 most = max(most, len(words))
                 self.check(f"seed {SEED}, {words}", ran(words), (0, OVER_NOTHING.get(command, b"")))

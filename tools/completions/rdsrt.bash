@@ -3,15 +3,16 @@ _rdsrt() {
     local word=${COMP_WORDS[COMP_CWORD]} before=${COMP_WORDS[COMP_CWORD - 1]} command='' it offered
     COMPREPLY=()
     # the value of an option
-    case $before in --pi | --m | -m | --k | -k | --pty) return ;; esac
+    case $before in --pi | --m | -m | --k | -k | --pty | --grain) return ;; esac
     for it in "${COMP_WORDS[@]:1:COMP_CWORD-1}"; do
-        case $it in decode | audit | witness | encode | sim | help) command=$it && break ;; esac
+        case $it in decode | audit | witness | slots | encode | sim | help) command=$it && break ;; esac
     done
     case $command in
-        '') offered='decode audit witness encode sim help --help --version' ;;
-        help) offered='decode audit witness encode sim help' ;;
+        '') offered='decode audit witness slots encode sim help --help --version' ;;
+        help) offered='decode audit witness slots encode sim help' ;;
         decode | witness) offered='--pi --m --quiet --help' ;;
-        audit) offered='--pi --m --k --quiet --help' ;;
+        audit) offered='--pi --m --k --running --quiet --help' ;;
+        slots) offered='--grain --m --quiet --help' ;;
         *) offered='--pi --m --k --pty --tp --quiet --help' ;;
     esac
     mapfile -t COMPREPLY < <(compgen -W "$offered" -- "$word")
