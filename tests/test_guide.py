@@ -81,7 +81,8 @@ class Guide(Case):
 
     def test_a_log_without_a_group_of_the_pi_gets_a_yes(self):
         self.check("no group of the programme", ran("./rdsrt audit --pi C202", f"{HI}\n".encode()), "yes 1\n")
-        self.check("it says so", "without a group of the PI gets a yes too" in " ".join(self.text.split()), True)
+        says = "A log without a group of the PI, or without a group 2A, 10A or 11A, gets a yes too"
+        self.check("it says so", says in " ".join(self.text.split()), True)
 
     def test_groups_11a_of_another_application_are_emptied(self):
         call = re.search(r"^    (sed .*)station\.log (\| .*)$", self.text, re.M)
