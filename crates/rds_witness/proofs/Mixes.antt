@@ -1,33 +1,151 @@
--- How lines of mixes go on by a line.
-use Rattle.std.proofs.Common.{◌≡◌, ◌++◌, ◌∷◌, [], ◌∙◌, ℕ, List, Option, ap, append_assoc, codes}
+-- How lines of mixes go on by the lines of a kind of things.
+use Rattle.std.proofs.Common.{◌≡◌, ◌⊎◌, ◌++◌, ◌∷◌, ◌+◌, ◌<◌, [], ◌∙◌, ℕ, List, Option, None, Some, ap, append_assoc, arith, codes, inl, inr, refl, subst, suc}
+use Rattle.std.specs.List.{Contains}
+use Rattle.std.proofs.lemmas.Bool.{cases_lt}
 use Rattle.std.proofs.lemmas.List.Elements.{All-cons, All-nil}
 use Rattle.rds_block.specs.declared.group.Group.{Group}
+use Rattle.rds_fields.specs.declared.pair.Which.TheVariants.{One, Two}
+use Rattle.rds_receiver.specs.OneView.{same_view}
 use Rattle.rds_receiver.specs.Receipts.{Tuning}
-use Rattle.rds_witness.specs.Lines.{AddsMixes, AreMixLines, burst_text, mix_line, shown_line}
-use Rattle.rds_witness.specs.Mix.{IsMix, Thing}
+use Rattle.rds_receiver.specs.Shown.{ShownView}
+use Rattle.rds_witness.specs.Lines.{AreMixLines, burst_text, mix_line, shown_line}
+use Rattle.rds_witness.specs.Lost.{got}
+use Rattle.rds_witness.specs.Mix.{AreAround, Has, IsMix, Name, NeverShows, Shows, Tag, Text, Thing, until}
+use Rattle.rds_witness.specs.SomeLines.{AddsKind, AreSomeMixLines, kind_of}
 use Rattle.rds_witness.specs.declared.burst.Burst.{Burst}
 
-pub no_mixes : (t : Tuning) (log : List (Option Group)) (burst : Burst) (slot : ℕ) (lines : List ℕ) → lines ≡ [] → AreMixLines t log burst slot lines
-no_mixes t log burst slot lines none = record { things = []; mixes = All-nil (IsMix t log burst slot); are = none }
+-- ---- things
 
-pub adds_nothing : (t : Tuning) (log : List (Option Group)) (burst : Burst) (slot : ℕ) (lines : List ℕ) → AddsMixes t log burst slot lines lines
-adds_nothing t log burst slot lines had = had
+kinds_below : (thing : Thing) → kind_of thing < 4
+kinds_below (Text x) = omega arith
+kinds_below (Name x) = omega arith
+kinds_below (Tag One class piece) = omega arith
+kinds_below (Tag Two class piece) = omega arith
 
--- the line of a mix, part by part
-pub adds_mix : (t : Tuning) (log : List (Option Group)) (burst : Burst) (slot : ℕ) (thing : Thing) (before a b c after : List ℕ) → a ≡ before ++ codes "lose " → b ≡ a ++ burst_text burst → c ≡ b ++ codes ": "
-    → after ≡ c ++ shown_line slot thing → IsMix t log burst slot thing → AddsMixes t log burst slot before after
-adds_mix t log burst slot thing before a b c after first second third fourth is had =
-    let lose = codes "lose " in
-    let text = burst_text burst in
-    let colon = codes ": " in
-    let shown = shown_line slot thing in
-    let whole : after ≡ before ++ mix_line burst slot thing =
-    fourth ∙ ap (λ (l : List ℕ). l ++ shown) (third ∙ ap (λ (l : List ℕ). l ++ colon) (second ∙ ap (λ (l : List ℕ). l ++ text) first))
-    ∙ ap (λ (l : List ℕ). (l ++ colon) ++ shown) (append_assoc before lose text)
-    ∙ ap (λ (l : List ℕ). l ++ shown) (append_assoc before (lose ++ text) colon)
-    ∙ append_assoc before ((lose ++ text) ++ colon) shown in
-    record {
-      things = thing ∷ had.things;
-      mixes = All-cons (IsMix t log burst slot) thing had.things is had.mixes;
-      are = whole ∙ ap (λ (l : List ℕ). l ++ mix_line burst slot thing) had.are;
-    }
+same_tag : (o : Option (ℕ × List ℕ)) (one other : ℕ × List ℕ) → o ≡ Some one → o ≡ Some other → one ≡ other
+same_tag o one other p q = cc
+
+-- a view has one thing of a kind
+one_thing : (view : ShownView) (a b : Thing) → kind_of a ≡ kind_of b → Has view a → Has view b → a ≡ b
+one_thing view (Text x) (Text y) e p q = (let same : x ≡ y = cc in ap Text same)
+one_thing view (Text x) (Name y) e p q = absurd (omega (arith, e))
+one_thing view (Text x) (Tag One d y) e p q = absurd (omega (arith, e))
+one_thing view (Text x) (Tag Two d y) e p q = absurd (omega (arith, e))
+one_thing view (Name x) (Text y) e p q = absurd (omega (arith, e))
+one_thing view (Name x) (Name y) e p q = (let same : x ≡ y = cc in ap Name same)
+one_thing view (Name x) (Tag One d y) e p q = absurd (omega (arith, e))
+one_thing view (Name x) (Tag Two d y) e p q = absurd (omega (arith, e))
+one_thing view (Tag One c x) (Text y) e p q = absurd (omega (arith, e))
+one_thing view (Tag One c x) (Name y) e p q = absurd (omega (arith, e))
+one_thing view (Tag One c x) (Tag One d y) e p q = ap (λ (tag : ℕ × List ℕ). Tag One tag.0 tag.1) (same_tag view.one (c, x) (d, y) p q)
+one_thing view (Tag One c x) (Tag Two d y) e p q = absurd (omega (arith, e))
+one_thing view (Tag Two c x) (Text y) e p q = absurd (omega (arith, e))
+one_thing view (Tag Two c x) (Name y) e p q = absurd (omega (arith, e))
+one_thing view (Tag Two c x) (Tag One d y) e p q = absurd (omega (arith, e))
+one_thing view (Tag Two c x) (Tag Two d y) e p q = ap (λ (tag : ℕ × List ℕ). Tag Two tag.0 tag.1) (same_tag view.two (c, x) (d, y) p q)
+
+-- a view without a thing of a kind
+pub no_text : (view : ShownView) → view.text ≡ None → (thing : Thing) → kind_of thing ≡ 0 → Has view thing → ⊥
+no_text view none (Text x) kind has = absurd (cc)
+no_text view none (Name x) kind has = absurd (omega (arith, kind))
+no_text view none (Tag One c x) kind has = absurd (omega (arith, kind))
+no_text view none (Tag Two c x) kind has = absurd (omega (arith, kind))
+
+pub no_name : (view : ShownView) → view.name ≡ None → (thing : Thing) → kind_of thing ≡ 1 → Has view thing → ⊥
+no_name view none (Text x) kind has = absurd (omega (arith, kind))
+no_name view none (Name x) kind has = absurd (cc)
+no_name view none (Tag One c x) kind has = absurd (omega (arith, kind))
+no_name view none (Tag Two c x) kind has = absurd (omega (arith, kind))
+
+pub no_one : (view : ShownView) → view.one ≡ None → (thing : Thing) → kind_of thing ≡ 2 → Has view thing → ⊥
+no_one view none (Text x) kind has = absurd (omega (arith, kind))
+no_one view none (Name x) kind has = absurd (omega (arith, kind))
+no_one view none (Tag One c x) kind has = absurd (cc)
+no_one view none (Tag Two c x) kind has = absurd (omega (arith, kind))
+
+pub no_two : (view : ShownView) → view.two ≡ None → (thing : Thing) → kind_of thing ≡ 3 → Has view thing → ⊥
+no_two view none (Text x) kind has = absurd (omega (arith, kind))
+no_two view none (Name x) kind has = absurd (omega (arith, kind))
+no_two view none (Tag One c x) kind has = absurd (omega (arith, kind))
+no_two view none (Tag Two c x) kind has = absurd (cc)
+
+contains_here : (xs : List Thing) (x : Thing) → Contains (x ∷ xs) x
+contains_here xs x = (0, omega arith, refl)
+
+contains_more : (xs : List Thing) (y x : Thing) → Contains xs x → Contains (y ∷ xs) x
+contains_more xs y x (k, less, is) = (suc k, omega (arith, less), is)
+
+-- ---- lines
+
+module _ (t : Tuning) (log : List (Option Group)) (burst : Burst) (slot : ℕ) where
+  -- before the first kind
+  no_lines : (lines : List ℕ) → lines ≡ [] → AreSomeMixLines 0 t log burst slot lines
+  no_lines lines none = record { things = []; mixes = All-nil (IsMix t log burst slot); all = λ thing below is. absurd (omega (arith, below)); are = none }
+
+  -- after the last kind
+  pub all_kinds : (before after : List ℕ) → before ≡ [] → (AreSomeMixLines 0 t log burst slot before → AreSomeMixLines 4 t log burst slot after) → AreMixLines t log burst slot after
+  all_kinds before after none adds =
+      let some = adds (no_lines before none) in
+      record { things = some.things; mixes = some.mixes; all = λ thing is. some.all thing (kinds_below thing) is; are = some.are }
+
+  -- a burst that is not before the slot makes no mix
+  pub no_place : (lines : List ℕ) → lines ≡ [] → ((thing : Thing) → IsMix t log burst slot thing → ⊥) → AreMixLines t log burst slot lines
+  no_place lines none not = record { things = []; mixes = All-nil (IsMix t log burst slot); all = λ thing is. absurd (not thing is); are = none }
+
+  -- no thing of the kind is a mix
+  pub adds_none : (n : ℕ) (lines : List ℕ) → ((thing : Thing) → kind_of thing ≡ n → IsMix t log burst slot thing → ⊥) → AddsKind n t log burst slot lines lines
+  adds_none n lines none had = record { things = had.things; mixes = had.mixes; all = all; are = had.are }
+    where
+      all : (thing : Thing) → kind_of thing < n + 1 → IsMix t log burst slot thing → Contains had.things thing
+      all thing below is = elim (cases_lt (kind_of thing) n) [
+        | inl older ↦ had.all thing older is
+        | inr here ↦ absurd (none thing (omega arith) is)
+      ]
+
+  module _ (before after : ShownView) (around : AreAround t log burst slot before after) where
+    has_after : (thing : Thing) → IsMix t log burst slot thing → Has after thing
+    has_after thing is = subst (λ (v : ShownView). Has v thing) (same_view t (got (Some burst) log (slot + 1)) is.new.after after is.new.is around.is) is.new.has
+
+    not_before : (thing : Thing) → IsMix t log burst slot thing → Shows before thing → ⊥
+    not_before thing is = subst (λ (v : ShownView). Shows v thing → ⊥) (same_view t (got (Some burst) log slot) is.new.before before is.new.was around.was) is.new.not_shown
+
+    -- the view has no thing of the kind
+    pub adds_nothing : (n : ℕ) (lines : List ℕ) → ((thing : Thing) → kind_of thing ≡ n → Has after thing → ⊥) → AddsKind n t log burst slot lines lines
+    adds_nothing n lines none = adds_none n lines (λ thing kind is. none thing kind (has_after thing is))
+
+    -- the thing of the kind is no mix
+    pub adds_no_mix : (thing : Thing) (lines : List ℕ) → Has after thing → Shows before thing ⊎ (NeverShows t log (until t.dwell log slot) thing → ⊥) → AddsKind (kind_of thing) t log burst slot lines lines
+    adds_no_mix thing lines has isnt = adds_none (kind_of thing) lines (λ other kind is.
+        not (subst (IsMix t log burst slot) (one_thing after other thing kind (has_after other is) has) is))
+      where
+        not : IsMix t log burst slot thing → ⊥
+        not is = elim isnt [
+          | inl shown ↦ not_before thing is shown
+          | inr never ↦ never is.never
+        ]
+
+    -- the line of a mix, part by part
+    pub adds_mix : (thing : Thing) (lines a b c more : List ℕ) → a ≡ lines ++ codes "lose " → b ≡ a ++ burst_text burst → c ≡ b ++ codes ": "
+        → more ≡ c ++ shown_line slot thing → Has after thing → IsMix t log burst slot thing → AddsKind (kind_of thing) t log burst slot lines more
+    adds_mix thing lines a b c more first second third fourth has is had =
+        let lose = codes "lose " in
+        let text = burst_text burst in
+        let colon = codes ": " in
+        let shown = shown_line slot thing in
+        let whole : more ≡ lines ++ mix_line burst slot thing =
+        fourth ∙ ap (λ (l : List ℕ). l ++ shown) (third ∙ ap (λ (l : List ℕ). l ++ colon) (second ∙ ap (λ (l : List ℕ). l ++ text) first))
+        ∙ ap (λ (l : List ℕ). (l ++ colon) ++ shown) (append_assoc lines lose text)
+        ∙ ap (λ (l : List ℕ). l ++ shown) (append_assoc lines (lose ++ text) colon)
+        ∙ append_assoc lines ((lose ++ text) ++ colon) shown in
+        record {
+          things = thing ∷ had.things;
+          mixes = All-cons (IsMix t log burst slot) thing had.things is had.mixes;
+          all = all;
+          are = whole ∙ ap (λ (l : List ℕ). l ++ mix_line burst slot thing) had.are;
+        }
+      where
+        all : (other : Thing) → kind_of other < kind_of thing + 1 → IsMix t log burst slot other → Contains (thing ∷ had.things) other
+        all other below also = elim (cases_lt (kind_of other) (kind_of thing)) [
+          | inl older ↦ contains_more had.things thing other (had.all other older also)
+          | inr here ↦ subst (Contains (thing ∷ had.things)) (one_thing after thing other (omega arith) has (has_after other also)) (contains_here had.things thing)
+        ]

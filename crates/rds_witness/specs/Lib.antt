@@ -8,5 +8,6 @@ pub mod Covered
 pub mod Search
 -- The output lines, and the promise of the call.
 pub mod Lines
+pub mod SomeLines
 pub mod Witness
 pub mod Prints

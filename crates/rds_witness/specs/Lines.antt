@@ -1,6 +1,7 @@
 -- The lines that `witness` writes. This is the project's own format.
 use Rattle.std.specs.Prelude.{◌≡◌, ◌≢◌, ◌⊎◌, ◌==◌, ◌++◌, ◌∷◌, [], ℕ, Bool, true, false, List, All, Option, Some, codes, decimal}
 use Rattle.std.specs.Prelude.{if◌then◌else◌}
+use Rattle.std.specs.List.{Contains}
 use Rattle.rds_block.specs.declared.group.Group.{Group}
 use Rattle.rds_fields.specs.declared.pair.Which.{Which}
 use Rattle.rds_fields.specs.declared.pair.Which.TheVariants.{One, Two}
@@ -35,17 +36,13 @@ abbrev pub mix_lines : Burst → ℕ → List Thing → List ℕ
 mix_lines burst slot [] = []
 mix_lines burst slot (thing ∷ older) = mix_lines burst slot older ++ mix_line burst slot thing
 
--- these are lines of mixes
+-- these are lines of mixes, and each mix in this slot, with this burst lost, has its line
 pub record AreMixLines (t : Tuning) (log : List (Option Group)) (burst : Burst) (slot : ℕ)
     (lines : List ℕ) : Type 0 where
   pub things : List Thing
   pub mixes : All (IsMix t log burst slot) things
+  pub all : (thing : Thing) → IsMix t log burst slot thing → Contains things thing
   pub are : lines ≡ mix_lines burst slot things
-
--- lines of mixes appended to lines of mixes are lines of mixes
-abbrev pub AddsMixes : Tuning → List (Option Group) → Burst → ℕ → List ℕ → List ℕ → Type 0
-AddsMixes t log burst slot before after =
-    AreMixLines t log burst slot before → AreMixLines t log burst slot after
 
 abbrev pub no_witness : List ℕ
 no_witness = codes "no witness found with one burst lost\n"

@@ -1,5 +1,5 @@
 //! Checks whether a receiver shows a mix.
-ghost use Rattle.std.specs.Prelude.{◌≡◌, ◌<◌, ◌≤◌, ◌+◌, IsTrue, None, Option, Some, length};
+ghost use Rattle.std.specs.Prelude.{◌≡◌, ◌<◌, ◌≤◌, ◌+◌, ◌↔◌, IsTrue, None, Option, Some, length};
 ghost use Rattle.rds_log.specs.LogWrites.{tuned};
 ghost use Rattle.rds_receiver.specs.StandsAt.{StandsAt};
 ghost use Rattle.rds_receiver.specs.Borrowed.{view_of};
@@ -40,7 +40,7 @@ pub(crate) fn is_never_shown(
     thing: Thing<'_>,
 ) -> bool
     requires { slots ≤ length log.now }
-    ensures { IsTrue result → NeverShows (tuned pi dwell) log.now slots (thing_of thing.entry) }
+    ensures { IsTrue result ↔ NeverShows (tuned pi dwell) log.now slots (thing_of thing.entry) }
 {
     let mut receiver = Receiver::new(pi, dwell);
     for n in 0..slots {

@@ -1,10 +1,11 @@
 //! The lines of mixes.
-ghost use Rattle.std.specs.Prelude.{◌≡◌, ◌≤◌, ◌<◌, ◌+◌, ◌++◌, [], IsTrue, length};
+ghost use Rattle.std.specs.Prelude.{◌≡◌, ◌⊎◌, ◌≤◌, ◌<◌, ◌+◌, ◌++◌, [], IsTrue, false, length};
 ghost use Rattle.rds_log.specs.LogWrites.{tuned};
 ghost use Rattle.rds_receiver.specs.Borrowed.{view_of};
 ghost use Rattle.rds_witness.specs.Borrowed.{IsShortThing, thing_of};
-ghost use Rattle.rds_witness.specs.Lines.{AddsMixes, AreMixLines, burst_text, shown_line, tag_name};
+ghost use Rattle.rds_witness.specs.Lines.{AreMixLines, burst_text, shown_line, tag_name};
 ghost use Rattle.rds_witness.specs.Mix.{AreAround, Has, NeverShows, Shows, until};
+ghost use Rattle.rds_witness.specs.SomeLines.{AddsKind, AreSomeMixLines, kind_of};
 
 use crate::burst::Burst;
 use crate::checking::{is_never_shown, receiver_before, slots_until};
@@ -77,6 +78,9 @@ fn is_mix(place: &Place<'_>, before: View<'_>, thing: Thing<'_>) -> bool
     ensures new { IsTrue result → Shows (view_of before.entry) (thing_of thing.entry) → ⊥ }
     ensures never { IsTrue result → NeverShows (tuned place.now.pi place.now.dwell) place.now.log.now
         (until place.now.dwell place.now.log.now place.now.slot) (thing_of thing.entry) }
+    ensures no { result ≡ false → Shows (view_of before.entry) (thing_of thing.entry)
+        ⊎ (NeverShows (tuned place.now.pi place.now.dwell) place.now.log.now
+        (until place.now.dwell place.now.log.now place.now.slot) (thing_of thing.entry) → ⊥) }
 {
     if shows(before, thing) {
         return false;
@@ -98,8 +102,8 @@ fn push_if_mix(
     requires has { Has (view_of after) (thing_of thing) }
     requires short { IsShortThing thing }
     requires room { length lines.old + 364 ≤ 2048 }
-    ensures mixes { AddsMixes (tuned place.now.pi place.now.dwell) place.now.log.now place.now.burst place.now.slot
-        lines.old lines.new }
+    ensures mixes { AddsKind (kind_of (thing_of thing.entry)) (tuned place.now.pi place.now.dwell) place.now.log.now place.now.burst
+        place.now.slot lines.old lines.new }
     ensures room { length lines.new ≤ length lines.old + 364 }
 {
     if is_mix(place, before, thing) {
@@ -136,8 +140,9 @@ fn push_mixes_of(place: &Place<'_>, before: View<'_>, after: View<'_>, lines: &m
     requires around { AreAround (tuned place.now.pi place.now.dwell) place.now.log.now place.now.burst place.now.slot
         (view_of before) (view_of after) }
     requires room { length lines.old + 1456 ≤ 2048 }
-    ensures { AddsMixes (tuned place.now.pi place.now.dwell) place.now.log.now place.now.burst place.now.slot
-        lines.old lines.new }
+    ensures { AreSomeMixLines 0 (tuned place.now.pi place.now.dwell) place.now.log.now place.now.burst place.now.slot
+        lines.old → AreSomeMixLines 4 (tuned place.now.pi place.now.dwell) place.now.log.now place.now.burst
+        place.now.slot lines.new }
 {
     push_text(place, before, after, lines);
     push_name(place, before, after, lines);
@@ -150,8 +155,8 @@ fn push_text(place: &Place<'_>, before: View<'_>, after: View<'_>, lines: &mut L
     requires around { AreAround (tuned place.now.pi place.now.dwell) place.now.log.now place.now.burst place.now.slot
         (view_of before) (view_of after) }
     requires room { length lines.old + 364 ≤ 2048 }
-    ensures mixes { AddsMixes (tuned place.now.pi place.now.dwell) place.now.log.now place.now.burst place.now.slot
-        lines.old lines.new }
+    ensures mixes { AddsKind 0 (tuned place.now.pi place.now.dwell) place.now.log.now place.now.burst
+        place.now.slot lines.old lines.new }
     ensures room { length lines.new ≤ length lines.old + 364 }
 {
     if let Some(text) = after.text {
@@ -164,8 +169,8 @@ fn push_name(place: &Place<'_>, before: View<'_>, after: View<'_>, lines: &mut L
     requires around { AreAround (tuned place.now.pi place.now.dwell) place.now.log.now place.now.burst place.now.slot
         (view_of before) (view_of after) }
     requires room { length lines.old + 364 ≤ 2048 }
-    ensures mixes { AddsMixes (tuned place.now.pi place.now.dwell) place.now.log.now place.now.burst place.now.slot
-        lines.old lines.new }
+    ensures mixes { AddsKind 1 (tuned place.now.pi place.now.dwell) place.now.log.now place.now.burst
+        place.now.slot lines.old lines.new }
     ensures room { length lines.new ≤ length lines.old + 364 }
 {
     if let Some(name) = after.name {
@@ -178,8 +183,8 @@ fn push_one(place: &Place<'_>, before: View<'_>, after: View<'_>, lines: &mut Li
     requires around { AreAround (tuned place.now.pi place.now.dwell) place.now.log.now place.now.burst place.now.slot
         (view_of before) (view_of after) }
     requires room { length lines.old + 364 ≤ 2048 }
-    ensures mixes { AddsMixes (tuned place.now.pi place.now.dwell) place.now.log.now place.now.burst place.now.slot
-        lines.old lines.new }
+    ensures mixes { AddsKind 2 (tuned place.now.pi place.now.dwell) place.now.log.now place.now.burst
+        place.now.slot lines.old lines.new }
     ensures room { length lines.new ≤ length lines.old + 364 }
 {
     if let Some((class, piece)) = after.one {
@@ -198,8 +203,8 @@ fn push_two(place: &Place<'_>, before: View<'_>, after: View<'_>, lines: &mut Li
     requires around { AreAround (tuned place.now.pi place.now.dwell) place.now.log.now place.now.burst place.now.slot
         (view_of before) (view_of after) }
     requires room { length lines.old + 364 ≤ 2048 }
-    ensures mixes { AddsMixes (tuned place.now.pi place.now.dwell) place.now.log.now place.now.burst place.now.slot
-        lines.old lines.new }
+    ensures mixes { AddsKind 3 (tuned place.now.pi place.now.dwell) place.now.log.now place.now.burst
+        place.now.slot lines.old lines.new }
     ensures room { length lines.new ≤ length lines.old + 364 }
 {
     if let Some((class, piece)) = after.two {

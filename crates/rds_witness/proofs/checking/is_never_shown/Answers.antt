@@ -1,4 +1,4 @@
-use Rattle.std.proofs.Common.{IsTrue, None, arith, subst, sym}
+use Rattle.std.proofs.Common.{IsTrue, None, arith, refl, subst, sym}
 use Rattle.rds_log.specs.LogWrites.{tuned}
 use Rattle.rds_receiver.specs.Borrowed.{view_of}
 use Rattle.rds_receiver.specs.StandsAt.{StandsAt}
@@ -27,5 +27,12 @@ loop-n-preserved c =
           (c.view.ensures t _ stands) (λ (shown : Shows (view_of c.view.result) (thing_of c.args.thing)). let yes : IsTrue c.shows.result = c.shows.ensures.1 shown in cc);
     }
 
+pub returns-then-shows : goal.returns-then-shows
+returns-then-shows c =
+    let t = tuned c.args.pi c.args.dwell in
+    let stands = stands_more t c.slot.new.self None c.args.log.now c.loop-n.n c.received.result c.received.ensures
+    (c.slot.ensures.stands _ _ c.loop-n.invariant.stands) in
+    (λ holds. absurd (cc), λ never. absurd (never c.loop-n.n (view_of c.view.result) c.loop-n-test.true (c.view.ensures t _ stands) (c.shows.ensures.0 c.if-shows.true)))
+
 pub returns : goal.returns
-returns c holds slot view less is shown = c.loop-n.invariant.never slot view (omega arith) is shown
+returns c = (λ holds slot view less is shown. c.loop-n.invariant.never slot view (omega arith) is shown, λ never. refl)

@@ -1,6 +1,8 @@
 use Rattle.std.proofs.Common.{arith}
 use Rattle.rds_log.specs.LogWrites.{tuned}
+use Rattle.rds_witness.proofs.Mixes.{all_kinds, no_place}
 use Rattle.rds_witness.proofs.mix_lines.push_mixes.Goals as goal
+use Rattle.rds_witness.proofs.mix_lines.push_mixes.Goals.{then-burst-via-then-burst, then-burst-via-else-burst+then-burst-place, then-burst-via-else-burst+else-burst-place+then-place}
 
 pub push_mixes_of-requires-clause-around : goal.push_mixes_of-requires-clause-around
 push_mixes_of-requires-clause-around c =
@@ -10,3 +12,18 @@ push_mixes_of-requires-clause-around c =
       was = c.view.ensures t _ c.receiver_before-before.ensures;
       is = c.view-2.ensures t _ c.receiver_before-after.ensures;
     }
+
+pub returns-then-burst : goal.returns-then-burst
+returns-then-burst c =
+    let place = c.args.place.now in
+    no_place (tuned place.pi place.dwell) place.log.now place.burst place.slot c.args.lines.now c.requires
+    (λ thing is. elim c.then-burst.branch [
+      | then-burst-via-then-burst w ↦ omega (arith, is.place.order, w.if-burst.true)
+      | then-burst-via-else-burst+then-burst-place w ↦ omega (arith, is.place.before, w.if-burst-place.true)
+      | then-burst-via-else-burst+else-burst-place+then-place w ↦ omega (arith, is.place.inside, w.if-place.true)
+    ])
+
+pub returns : goal.returns
+returns c =
+    let place = c.args.place.now in
+    all_kinds (tuned place.pi place.dwell) place.log.now place.burst place.slot c.args.lines.now c.push_mixes_of.new.lines c.requires c.push_mixes_of.ensures

@@ -1,0 +1,29 @@
+-- The lines of mixes on the way: those of the texts, then also of the names, and so on.
+use Rattle.std.specs.Prelude.{◌≡◌, ◌<◌, ◌+◌, ℕ, All, List, Option}
+use Rattle.std.specs.List.{Contains}
+use Rattle.rds_block.specs.declared.group.Group.{Group}
+use Rattle.rds_fields.specs.declared.pair.Which.TheVariants.{One, Two}
+use Rattle.rds_receiver.specs.Receipts.{Tuning}
+use Rattle.rds_witness.specs.Lines.{mix_lines}
+use Rattle.rds_witness.specs.Mix.{IsMix, Name, Tag, Text, Thing}
+use Rattle.rds_witness.specs.declared.burst.Burst.{Burst}
+
+-- the kind of a thing: text, name, first tag, second tag
+abbrev pub kind_of : Thing → ℕ
+kind_of (Text x) = 0
+kind_of (Name x) = 1
+kind_of (Tag One class piece) = 2
+kind_of (Tag Two class piece) = 3
+
+-- these are lines of mixes, and each mix of the first n kinds has its line
+pub record AreSomeMixLines (n : ℕ) (t : Tuning) (log : List (Option Group)) (burst : Burst) (slot : ℕ)
+    (lines : List ℕ) : Type 0 where
+  pub things : List Thing
+  pub mixes : All (IsMix t log burst slot) things
+  pub all : (thing : Thing) → kind_of thing < n → IsMix t log burst slot thing → Contains things thing
+  pub are : lines ≡ mix_lines burst slot things
+
+-- the lines of the mixes of this kind are appended
+abbrev pub AddsKind : ℕ → Tuning → List (Option Group) → Burst → ℕ → List ℕ → List ℕ → Type 0
+AddsKind n t log burst slot before after =
+    AreSomeMixLines n t log burst slot before → AreSomeMixLines (n + 1) t log burst slot after
