@@ -183,4 +183,4 @@ class Pages(Case):
 
     def test_the_picture_is_what_its_script_draws(self):
         done = subprocess.run([os.path.join(ROOT, "docs/mix.py")], stdout=subprocess.PIPE, timeout=SECONDS)
-        self.check("docs/mix.svg is what docs/mix.py draws", done.stdout.decode() == text_of("docs/mix.svg"), True)
+        self.check("docs/mix.svg is what docs/mix.py draws", done.stdout.decode(), text_of("docs/mix.svg"))
