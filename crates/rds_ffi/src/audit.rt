@@ -1,7 +1,7 @@
 //! An audit in the caller's memory.
-ghost use Rattle.std.specs.Prelude.{◌≡◌, ◌≢◌, ◌+◌, ◌<◌, ◌≤◌, ◌↔◌, ℕ, [], ◌∷◌, Option};
+ghost use Rattle.std.specs.Prelude.{◌≡◌, ◌≢◌, ◌+◌, ◌<◌, ◌≤◌, ◌↔◌, ℕ, [], ◌∷◌, List, Option};
 ghost use Rattle.rds_block.specs.declared.group.Group.{Group};
-ghost use Rattle.rds_audit.specs.AuditLaws.{IsSafeLog};
+ghost use Rattle.rds_audit.specs.AuditLaws.{IsSafeLog, IsSafeRecording};
 ghost use Rattle.rds_audit.specs.Dense.{HasPlans};
 ghost use Rattle.rds_audit.specs.FlagLaws.{NamesAreSafeByFlag, TextsAreSafeByFlag};
 ghost use Rattle.rds_audit.specs.Reigns.{AlternateFlags, reigns};
@@ -106,6 +106,8 @@ pub extern "C" fn rdsrt_audit_passed(audit: &StoredAudit) -> u32
     ensures plans { WhereItHeard audit.now (λ d heard. result ≡ 1 ↔ HasPlans d heard) }
     ensures safe { WhereItHeard audit.now (λ d heard. (m k : ℕ) → 0 < m → m + k ≡ d
         → result ≡ 1 → IsSafeLog m k heard) }
+    ensures recording { (pi m k : ℕ) (log : List (Option Group)) → (lies : AuditInMemory pi (m + k) audit.now log)
+        → start_in audit.now ≡ LogStart.Running → 0 < m → result ≡ 1 → IsSafeRecording m k lies.at.heard }
 {
     u32::from(Audit::restore(audit).passed())
 }
