@@ -97,9 +97,9 @@ later n r = record {
   view = r.view;
 }
 
--- the recording is safe for the receivers of the log as it is, with all its tags: its plans have m + k slots in front of
--- the log, and are lawful and dense without the tags before the first text segment; they make each slot safe for the
--- receivers that listen to the log
+-- some plans are lawful and dense for the log with m + k slots in front and without the tags before its first text
+-- segment. They make each slot safe for any number of receivers of dwell m of the log as it is, with all its tags. The
+-- slots of the plans count from m + k slots before the log.
 pub record IsSafeRecording (m k : ℕ) (log : List (Option Message)) : Type 0 where
   pub plans : Plans
   pub lawful : AreLawful (m + k) plans (from_first_text (preceded (m + k) log))
