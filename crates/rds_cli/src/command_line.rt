@@ -200,8 +200,7 @@ fn audit<'a>(alloc: Global) -> Result<Command<'a>, AllocError>
                  yes too, and a warning.\n\
                  No: a rule was broken. A receiver may or may not show a mix; `witness` looks for\n\
                  one. A station that keeps the rules can get a no if it has few free slots.\n\n\
-                 The log is complete: it begins when the station starts. For a recording, give\n\
-                 --running.\n\n\
+                 The log begins when the station starts. For a recording, give --running.\n\n\
                  Faults, each with its cure:\n  \
                    EarlyFlag   A text reused the A/B flag less than M + K slots after the last\n              \
                                group of the text before the previous one. Keep each text on\n              \
