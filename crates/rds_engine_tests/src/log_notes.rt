@@ -1,6 +1,6 @@
 //! Tests of the notes on a log. The expected notes are written by hand.
 
-use rds_audit::AuditFault;
+use rds_audit::{AuditFault, LogStart};
 use rds_charset::Told;
 use rds_fields::{Dwell, Late};
 use rds_log::{
@@ -128,6 +128,7 @@ fn slot_of_a_no(rt: HostRuntime) -> Result<(), Fail> {
             0xC201,
             dwell(m)?,
             Late::new(k).ok_or("late")?,
+            LogStart::Complete,
             &mut notes,
         );
         assert_eq!(rt; passed, Ok(false));
@@ -137,6 +138,8 @@ fn slot_of_a_no(rt: HostRuntime) -> Result<(), Fail> {
             fault: AuditFault::EarlyFlag,
             of_name: false,
             earlier: Some(0),
+            first: None,
+            paused: None,
             spacing: u32::from(m) + u32::from(k),
         };
         assert_eq!(rt; notes.no, Some(wanted));
