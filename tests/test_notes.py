@@ -85,7 +85,7 @@ def note(text):
     return f"rdsrt: {text}\n"
 
 
-def where_of(fault, reigns, slot, spacing):
+def where_of(fault, reigns):
     """Returns the end of the sentence on a fault: the slots that it names, from the reigns of the plain audit."""
     if fault == "EarlyFlag":
         return f", in slot {reigns[-2]['last']}"
@@ -96,10 +96,7 @@ def where_of(fault, reigns, slot, spacing):
     if last["opened"] != last["start"]:
         where += f" at the earliest; its first group is in slot {last['opened']}"
     if len(reigns) > 1 and reigns[-2]["flag"] == last["flag"]:
-        # the audit forgets slots that are 2 (M + K) slots back
-        is_known = slot - reigns[-2]["last"] < 2 * spacing
-        begin = f"from slot {reigns[-2]['last'] + 1} to" if is_known else "for M + K slots or more up to slot"
-        where += f"; no segment {begin} {last['opened'] - 1}, so the text began anew"
+        where += f"; no segment from slot {reigns[-2]['last'] + 1} to {last['opened'] - 1}, so the text began anew"
     return where
 
 
@@ -118,7 +115,7 @@ def end_of(slots, spacing):
                 services["text"].take_tags(slot, plain_audit.tag_ends_of(group))
         except plain_audit.Broken as fault:
             is_name = bool(segment) and segment[0] == "name"
-            return str(fault), is_name, slot, where_of(str(fault), reigns, slot, spacing)
+            return str(fault), is_name, slot, where_of(str(fault), reigns)
     return None
 
 
@@ -276,8 +273,8 @@ class Warnings(ProgramCase):
             may_be_old = fault in ("EarlyFlag", "EarlyTag") and slot < m + k
             got = rule and (int(rule[1]), rule[3] or "", "name (PTYN)" in rule[2], told.endswith(RUNNING + "\n"))
             self.check(f"{name}: {fault}", got, (slot, where, is_name, may_be_old), log)
-            seen.update(word for word in ("in slot", "earliest", "no segment from", "no segment for") if word in where)
-        self.check_all("each kind of slot was named", (len(seen), min(seen.values(), default=0) > 5), (4, True))
+            seen.update(word for word in ("in slot", "earliest", "no segment from") if word in where)
+        self.check_all("each kind of slot was named", (len(seen), min(seen.values(), default=0) > 5), (3, True))
 
     def test_what_a_yes_covers_and_what_is_not_read(self):
         text, other, name, tags = (b"C201 2140 4849 0D20\n", b"C201 2150 594F 0D20\n", b"C201 A540 504F 5020\n",

@@ -157,7 +157,7 @@ class Pages(Case):
         version = subprocess.run([PROGRAM, "--version"], capture_output=True, text=True,
                                  timeout=SECONDS).stdout.split()[1]
         found = {
-            "CHANGELOG.md": re.findall(r"^## (\S+)", text_of("CHANGELOG.md"), re.M)[0],
+            "CHANGELOG.md": re.findall(r"^## (\d\S+)", text_of("CHANGELOG.md"), re.M)[0],
             "README.md": re.findall(r"Version (\S+?):", text_of("README.md"))[0],
             MANUAL: re.findall(r'"rdsrt (\S+)"', text_of(MANUAL))[0],
             HEADER: c_library.header_version(),
