@@ -107,9 +107,11 @@ def is_stale(made, name, uses):
 
 
 def is_left(name, uses):
-    """Returns whether `rt ci` or tools/build left the library of the crate, which has no stamp then, and it is not stale."""
-    stamp = os.path.join(os.path.dirname(rlib(name)), "stamp")
-    return not is_stale(library(name), name, uses) and not os.path.exists(stamp)
+    """Returns whether `rt ci` or tools/build left the library of the crate, which has no stamp then, and no source is newer.
+    The time of its folder counts, since `rt ci` keeps the times of the files in it."""
+    made = rlib(name)
+    stamp = os.path.join(os.path.dirname(made), "stamp")
+    return os.path.exists(made) and os.path.getmtime(made) >= newest_source(name, uses) and not os.path.exists(stamp)
 
 
 def compile_words(name, uses, jobs, *more):
