@@ -37,7 +37,7 @@ OF_THE_KIT = ["-O3", "-ffunction-sections", "-fdata-sections", *(word for it in 
 # ---- the forms of lines that are known
 
 NAME, LOCAL, INT = r'@(?:[\w.]+|"[^"]*")', r"%[\w.]+", r"i(?:1|8|16|32|64)"
-ONE, VECTOR = rf"(?:{INT}|ptr)", r"<\d+ x i(?:1|8)>"
+ONE, VECTOR = rf"(?:{INT}|ptr)", r"<\d+ x i(?:1|8|16)>"
 # in a PAIR the second place is the same for pointers of 4 and of 8 bytes; `narrowed` takes loads of { i8, ptr } apart
 PAIR = rf"\{{ (?:{INT}, {INT}|ptr, i64) \}}"
 ANY_PAIR = rf"(?:{PAIR}|\{{ i8, ptr \}})"
@@ -61,9 +61,9 @@ FORMS = [
     rf"  {LOCAL} = icmp (?:eq|slt) {VECTOR} {LOCAL}, (?:{LOCAL}|zeroinitializer)",
     rf"  {LOCAL} = extractvalue {ANY_PAIR} {LOCAL}, [01]", rf"  {LOCAL} = ptrtoaddr ptr {LOCAL} to i32",
     rf"  {LOCAL} = insertvalue \{{ i8, ptr \}} (?:poison|{LOCAL}), (?:i8|ptr) {LOCAL}, [01]",
-    rf"  {LOCAL} = insertelement {VECTOR} (?:{LOCAL}|zeroinitializer), i8 {LOCAL}, i32 \d+",
+    rf"  {LOCAL} = insertelement {VECTOR} (?:{LOCAL}|zeroinitializer), i(?:8|16) {LOCAL}, i32 \d+",
     rf"  {LOCAL} = shufflevector {VECTOR} {LOCAL}, {VECTOR} zeroinitializer, <\d+ x i32> <[i\d, ]+>",
-    rf"  {LOCAL} = bitcast <16 x i1> {LOCAL} to i16",
+    rf"  {LOCAL} = bitcast {VECTOR} {LOCAL} to (?:i16|i64|{VECTOR})",
     rf"  br (?:i1 {VALUE}, label {LOCAL}, )?label {LOCAL}", rf"  switch {INT} {VALUE}, label {LOCAL} \[",
     rf"    {INT} -?\d+, label {LOCAL}", rf"  ret (?:{ONE} {VALUE}|{ANY_PAIR} {LOCAL})",
 ]
