@@ -1,8 +1,11 @@
 //! Output lines, collected in a bounded buffer so that many go out in one write.
-ghost use Rattle.std.specs.Prelude.{◌≡◌, ◌≤◌, ◌+◌, ◌*◌, ◌++◌, ◌↔◌, [], ℕ, List, IsTrue, decimal, length};
+ghost use Rattle.std.specs.Prelude.{◌≡◌, ◌≤◌, ◌+◌, ◌*◌, ◌++◌, ◌↔◌, [], ℕ, List, IsOk, IsTrue, OnOk, decimal, length};
 ghost use Rattle.rds_charset.specs.Printed.{printed};
+ghost use Rattle.rds_charset.specs.Puts.{Puts};
+ghost use Rattle.rds_charset.specs.Told.{traffic};
 
 use crate::push_text;
+use crate::told::{TellingWrite, WriteFault, put};
 use arrayvec::ArrayVec;
 use itoa::Buffer;
 use std::marker::Model;
@@ -45,6 +48,24 @@ impl<const N: usize> Lines<N> {
         ensures { self.new ≡ [] }
     {
         self.bytes.clear();
+    }
+
+    /// Writes all lines and drops them. Does not call the writer if there are none.
+    ///
+    /// # Errors
+    ///
+    /// [`WriteFault`] at the first write that fails. Some first part of the lines is then written.
+    pub fn write<W: TellingWrite>(&mut self, writer: &mut W) -> Result<(), WriteFault>
+        ensures puts { Puts (traffic W.contents W.failures writer.old writer.new) self.old result }
+        ensures empty { OnOk result (self.new ≡ []) }
+        ensures nothing { self.old ≡ [] → IsOk result }
+    {
+        if self.bytes.is_empty() {
+            return Ok(());
+        }
+        put(self.bytes.as_slice(), writer)?;
+        self.bytes.clear();
+        Ok(())
     }
 
     /// Returns whether there is room for `count` more bytes.

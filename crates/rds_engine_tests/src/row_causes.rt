@@ -7,8 +7,7 @@ use rds_charset::Told;
 use rds_encoder::Refusal;
 use rds_fields::Late;
 use rds_script::{
-    BadRow, RowCause, ScriptNotes, Thing, Wait, encode, encode_with_notes, simulate,
-    simulate_with_notes,
+    BadRow, MOST_RECORDS, RowCause, ScriptNotes, Thing, Wait, encode, play_script, simulate,
 };
 use rds_view_lines::LogFault;
 use std::alloc::Global;
@@ -44,13 +43,24 @@ fn played(alloc: Global, form: Form, script: &[u8]) -> Result<Ended, Fail> {
         }),
     };
     let mut station = config(1)?;
-    let done = match form {
-        Form::Log => encode_with_notes(alloc, Told::new(script), &mut writer, station, &mut notes),
+    let form = match form {
+        Form::Log => rds_script::Form::Log,
         Form::Receivers(late) => {
             station.late = Late::new(late).ok_or("late")?;
-            simulate_with_notes(alloc, Told::new(script), &mut writer, station, &mut notes)
+            rds_script::Form::Simulation
         }
     };
+    let script = Told::new(script);
+    let records = MOST_RECORDS;
+    let done = play_script(
+        form,
+        alloc,
+        script,
+        &mut writer,
+        station,
+        records,
+        &mut notes,
+    );
     Ok((done, notes))
 }
 
@@ -568,17 +578,23 @@ fn notes_at_a_stop(rt: HostRuntime) -> Result<(), Fail> {
     }
     let mut taken = Vec::new(rt.alloc());
     let mut notes = ScriptNotes::new();
-    let done = encode_with_notes(
+    let writes = Cell::new(0);
+    let mut writer = Told::new(Stubborn {
+        taken: &mut taken,
+        most: 20,
+        fails_at: 1,
+        with_error: true,
+        writes: &writes,
+    });
+    let form = rds_script::Form::Log;
+    let script = Told::new(ENCODED);
+    let done = play_script(
+        form,
         rt.alloc(),
-        Told::new(ENCODED),
-        &mut Told::new(Stubborn {
-            taken: &mut taken,
-            most: 20,
-            fails_at: 1,
-            with_error: true,
-            writes: &Cell::new(0),
-        }),
+        script,
+        &mut writer,
         config(1)?,
+        2,
         &mut notes,
     );
     same(&rt, done, Err(LogFault::Write));
@@ -600,11 +616,17 @@ fn same_output(rt: HostRuntime) -> Result<(), Fail> {
             &mut Told::new(&mut output),
             config(1)?,
         );
-        let noted = simulate_with_notes(
+        let form = rds_script::Form::Simulation;
+        let script = Told::new(script);
+        let mut writer = Told::new(&mut other);
+        let records = MOST_RECORDS;
+        let noted = play_script(
+            form,
             rt.alloc(),
-            Told::new(script),
-            &mut Told::new(&mut other),
+            script,
+            &mut writer,
             config(1)?,
+            records,
             &mut notes,
         );
         same(&rt, done, noted);

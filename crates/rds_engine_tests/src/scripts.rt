@@ -162,6 +162,96 @@ fn reader_fails(rt: HostRuntime) -> Result<(), Fail> {
     Ok(())
 }
 
+/// Rows of a quiet slot with each kind of line end. Some lines are empty, and the last row has no line end.
+const QUIET: [&[u8]; 3] = [
+    b"-,,0,\n\n-,,0,\n-,,0,\n\n\n-,,0,",
+    b"\r\n-,,0,\r\n-,,0,\r\n\r\n-,,0,\r\n-,,0,",
+    b"-,,0,\r-,,0,\r\r-,,0,\r\n-,,0,",
+];
+
+/// The output of a row of a quiet slot.
+const QUIET_LINE: &[u8] = b"---- ---- ---- ----\n";
+
+/// Gives a script in pieces. Counts the reads before which not all complete rows were answered.
+#[derive(Drop)]
+struct Pieces<'a> {
+    script: &'a [u8],
+    most: usize,
+    given: usize,
+    written: &'a Cell<u64>,
+    early: &'a Cell<u64>,
+}
+
+impl Read for Pieces<'_> {
+    fn read(&mut self, buf: &mut [u8]) -> io::Result<usize> {
+        if self.written.get() < rows_in(&self.script[..self.given.min(self.script.len())]) {
+            self.early.set(self.early.get().wrapping_add(1));
+        }
+        let left = self.script.get(self.given..).unwrap_or(b"");
+        let count = buf.len().min(left.len()).min(self.most);
+        buf[..count].copy_from_slice(&left[..count]);
+        self.given = self.given.saturating_add(count);
+        Ok(count)
+    }
+}
+
+/// Returns how many lines end in these bytes that are not empty.
+fn rows_in(bytes: &[u8]) -> u64 {
+    let mut rows = 0u64;
+    let mut in_row = false;
+    for byte in bytes {
+        let ends = *byte == b'\n' || *byte == b'\r';
+        if ends && in_row {
+            rows = rows.saturating_add(1);
+        }
+        in_row = !ends;
+    }
+    rows
+}
+
+/// Counts the lines that it takes.
+#[derive(Drop)]
+struct Counting<'a> {
+    lines: &'a Cell<u64>,
+}
+
+impl Write for Counting<'_> {
+    fn write(&mut self, buf: &[u8]) -> io::Result<usize> {
+        let count = buf.len() / QUIET_LINE.len();
+        self.lines
+            .set(self.lines.get().saturating_add(count as u64));
+        Ok(buf.len())
+    }
+
+    fn flush(&mut self) -> io::Result<()> {
+        Ok(())
+    }
+}
+
+/// All complete rows are answered before the next read, however the script is cut.
+#[test]
+fn answered_before_the_next_read(rt: HostRuntime) -> Result<(), Fail> {
+    for script in QUIET {
+        for most in 1..40 {
+            let written = Cell::new(0);
+            let early = Cell::new(0);
+            let reader = Told::new(Pieces {
+                script,
+                most,
+                given: 0,
+                written: &written,
+                early: &early,
+            });
+            let mut writer = Told::new(Counting { lines: &written });
+            let done = encode(rt.alloc(), reader, &mut writer, config(1)?);
+            same(&rt, done, Ok(()));
+            same(&rt, early.get(), 0);
+            same(&rt, written.get(), 4);
+        }
+    }
+    Ok(())
+}
+
 /// Takes up to 1,024 bytes, and asks for no memory.
 #[derive(Drop)]
 struct Page {

@@ -1,58 +1,60 @@
 //! Readers and writers that keep the system's error of a failed call for a later note.
 
-use std::cell::RefCell;
 use std::io::{self, ErrorKind, Read, Write};
 
-/// The error of the last failed call. `None` if no call failed.
-pub type Reason = RefCell<Option<io::Error>>;
-
-/// A reader or a writer that keeps the error of a failed call where a note finds it.
+/// A reader or a writer that keeps the error of its last failed call.
 #[derive(Drop)]
-pub struct Reasoned<'a, T> {
+pub struct Reasoned<T> {
     inner: T,
-    reason: &'a Reason,
+    reason: Option<io::Error>,
 }
 
-impl<'a, T> Reasoned<'a, T> {
-    /// Wraps a reader or a writer.
-    pub fn new(inner: T, reason: &'a Reason) -> Self {
-        Reasoned { inner, reason }
+impl<T> Reasoned<T> {
+    /// Wraps a reader or a writer. No call failed yet.
+    pub fn new(inner: T) -> Self {
+        Reasoned {
+            inner,
+            reason: None,
+        }
+    }
+
+    /// Returns the error of the last failed call. `None` if no call failed.
+    pub fn reason(&self) -> Option<&io::Error> {
+        self.reason.as_ref()
     }
 }
 
 /// Keeps an error, and returns another one for the caller.
-fn keep(reason: &Reason, error: io::Error) -> io::Error {
-    if let Ok(mut kept) = reason.try_borrow_mut() {
-        *kept = Some(error);
-    }
+fn keep(reason: &mut Option<io::Error>, error: io::Error) -> io::Error {
+    *reason = Some(error);
     io::Error::from(ErrorKind::Other)
 }
 
-impl<T: Read> Read for Reasoned<'_, T> {
+impl<T: Read> Read for Reasoned<T> {
     ghost remaining = { λ reasoned. T.remaining reasoned.inner };
 
     fn read(&mut self, buf: &mut [u8]) -> io::Result<usize> {
         match self.inner.read(buf) {
             Ok(count) => Ok(count),
-            Err(error) => Err(keep(self.reason, error)),
+            Err(error) => Err(keep(&mut self.reason, error)),
         }
     }
 }
 
-impl<T: Write> Write for Reasoned<'_, T> {
+impl<T: Write> Write for Reasoned<T> {
     ghost contents = { λ reasoned. T.contents reasoned.inner };
 
     fn write(&mut self, buf: &[u8]) -> io::Result<usize> {
         match self.inner.write(buf) {
             Ok(count) => Ok(count),
-            Err(error) => Err(keep(self.reason, error)),
+            Err(error) => Err(keep(&mut self.reason, error)),
         }
     }
 
     fn flush(&mut self) -> io::Result<()> {
         match self.inner.flush() {
             Ok(()) => Ok(()),
-            Err(error) => Err(keep(self.reason, error)),
+            Err(error) => Err(keep(&mut self.reason, error)),
         }
     }
 }

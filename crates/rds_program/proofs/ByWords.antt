@@ -12,7 +12,7 @@ use Rattle.rds_cli.specs.Asks.{asked_by}
 use Rattle.rds_cli.specs.CommandLine.{AreAnswered, AreRefused, AskForHelp, Requested, IsPi, TakesWords, asked_in, is_shown, whole_app}
 use Rattle.rds_cli.specs.declared.request.Request.{Request}
 use Rattle.rds_cli.specs.declared.request.Task.{Task}
-use Rattle.rds_program.specs.Run.{EndsBy, EndsRead, NoMemory, RefusesPi, RunsRead, RunsWords, TellsError, status_of}
+use Rattle.rds_program.specs.Run.{NoMemory, RefusesPi, RunsRead, RunsWords, TellsError, status_of}
 
 -- what is known of the answer of `read_words` to the words
 pub record ReadAs (words : List (List ℕ)) (read : Result (Option Request) Error) : Type 0 where
@@ -44,18 +44,6 @@ either_status _ w status tells = inr (inr tells.status_is)
 
 no_memory : (kind : ErrorKind) (w : Traffic) (status : ℕ) → TellsError kind w status → kind ≡ OutOfMemory → NoMemory w status
 no_memory kind w status tells memory = record { status_is = tells.status_is ∙ ap status_of memory; told = tells.no_memory memory }
-
-few : (kind : ErrorKind) → status_of kind ≤ 2
-few OutOfMemory = omega arith
-few DisplayHelp = omega arith
-few DisplayVersion = omega arith
-few _ = omega arith
-
-not_shown : (kind : ErrorKind) → is_shown kind ≡ false → (status_of kind ≡ 1) ⊎ (status_of kind ≡ 2)
-not_shown OutOfMemory unshown = inl refl
-not_shown DisplayHelp unshown = absurd (let bad : true ≡ false = unshown in cc)
-not_shown DisplayVersion unshown = absurd (let bad : true ≡ false = unshown in cc)
-not_shown _ unshown = inr refl
 
 -- ---- what the words say
 
@@ -108,46 +96,4 @@ by_words words (Err error) Engine Rests w status known ran = record {
     ran.1,
   );
   not_taken = λ untaken. (either_status (kind_of error) w status ran.0, ran.1);
-}
-
--- ---- the status alone
-
-pub ends_by : (words : List (List ℕ)) (read : Result (Option Request) Error) (Rests : Type 0) (status : ℕ)
-    → ReadAs words read → EndsRead read Rests status → EndsBy words status
-ends_by words (Ok (Some request)) Rests status known ends = record {
-  runs = λ asked pi given is.
-      let same : asked_by request ≡ asked = one_asked (known.ok ∙ given.ask) in
-      ends.0 pi (subst (λ (a : Requested). IsPi a.pi pi) (sym same) is);
-  fault_pi = λ asked given none.
-      let same : asked_by request ≡ asked = one_asked (known.ok ∙ given.ask) in
-      inr (ends.1 (subst (λ (a : Requested). (pi : ℕ) → IsPi a.pi pi → ⊥) (sym same) none)).0;
-  nothing_asked = λ takes none. absurd (let bad : Some (asked_by request) ≡ None = known.ok ∙ none in cc);
-  help = λ asks. absurd (none_answered is_shown words known.kinds asks);
-  refused = λ refused. absurd (none_answered _ words known.kinds refused);
-  not_taken = λ untaken. absurd (untaken known.taken);
-}
-ends_by words (Ok None) Rests status known ends = record {
-  runs = λ asked pi given is. absurd (let bad : None ≡ Some asked = known.ok ∙ given.ask in cc);
-  fault_pi = λ asked given none. absurd (let bad : None ≡ Some asked = known.ok ∙ given.ask in cc);
-  nothing_asked = λ takes none. inr ends.0;
-  help = λ asks. absurd (none_answered is_shown words known.kinds asks);
-  refused = λ refused. absurd (none_answered _ words known.kinds refused);
-  not_taken = λ untaken. absurd (untaken known.taken);
-}
-ends_by words (Err error) Rests status known ends = record {
-  runs = λ asked pi given is. omega (arith, ends.0 ∙ ap status_of (known.err given.taken));
-  fault_pi = λ asked given none. inl (ends.0 ∙ ap status_of (known.err given.taken));
-  nothing_asked = λ takes none. inl (ends.0 ∙ ap status_of (known.err takes));
-  help = λ asks. elim (known.help asks) [
-    | inl memory ↦ inl (ends.0 ∙ ap status_of memory)
-    | inr shown ↦ inr (ends.0 ∙ shown_status (kind_of error) shown)
-  ];
-  refused = λ refused. elim (known.refused refused) [
-    | inl memory ↦ inl (ends.0 ∙ ap status_of memory)
-    | inr unshown ↦ elim (not_shown (kind_of error) unshown) [
-      | inl one ↦ inl (ends.0 ∙ one)
-      | inr two ↦ inr (ends.0 ∙ two)
-    ]
-  ];
-  not_taken = λ untaken. let small = few (kind_of error) in omega (arith, ends.0);
 }

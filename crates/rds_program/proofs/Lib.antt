@@ -1,2 +1,1 @@
 pub mod ByWords
-pub mod Statuses

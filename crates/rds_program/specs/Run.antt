@@ -192,22 +192,3 @@ pub record RunsWords (words : List (List ℕ)) (Engine : Task → Tuning → Typ
   pub help : AskForHelp words → (NoMemory w status ⊎ (status ≡ 0)) × Rests
   pub refused : AreRefused words → (NoMemory w status ⊎ (status ≡ 2)) × Rests
   pub not_taken : (TakesWords words → ⊥) → (NoMemory w status ⊎ ((status ≡ 0) ⊎ (status ≡ 2))) × Rests
-
--- ---- the status alone: the output goes through a cell that no clause can describe
-
--- the status of a run, given the result of reading its arguments. Rests holds if no engine ran
-abbrev pub EndsRead : Result (Option Request) Error → Type 0 → ℕ → Type 0
-EndsRead (Err error) Rests status = (status ≡ status_of (kind_of error)) × Rests
-EndsRead (Ok None) Rests status = (status ≡ 2) × Rests
-EndsRead (Ok (Some request)) Rests status = ((pi : ℕ) → IsPi request.pi.now pi → status ≤ 1)
-    × (((pi : ℕ) → IsPi request.pi.now pi → ⊥) → (status ≡ 2) × Rests)
-
--- the status of a run over these arguments, which is also 1 if the program is out of memory
-pub record EndsBy (words : List (List ℕ)) (status : ℕ) : Type 0 where
-  pub runs : (asked : Requested) (pi : ℕ) → AskFor words asked → IsPi asked.pi pi → status ≤ 1
-  pub fault_pi : (asked : Requested) → AskFor words asked → ((pi : ℕ) → IsPi asked.pi pi → ⊥)
-      → (status ≡ 1) ⊎ (status ≡ 2)
-  pub nothing_asked : TakesWords words → asked_in words ≡ None → (status ≡ 1) ⊎ (status ≡ 2)
-  pub help : AskForHelp words → (status ≡ 1) ⊎ (status ≡ 0)
-  pub refused : AreRefused words → (status ≡ 1) ⊎ (status ≡ 2)
-  pub not_taken : (TakesWords words → ⊥) → status ≤ 2

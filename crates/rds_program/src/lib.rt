@@ -6,12 +6,12 @@ mod notes;
 mod program;
 mod status;
 mod tell;
-mod terminal;
 mod words;
 
-pub use program::{run, run_with, run_with_notes};
+pub use notes::{End, Options, RunNotes};
+pub use program::{run, run_with_notes};
 pub use status::{FAULT, REFUSED, no_words, write_no_memory};
-pub use terminal::{Screen, run_buffered};
+pub use tell::{print_notes, print_refusal};
 pub use words::{texts, words_of};
 
 #[cfg(test)]

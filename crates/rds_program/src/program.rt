@@ -1,5 +1,5 @@
 //! The whole program over its arguments.
-ghost use Rattle.std.specs.Prelude.{◌≡◌, ◌⊎◌, ◌≤◌, ◌+◌, ◌++◌, ℕ};
+ghost use Rattle.std.specs.Prelude.{◌≡◌, ◌⊎◌, ◌≤◌, ◌+◌, ◌^◌, ◌++◌, ℕ};
 ghost use Rattle.std.specs.Prelude.{None, codes, decimal, false, true, if◌then◌else◌, length, map};
 ghost use Rattle.rds_charset.specs.Told.{PutsNothing, Traffic, traffic};
 ghost use Rattle.rds_log.specs.LogWrites.{tuned};
@@ -9,11 +9,11 @@ ghost use Rattle.rds_audit.specs.AuditState.{start_if};
 ghost use Rattle.rds_cli.specs.CommandLine.{IsPi};
 ghost use Rattle.rds_program.specs.Run as specs;
 ghost use Rattle.rds_program.specs.Run.{EndsWith, IsUntouched, PutsAfter, PutsLine, RefusesPi, RunsFrom, RunsRead, RunsWords};
-ghost use Rattle.rds_program.specs.Run.{TaskRuns, TellsFault, done, mark_of, reader_before, status_of};
+ghost use Rattle.rds_program.specs.Run.{TaskRuns, TellsFault, done, mark_of, reader_before, script_in, status_of};
+ghost use Rattle.rds_script.specs.Play.{Plays};
 
 use crate::notes::{End, Options, RunNotes};
 use crate::status::{FAULT, NO, OK, REFUSED, write_no_memory};
-use crate::tell::tell_run;
 use clap::Error;
 use clap::error::ErrorKind;
 use rds_arrivals::Grain;
@@ -22,12 +22,11 @@ use rds_charset::{Lines, TellingRead, TellingWrite, put};
 use rds_cli::{Programme, Request, Task, identification_of, read_words};
 use rds_fields::{Dwell, Head, Late};
 use rds_log::{audit_with_notes, decode_with_notes, fill_with_notes};
-use rds_script::{encode_with_notes, simulate_with_notes};
+use rds_script::{Form, MOST_RECORDS, play_script};
 use rds_view_lines::LogFault;
 use rds_witness::witness_with_notes;
 use rds_world::Config;
 use std::alloc::Global;
-use std::cell::RefCell;
 use std::io::Write;
 
 /// The most bytes of a fault line.
@@ -42,9 +41,9 @@ const FAULT_LINE: usize = 64;
 /// fault is the last line of the output.
 ///
 /// If the arguments are refused or ask for help, `run` writes the text of `clap` and reads nothing: the contract of
-/// `run_with` says so of its reader. `clap`'s contract does not promise that a number is in its range: for a number
-/// outside it, `nothing_asked` holds. Nor does it say whether `help` followed by an argument gives help or is refused:
-/// `not_taken` bounds the status.
+/// [`run_with_notes`] says so of its reader. `clap`'s contract does not promise that a number is in its range: for a
+/// number outside, `nothing_asked` holds. Nor does it say whether `help` followed by an argument gives help or is
+/// refused: `not_taken` bounds the status.
 pub fn run<R: TellingRead + Drop, W: TellingWrite>(
     alloc: Global,
     words: &[&str],
@@ -56,16 +55,20 @@ pub fn run<R: TellingRead + Drop, W: TellingWrite>(
         (traffic W.contents W.failures writer.old writer.new) result) (Unit {0})
         (traffic W.contents W.failures writer.old writer.new) result }
 {
-    run_with(alloc, words, &mut reader, writer)
+    run_with_notes(alloc, words, &mut reader, writer, &mut RunNotes::new())
 }
 
-/// Does what [`run`] does over a borrowed reader. The contract then says the reader's state after the call: if no
-/// command ran, its bytes and its counts of reads and failures are unchanged.
-pub fn run_with<R: TellingRead, W: TellingWrite>(
+/// Does what [`run`] does over a borrowed reader, and takes notes for a person. The new notes replace the old content of
+/// `notes`; [`print_notes`](crate::print_notes) prints them.
+///
+/// The contract says the reader's state after the call: if no command ran, its bytes and its counts of reads and
+/// failures are unchanged.
+pub fn run_with_notes<R: TellingRead, W: TellingWrite>(
     alloc: Global,
     words: &[&str],
     reader: &mut R,
     writer: &mut W,
+    notes: &mut RunNotes,
 ) -> u8
     ensures { RunsWords (map (λ w. w.now) words.entry.now)
         (λ task t. TaskRuns task t (traffic R.remaining R.failures reader.old reader.new)
@@ -73,37 +76,12 @@ pub fn run_with<R: TellingRead, W: TellingWrite>(
         (IsUntouched R.remaining R.failures R.reads reader.old reader.new)
         (traffic W.contents W.failures writer.old writer.new) result }
 {
-    run_read(
-        alloc,
-        read_words(alloc, words),
-        reader,
-        writer,
-        &mut RunNotes::new(),
-    )
+    *notes = RunNotes::new();
+    run_read(alloc, read_words(alloc, words), reader, writer, notes)
 }
 
-/// Does what [`run_with`] does, and writes notes for a person to `screen`. The output and the status are the same.
-pub fn run_with_notes<R: TellingRead, W: TellingWrite, N: TellingWrite>(
-    alloc: Global,
-    words: &[&str],
-    reader: &mut R,
-    writer: &mut W,
-    screen: &mut N,
-) -> u8
-    ensures { RunsWords (map (λ w. w.now) words.entry.now)
-        (λ task t. TaskRuns task t (traffic R.remaining R.failures reader.old reader.new)
-        (SomeReadFailed R.failures) (traffic W.contents W.failures writer.old writer.new) result)
-        (IsUntouched R.remaining R.failures R.reads reader.old reader.new)
-        (traffic W.contents W.failures writer.old writer.new) result }
-{
-    let mut notes = RunNotes::new();
-    let status = run_read(alloc, read_words(alloc, words), reader, writer, &mut notes);
-    tell_run(&notes, &RefCell::new(None), screen);
-    status
-}
-
-/// Runs the command of the arguments, given the result of reading them, and collects notes for a person.
-pub(crate) fn run_read<R: TellingRead, W: TellingWrite>(
+/// Runs the command of the arguments, given the result of reading them.
+fn run_read<R: TellingRead, W: TellingWrite>(
     alloc: Global,
     read: Result<Option<Request<'_>>, Error>,
     reader: &mut R,
@@ -203,14 +181,12 @@ fn run_task<R: TellingRead, W: TellingWrite>(
         }
         Task::Encode(programme, late) => {
             let station = station_of(pi, dwell, programme, late);
-            let notes_on = &mut notes.script;
-            let encoded = encode_with_notes(alloc, &mut *reader, writer, station, notes_on);
+            let encoded = run_script(Form::Log, alloc, station, reader, writer, notes);
             end_with(asked, encoded, writer, &mut notes.end)
         }
         Task::Simulate(programme, late) => {
             let station = station_of(pi, dwell, programme, late);
-            let notes_on = &mut notes.script;
-            let simulated = simulate_with_notes(alloc, &mut *reader, writer, station, notes_on);
+            let simulated = run_script(Form::Simulation, alloc, station, reader, writer, notes);
             end_with(asked, simulated, writer, &mut notes.end)
         }
         Task::Audit(late, running) => {
@@ -232,6 +208,23 @@ fn run_task<R: TellingRead, W: TellingWrite>(
             }
         }
     }
+}
+
+/// Plays a script.
+fn run_script<R: TellingRead, W: TellingWrite>(
+    form: Form,
+    alloc: Global,
+    station: Config,
+    reader: &mut R,
+    writer: &mut W,
+    notes: &mut RunNotes,
+) -> Result<(), LogFault>
+    ensures { Plays form station (2 ^ 32)
+        (script_in (traffic R.remaining R.failures reader.old reader.new) (SomeReadFailed R.failures))
+        (traffic W.contents W.failures writer.old writer.new) result }
+{
+    let notes_on = &mut notes.script;
+    play_script(form, alloc, reader, writer, station, MOST_RECORDS, notes_on)
 }
 
 /// Returns the station of these options.

@@ -18,16 +18,6 @@ pub const FAULT: u8 = 1;
 /// The status if the arguments are refused.
 pub const REFUSED: u8 = 2;
 
-/// Returns the status at the end of a run, given the status of its command. If input was read and not all of the output
-/// was written, that is a fault. Help, and the reason for refused arguments, need not be written.
-pub(crate) fn status_at_end(status: u8, was_read: bool, all_out: bool) -> u8
-    ensures out { all_out ≡ true → result ≡ status }
-    ensures words_alone { was_read ≡ false → result ≡ status }
-    ensures fault { was_read ≡ true → all_out ≡ false → result ≡ 1 }
-{
-    if was_read && !all_out { FAULT } else { status }
-}
-
 /// Ends a run whose arguments could not be read, because the program is out of memory or for another cause. Writes the
 /// fault line for the first, as far as the writer takes it, and a note for both. Returns the status.
 pub fn no_words<W: Write + Drop, N: Write + Drop>(memory: bool, writer: W, notes: N) -> u8

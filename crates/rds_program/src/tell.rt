@@ -1,4 +1,4 @@
-//! Notes of a run as lines on standard error. Each begins with `rdsrt: ` and goes out in one write.
+//! Prints the notes of a run as lines. Each begins with `rdsrt: ` and goes out in one write.
 
 use crate::notes::{End, RunNotes};
 use arrayvec::ArrayVec;
@@ -6,11 +6,10 @@ use rds_audit::AuditFault;
 use rds_charset::{TellingWrite, put};
 use rds_cli::Task;
 use rds_encoder::Refusal;
-use rds_io::Reason;
 use rds_log::{BadStart, NoNote};
 use rds_script::Thing;
 use rds_view_lines::LogFault;
-use std::io::{ErrorKind, Write};
+use std::io::{self, ErrorKind, Write};
 
 /// The most bytes of a note. All notes are shorter.
 const ROOM: usize = 1024;
@@ -22,12 +21,12 @@ const BEGUN: &[u8] = b"rdsrt: ";
 type Note = ArrayVec<u8, ROOM>;
 
 /// Prints why the arguments were refused, as `clap` says it.
-pub(crate) fn tell_refused<N: TellingWrite>(notes: &RunNotes, screen: &mut N) {
+pub fn print_refusal<N: TellingWrite>(notes: &RunNotes, screen: &mut N) {
     let _ = put(notes.refused.as_slice(), screen);
 }
 
-/// Prints the notes of a run: its warnings and its fault.
-pub(crate) fn tell_run<N: TellingWrite>(notes: &RunNotes, reason: &Reason, screen: &mut N) {
+/// Prints the notes of a run: its warnings and its fault. `reason` is the system's error of a failed read or write.
+pub fn print_notes<N: TellingWrite>(notes: &RunNotes, reason: Option<&io::Error>, screen: &mut N) {
     let Some(options) = notes.options else {
         return;
     };
@@ -317,7 +316,7 @@ fn tell_fault<N: TellingWrite>(
     task: Task,
     fault: LogFault,
     notes: &RunNotes,
-    reason: &Reason,
+    reason: Option<&io::Error>,
     screen: &mut N,
 ) {
     if is_gone(reason) {
@@ -350,23 +349,17 @@ fn bad_of(notes: &RunNotes) -> &Option<BadStart> {
 }
 
 /// Returns whether the reader of a pipe has gone.
-fn is_gone(reason: &Reason) -> bool {
-    let Ok(reason) = reason.try_borrow() else {
-        return false;
-    };
-    match reason.as_ref() {
+fn is_gone(reason: Option<&io::Error>) -> bool {
+    match reason {
         Some(error) => error.kind() == ErrorKind::BrokenPipe,
         None => false,
     }
 }
 
 /// Appends a failure with the system's reason.
-fn push_failed(what: &str, reason: &Reason, note: &mut Note) {
+fn push_failed(what: &str, reason: Option<&io::Error>, note: &mut Note) {
     let _ = write!(note, "{what}");
-    let Ok(reason) = reason.try_borrow() else {
-        return;
-    };
-    if let Some(error) = reason.as_ref() {
+    if let Some(error) = reason {
         let _ = write!(note, ": {error}");
     }
 }

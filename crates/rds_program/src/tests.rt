@@ -1,12 +1,11 @@
 //! The note of the fault that no test of the program can bring about: 2^32 reads or rows take hours.
 
 use crate::notes::{End, Options, RunNotes};
-use crate::tell::tell_run;
+use crate::tell::print_notes;
 use rds_charset::Told;
 use rds_cli::Task;
 use rds_fields::Dwell;
 use rds_view_lines::LogFault;
-use std::cell::RefCell;
 use std::test::Fail;
 
 /// An input without an end is told, with warnings and without.
@@ -21,7 +20,7 @@ fn too_long(rt: HostRuntime) -> Result<(), Fail> {
             quiet,
         });
         let mut told = Vec::new(rt.alloc());
-        tell_run(&notes, &RefCell::new(None), &mut Told::new(&mut told));
+        print_notes(&notes, None, &mut Told::new(&mut told));
         let wanted = b"rdsrt: fault too long: the input has 4294967296 reads or more\n";
         assert_eq!(rt; told.as_slice(), wanted.as_slice());
     }

@@ -9,7 +9,7 @@ use Rattle.rds_view_lines.specs.NoChange.{view_of_none}
 use Rattle.rds_world.specs.Slots.{entries, input_of}
 use Rattle.rds_world.specs.StandsAt.{IsViewOfInput, ShowsStill, tuned_to}
 use Rattle.rds_script.specs.Outcomes.{AreOutcomes, IsOutcome, Outcome, answer_lines, lines_of, newest_views, receiver_changes, slot_lines, view_at}
-use Rattle.rds_script.specs.Inside.Player.{HasWatched, IsBegun, IsRowRefused, Played, PlayerStandsAt, PlaysRow}
+use Rattle.rds_script.specs.Inside.Player.{AppendsRow, HasWatched, IsBegun, IsRowRefused, Played, PlayerStandsAt}
 use Rattle.rds_script.specs.Inside.Watched.{AreKept, WatchedStandsAt, WereShown, views_kept}
 use Rattle.rds_script.specs.Notes.{first_of, wait_of}
 use Rattle.rds_script.specs.declared.notes.Wait.{Wait}
@@ -133,31 +133,35 @@ as_many_outcomes config (e ∷ before) [] are = absurd are
 as_many_outcomes config (e ∷ before) (o ∷ older) are = ap suc (as_many_outcomes config before older are.1)
 
 -- a slot more is played in a world whose receivers are watched
-pub plays_on : {T E : Type 0} (r : Result T E) (before now : Player) (played : Played) (s : PlayerStandsAt before played) (receivers : ℕ) (kept : List ShownView) (w : Watched) (row : Record) (e : Event) (lines : List ℕ)
+pub plays_on : {T E : Type 0} (r : Result T E) (before now : Player) (played : Played) (s : PlayerStandsAt before played) (receivers : ℕ) (kept : List ShownView) (w : Watched) (row : Record) (e : Event) (old new : List ℕ)
     → now.form ≡ before.form → now.config ≡ before.config → now.slot ≡ before.slot + 1 → now.watched ≡ Some w → IsAllowed played.form receivers
     → AreRows played.config.late receivers played.records s.events → SaysEvent row e → AreKept kept (newest_views s.outcomes)
     → OnOk r (CanBeTaken played.config.late receivers e s.events) → OnOk r (WatchedStandsAt played.config receivers w (e ∷ s.events))
-    → OnOk r ((o : Outcome) × IsOutcome played.config e s.events o × (o.views ≡ views_kept w) × (lines ≡ slot_lines played.form before.slot kept o))
+    → OnOk r ((o : Outcome) × IsOutcome played.config e s.events o × (o.views ≡ views_kept w) × (new ≡ old ++ slot_lines played.form before.slot kept o))
     → OnOk r (now.wait ≡ first_of (wait_of before.slot e.command (reply_at (distance played.config) e.command (entries s.events))) before.wait)
-    → OnOk r (PlaysRow now row lines played)
-plays_on (Err why) before now played s receivers kept w row e lines form config slot watched allowed rows says same taken stands outcome wait = tt
-plays_on (Ok done) before now played s receivers kept w row e lines form config slot watched allowed rows says same taken stands (o, is, views, gave) wait = (
-  receivers,
-  record {
-    form_is = form ∙ s.form_is;
-    config_is = config ∙ s.config_is;
-    allowed = allowed;
-    events = e ∷ s.events;
-    rows = (says, taken, rows);
-    outcomes = o ∷ s.outcomes;
-    are = (is, s.are);
-    slot = slot ∙ ap (λ (n : ℕ). n + 1) s.slot ∙ add-one (length s.outcomes);
-    lines = slot_written played.form before.slot kept o s.outcomes played.written lines s.lines s.slot same gave;
-    wait =
-        let slots : before.slot ≡ length s.events = s.slot ∙ sym (as_many_outcomes played.config s.events s.outcomes s.are) in
-        wait ∙ ap₂ (λ (n : ℕ) (x : Option Wait). first_of (wait_of n e.command (reply_at (distance played.config) e.command (entries s.events))) x) slots s.wait;
-    watched = subst (λ (x : Option Watched). HasWatched played.config receivers x (e ∷ s.events) (o ∷ s.outcomes)) (sym watched) (omega arith, stands, λ i. ap (λ (views : List ShownView). view_at views i) (sym views));
-  },
+    → OnOk r (AppendsRow now row old new played)
+plays_on (Err why) before now played s receivers kept w row e old new form config slot watched allowed rows says same taken stands outcome wait = tt
+plays_on (Ok done) before now played s receivers kept w row e old new form config slot watched allowed rows says same taken stands (o, is, views, gave) wait = (
+  slot_lines played.form before.slot kept o,
+  gave,
+  (
+    receivers,
+    record {
+      form_is = form ∙ s.form_is;
+      config_is = config ∙ s.config_is;
+      allowed = allowed;
+      events = e ∷ s.events;
+      rows = (says, taken, rows);
+      outcomes = o ∷ s.outcomes;
+      are = (is, s.are);
+      slot = slot ∙ ap (λ (n : ℕ). n + 1) s.slot ∙ add-one (length s.outcomes);
+      lines = slot_written played.form before.slot kept o s.outcomes played.written _ s.lines s.slot same refl;
+      wait =
+          let slots : before.slot ≡ length s.events = s.slot ∙ sym (as_many_outcomes played.config s.events s.outcomes s.are) in
+          wait ∙ ap₂ (λ (n : ℕ) (x : Option Wait). first_of (wait_of n e.command (reply_at (distance played.config) e.command (entries s.events))) x) slots s.wait;
+      watched = subst (λ (x : Option Watched). HasWatched played.config receivers x (e ∷ s.events) (o ∷ s.outcomes)) (sym watched) (omega arith, stands, λ i. ap (λ (views : List ShownView). view_at views i) (sym views));
+    },
+  ),
 )
 
 -- a record whose event was refused, after rows or as the first one

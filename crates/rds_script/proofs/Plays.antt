@@ -1,22 +1,21 @@
 -- How a script is played on by a record, and what is left at each end.
-use Rattle.std.proofs.Common.{◌≡◌, ◌<◌, ◌≤◌, ◌+◌, ◌∙◌, ◌∷◌, ◌++◌, ℕ, List, None, Option, Some, ap, arith, inl, inr, length, sym}
-use Rattle.std.specs.Prelude.{Err}
+use Rattle.std.proofs.Common.{◌≡◌, ◌≢◌, ◌<◌, ◌≤◌, ◌+◌, ◌∙◌, ◌∷◌, ◌++◌, [], ℕ, Bool, List, None, Option, Some, ap, append_assoc, arith, false, length, sym, true}
+use Rattle.std.proofs.lemmas.List.{append-nil}
+use Rattle.std.specs.Prelude.{Err, Ok, Result}
 use Rattle.std.specs.Io.KnownBytes.{Appends}
 use Rattle.std.proofs.KnownBytes.{Appends-trans}
 use Rattle.csv.specs.Reading.{reader_state}
 use Rattle.rds_charset.specs.Puts.{AppendsPrefix-append}
 use Rattle.rds_charset.specs.Told.{AppendsPrefix, HasFailed, Traffic}
 use Rattle.rds_world.specs.declared.world.Config.{Config}
-use Rattle.rds_script.specs.Inside.Player.{IsReadFault, Played, PlayedSoFar, PlayerStandsAt, PlaysRow, ScriptStandsAt}
+use Rattle.rds_script.specs.Inside.Player.{Played, PlayedSoFar, PlayerStandsAt, PlaysNext, ScriptStandsAt}
 use Rattle.rds_script.specs.Notes.{NotesTell}
-use Rattle.rds_script.specs.RowCauses.{IsRowCause}
-use Rattle.rds_script.specs.Rows.{AreNoRows, Record, RowsSay}
+use Rattle.rds_script.specs.Rows.{Record, RowsSay}
 use Rattle.rds_script.specs.declared.notes.BadRow.{BadRow as BadRecord}
 use Rattle.rds_script.specs.declared.notes.ScriptNotes.{ScriptNotes}
-use Rattle.rds_script.specs.declared.row_cause.RowCause.{RowCause}
-use Rattle.rds_script.specs.Play.{HasRecords, Reading, RowsWrite, WroteRows}
+use Rattle.rds_script.specs.Play.{HasAllRecords, HasRecords, Reading, RowsWrite, WroteRows}
 use Rattle.rds_view_lines.specs.declared.fault.LogFault.{LogFault}
-use Rattle.rds_view_lines.specs.declared.fault.LogFault.TheVariants.{BadRow, Write}
+use Rattle.rds_view_lines.specs.declared.fault.LogFault.TheVariants.{BadLine, BadRow, Memory, Read, TooLong, Write}
 use Rattle.rds_script.specs.declared.form.Form.{Form}
 use Rattle.rds_script.specs.declared.player.Player.{Player}
 use Rattle.rds_script.specs.declared.records.Records.{Records}
@@ -33,12 +32,24 @@ rows_write p played s = record {
   write = record { outcomes = s.outcomes; are = s.are; lines = s.lines };
 }
 
+-- the lines that waited were written too
+pub all_wrote : (form : Form) (config : Config) (p : Player) (records : List Record) (start now after : Option (List ℕ)) (v w w' : ℕ) (waiting : List ℕ)
+    → PlayedSoFar form config p records record { before = start; after = now; failures_before = v; failures_after = w } waiting
+    → Appends now after waiting → w' ≡ w → PlayedSoFar form config p records record { before = start; after = after; failures_before = v; failures_after = w' } []
+all_wrote form config p records start now after v w w' waiting played wrote same = record {
+  receivers = played.receivers;
+  written = played.written ++ waiting;
+  player = rw (append-nil (played.written ++ waiting)) played.player;
+  wrote = Appends-trans start now after played.written waiting played.wrote wrote;
+  calm = same ∙ played.calm;
+}
+
 pub wrote_rows : {R : Type 0} {g h : _} (remaining : R → Option (List ℕ)) (form : Form) (config : Config) (known : Option (List ℕ)) (w : Traffic) (s : Records R g h) (p : Player) (records : List Record)
-    → ScriptStandsAt remaining known s records → PlayedSoFar form config p records w → WroteRows form config known w records
+    → ScriptStandsAt remaining known s records → PlayedSoFar form config p records w [] → WroteRows form config known w records
 wrote_rows remaining form config known w s p records stands played = record {
   begins = has_records remaining known s records stands;
   written = played.written;
-  write = rows_write p _ played.player;
+  write = rw (append-nil played.written) at (rows_write p _ played.player);
   wrote = played.wrote;
   calm = played.calm;
 }
@@ -50,77 +61,111 @@ noted bad p = record { bad = bad; wait = p.wait }
 pub rows_say : (p : Player) (played : Played) (s : PlayerStandsAt p played) → RowsSay played.config.late played.form played.records s.events
 rows_say p played s = record { receivers = played.receivers; allowed = s.allowed; rows = s.rows }
 
--- no record was given
-pub ends_by_read : {R : Type 0} {g h : _} (remaining : R → Option (List ℕ)) (form : Form) (config : Config) (most : ℕ) (r : Reading) (w : Traffic) (s : Records R g h) (p : Player) (records : List Record) (fault : LogFault) (bad : Option BadRecord)
-    → ScriptStandsAt remaining r.known s records → PlayedSoFar form config p records w → length records < most → IsReadFault r.Failed fault → bad ≡ None → NotesTell form config most r w (Err fault) (noted bad p)
-ends_by_read remaining form config most r w s p records fault bad stands played fewer (inl e) none = rw e record {
-  plays = (records, wrote_rows remaining form config r.known w s p records stands played, fewer);
-  bad = none;
-  events = played.player.events;
-  say = rows_say p _ played.player;
-  wait = played.player.wait;
-}
-ends_by_read remaining form config most r w s p records fault bad stands played fewer (inr (e, failed)) none = rw e record {
-  plays = (records, wrote_rows remaining form config r.known w s p records stands played, fewer, failed);
-  bad = none;
-  events = played.player.events;
-  say = rows_say p _ played.player;
-  wait = played.player.wait;
-}
+-- what a player played is where its next record begins
+abbrev pub where_next : (form : Form) (config : Config) (p : Player) (records : List Record) (w : Traffic) (waiting : List ℕ) → PlayedSoFar form config p records w waiting → Played
+where_next form config p records w waiting played = record { form = form; config = config; receivers = played.receivers; records = records; written = played.written ++ waiting }
 
--- the record that was given is no row, and the player goes on with the wait that it had
-pub ends_by_row : {R : Type 0} {g h : _} (remaining : R → Option (List ℕ)) (form : Form) (config : Config) (most : ℕ) (r : Reading) (w : Traffic) (before s : Records R g h) (p now : Player) (bad : List (List ℕ)) (records : List Record) (n line : ℕ) (cause : RowCause)
-    → ScriptStandsAt remaining r.known before records → ScriptStandsAt remaining r.known s (bad ∷ records) → PlayedSoFar form config p records w → AreNoRows config.late form (bad ∷ records) × IsRowCause form config.late records bad cause
-    → length records ≡ n → n < most → now.wait ≡ p.wait
-    → NotesTell form config most r w (Err (BadRow (n + 1))) (noted (Some record { line = line; cause = cause }) now)
-ends_by_row remaining form config most r w before s p now bad records n line cause had stands played none number fewer kept = record {
-  plays = (
-    record {
-      records = records;
-      bad = bad;
-      wrote = wrote_rows remaining form config r.known w before p records had played;
-      begins = has_records remaining r.known s (bad ∷ records) stands;
-      none = none.0;
-      number = ap (λ (x : ℕ). x + 1) (sym number);
-    },
-    omega (arith, fewer),
-  );
-  bad = none.1;
+-- the lines of one more row wait
+pub played_on : {R : Type 0} {g h : _} (remaining : R → Option (List ℕ)) (ReadFailed : Type 0) (form : Form) (config : Config) (known : Option (List ℕ)) (s : Records R g h) (p now : Player) (row : Record) (number : ℕ) (records : List Record) (w : Traffic) (waiting more : List ℕ) (bad : Option BadRecord) (result : Result Bool LogFault)
+    → (played : PlayedSoFar form config p records w waiting) → PlaysNext remaining ReadFailed known s now row number waiting more bad (where_next form config p records w waiting played) result → result ≡ Ok true
+    → ScriptStandsAt remaining known s (row ∷ records) × PlayedSoFar form config now (row ∷ records) w more
+played_on remaining ReadFailed form config known s p now row number records w waiting more bad result played next is =
+    let (stands, (lines, grew, (count, player))) = rw is at next in (
+      stands,
+      record {
+        receivers = count;
+        written = played.written;
+        player = rw (grew, sym (append_assoc played.written waiting lines)) player;
+        wrote = played.wrote;
+        calm = played.calm;
+      },
+    )
+
+-- no row was played
+pub not_more : (more : Bool) (result : Result Bool LogFault) → result ≡ Ok more → more ≡ false → result ≢ Ok true
+not_more true result is none same = cc
+not_more false result is none same = cc
+
+-- the script has no more records
+pub ends_all : {R : Type 0} {g h : _} (remaining : R → Option (List ℕ)) (form : Form) (config : Config) (most : ℕ) (r : Reading) (w : Traffic) (s : Records R g h) (p now : Player) (records : List Record) (bad : Option BadRecord)
+    → ScriptStandsAt remaining r.known s records → PlayedSoFar form config p records w [] → length records < most → HasAllRecords r.known records → now.wait ≡ p.wait → bad ≡ None
+    → NotesTell form config most r w (Ok tt) (noted bad now)
+ends_all remaining form config most r w s p now records bad stands played fewer all kept none = record {
+  plays = record { records = records; all = all; fewer = fewer; wrote = wrote_rows remaining form config r.known w s p records stands played };
+  bad = none;
   events = played.player.events;
   say = rows_say p _ played.player;
   wait = kept ∙ played.player.wait;
 }
 
--- the lines of the row came after the others
-pub played_on : (form : Form) (config : Config) (p : Player) (row : Record) (records : List Record) (receivers : ℕ) (start now after : Option (List ℕ)) (v w w' : ℕ) (written lines : List ℕ)
-    → PlaysRow p row lines record { form = form; config = config; receivers = receivers; records = records; written = written }
-    → Appends start now written → w ≡ v → Appends now after lines → w' ≡ w
-    → PlayedSoFar form config p (row ∷ records) record { before = start; after = after; failures_before = v; failures_after = w' }
-played_on form config p row records receivers start now after v w w' written lines (count, stands) had calm gave same = record {
-  receivers = count;
-  written = written ++ lines;
-  player = stands;
-  wrote = Appends-trans start now after written lines had gave;
-  calm = same ∙ calm;
+-- the next record is not a row, or it was not read
+pub ends_by_fault : {R : Type 0} {g h : _} (remaining : R → Option (List ℕ)) (form : Form) (config : Config) (most : ℕ) (r : Reading) (w before : Traffic) (s now : Records R g h) (p after : Player) (row : Record) (records : List Record) (waiting more : List ℕ) (turn : ℕ) (bad : Option BadRecord) (fault : LogFault)
+    → ScriptStandsAt remaining r.known s records → PlayedSoFar form config p records w [] → length records ≡ turn → turn < most → after.wait ≡ p.wait
+    → (played : PlayedSoFar form config p records before waiting) → PlaysNext remaining r.Failed r.known now after row (turn + 1) waiting more bad (where_next form config p records before waiting played) (Err fault)
+    → NotesTell form config most r w (Err fault) (noted bad after)
+ends_by_fault remaining form config most r w before s now p after row records waiting more turn bad (BadLine n) stands wrote number fewer kept played next = absurd next
+ends_by_fault remaining form config most r w before s now p after row records waiting more turn bad (BadRow n) stands wrote number fewer kept played next = rw next.noted record {
+  plays = (
+    record {
+      records = records;
+      bad = row;
+      wrote = wrote_rows remaining form config r.known w s p records stands wrote;
+      begins = next.begins;
+      none = next.none;
+      number = next.number_is ∙ ap (λ (x : ℕ). x + 1) (sym number);
+    },
+    let is = next.number_is in omega (arith, fewer, is),
+  );
+  bad = next.cause;
+  events = wrote.player.events;
+  say = rows_say p _ wrote.player;
+  wait = kept ∙ wrote.player.wait;
+}
+ends_by_fault remaining form config most r w before s now p after row records waiting more turn bad Read stands wrote number fewer kept played next = record {
+  plays = (records, wrote_rows remaining form config r.known w s p records stands wrote, omega (arith, number, fewer), next.0);
+  bad = next.1;
+  events = wrote.player.events;
+  say = rows_say p _ wrote.player;
+  wait = kept ∙ wrote.player.wait;
+}
+ends_by_fault remaining form config most r w before s now p after row records waiting more turn bad Write stands wrote number fewer kept played next = absurd next
+ends_by_fault remaining form config most r w before s now p after row records waiting more turn bad TooLong stands wrote number fewer kept played next = absurd next
+ends_by_fault remaining form config most r w before s now p after row records waiting more turn bad Memory stands wrote number fewer kept played next = record {
+  plays = (records, wrote_rows remaining form config r.known w s p records stands wrote, omega (arith, number, fewer));
+  bad = next;
+  events = wrote.player.events;
+  say = rows_say p _ wrote.player;
+  wait = kept ∙ wrote.player.wait;
 }
 
--- and where the writer failed, a first part of them
-pub ends_by_write : {R : Type 0} {g h : _} (remaining : R → Option (List ℕ)) (form : Form) (config : Config) (most : ℕ) (r : Reading) (s : Records R g h) (p : Player) (row : Record) (records : List Record) (receivers : ℕ) (start now after : Option (List ℕ)) (v w w' : ℕ) (written lines : List ℕ) (bad : Option BadRecord)
-    → ScriptStandsAt remaining r.known s (row ∷ records) → length (row ∷ records) ≤ most → PlaysRow p row lines record { form = form; config = config; receivers = receivers; records = records; written = written }
-    → Appends start now written → w ≡ v → AppendsPrefix now after lines → HasFailed record { before = now; after = after; failures_before = w; failures_after = w' }
-    → bad ≡ None → NotesTell form config most r record { before = start; after = after; failures_before = v; failures_after = w' } (Err Write) (noted bad p)
-ends_by_write remaining form config most r s p row records receivers start now after v w w' written lines bad stands within (count, plays) had calm gave failed none = record {
+-- the script has as many records as may be
+pub ends_too_long : {R : Type 0} {g h : _} (remaining : R → Option (List ℕ)) (form : Form) (config : Config) (most : ℕ) (r : Reading) (w : Traffic) (s : Records R g h) (p : Player) (records : List Record) (bad : Option BadRecord)
+    → ScriptStandsAt remaining r.known s records → PlayedSoFar form config p records w [] → length records ≡ most → bad ≡ None → NotesTell form config most r w (Err TooLong) (noted bad p)
+ends_too_long remaining form config most r w s p records bad stands played number none = record {
+  plays = (records, wrote_rows remaining form config r.known w s p records stands played, number);
+  bad = none;
+  events = played.player.events;
+  say = rows_say p _ played.player;
+  wait = played.player.wait;
+}
+
+-- the writer failed at the lines that waited
+pub ends_by_write : {R : Type 0} {g h : _} (remaining : R → Option (List ℕ)) (form : Form) (config : Config) (most : ℕ) (r : Reading) (s : Records R g h) (p now : Player) (records : List Record) (start mid after : Option (List ℕ)) (v w w' : ℕ) (waiting : List ℕ) (bad : Option BadRecord)
+    → ScriptStandsAt remaining r.known s records → length records ≤ most → PlayedSoFar form config p records record { before = start; after = mid; failures_before = v; failures_after = w } waiting
+    → AppendsPrefix mid after waiting → HasFailed record { before = mid; after = after; failures_before = w; failures_after = w' } → now.wait ≡ p.wait
+    → bad ≡ None → NotesTell form config most r record { before = start; after = after; failures_before = v; failures_after = w' } (Err Write) (noted bad now)
+ends_by_write remaining form config most r s p now records start mid after v w w' waiting bad stands within played gave failed kept none = record {
   plays = record {
-    records = row ∷ records;
-    begins = has_records remaining r.known s (row ∷ records) stands;
+    records = records;
+    begins = has_records remaining r.known s records stands;
     within = within;
-    written = written ++ lines;
-    write = rows_write p _ plays;
-    wrote = AppendsPrefix-append start now after written lines had gave;
-    failed = rw calm at failed;
+    written = played.written ++ waiting;
+    write = rows_write p _ played.player;
+    wrote = AppendsPrefix-append start mid after played.written waiting played.wrote gave;
+    failed = rw played.calm at failed;
   };
   bad = none;
-  events = plays.events;
-  say = rows_say p _ plays;
-  wait = plays.wait;
+  events = played.player.events;
+  say = rows_say p _ played.player;
+  wait = kept ∙ played.player.wait;
 }

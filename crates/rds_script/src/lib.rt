@@ -19,9 +19,8 @@ mod row_cause;
 mod second_reading;
 mod watched;
 
+pub use form::Form;
 pub use laws::{rows_write_one_output, script_writes_one_output};
 pub use notes::{BadRow, ScriptNotes, Thing, Wait};
-pub use play::{
-    encode, encode_with_notes, encode_within, simulate, simulate_with_notes, simulate_within,
-};
+pub use play::{MOST_RECORDS, encode, encode_within, play_script, simulate, simulate_within};
 pub use row_cause::{RowCause, TagNumber};

@@ -1,4 +1,4 @@
-//! Counts the line ends of a script: LF, CR LF, or a lone CR, as `csv` takes them.
+//! Finds and counts the line ends of a script: LF, CR LF, or a lone CR, as `csv` takes them.
 //!
 //! `csv` counts the line feeds, so these functions count the other line ends: a return that no line feed follows.
 //!
@@ -6,7 +6,7 @@
 //! ahead (docs/PROVER.md, "What no contract can state"). Tests compare each line with a plain count.
 
 use arrayvec::ArrayVec;
-use memchr::memchr_iter;
+use memchr::{memchr_iter, memrchr2};
 
 /// The most bytes that `csv` asks for in one read.
 const PIECE: usize = 8192;
@@ -51,12 +51,23 @@ pub(crate) fn line_ends_in(bytes: &[u8]) -> u64 {
     returns.count.saturating_add(feeds as u64)
 }
 
+/// Returns how many bytes there are up to the end of the last complete line that is not empty, without its line end.
+fn complete_in(bytes: &[u8]) -> usize {
+    let end = memrchr2(b'\n', b'\r', bytes).unwrap_or(0);
+    let line = bytes[..end]
+        .iter()
+        .rposition(|byte| *byte != b'\n' && *byte != b'\r');
+    line.map_or(0, |last| last + 1)
+}
+
 /// The bytes that `csv` has read so far: how many, the last piece, and the lone returns before it.
 ///
 /// A piece is counted when the next one replaces it.
 #[derive(Drop)]
 pub(crate) struct ReadSoFar {
     bytes: u64,
+    /// How many of these bytes end with a complete line that is not empty, without its line end.
+    complete: u64,
     last: ArrayVec<u8, PIECE>,
     before: LoneReturns,
 }
@@ -66,6 +77,7 @@ impl ReadSoFar {
     pub(crate) fn new() -> ReadSoFar {
         ReadSoFar {
             bytes: 0,
+            complete: 0,
             last: ArrayVec::new(),
             before: LoneReturns::new(),
         }
@@ -77,7 +89,13 @@ impl ReadSoFar {
         self.before.take(self.last.as_slice());
         self.last.clear();
         let _ = self.last.try_extend_from_slice(piece);
+        self.complete = self.bytes.saturating_add(complete_in(piece) as u64);
         self.bytes = self.bytes.saturating_add(piece.len() as u64);
+    }
+
+    /// Returns how many of these bytes end with a complete line that is not empty, without its line end.
+    pub(crate) fn complete(&self) -> u64 {
+        self.complete
     }
 
     /// Returns whether the last read found the end.

@@ -1,32 +1,34 @@
-//! The engines of `sim` and `encode`: each row is a slot of a station, and its output is written before the next row is
-//! read.
-ghost use Rattle.std.specs.Prelude.{◌≡◌, ◌≤◌, ◌^◌, [], ℕ, List, None, Option};
+//! The engines of `sim` and `encode`: each row is a slot of a station.
+ghost use Rattle.std.specs.Prelude.{◌≡◌, ◌≢◌, ◌≤◌, ◌<◌, ◌+◌, ◌-◌, ◌^◌, [], ℕ, Bool, List, None, Ok, Option, Result, length, true};
+ghost use Rattle.csv.specs.Records.{fields_of};
 ghost use Rattle.rds_charset.specs.Told.{traffic};
 ghost use Rattle.rds_view_lines.specs.ReadFailed.{SomeReadFailed};
-ghost use Rattle.rds_script.specs.Inside.Player.{PlayerStandsAt, ScriptStandsAt, nothing_played};
+ghost use Rattle.rds_script.specs.Inside.Player.{Played, PlayerStandsAt, PlaysNext, ScriptStandsAt, nothing_played};
 ghost use Rattle.rds_script.specs.Notes.{NotesTell};
 ghost use Rattle.rds_script.specs.Play.{Plays, reading};
 ghost use Rattle.rds_script.specs.declared.form.Form.TheVariants as forms;
+ghost use Rattle.rds_script.specs.declared.watched.TheConstants.{OUTPUT_ROOM, ROW_ROOM};
 
 use crate::form::Form;
 use crate::notes::{BadRow, ScriptNotes};
 use crate::player::Player;
 use crate::records::Records;
 use crate::row::RowRefused;
-use crate::watched::RowLines;
+use crate::watched::{ROW_ROOM, RowLines};
 use csv::ByteRecord;
-use rds_charset::{TellingRead, TellingWrite, put};
+use rds_charset::{TellingRead, TellingWrite};
 use rds_view_lines::LogFault;
 use rds_world::Config;
 use std::alloc::Global;
 
 /// The most records of a script. A script with as many is too long.
-const MOST_RECORDS: u64 = 1 << 32;
+pub const MOST_RECORDS: u64 = 1 << 32;
 
 /// Plays a script with a station and up to eight receivers. Writes for each slot the reply to its command, the group,
 /// and the changes at each receiver.
 ///
-/// The lines of a slot are written before the next record is read, in one write if the writer takes them whole.
+/// The output of the rows of one read is written before the next read, in one write if the writer takes it whole. A row
+/// that the read cuts belongs to the next read.
 ///
 /// # Errors
 ///
@@ -57,32 +59,14 @@ pub fn simulate_within<R: TellingRead + Drop, W: TellingWrite>(
     ensures { Plays forms.Simulation config records (reading R.remaining R.failures reader)
         (traffic W.contents W.failures writer.old writer.new) result }
 {
-    play(Form::Simulation, alloc, reader, writer, config, records)
-}
-
-/// Does what [`simulate`] does, and takes notes: why a record is not a row, and the first thing that was set too early.
-///
-/// The new notes replace the old content of `notes`.
-pub fn simulate_with_notes<R: TellingRead + Drop, W: TellingWrite>(
-    alloc: Global,
-    reader: R,
-    writer: &mut W,
-    config: Config,
-    notes: &mut ScriptNotes,
-) -> Result<(), LogFault>
-    ensures plays { Plays forms.Simulation config (2 ^ 32) (reading R.remaining R.failures reader)
-        (traffic W.contents W.failures writer.old writer.new) result }
-    ensures notes { NotesTell forms.Simulation config (2 ^ 32) (reading R.remaining R.failures reader)
-        (traffic W.contents W.failures writer.old writer.new) result notes.new }
-{
-    play_with_notes(
+    play_script(
         Form::Simulation,
         alloc,
         reader,
         writer,
         config,
-        MOST_RECORDS,
-        notes,
+        records,
+        &mut ScriptNotes::new(),
     )
 }
 
@@ -116,54 +100,26 @@ pub fn encode_within<R: TellingRead + Drop, W: TellingWrite>(
     ensures { Plays forms.Log config records (reading R.remaining R.failures reader)
         (traffic W.contents W.failures writer.old writer.new) result }
 {
-    play(Form::Log, alloc, reader, writer, config, records)
-}
-
-/// Does what [`encode`] does, and takes notes: why a record is not a row, and the first thing that was set too early.
-///
-/// The new notes replace the old content of `notes`.
-pub fn encode_with_notes<R: TellingRead + Drop, W: TellingWrite>(
-    alloc: Global,
-    reader: R,
-    writer: &mut W,
-    config: Config,
-    notes: &mut ScriptNotes,
-) -> Result<(), LogFault>
-    ensures plays { Plays forms.Log config (2 ^ 32) (reading R.remaining R.failures reader)
-        (traffic W.contents W.failures writer.old writer.new) result }
-    ensures notes { NotesTell forms.Log config (2 ^ 32) (reading R.remaining R.failures reader)
-        (traffic W.contents W.failures writer.old writer.new) result notes.new }
-{
-    play_with_notes(
+    play_script(
         Form::Log,
         alloc,
         reader,
         writer,
         config,
-        MOST_RECORDS,
-        notes,
+        records,
+        &mut ScriptNotes::new(),
     )
 }
 
-/// Plays a script without notes.
-fn play<R: TellingRead + Drop, W: TellingWrite>(
-    form: Form,
-    alloc: Global,
-    reader: R,
-    writer: &mut W,
-    config: Config,
-    records: u64,
-) -> Result<(), LogFault>
-    requires { records ≤ 2 ^ 32 }
-    ensures { Plays form config records (reading R.remaining R.failures reader)
-        (traffic W.contents W.failures writer.old writer.new) result }
-{
-    let mut notes = ScriptNotes::new();
-    play_with_notes(form, alloc, reader, writer, config, records, &mut notes)
-}
-
-/// Plays a script, and takes notes.
-fn play_with_notes<R: TellingRead + Drop, W: TellingWrite>(
+/// Plays a script in one of its forms with a bound on records, and takes notes: why a record is not a row, and the first
+/// thing that was set too early. [`simulate`] and [`encode`] are its two forms.
+///
+/// The new notes replace the old content of `notes`.
+///
+/// # Errors
+///
+/// As for [`simulate`]. A script with `records` records is too long, whether or not it ends there.
+pub fn play_script<R: TellingRead + Drop, W: TellingWrite>(
     form: Form,
     alloc: Global,
     reader: R,
@@ -173,7 +129,9 @@ fn play_with_notes<R: TellingRead + Drop, W: TellingWrite>(
     notes: &mut ScriptNotes,
 ) -> Result<(), LogFault>
     requires { records ≤ 2 ^ 32 }
-    ensures { NotesTell form config records (reading R.remaining R.failures reader)
+    ensures plays { Plays form config records (reading R.remaining R.failures reader)
+        (traffic W.contents W.failures writer.old writer.new) result }
+    ensures notes { NotesTell form config records (reading R.remaining R.failures reader)
         (traffic W.contents W.failures writer.old writer.new) result notes.new }
 {
     let mut script = Records::new(alloc, reader);
@@ -195,7 +153,7 @@ fn play_with_notes<R: TellingRead + Drop, W: TellingWrite>(
     done
 }
 
-/// Plays row by row.
+/// Plays row by row. Writes the output before a read, and if there may be no room for the output of one more row.
 ///
 /// Prover: the caller owns the values that must be dropped, since it has one end (docs/PROVER.md, "Workarounds").
 fn play_rows<R: TellingRead, W: TellingWrite>(
@@ -217,22 +175,64 @@ fn play_rows<R: TellingRead, W: TellingWrite>(
 {
     let mut lines = RowLines::new();
     for turn in 0..records {
-        if !script.next(row)? {
-            return Ok(());
-        }
-        match player.row(row, &mut lines) {
-            Ok(()) => {}
-            Err(RowRefused::NoRow(cause)) => {
-                *bad = Some(BadRow {
-                    line: script.line_of(row),
-                    cause,
-                });
-                return Err(LogFault::BadRow(turn + 1));
+        let mut cause = None;
+        match play_next(script, player, row, turn + 1, &mut lines, &mut cause) {
+            Ok(true) => {}
+            Ok(false) => {
+                lines.write(writer)?;
+                return Ok(());
             }
-            Err(RowRefused::Memory) => return Err(LogFault::Memory),
+            Err(fault) => {
+                lines.write(writer)?;
+                *bad = cause;
+                return Err(fault);
+            }
         }
-        put(lines.bytes(), writer)?;
-        lines.clear();
+        if !script.has_next() || !lines.has_room(ROW_ROOM) {
+            lines.write(writer)?;
+        }
     }
+    lines.write(writer)?;
     Err(LogFault::TooLong)
+}
+
+/// Reads the next record, which has this number, and plays it. Appends its output. Returns `false` at the end of the
+/// script.
+///
+/// # Errors
+///
+/// A record that is not a row, whose cause is noted, a failed read, or no memory.
+fn play_next<R: TellingRead>(
+    script: &mut Records<R>,
+    player: &mut Player,
+    row: &mut ByteRecord,
+    number: u64,
+    lines: &mut RowLines,
+    bad: &mut Option<BadRow>,
+) -> Result<bool, LogFault>
+    requires slots { player.old.slot < 2 ^ 64 - 1 }
+    requires room { length lines.old + ROW_ROOM ≤ OUTPUT_ROOM }
+    requires good { bad.old ≡ None }
+    ensures slot { result ≡ Ok true → player.new.slot ≡ player.old.slot + 1 }
+    ensures kept { result ≢ Ok true → player.new.wait ≡ player.old.wait }
+    ensures no_lines { result ≢ Ok true → lines.new ≡ lines.old }
+    ensures plays { (known : Option (List ℕ)) (played : Played)
+        → ScriptStandsAt R.remaining known script.old played.records → PlayerStandsAt player.old played
+        → PlaysNext R.remaining (SomeReadFailed R.failures) known script.new player.new (fields_of row.new) number
+        lines.old lines.new bad.new played result }
+{
+    if !script.next(row)? {
+        return Ok(false);
+    }
+    match player.row(row, lines) {
+        Ok(()) => Ok(true),
+        Err(RowRefused::NoRow(cause)) => {
+            *bad = Some(BadRow {
+                line: script.line_of(row),
+                cause,
+            });
+            Err(LogFault::BadRow(number))
+        }
+        Err(RowRefused::Memory) => Err(LogFault::Memory),
+    }
 }

@@ -1,8 +1,9 @@
 //! A station that plays the rows of a script.
-ghost use Rattle.std.specs.Prelude.{◌≡◌, ◌<◌, ◌≤◌, ◌+◌, ◌-◌, ◌^◌, [], IfErr, None, OnErr, OnOk, Some};
+ghost use Rattle.std.specs.Prelude.{◌≡◌, ◌<◌, ◌≤◌, ◌+◌, ◌-◌, ◌^◌, IfErr, None, OnErr, OnOk, Some, length};
 ghost use Rattle.csv.specs.Records.{fields_of};
 ghost use Rattle.rds_world.specs.declared.event.TheConstants.{MOST_RECEIVERS};
 ghost use Rattle.rds_script.specs.declared.row.RowRefused.TheVariants as refused;
+ghost use Rattle.rds_script.specs.declared.watched.TheConstants.{OUTPUT_ROOM, ROW_ROOM};
 ghost use Rattle.rds_script.specs.declared.watched.Watched.{Watched};
 
 use crate::form::Form;
@@ -31,7 +32,7 @@ pub(crate) struct Player {
 
 impl Player {
     ghost use Rattle.rds_script.specs.Inside.Player.{IsBegun, IsRowRefused, PlayerStandsAt};
-    ghost use Rattle.rds_script.specs.Inside.Player.{PlaysRow, WherePlayerStands, nothing_played};
+    ghost use Rattle.rds_script.specs.Inside.Player.{AppendsRow, WherePlayerStands, nothing_played};
 
     /// Starts before the first row, without a world.
     pub(crate) fn new(alloc: Global, form: Form, config: Config) -> Player
@@ -48,16 +49,17 @@ impl Player {
         }
     }
 
-    /// Plays one more record, and returns the lines of its slot.
+    /// Plays one more record, and appends the lines of its slot.
     pub(crate) fn row(&mut self, row: &ByteRecord, lines: &mut RowLines) -> Result<(), RowRefused>
         requires slots { self.old.slot < 2 ^ 64 - 1 }
-        requires empty { lines.old ≡ [] }
+        requires room { length lines.old + ROW_ROOM ≤ OUTPUT_ROOM }
         ensures slot { OnOk result (self.new.slot ≡ self.old.slot + 1) }
         ensures stands { WherePlayerStands self.old (λ played.
-            OnOk result (PlaysRow self.new (fields_of row.now) lines.new played)) }
+            OnOk result (AppendsRow self.new (fields_of row.now) lines.old lines.new played)) }
         ensures refused { WherePlayerStands self.old (λ played.
             IfErr result (IsRowRefused played (fields_of row.now))) }
         ensures kept { OnErr result (self.new.wait ≡ self.old.wait) }
+        ensures no_lines { OnErr result (lines.new ≡ lines.old) }
     {
         // A record is one event: this law is used below.
         text_is_read_one_way();

@@ -53,6 +53,13 @@ impl<R: TellingRead> Records<R> {
         }
     }
 
+    /// Returns whether the next record is complete without another read. It may say no although it is, and yes although
+    /// a line end between quotation marks is missing.
+    pub(crate) fn has_next(&self) -> bool {
+        let read = self.reader.get_ref().read_so_far();
+        self.reader.position().byte() < read.complete()
+    }
+
     /// Reads the next record. Returns `false` at the end.
     ///
     /// # Errors

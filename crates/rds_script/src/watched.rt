@@ -1,5 +1,5 @@
 //! A world, and the changes of its receivers' views.
-ghost use Rattle.std.specs.Prelude.{◌≡◌, ◌≤◌, ◌<◌, ◌++◌, ◌∷◌, [], ℕ, IfErr, IfOk, OnErr, OnOk, length, map};
+ghost use Rattle.std.specs.Prelude.{◌≡◌, ◌≤◌, ◌<◌, ◌+◌, ◌*◌, ◌++◌, ◌∷◌, [], ℕ, IfErr, IfOk, OnErr, OnOk, length, map};
 ghost use Rattle.rds_world.specs.declared.event.TheConstants.{MOST_RECEIVERS};
 ghost use Rattle.rds_world.specs.State.{distance};
 ghost use Rattle.rds_world.specs.Slots.{entries, input_of};
@@ -10,7 +10,8 @@ ghost use Rattle.rds_script.specs.Inside.Watched.{AreKept, WereShown};
 ghost use Rattle.rds_script.specs.Notes.{first_of, wait_of};
 ghost use Rattle.rds_script.specs.Outcomes.{IsOutcome, Outcome, receiver_changes, slot_lines, view_at};
 ghost use Rattle.rds_script.specs.declared.row.RowRefused.TheVariants as refused;
-ghost use Rattle.rds_script.specs.declared.answer_lines.TheConstants.{ANSWER_ROOM};
+ghost use Rattle.rds_script.specs.declared.watched.TheConstants.{OUTPUT_ROOM, ROW_ROOM};
+ghost use Rattle.rds_view_lines.specs.declared.change.TheConstants.{SLOT_ROOM};
 
 use crate::answer_lines::{ANSWER_ROOM, push_answer};
 use crate::form::Form;
@@ -25,8 +26,11 @@ use std::alloc::Global;
 /// The most bytes of the output of a row: the reply, the group, and the changes at each receiver.
 pub(crate) const ROW_ROOM: usize = MOST_RECEIVERS * SLOT_ROOM + ANSWER_ROOM;
 
-/// The output of a row.
-pub(crate) type RowLines = Lines<ROW_ROOM>;
+/// The most bytes of output that wait to be written.
+pub(crate) const OUTPUT_ROOM: usize = 65536;
+
+/// The output of rows that waits to be written.
+pub(crate) type RowLines = Lines<OUTPUT_ROOM>;
 
 /// A world, and the view of each of its receivers at the end of the last slot.
 #[derive(Drop)]
@@ -67,14 +71,14 @@ impl Watched {
         lines: &mut RowLines,
         wait: &mut Option<Wait>,
     ) -> Result<(), StepRefused>
-        requires empty { lines.old ≡ [] }
+        requires room { length lines.old + ROW_ROOM ≤ OUTPUT_ROOM }
         ensures stands { WhereWatchedStands self.old (λ config receivers events.
             OnOk result (WatchedStandsAt config receivers self.new (event.now ∷ events))) }
         ensures taken { WhereWatchedStands self.old (λ config receivers events.
             OnOk result (CanBeTaken config.late receivers event.now events)) }
         ensures outcome { WhereWatchedStands self.old (λ config receivers events.
             OnOk result ((o : Outcome) × IsOutcome config event.now events o × (o.views ≡ views_kept self.new)
-            × (lines.new ≡ slot_lines form slot (views_kept self.old) o))) }
+            × (lines.new ≡ lines.old ++ slot_lines form slot (views_kept self.old) o))) }
         ensures wait { WhereWatchedStands self.old (λ config receivers events.
             OnOk result (wait.new ≡ first_of (wait_of slot event.now.command
             (reply_at (distance config) event.now.command (entries events))) wait.old)) }
@@ -82,6 +86,7 @@ impl Watched {
         ensures refused { WhereWatchedStands self.old (λ config receivers events.
             IfErr result (IsStepRefused config.late receivers event.now events)) }
         ensures kept { OnErr result (self.new ≡ self.old) }
+        ensures no_lines { OnErr result (lines.new ≡ lines.old) }
     {
         match self.world.step(event) {
             Ok(answer) => {
@@ -118,7 +123,7 @@ fn nothing_shown(receivers: usize) -> ArrayVec<KeptView, MOST_RECEIVERS>
 /// Appends the changes at each receiver, and keeps its view. Skips a receiver whose view did not change.
 fn push_views(slot: u64, world: &World, shown: &mut [KeptView], lines: &mut RowLines)
     requires few { length shown.old ≤ MOST_RECEIVERS }
-    requires room { length lines.old ≤ ANSWER_ROOM }
+    requires room { length lines.old + MOST_RECEIVERS * SLOT_ROOM ≤ OUTPUT_ROOM }
     ensures lines { length shown.old ≡ length world.now.receivers
         → lines.new ≡ lines.old ++ receiver_changes slot (length shown.old)
         (map view_kept shown.old) (map view_kept shown.new) }

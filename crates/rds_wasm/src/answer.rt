@@ -6,7 +6,7 @@ ghost use Rattle.rds_wasm.specs.Page.{Prints, Refuses, words_in};
 
 use crate::slice_reader::SliceReader;
 use rds_charset::TellingWrite;
-use rds_program::{FAULT, REFUSED, run_with_notes, write_no_memory};
+use rds_program::{FAULT, REFUSED, RunNotes, print_notes, run_with_notes, write_no_memory};
 use std::alloc::{AllocError, Global};
 
 /// Runs the program over its arguments, one a line, and over the bytes of its input. Writes its notes to `screen`.
@@ -32,7 +32,10 @@ pub fn answer<W: TellingWrite, N: TellingWrite>(
         return FAULT;
     };
     let mut given = SliceReader::new(input);
-    run_with_notes(alloc, words.as_slice(), &mut given, writer, screen)
+    let mut notes = RunNotes::new();
+    let status = run_with_notes(alloc, words.as_slice(), &mut given, writer, &mut notes);
+    print_notes(&notes, None, screen);
+    status
 }
 
 /// Returns the lines of a text.

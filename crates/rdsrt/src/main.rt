@@ -1,8 +1,8 @@
 //! `rdsrt` encodes, decodes, simulates and audits the text services of RDS.
 //!
 //! The program is the crate `rds_program`. `main` passes it the arguments of the command line, standard input and standard
-//! output. It writes a buffer of output before each read, and at the end. The contract of the call speaks of the status
-//! alone, since the buffer is shared in a `RefCell`. Notes for a person go to standard error.
+//! output, each counted by a `Told`. The contract of `run_with_notes` says what it writes. Notes for a person go to
+//! standard error.
 //!
 //! ```text
 //! rdsrt decode --pi C201
@@ -11,8 +11,9 @@
 
 use rds_charset::Told;
 use rds_io::{Prompting, Reasoned, prompt_for};
-use rds_program::{Screen, no_words, run_buffered, texts, words_of};
-use std::cell::RefCell;
+use rds_program::{
+    RunNotes, no_words, print_notes, print_refusal, run_with_notes, texts, words_of,
+};
 use std::io::{ErrorKind, IsTerminal};
 use std::process::ExitCode;
 
@@ -31,25 +32,24 @@ fn main(rt: HostRuntime) -> ExitCode {
     ExitCode::from(status)
 }
 
-/// Runs the program over its arguments and the standard streams.
+/// Runs the program over its arguments and the standard streams, and prints its notes.
 fn run(rt: &HostRuntime, words: &[&str]) -> u8 {
     let line = if rt.stdin().is_terminal() {
         prompt_for(words)
     } else {
         None
     };
-    let mut screen = Screen {
-        notes: Told::new(rt.stderr()),
-        output_is_terminal: rt.stdout().is_terminal(),
-    };
-    let reason = RefCell::new(None);
-    let input = Prompting::new(rt.stdin(), line, Told::new(rt.stderr()));
-    run_buffered(
-        rt.alloc(),
-        words,
-        Reasoned::new(input, &reason),
-        Reasoned::new(rt.stdout(), &reason),
-        &reason,
-        &mut screen,
-    )
+    let prompting = Prompting::new(rt.stdin(), line, Told::new(rt.stderr()));
+    let mut input = Told::new(Reasoned::new(prompting));
+    let mut output = Told::new(Reasoned::new(rt.stdout()));
+    let mut notes = RunNotes::new();
+    let status = run_with_notes(rt.alloc(), words, &mut input, &mut output, &mut notes);
+    let mut screen = Told::new(rt.stderr());
+    // A terminal shows the reason for refused arguments already: it is standard output.
+    if !rt.stdout().is_terminal() {
+        print_refusal(&notes, &mut screen);
+    }
+    let reason = output.inner().reason().or(input.inner().reason());
+    print_notes(&notes, reason, &mut screen);
+    status
 }

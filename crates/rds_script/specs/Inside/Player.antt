@@ -1,6 +1,6 @@
 -- The state of the parts of a script's engine: its reader after these records, and its station after their slots. Lists
 -- have the newest first.
-use Rattle.std.specs.Prelude.{◌≡◌, ◌⊎◌, ◌<◌, ◌++◌, ◌∷◌, ℕ, [], List, None, Option, Some, length, true}
+use Rattle.std.specs.Prelude.{◌≡◌, ◌⊎◌, ◌<◌, ◌++◌, ◌∷◌, ℕ, [], Bool, Err, List, None, Ok, Option, Result, Some, false, length, true}
 use Rattle.std.specs.Io.KnownBytes.{Appends}
 use Rattle.csv.specs.Reading.{Ready, default_config, is_flexible, reader_config, reader_state, reader_trim, source_of}
 use Rattle.csv.specs.declared.reader.Trim.TheVariants.{None as untrimmed}
@@ -12,10 +12,11 @@ use Rattle.rds_script.specs.Inside.Watched.{AreKept, WatchedStandsAt, views_kept
 use Rattle.rds_script.specs.RowCauses.{IsRowCause}
 use Rattle.rds_script.specs.Rows.{AreNoRows, AreRows, IsAllowed, Record}
 use Rattle.rds_script.specs.Outcomes.{AreOutcomes, Outcome, lines_of, newest_views}
-use Rattle.rds_script.specs.Play.{RecordsUpTo}
+use Rattle.rds_script.specs.Play.{HasAllRecords, HasRecords, RecordsUpTo}
 use Rattle.rds_script.specs.Notes.{first_wait}
 use Rattle.rds_view_lines.specs.declared.fault.LogFault.{LogFault}
-use Rattle.rds_view_lines.specs.declared.fault.LogFault.TheVariants.{Memory, Read}
+use Rattle.rds_view_lines.specs.declared.fault.LogFault.TheVariants.{BadLine, BadRow, Memory, Read, TooLong, Write}
+use Rattle.rds_script.specs.declared.notes.BadRow.{BadRow as BadRecord}
 use Rattle.rds_script.specs.declared.form.Form.{Form}
 use Rattle.rds_script.specs.declared.player.Player.{Player}
 use Rattle.rds_script.specs.declared.row.RowRefused.{RowRefused}
@@ -85,6 +86,10 @@ WherePlayerStands p Holds = (played : Played) → PlayerStandsAt p played → Ho
 abbrev pub PlaysRow : Player → Record → List ℕ → Played → Type 0
 PlaysRow p row lines before = (receivers : ℕ) × PlayerStandsAt p (with_row receivers row lines before)
 
+-- the player plays this row, and its lines come after the old ones
+abbrev pub AppendsRow : Player → Record → List ℕ → List ℕ → Played → Type 0
+AppendsRow p row old new before = (lines : List ℕ) × (new ≡ old ++ lines) × PlaysRow p row lines before
+
 -- the world that is watched if there was this one or none
 abbrev pub IsBegun : Config → ℕ → Option Watched → Watched → Type 0
 IsBegun config receivers None w = WatchedStandsAt config receivers w [] × AreKept (views_kept w) []
@@ -98,12 +103,39 @@ IsRowRefused played row (NoRow cause) =
     × IsRowCause played.form played.config.late played.records row cause
 IsRowRefused played row refused.Memory = length played.records ≡ 0
 
--- the station played these records, and their output was written
-pub record PlayedSoFar (form : Form) (config : Config) (p : Player) (records : List Record)
-    (w : Traffic) : Type 0 where
+-- after the records that were played, this one, which is number n, is not a row, and its cause is noted
+pub record IsBadRecord (known : Option (List ℕ)) (played : Played) (row : Record) (number n : ℕ)
+    (bad : Option BadRecord) : Type 0 where
+  pub number_is : n ≡ number
+  pub begins : HasRecords known (row ∷ played.records)
+  pub none : AreNoRows played.config.late played.form (row ∷ played.records)
+  pub note : BadRecord
+  pub noted : bad ≡ Some note
+  pub cause : IsRowCause played.form played.config.late played.records row note.cause
+
+-- the next record of a script: true if it is a row and the player played it, false if the script has no more records.
+-- It has this number; ReadFailed says that a read of the reader failed
+abbrev pub PlaysNext : {R : Type 0} {g h : _} (remaining : R → Option (List ℕ)) (ReadFailed : Type 0)
+    (known : Option (List ℕ)) (s : Records R g h) (p : Player) (row : Record) (number : ℕ) (old new : List ℕ)
+    (bad : Option BadRecord) (played : Played) → Result Bool LogFault → Type 0
+PlaysNext remaining ReadFailed known s p row number old new bad played (Ok true) =
+    ScriptStandsAt remaining known s (row ∷ played.records) × AppendsRow p row old new played
+PlaysNext remaining ReadFailed known s p row number old new bad played (Ok false) =
+    HasAllRecords known played.records
+PlaysNext remaining ReadFailed known s p row number old new bad played (Err (BadRow n)) =
+    IsBadRecord known played row number n bad
+PlaysNext remaining ReadFailed known s p row number old new bad played (Err Read) = ReadFailed × (bad ≡ None)
+PlaysNext remaining ReadFailed known s p row number old new bad played (Err Memory) = bad ≡ None
+PlaysNext remaining ReadFailed known s p row number old new bad played (Err (BadLine n)) = ⊥
+PlaysNext remaining ReadFailed known s p row number old new bad played (Err Write) = ⊥
+PlaysNext remaining ReadFailed known s p row number old new bad played (Err TooLong) = ⊥
+
+-- the station played these records; a part of their output was written, and the rest waits
+pub record PlayedSoFar (form : Form) (config : Config) (p : Player) (records : List Record) (w : Traffic)
+    (waiting : List ℕ) : Type 0 where
   pub receivers : ℕ
   pub written : List ℕ
   pub player : PlayerStandsAt p
-      record { form = form; config = config; receivers = receivers; records = records; written = written }
+      record { form = form; config = config; receivers = receivers; records = records; written = written ++ waiting }
   pub wrote : Appends w.before w.after written
   pub calm : IsCalm w

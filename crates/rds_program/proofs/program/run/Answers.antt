@@ -4,14 +4,14 @@ use Rattle.rds_program.proofs.program.run.Goals as goal
 
 pub returns : goal.returns
 returns g c =
-    let did = c.run_with.ensures in
+    let did = c.run_with_notes.ensures in
     record {
       runs = λ asked pi given is. elim (did.runs asked pi given is) [
         | inl memory ↦ inl (memory.0, tt)
         | inr ran ↦ inr (record {
-          r = traffic g.R.Read.remaining g.R.TellingRead.failures c.args.reader c.run_with.new.reader;
+          r = traffic g.R.Read.remaining g.R.TellingRead.failures c.args.reader c.run_with_notes.new.reader;
           starts = record { bytes_are = refl; failures_are = refl };
-          fails = λ failed. ∣ (c.args.reader, c.run_with.new.reader, failed) ∣₁;
+          fails = λ failed. ∣ (c.args.reader, c.run_with_notes.new.reader, failed) ∣₁;
           ran = ran;
         })
       ];

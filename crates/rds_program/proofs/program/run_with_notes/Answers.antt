@@ -12,4 +12,4 @@ returns g c =
       help = c.read_words.ensures.help;
       refused = c.read_words.ensures.refused;
     } in
-    by_words _ c.read_words.result _ _ _ c.run_read-status.result known c.run_read-status.ensures
+    by_words _ c.read_words.result _ _ _ c.run_read.result known c.run_read.ensures

@@ -1,105 +1,118 @@
-use Rattle.std.proofs.Common.{◌≡◌, ◌∙◌, ◌∷◌, ◌+◌, ap, arith, false, rules, true}
+use Rattle.std.proofs.Common.{◌≡◌, ◌≢◌, ◌∙◌, ◌∷◌, ◌+◌, [], Ok, ap, arith, length, refl, rules, true}
+use Rattle.std.specs.Prelude.{Err}
 use Rattle.std.proofs.lemmas.Result.{err_from_is_err_and}
-use Rattle.csv.proofs.ReadFacts.{on-ok}
 use Rattle.csv.specs.Records.{fields_of}
 use Rattle.rds_charset.specs.Told.{traffic}
 use Rattle.rds_view_lines.specs.ReadFailed.{SomeReadFailed}
-use Rattle.rds_script.proofs.Plays.{ends_by_read, ends_by_row, ends_by_write, played_on, rows_say, wrote_rows}
+use Rattle.rds_script.proofs.Plays.{all_wrote, ends_all, ends_by_fault, ends_by_write, ends_too_long, not_more, played_on, where_next}
 use Rattle.rds_script.proofs.play.play_rows.Goals as goal
+use Rattle.rds_script.proofs.play.play_rows.Goals.{then-not-has_next+in_ok-write, else-not-has_next+else-not-has_room}
 
-pub returns-in_err-next : goal.returns-in_err-next
-returns-in_err-next g c form config known begun fresh =
+pub returns-in_err-write-in-Ok-false : goal.returns-in_err-write-in-Ok-false
+returns-in_err-write-in-Ok-false g c form config known begun fresh =
     let (records, stands, count, played) = c.loop-turn.invariant.played form config known begun fresh in
+    let other : Ok c.in-Ok-false.field-0 ≢ Ok true = not_more c.in-Ok-false.field-0 (Ok c.in-Ok-false.field-0) refl c.in-Ok-false.field-0-test in
     let p = err_from_is_err_and c.from_residual.result c.from_residual.ensures.1 in
-    rw (p.1, p.2) (ends_by_read g.R.Read.remaining form config c.args.records (record { known = known; Failed = SomeReadFailed g.R.TellingRead.failures }) (traffic g.W.Write.contents g.W.TellingWrite.failures c.args.writer.now c.loop-turn.writer)
-    c.loop-turn.script c.loop-turn.player records c.in_err-next.field-0.0 c.loop-turn.bad stands played (omega (arith, count, c.loop-turn-test.true)) c.in_err-next.ensures.fault c.loop-turn.invariant.good)
+    rw (p.1, p.2) (ends_by_write g.R.Read.remaining form config c.args.records (record { known = known; Failed = SomeReadFailed g.R.TellingRead.failures })
+    c.loop-turn.script c.loop-turn.player c.play_next.new.player records
+    (g.W.Write.contents c.args.writer.now) (g.W.Write.contents c.loop-turn.writer) (g.W.Write.contents c.write.new.writer)
+    (g.W.TellingWrite.failures c.args.writer.now) (g.W.TellingWrite.failures c.loop-turn.writer) (g.W.TellingWrite.failures c.write.new.writer)
+    c.loop-turn.lines c.loop-turn.bad stands (omega (arith, count, c.loop-turn-test.true)) played (rw (c.in-Ok-false.ensures.no_lines other) at c.in_err-write-in-Ok-false.ensures.puts.0) c.in_err-write-in-Ok-false.ensures.puts.1
+    (c.in-Ok-false.ensures.kept other) c.loop-turn.invariant.good)
 
-pub returns-then-not-branch : goal.returns-then-not-branch
-returns-then-not-branch g c form config known begun fresh =
+pub returns-in-Ok-false : goal.returns-in-Ok-false
+returns-in-Ok-false g c form config known begun fresh =
     let (records, stands, count, played) = c.loop-turn.invariant.played form config known begun fresh in
-    let none : c.in_ok-next.field-0 ≡ false = search rules in
-    record {
-      plays = record {
-        records = records;
-        all = rw none at (c.in_ok-next.ensures.found known records stands);
-        fewer = omega (arith, count, c.loop-turn-test.true);
-        wrote = wrote_rows g.R.Read.remaining form config known (traffic g.W.Write.contents g.W.TellingWrite.failures c.args.writer.now c.loop-turn.writer)
-            c.loop-turn.script c.loop-turn.player records stands played;
-      };
-      bad = c.loop-turn.invariant.good;
-      events = played.player.events;
-      say = rows_say c.loop-turn.player _ played.player;
-      wait = played.player.wait;
-    }
+    let other : Ok c.in-Ok-false.field-0 ≢ Ok true = not_more c.in-Ok-false.field-0 (Ok c.in-Ok-false.field-0) refl c.in-Ok-false.field-0-test in
+    let wrote = all_wrote form config c.loop-turn.player records
+    (g.W.Write.contents c.args.writer.now) (g.W.Write.contents c.loop-turn.writer) (g.W.Write.contents c.write.new.writer)
+    (g.W.TellingWrite.failures c.args.writer.now) (g.W.TellingWrite.failures c.loop-turn.writer) (g.W.TellingWrite.failures c.write.new.writer)
+    c.loop-turn.lines played (rw (c.in-Ok-false.ensures.no_lines other) at c.in_ok-write-in-Ok-false.ensures.puts.0) c.in_ok-write-in-Ok-false.ensures.puts.1 in
+    ends_all g.R.Read.remaining form config c.args.records (record { known = known; Failed = SomeReadFailed g.R.TellingRead.failures }) (traffic g.W.Write.contents g.W.TellingWrite.failures c.args.writer.now c.write.new.writer)
+    c.loop-turn.script c.loop-turn.player c.play_next.new.player records c.loop-turn.bad stands wrote (omega (arith, count, c.loop-turn-test.true))
+    (rw c.in-Ok-false.field-0-test at (c.in-Ok-false.ensures.plays known (where_next form config c.loop-turn.player records (traffic g.W.Write.contents g.W.TellingWrite.failures c.args.writer.now c.loop-turn.writer) c.loop-turn.lines played) stands played.player)) (c.in-Ok-false.ensures.kept other) c.loop-turn.invariant.good
 
-pub returns-in-Err-NoRow : goal.returns-in-Err-NoRow
-returns-in-Err-NoRow g c form config known begun fresh =
+pub returns-in_err-write-in-Err : goal.returns-in_err-write-in-Err
+returns-in_err-write-in-Err g c form config known begun fresh =
     let (records, stands, count, played) = c.loop-turn.invariant.played form config known begun fresh in
-    let some : c.in_ok-next.field-0 ≡ true = search rules in
-    let after = rw some at (c.in_ok-next.ensures.found known records stands) in
-    rw c.in-Err-NoRow.field-0-is (ends_by_row g.R.Read.remaining form config c.args.records (record { known = known; Failed = SomeReadFailed g.R.TellingRead.failures }) (traffic g.W.Write.contents g.W.TellingWrite.failures c.args.writer.now c.loop-turn.writer)
-    c.loop-turn.script c.next.new.self c.loop-turn.player c.row.new.self (fields_of c.next.new.row) records c.loop-turn.turn c.line_of.result c.in-Err-NoRow.cause stands after played
-    (rw c.in-Err-NoRow.field-0-is at (c.in-Err-NoRow.ensures.refused _ played.player)) count c.loop-turn-test.true c.in-Err-NoRow.ensures.kept)
+    let other : Err c.in-Err.fault ≢ Ok true = λ e. (cc) in
+    let p = err_from_is_err_and c.from_residual-in_err-write-in-Err.result c.from_residual-in_err-write-in-Err.ensures.1 in
+    rw (p.1, p.2) (ends_by_write g.R.Read.remaining form config c.args.records (record { known = known; Failed = SomeReadFailed g.R.TellingRead.failures })
+    c.loop-turn.script c.loop-turn.player c.play_next.new.player records
+    (g.W.Write.contents c.args.writer.now) (g.W.Write.contents c.loop-turn.writer) (g.W.Write.contents c.write-in-Err.new.writer)
+    (g.W.TellingWrite.failures c.args.writer.now) (g.W.TellingWrite.failures c.loop-turn.writer) (g.W.TellingWrite.failures c.write-in-Err.new.writer)
+    c.loop-turn.lines c.loop-turn.bad stands (omega (arith, count, c.loop-turn-test.true)) played (rw (c.in-Err.ensures.no_lines other) at c.in_err-write-in-Err.ensures.puts.0) c.in_err-write-in-Err.ensures.puts.1
+    (c.in-Err.ensures.kept other) c.loop-turn.invariant.good)
 
-pub returns-in-Err-Memory : goal.returns-in-Err-Memory
-returns-in-Err-Memory g c form config known begun fresh =
+pub returns-in-Err : goal.returns-in-Err
+returns-in-Err g c form config known begun fresh =
     let (records, stands, count, played) = c.loop-turn.invariant.played form config known begun fresh in
-    record {
-      plays = (
-        records,
-        wrote_rows g.R.Read.remaining form config known (traffic g.W.Write.contents g.W.TellingWrite.failures c.args.writer.now c.loop-turn.writer)
-            c.loop-turn.script c.loop-turn.player records stands played,
-        omega (arith, count, c.loop-turn-test.true),
-      );
-      bad = c.loop-turn.invariant.good;
-      events = played.player.events;
-      say = rows_say c.loop-turn.player _ played.player;
-      wait = c.in-Err-Memory.ensures.kept ∙ played.player.wait;
-    }
+    let other : Err c.in-Err.fault ≢ Ok true = λ e. (cc) in
+    let wrote = all_wrote form config c.loop-turn.player records
+    (g.W.Write.contents c.args.writer.now) (g.W.Write.contents c.loop-turn.writer) (g.W.Write.contents c.write-in-Err.new.writer)
+    (g.W.TellingWrite.failures c.args.writer.now) (g.W.TellingWrite.failures c.loop-turn.writer) (g.W.TellingWrite.failures c.write-in-Err.new.writer)
+    c.loop-turn.lines played (rw (c.in-Err.ensures.no_lines other) at c.in_ok-write-in-Err.ensures.puts.0) c.in_ok-write-in-Err.ensures.puts.1 in
+    ends_by_fault g.R.Read.remaining form config c.args.records (record { known = known; Failed = SomeReadFailed g.R.TellingRead.failures }) (traffic g.W.Write.contents g.W.TellingWrite.failures c.args.writer.now c.write-in-Err.new.writer) (traffic g.W.Write.contents g.W.TellingWrite.failures c.args.writer.now c.loop-turn.writer)
+    c.loop-turn.script c.play_next.new.script c.loop-turn.player c.play_next.new.player (fields_of c.play_next.new.row) records c.loop-turn.lines c.play_next.new.lines c.loop-turn.turn c.play_next.new.bad c.in-Err.fault
+    stands wrote count c.loop-turn-test.true (c.in-Err.ensures.kept other) played (c.in-Err.ensures.plays known (where_next form config c.loop-turn.player records (traffic g.W.Write.contents g.W.TellingWrite.failures c.args.writer.now c.loop-turn.writer) c.loop-turn.lines played) stands played.player)
 
-pub returns-in_err-put : goal.returns-in_err-put
-returns-in_err-put g c form config known begun fresh =
+pub returns-in_err-write : goal.returns-in_err-write
+returns-in_err-write g c form config known begun fresh =
     let (records, stands, count, played) = c.loop-turn.invariant.played form config known begun fresh in
-    let some : c.in_ok-next.field-0 ≡ true = search rules in
-    let after = rw some at (c.in_ok-next.ensures.found known records stands) in
-    let plays = on-ok c.row.result (search rules) (c.row.ensures.stands _ played.player) in
-    let p = err_from_is_err_and c.from_residual-in_err-put.result c.from_residual-in_err-put.ensures.1 in
-    rw (p.1, p.2) (ends_by_write g.R.Read.remaining form config c.args.records (record { known = known; Failed = SomeReadFailed g.R.TellingRead.failures }) c.next.new.self c.row.new.self
-    (fields_of c.next.new.row) records played.receivers (g.W.Write.contents c.args.writer.now) (g.W.Write.contents c.loop-turn.writer) (g.W.Write.contents c.put.new.writer)
-    (g.W.TellingWrite.failures c.args.writer.now) (g.W.TellingWrite.failures c.loop-turn.writer) (g.W.TellingWrite.failures c.put.new.writer) played.written c.row.new.lines c.loop-turn.bad
-    after (omega (arith, count, c.loop-turn-test.true)) plays played.wrote played.calm (rw c.bytes.ensures at c.in_err-put.ensures.0) c.in_err-put.ensures.1 c.loop-turn.invariant.good)
+    let is : c.play_next.result ≡ Ok true = c.in-Ok-true.is ∙ ap Ok c.in-Ok-true.field-0-test in
+    let (further, now) = played_on g.R.Read.remaining (SomeReadFailed g.R.TellingRead.failures) form config known c.play_next.new.script c.loop-turn.player c.play_next.new.player (fields_of c.play_next.new.row) (c.loop-turn.turn + 1) records
+    (traffic g.W.Write.contents g.W.TellingWrite.failures c.args.writer.now c.loop-turn.writer) c.loop-turn.lines c.play_next.new.lines c.play_next.new.bad c.play_next.result
+    played (c.play_next.ensures.plays known (where_next form config c.loop-turn.player records (traffic g.W.Write.contents g.W.TellingWrite.failures c.args.writer.now c.loop-turn.writer) c.loop-turn.lines played) stands played.player) is in
+    let p = err_from_is_err_and c.from_residual-in_err-write.result c.from_residual-in_err-write.ensures.1 in
+    rw (p.1, p.2) (ends_by_write g.R.Read.remaining form config c.args.records (record { known = known; Failed = SomeReadFailed g.R.TellingRead.failures })
+    c.play_next.new.script c.play_next.new.player c.play_next.new.player (fields_of c.play_next.new.row ∷ records)
+    (g.W.Write.contents c.args.writer.now) (g.W.Write.contents c.loop-turn.writer) (g.W.Write.contents c.write-then-not-has_next.new.writer)
+    (g.W.TellingWrite.failures c.args.writer.now) (g.W.TellingWrite.failures c.loop-turn.writer) (g.W.TellingWrite.failures c.write-then-not-has_next.new.writer)
+    c.play_next.new.lines c.loop-turn.bad further (omega (arith, count, c.loop-turn-test.true)) now c.in_err-write.ensures.puts.0 c.in_err-write.ensures.puts.1 refl c.loop-turn.invariant.good)
 
 pub loop-turn-preserved : goal.loop-turn-preserved
 loop-turn-preserved g c = record {
-  empty = c.clear.ensures;
+  room = elim c.if-not-has_next.branch [
+    | then-not-has_next+in_ok-write w ↦ (let none : length w.write-then-not-has_next.new.self ≡ 0 = rw w.in_ok-write.ensures.empty refl in rw w.lines-is (omega (arith, none)))
+    | else-not-has_next+else-not-has_room w ↦ rw w.lines-is (search rules)
+  ];
   good = c.loop-turn.invariant.good;
-  slot = on-ok c.row.result (search rules) c.row.ensures.slot ∙ ap (λ n. n + 1) c.loop-turn.invariant.slot;
+  slot = c.in-Ok-true.ensures.slot (ap Ok c.in-Ok-true.field-0-test) ∙ ap (λ n. n + 1) c.loop-turn.invariant.slot;
   played = λ form config known begun fresh.
       let (records, stands, count, played) = c.loop-turn.invariant.played form config known begun fresh in
-      let some : c.in_ok-next.field-0 ≡ true = search rules in
-      let after = rw some at (c.in_ok-next.ensures.found known records stands) in
-      let plays = on-ok c.row.result (search rules) (c.row.ensures.stands _ played.player) in (
-        fields_of c.next.new.row ∷ records,
-        after,
+      let is : c.play_next.result ≡ Ok true = c.in-Ok-true.is ∙ ap Ok c.in-Ok-true.field-0-test in
+      let (further, now) = played_on g.R.Read.remaining (SomeReadFailed g.R.TellingRead.failures) form config known c.play_next.new.script c.loop-turn.player c.play_next.new.player (fields_of c.play_next.new.row) (c.loop-turn.turn + 1) records
+      (traffic g.W.Write.contents g.W.TellingWrite.failures c.args.writer.now c.loop-turn.writer) c.loop-turn.lines c.play_next.new.lines c.play_next.new.bad c.play_next.result
+      played (c.play_next.ensures.plays known (where_next form config c.loop-turn.player records (traffic g.W.Write.contents g.W.TellingWrite.failures c.args.writer.now c.loop-turn.writer) c.loop-turn.lines played) stands played.player) is in (
+        fields_of c.play_next.new.row ∷ records,
+        further,
         omega (arith, count),
-        played_on form config c.row.new.self (fields_of c.next.new.row) records played.receivers (g.W.Write.contents c.args.writer.now) (g.W.Write.contents c.loop-turn.writer) (g.W.Write.contents c.put.new.writer)
-            (g.W.TellingWrite.failures c.args.writer.now) (g.W.TellingWrite.failures c.loop-turn.writer) (g.W.TellingWrite.failures c.put.new.writer) played.written c.row.new.lines
-            plays played.wrote played.calm (rw c.bytes.ensures at c.in_ok-put.ensures.0) c.in_ok-put.ensures.1,
+        elim c.if-not-has_next.branch [
+          | then-not-has_next+in_ok-write w ↦ rw (w.writer-is, w.lines-is, w.in_ok-write.ensures.empty) (all_wrote form config c.play_next.new.player (fields_of c.play_next.new.row ∷ records)
+              (g.W.Write.contents c.args.writer.now) (g.W.Write.contents c.loop-turn.writer) (g.W.Write.contents w.write-then-not-has_next.new.writer)
+              (g.W.TellingWrite.failures c.args.writer.now) (g.W.TellingWrite.failures c.loop-turn.writer) (g.W.TellingWrite.failures w.write-then-not-has_next.new.writer)
+              c.play_next.new.lines now w.in_ok-write.ensures.puts.0 w.in_ok-write.ensures.puts.1)
+          | else-not-has_next+else-not-has_room w ↦ rw (w.writer-is, w.lines-is) now
+        ],
       );
 }
+
+pub returns-in_err-write-2 : goal.returns-in_err-write-2
+returns-in_err-write-2 g c form config known begun fresh =
+    let (records, stands, count, played) = c.loop-turn.invariant.played form config known begun fresh in
+    let p = err_from_is_err_and c.from_residual-in_err-write-2.result c.from_residual-in_err-write-2.ensures.1 in
+    rw (p.1, p.2) (ends_by_write g.R.Read.remaining form config c.args.records (record { known = known; Failed = SomeReadFailed g.R.TellingRead.failures })
+    c.loop-turn.script c.loop-turn.player c.loop-turn.player records
+    (g.W.Write.contents c.args.writer.now) (g.W.Write.contents c.loop-turn.writer) (g.W.Write.contents c.write-2.new.writer)
+    (g.W.TellingWrite.failures c.args.writer.now) (g.W.TellingWrite.failures c.loop-turn.writer) (g.W.TellingWrite.failures c.write-2.new.writer)
+    c.loop-turn.lines c.loop-turn.bad stands (omega (arith, count, c.loop-turn.auto)) played c.in_err-write-2.ensures.puts.0 c.in_err-write-2.ensures.puts.1 refl c.loop-turn.invariant.good)
 
 pub returns : goal.returns
 returns g c form config known begun fresh =
     let (records, stands, count, played) = c.loop-turn.invariant.played form config known begun fresh in
-    record {
-      plays = (
-        records,
-        wrote_rows g.R.Read.remaining form config known (traffic g.W.Write.contents g.W.TellingWrite.failures c.args.writer.now c.loop-turn.writer)
-            c.loop-turn.script c.loop-turn.player records stands played,
-        omega (arith, count, c.loop-turn-test.false, c.loop-turn.auto),
-      );
-      bad = c.loop-turn.invariant.good;
-      events = played.player.events;
-      say = rows_say c.loop-turn.player _ played.player;
-      wait = played.player.wait;
-    }
+    let wrote = all_wrote form config c.loop-turn.player records
+    (g.W.Write.contents c.args.writer.now) (g.W.Write.contents c.loop-turn.writer) (g.W.Write.contents c.write-2.new.writer)
+    (g.W.TellingWrite.failures c.args.writer.now) (g.W.TellingWrite.failures c.loop-turn.writer) (g.W.TellingWrite.failures c.write-2.new.writer)
+    c.loop-turn.lines played (c.in_ok-write-2.ensures.puts.0) c.in_ok-write-2.ensures.puts.1 in
+    ends_too_long g.R.Read.remaining form config c.args.records (record { known = known; Failed = SomeReadFailed g.R.TellingRead.failures }) (traffic g.W.Write.contents g.W.TellingWrite.failures c.args.writer.now c.write-2.new.writer)
+    c.loop-turn.script c.loop-turn.player records c.loop-turn.bad stands wrote (omega (arith, count, c.loop-turn-test.false, c.loop-turn.auto)) c.loop-turn.invariant.good

@@ -1,4 +1,4 @@
-use Rattle.std.proofs.Common.{◌≡◌, [], List, None, length}
+use Rattle.std.proofs.Common.{◌≡◌, ◌+◌, ◌≤◌, [], List, None, length}
 use Rattle.rds_charset.specs.Told.{traffic}
 use Rattle.std.specs.Prelude.{ℕ, Option}
 use Rattle.rds_world.specs.declared.world.Config.{Config}
@@ -9,10 +9,10 @@ use Rattle.rds_script.proofs.play.play_rows.Given as goal
 
 abbrev pub invariant-loop-turn : goal.invariant-loop-turn
 invariant-loop-turn g l = record {
-  empty : l.lines ≡ [];
+  room : length l.lines + 13952 ≤ 65536;
   good : l.bad ≡ None;
   slot : l.player.slot ≡ l.turn;
   played : (form : Form) (config : Config) (known : Option (List ℕ)) → PlayerStandsAt l.initial.player (nothing_played form config) → ScriptStandsAt g.R.Read.remaining known l.initial.script []
       → (records : List Record) × ScriptStandsAt g.R.Read.remaining known l.script records × (length records ≡ l.turn)
-      × PlayedSoFar form config l.player records (traffic g.W.Write.contents g.W.TellingWrite.failures l.initial.writer l.writer);
+      × PlayedSoFar form config l.player records (traffic g.W.Write.contents g.W.TellingWrite.failures l.initial.writer l.writer) l.lines;
 }

@@ -19,15 +19,15 @@ returns-in_default-words_in-clause-text g c text = record {
 pub returns-clause-text : goal.returns-clause-text
 returns-clause-text g c text =
     let words : map (λ w. w.now) c.as_slice.result.now ≡ words_in c.args.words.now = search rules in
-    let did = c.run_with_notes.ensures in
+    let did = c.run_with_notes-status.ensures in
     record {
       runs = λ asked pi given is. elim (did.runs asked pi (subst (λ (ws : List (List ℕ)). AskFor ws asked) (sym words) given) is) [
         | inl memory ↦ inl (memory.0, tt)
         | inr ran ↦ inr (record {
-          r = traffic (λ given. Some given.rest.now) (λ given. 0) c.new-given.result c.run_with_notes.new.reader;
+          r = traffic (λ given. Some given.rest.now) (λ given. 0) c.new-given.result c.run_with_notes-status.new.reader;
           starts = record { bytes_are = search rules; failures_are = refl };
           fails = never_fails;
-          ran = calm_task none_failed asked.task (tuned pi asked.dwell) _ _ c.run_with_notes.result ran;
+          ran = calm_task none_failed asked.task (tuned pi asked.dwell) _ _ c.run_with_notes-status.result ran;
         })
       ];
       fault_pi = λ asked given none. ((did.fault_pi asked (subst (λ (ws : List (List ℕ)). AskFor ws asked) (sym words) given) none).0, tt);

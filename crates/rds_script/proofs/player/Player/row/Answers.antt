@@ -58,7 +58,7 @@ returns-in-Ok-clause-stands c played s =
     ∙ ap (λ (n : ℕ). first_of (wait_of n c.read_event.new.event.command answered) c.begin.new.self.wait) slots
     ∙ ap (λ (x : Option Wait). first_of (wait_of c.args.self.now.slot c.read_event.new.event.command answered) x) before in
     let waited : OnOk c.play.result (c.play.new.wait ≡ first_of (wait_of c.args.self.now.slot c.read_event.new.event.command answered) c.args.self.now.wait) = rw c.in-Ok.is noted in
-    let all = plays_on c.play.result c.args.self.now _ played s r.receivers (views_kept c.in-Some.watched) c.play.new.self (fields_of c.args.row.now) c.read_event.new.event c.play.new.lines form (ap (λ (p : Player). p.config) same) (ap (λ n. n + 1) slot) refl
+    let all = plays_on c.play.result c.args.self.now _ played s r.receivers (views_kept c.in-Some.watched) c.play.new.self (fields_of c.args.row.now) c.read_event.new.event c.args.lines.now c.play.new.lines form (ap (λ (p : Player). p.config) same) (ap (λ n. n + 1) slot) refl
     r.allowed r.rows (c.read_event.ensures.some c.if-not-read_event.false) r.same (c.play.ensures.taken played.config r.receivers s.events r.stands) (c.play.ensures.stands played.config r.receivers s.events r.stands)
     (rw (form, s.form_is, slot) at (c.play.ensures.outcome played.config r.receivers s.events r.stands)) waited in
     rw c.in-Ok.is at all

@@ -1,4 +1,4 @@
-use Rattle.std.proofs.Common.{◌≡◌, ◌∙◌, ◌∷◌, ◌++◌, ℕ, List, ap, ap₂, arith, drop, length, map, rules, sym}
+use Rattle.std.proofs.Common.{◌≡◌, ◌∙◌, ◌∷◌, ◌++◌, ℕ, List, ap, ap₂, append_assoc, arith, drop, length, map, rules, sym}
 use Rattle.std.proofs.lemmas.List.{length-map, take_at}
 use Rattle.rds_world.specs.Event.{Event}
 use Rattle.rds_view_lines.specs.KeptView.{view_kept}
@@ -43,7 +43,7 @@ returns-in-Ok-clause-outcome c config receivers events s =
     let shown : length views ≡ length old = length-map new view_kept ∙ kept in
     let were : WereShown config (length old) (c.args.event.now ∷ events) (map view_kept old) = λ i within. s.shown i (omega (arith, within, s.kept)) in
     let back = take_at new (drop (length new) old) (length old) kept in
-    let answered : c.push_answer.new.lines ≡ answer_lines c.args.form c.args.slot c.event.inside.command c.in-Ok.answer.reply c.in-Ok.answer.sent = search rules in (
+    let answered : c.push_answer.new.lines ≡ c.args.lines.now ++ answer_lines c.args.form c.args.slot c.event.inside.command c.in-Ok.answer.reply c.in-Ok.answer.sent = search rules in (
       record { command = c.event.inside.command; reply = c.in-Ok.answer.reply; sent = c.in-Ok.answer.sent; views = views },
       record {
         command = command;
@@ -53,5 +53,6 @@ returns-in-Ok-clause-outcome c config receivers events s =
         views = λ i within. c.push_views.ensures.views (ap length shared ∙ as_many) config (c.args.event.now ∷ events) world (rw shared were) i (omega (arith, within, shown, ap length shared));
       },
       ap (λ (l : List KeptView). map view_kept l) (sym back),
-      rw shared at (c.push_views.ensures.lines (ap length shared ∙ as_many)) ∙ ap₂ (λ (x y : List ℕ). x ++ y) answered (ap (λ n. receiver_changes c.args.slot n (map view_kept old) views) (sym shown)),
+      rw shared at (c.push_views.ensures.lines (ap length shared ∙ as_many)) ∙ ap₂ (λ (x y : List ℕ). x ++ y) answered (ap (λ n. receiver_changes c.args.slot n (map view_kept old) views) (sym shown))
+          ∙ append_assoc c.args.lines.now (answer_lines c.args.form c.args.slot c.event.inside.command c.in-Ok.answer.reply c.in-Ok.answer.sent) (receiver_changes c.args.slot (length views) (map view_kept old) views),
     )
