@@ -4,7 +4,7 @@ use rds_audit::{AuditFault, LogStart};
 use rds_charset::Told;
 use rds_fields::{Dwell, Late};
 use rds_log::{
-    LineCause, LogNotes, NoNote, audit_with_notes, decode_with_notes, gather_with_notes,
+    LineCause, LogNotes, MOST_READS, NoNote, audit_with_notes, decode_with_notes, gather,
 };
 use rds_view_lines::LogFault;
 use rds_witness::witness_with_notes;
@@ -44,6 +44,7 @@ fn causes_of_lines(rt: HostRuntime) -> Result<(), Fail> {
             &mut Told::new(&mut output),
             0xC201,
             dwell(128)?,
+            MOST_READS,
             &mut notes,
         );
         assert_eq!(rt; done, Err(LogFault::BadLine(4)));
@@ -59,10 +60,11 @@ fn causes_of_lines(rt: HostRuntime) -> Result<(), Fail> {
 fn bad_lines_of_all_calls(rt: HostRuntime) -> Result<(), Fail> {
     let log = [b'x'; 100];
     let mut notes = LogNotes::new(0);
-    let slots = gather_with_notes(
+    let slots = gather(
         rt.alloc(),
         &mut Told::new(log.as_slice()),
         0xC201,
+        MOST_READS,
         &mut notes,
     );
     assert_eq!(rt; slots.err(), Some(LogFault::BadLine(1)));
@@ -97,6 +99,7 @@ fn programmes(rt: HostRuntime) -> Result<(), Fail> {
             &mut Told::new(&mut output),
             pi,
             dwell(128)?,
+            MOST_READS,
             &mut notes,
         );
         assert_eq!(rt; done, Ok(()));
@@ -129,6 +132,7 @@ fn slot_of_a_no(rt: HostRuntime) -> Result<(), Fail> {
             dwell(m)?,
             Late::new(k).ok_or("late")?,
             LogStart::Complete,
+            MOST_READS,
             &mut notes,
         );
         assert_eq!(rt; passed, Ok(false));

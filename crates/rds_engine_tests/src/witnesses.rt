@@ -4,7 +4,7 @@ use crate::logs::{Endless, LINE};
 use crate::same::same;
 use rds_charset::Told;
 use rds_fields::Dwell;
-use rds_log::{gather, gather_within};
+use rds_log::{LogNotes, MOST_READS, gather};
 use rds_view_lines::LogFault;
 use rds_witness::witness;
 use std::alloc::Global;
@@ -58,21 +58,29 @@ fn burst_that_joins_two_texts(rt: HostRuntime) -> Result<(), Fail> {
 #[test]
 fn all_slots_are_kept(rt: HostRuntime) -> Result<(), Fail> {
     let log = b"C201 2140 4849 0D20\n---- ---- ---- ----\n".as_slice();
-    match gather(rt.alloc(), &mut Told::new(log)) {
+    let mut notes = LogNotes::new(0);
+    match gather(
+        rt.alloc(),
+        &mut Told::new(log),
+        0xC201,
+        MOST_READS,
+        &mut notes,
+    ) {
         Ok(slots) => {
             let came = slots.iter().filter(|slot| slot.is_some()).count();
             same(&rt, (slots.len(), came), (2, 1));
         }
         Err(fault) => same(&rt, Err(fault), Ok(())),
     }
-    let bad = gather(rt.alloc(), &mut Told::new(b"\nx\n".as_slice()));
+    let mut two_lines = Told::new(b"\nx\n".as_slice());
+    let bad = gather(rt.alloc(), &mut two_lines, 0xC201, MOST_READS, &mut notes);
     same(&rt, bad.map(|slots| slots.len()), Err(LogFault::BadLine(2)));
     let reads = Cell::new(0);
     let endless = Endless {
         bytes: LINE,
         reads: &reads,
     };
-    let long = gather_within(rt.alloc(), &mut Told::new(endless), 3);
+    let long = gather(rt.alloc(), &mut Told::new(endless), 0xC201, 3, &mut notes);
     same(&rt, long.map(|slots| slots.len()), Err(LogFault::TooLong));
     Ok(())
 }

@@ -1,12 +1,13 @@
 -- How decoding goes on and ends: what the source gives, and what the decoder writes of it.
 use Rattle.std.proofs.Common.{◌≡◌, ◌≢◌, ℕ, List, [], ◌∷◌, ◌++◌, Bool, Option, None, append_assoc, Err, ap, sym, ◌∙◌, refl, true, false, inl, inr}
-use Rattle.std.specs.Prelude.{MatchBool}
+use Rattle.std.specs.Prelude.{MatchBool, MatchResult, Ok, OnOk, Result}
 use Rattle.std.proofs.lemmas.List.{append-nil}
 use Rattle.std.proofs.KnownBytes.{Appends-trans}
 use Rattle.std.specs.Io.KnownBytes.{Appends, Consumes}
 use Rattle.rds_block.specs.declared.group.Group.{Group}
 use Rattle.rds_charset.specs.Told.{AppendsPrefix, Failed, Traffic}
-use Rattle.rds_charset.specs.Puts.{AppendsPrefix-append}
+use Rattle.rds_charset.specs.Puts.{AppendsPrefix-append, Puts}
+use Rattle.rds_charset.specs.declared.told.WriteFault.{WriteFault}
 use Rattle.rds_receiver.specs.Receipts.{Tuning}
 use Rattle.rds_log.specs.LogLines.{Line}
 use Rattle.rds_log.specs.LineSays.{LineSays}
@@ -49,7 +50,7 @@ abbrev pub from : Option (List ℕ) → Option (List ℕ) → ℕ → ℕ → Tr
 from a b f g = record { before = a; after = b; failures_before = f; failures_after = g }
 
 -- the output that waits was written
-pub writes_all : (t : Tuning) (d after : Decoder) (lines : List Line) (a b c : Option (List ℕ)) (f g h : ℕ) → HasDecoded t d (from a b f g) lines → after.views ≡ d.views → after.output ≡ []
+writes_all : (t : Tuning) (d after : Decoder) (lines : List Line) (a b c : Option (List ℕ)) (f g h : ℕ) → HasDecoded t d (from a b f g) lines → after.views ≡ d.views → after.output ≡ []
     → Appends b c d.output → h ≡ g → HasDecoded t after (from a c f h) lines
 writes_all t d after lines a b c f g h s views none put calm = record {
   slots = s.slots;
@@ -61,7 +62,7 @@ writes_all t d after lines a b c f g h s views none put calm = record {
 }
 
 -- or a first part of it
-pub writes_part : (t : Tuning) (d : Decoder) (lines : List Line) (a b c : Option (List ℕ)) (f g h : ℕ) → HasDecoded t d (from a b f g) lines → AppendsPrefix b c d.output → Failed g h
+writes_part : (t : Tuning) (d : Decoder) (lines : List Line) (a b c : Option (List ℕ)) (f g h : ℕ) → HasDecoded t d (from a b f g) lines → AppendsPrefix b c d.output → Failed g h
     → WrotePart t (from a c f h) lines
 writes_part t d lines a b c f g h s part failed = record {
   written = s.written ++ d.output;
@@ -69,6 +70,11 @@ writes_part t d lines a b c f g h s part failed = record {
   wrote = AppendsPrefix-append a b c s.written d.output s.wrote part;
   failed = rw s.calm at failed;
 }
+
+pub writes : (t : Tuning) (d after : Decoder) (lines : List Line) (a b c : Option (List ℕ)) (f g h : ℕ) (r : Result (Unit {0}) WriteFault) → HasDecoded t d (from a b f g) lines → after.views ≡ d.views → OnOk r (after.output ≡ [])
+    → Puts (from b c g h) d.output r → MatchResult r (λ _. HasDecoded t after (from a c f h) lines) (λ _. WrotePart t (from a c f h) lines)
+writes t d after lines a b c f g h (Ok done) s views none put = writes_all t d after lines a b c f g h s views none put.0 put.1
+writes t d after lines a b c f g h (Err fault) s views none put = writes_part t d lines a b c f g h s put.0 put.1
 
 -- ---- the ends
 

@@ -1,6 +1,6 @@
 -- How the output of a filler goes on: it waits, it is written, or the writer fails at it.
 use Rattle.std.proofs.Common.{◌≡◌, ◌⊎◌, ◌+◌, ◌<◌, ◌≤◌, ℕ, zero, suc, List, [], ◌∷◌, ◌++◌, Option, Some, None, append_assoc, add-one, ap, sym, subst, ◌∙◌, refl, inl, inr, arith, codes, take}
-use Rattle.std.specs.Prelude.{Err, MatchResult, Ok, Result, length, nat_lt}
+use Rattle.std.specs.Prelude.{Err, MatchResult, Ok, OnOk, Result, length, nat_lt}
 use Rattle.rds_charset.specs.declared.told.WriteFault.{WriteFault}
 use Rattle.std.proofs.lemmas.Bool.{cases_lt}
 use Rattle.std.proofs.lemmas.List.{append-nil}
@@ -8,7 +8,7 @@ use Rattle.std.proofs.KnownBytes.{Appends-trans}
 use Rattle.std.specs.Io.KnownBytes.{Appends}
 use Rattle.rds_block.specs.declared.group.Group.{Group}
 use Rattle.rds_charset.specs.Told.{AppendsPrefix, Failed, Traffic}
-use Rattle.rds_charset.specs.Puts.{AppendsPrefix-append, AppendsPrefix-longer}
+use Rattle.rds_charset.specs.Puts.{AppendsPrefix-append, AppendsPrefix-longer, Puts}
 use Rattle.rds_arrivals.specs.Arrivals.{Arrival, lost_before}
 use Rattle.rds_arrivals.specs.declared.stamp.Stamp.{Stamp}
 use Rattle.rds_log.specs.LogLines.{Line}
@@ -41,7 +41,7 @@ abbrev pub from : Option (List ℕ) → Option (List ℕ) → ℕ → ℕ → Tr
 from a b f g = record { before = a; after = b; failures_before = f; failures_after = g }
 
 -- the output that waits was written
-pub writes_all : (s after : Filler) (total : List ℕ) (a b c : Option (List ℕ)) (f g h : ℕ) → HasOutput (from a b f g) s total → after.output ≡ []
+writes_all : (s after : Filler) (total : List ℕ) (a b c : Option (List ℕ)) (f g h : ℕ) → HasOutput (from a b f g) s total → after.output ≡ []
     → Appends b c s.output → h ≡ g → HasOutput (from a c f h) after total
 writes_all s after total a b c f g h has none put calm = record {
   written = has.written ++ s.output;
@@ -51,12 +51,17 @@ writes_all s after total a b c f g h has none put calm = record {
 }
 
 -- or a first part of it
-pub writes_part : (s : Filler) (total : List ℕ) (a b c : Option (List ℕ)) (f g h : ℕ) → HasOutput (from a b f g) s total → AppendsPrefix b c s.output → Failed g h
+writes_part : (s : Filler) (total : List ℕ) (a b c : Option (List ℕ)) (f g h : ℕ) → HasOutput (from a b f g) s total → AppendsPrefix b c s.output → Failed g h
     → LostOutput (from a c f h) total
 writes_part s total a b c f g h has part failed = record {
   wrote = rw has.all at (AppendsPrefix-append a b c has.written s.output has.wrote part);
   failed = rw has.calm at failed;
 }
+
+pub writes : (s after : Filler) (total : List ℕ) (a b c : Option (List ℕ)) (f g h : ℕ) (r : Result (Unit {0}) WriteFault) → HasOutput (from a b f g) s total → OnOk r (after.output ≡ [])
+    → Puts (from b c g h) s.output r → MatchResult r (λ _. HasOutput (from a c f h) after total) (λ _. LostOutput (from a c f h) total)
+writes s after total a b c f g h (Ok done) has none put = writes_all s after total a b c f g h has none put.0 put.1
+writes s after total a b c f g h (Err fault) has none put = writes_part s total a b c f g h has put.0 put.1
 
 -- more output waits
 pub waits : (s after : Filler) (w : Traffic) (total bytes : List ℕ) → HasOutput w s total → after.output ≡ s.output ++ bytes → HasOutput w after (total ++ bytes)

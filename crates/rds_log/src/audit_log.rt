@@ -62,21 +62,13 @@ pub fn audit_within<R: TellingRead, W: TellingWrite>(
     ensures means { Means LogStart.Complete pi dwell late (traffic R.remaining R.failures reader.old reader.new) result }
     ensures reads { MadeReads reads (R.reads reader.old) (R.reads reader.new) result }
 {
-    what_an_answer_means();
-    let verdict = judge(
-        reader,
-        pi,
-        dwell,
-        late,
-        LogStart::Complete,
-        reads,
-        &mut LogNotes::new(pi),
-    )?;
-    write_verdict(verdict, writer)
+    let start = LogStart::Complete;
+    let notes = &mut LogNotes::new(pi);
+    audit_with_notes(reader, writer, pi, dwell, late, start, reads, notes)
 }
 
-/// Audits a log that begins so, and takes notes for a person. For a complete log the output and the answer are those of
-/// [`audit`]. For the log of a running station the answer is that of the log with M + K lost slots in front, or more,
+/// Audits a log that begins so with at most `reads` reads, and takes notes for a person. The new notes replace the old
+/// content of `notes`. For a complete log the output and the answer are those of [`audit_within`]. For the log of a running station the answer is that of the log with M + K lost slots in front, or more,
 /// and without the tags before its first text segment. Slots count from the first line of the log. A yes speaks
 /// of receivers of the log as it is: they may hear these tags.
 pub fn audit_with_notes<R: TellingRead, W: TellingWrite>(
@@ -86,24 +78,26 @@ pub fn audit_with_notes<R: TellingRead, W: TellingWrite>(
     dwell: Dwell,
     late: Late,
     start: LogStart,
+    reads: u64,
     notes: &mut LogNotes,
 ) -> Result<bool, LogFault>
-    ensures audits { Audits start pi (dwell + late) (2 ^ 32)
+    requires { reads ≤ 2 ^ 32 }
+    ensures audits { Audits start pi (dwell + late) reads
         (traffic R.remaining R.failures reader.old reader.new)
         (traffic W.contents W.failures writer.old writer.new) result }
     ensures means { Means start pi dwell late (traffic R.remaining R.failures reader.old reader.new) result }
-    ensures reads { MadeReads (2 ^ 32) (R.reads reader.old) (R.reads reader.new) result }
+    ensures reads { MadeReads reads (R.reads reader.old) (R.reads reader.new) result }
     ensures heard { result ≡ Ok true
         → HeardLog pi (traffic R.remaining R.failures reader.old reader.new) notes.new.heard }
     ensures yes { result ≡ Ok true → notes.new.no ≡ None }
-    ensures no { result ≡ Ok false → NotesNo start pi (dwell + late) (2 ^ 32)
+    ensures no { result ≡ Ok false → NotesNo start pi (dwell + late) reads
         (traffic R.remaining R.failures reader.old reader.new) notes.new.no }
     ensures fault { IfErr result (λ fault. fault ≢ faults.Write
         → NotesFault (traffic R.remaining R.failures reader.old reader.new) fault notes.new.bad) }
 {
     what_an_answer_means();
     *notes = LogNotes::new(pi);
-    let verdict = judge(reader, pi, dwell, late, start, MOST_READS, notes)?;
+    let verdict = judge(reader, pi, dwell, late, start, reads, notes)?;
     write_verdict(verdict, writer)
 }
 

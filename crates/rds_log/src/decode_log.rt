@@ -1,8 +1,8 @@
 //! The engine of `decode`: the view of a receiver of a log.
-ghost use Rattle.std.specs.Prelude.{◌≡◌, ◌≤◌, ◌^◌, [], IfErr, None, OnOk};
+ghost use Rattle.std.specs.Prelude.{◌≤◌, ◌^◌, IfErr, OnOk};
 ghost use Rattle.rds_charset.specs.Told.{traffic};
 ghost use Rattle.rds_log.specs.Decode.{Decodes};
-ghost use Rattle.rds_log.specs.Heard.{HeardLines, HeardLog};
+ghost use Rattle.rds_log.specs.Heard.{HeardLog};
 ghost use Rattle.rds_log.specs.LogWrites.{tuned};
 ghost use Rattle.rds_log.specs.Notes.{NotesFault};
 ghost use Rattle.rds_log.specs.Reads.{MadeReads};
@@ -16,7 +16,7 @@ use rds_fields::Dwell;
 use rds_view_lines::LogFault;
 
 /// The most reads of a log. A longer log is too long.
-pub(crate) const MOST_READS: u64 = 1 << 32;
+pub const MOST_READS: u64 = 1 << 32;
 
 /// Writes what a receiver of this programme and this dwell shows while it hears the log.
 ///
@@ -53,32 +53,11 @@ pub fn decode_within<R: TellingRead, W: TellingWrite>(
         (traffic W.contents W.failures writer.old writer.new) result }
     ensures reads { MadeReads reads (R.reads reader.old) (R.reads reader.new) result }
 {
-    decode_noting(reader, writer, pi, dwell, reads, &mut LogNotes::new(pi))
+    decode_with_notes(reader, writer, pi, dwell, reads, &mut LogNotes::new(pi))
 }
 
-/// Does what [`decode`] does, and takes notes for a person. The output and the result are the same.
+/// Does what [`decode_within`] does, and takes notes for a person. The new notes replace the old content of `notes`.
 pub fn decode_with_notes<R: TellingRead, W: TellingWrite>(
-    reader: &mut R,
-    writer: &mut W,
-    pi: u16,
-    dwell: Dwell,
-    notes: &mut LogNotes,
-) -> Result<(), LogFault>
-    ensures decodes { Decodes (tuned pi dwell) (2 ^ 32)
-        (traffic R.remaining R.failures reader.old reader.new)
-        (traffic W.contents W.failures writer.old writer.new) result }
-    ensures reads { MadeReads (2 ^ 32) (R.reads reader.old) (R.reads reader.new) result }
-    ensures heard { OnOk result
-        (HeardLog pi (traffic R.remaining R.failures reader.old reader.new) notes.new.heard) }
-    ensures fault { IfErr result (λ fault.
-        NotesFault (traffic R.remaining R.failures reader.old reader.new) fault notes.new.bad) }
-{
-    *notes = LogNotes::new(pi);
-    decode_noting(reader, writer, pi, dwell, MOST_READS, notes)
-}
-
-/// Decodes with at most `reads` reads. The notes are empty before.
-fn decode_noting<R: TellingRead, W: TellingWrite>(
     reader: &mut R,
     writer: &mut W,
     pi: u16,
@@ -86,10 +65,7 @@ fn decode_noting<R: TellingRead, W: TellingWrite>(
     reads: u64,
     notes: &mut LogNotes,
 ) -> Result<(), LogFault>
-    requires reads { reads ≤ 2 ^ 32 }
-    requires groups { notes.old.heard.groups ≡ 0 }
-    requires heard { HeardLines pi [] notes.old.heard }
-    requires bad { notes.old.bad ≡ None }
+    requires { reads ≤ 2 ^ 32 }
     ensures decodes { Decodes (tuned pi dwell) reads
         (traffic R.remaining R.failures reader.old reader.new)
         (traffic W.contents W.failures writer.old writer.new) result }
@@ -99,6 +75,7 @@ fn decode_noting<R: TellingRead, W: TellingWrite>(
     ensures fault { IfErr result (λ fault.
         NotesFault (traffic R.remaining R.failures reader.old reader.new) fault notes.new.bad) }
 {
+    *notes = LogNotes::new(pi);
     let mut source = Source::new(reads);
     let mut decoder = Decoder::new(pi, dwell);
     let mut said = LogLine::Skip;

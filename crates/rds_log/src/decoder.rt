@@ -11,7 +11,7 @@ ghost use Rattle.rds_log.specs.declared.decoder.TheConstants.{OUTPUT_ROOM};
 
 use crate::log_line::LogLine;
 use rds_block::Blocks;
-use rds_charset::{Lines, TellingWrite, WriteFault, put};
+use rds_charset::{Lines, TellingWrite, WriteFault};
 use rds_fields::Dwell;
 use rds_receiver::Receiver;
 use rds_view_lines::{KeptView, SLOT_ROOM, Stamp, show};
@@ -122,11 +122,6 @@ impl Decoder {
             → MatchResult result (λ _. HasDecoded t self.new (traffic W.contents W.failures start writer.new) lines)
             (λ _. WrotePart t (traffic W.contents W.failures start writer.new) lines) }
     {
-        if self.output.bytes().is_empty() {
-            return Ok(());
-        }
-        put(self.output.bytes(), writer)?;
-        self.output.clear();
-        Ok(())
+        self.output.write(writer)
     }
 }

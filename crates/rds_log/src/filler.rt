@@ -9,7 +9,7 @@ ghost use Rattle.rds_log.specs.declared.filler.TheConstants.{FILLED_ROOM, LINE_R
 
 use crate::log_line::LogLine;
 use rds_arrivals::{Break, Grain, Stamp, lost_between, stamp_in};
-use rds_charset::{Lines, TellingWrite, WriteFault, put};
+use rds_charset::{Lines, TellingWrite, WriteFault};
 use rds_fields::Dwell;
 
 /// The most bytes of output that wait to be written.
@@ -184,12 +184,7 @@ impl Filler {
             (λ _. HasOutput (traffic W.contents W.failures start writer.new) self.new total)
             (λ _. LostOutput (traffic W.contents W.failures start writer.new) total) }
     {
-        if self.output.bytes().is_empty() {
-            return Ok(());
-        }
-        put(self.output.bytes(), writer)?;
-        self.output.clear();
-        Ok(())
+        self.output.write(writer)
     }
 }
 

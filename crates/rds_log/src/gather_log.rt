@@ -1,12 +1,11 @@
 //! Keeps all slots of a log in memory.
-ghost use Rattle.std.specs.Prelude.{◌≡◌, ◌≤◌, ◌^◌, [], IfErr, IfOk, None, OnOk};
+ghost use Rattle.std.specs.Prelude.{◌≡◌, ◌≤◌, ◌^◌, IfErr, IfOk, OnOk};
 ghost use Rattle.rds_charset.specs.Told.{traffic};
 ghost use Rattle.rds_log.specs.Gather.{GathersAll, GathersNone};
-ghost use Rattle.rds_log.specs.Heard.{HeardLines, HeardLog};
+ghost use Rattle.rds_log.specs.Heard.{HeardLog};
 ghost use Rattle.rds_log.specs.Notes.{NotesFault};
 ghost use Rattle.rds_log.specs.Reads.{MadeReads};
 
-use crate::decode_log::MOST_READS;
 use crate::log_line::LogLine;
 use crate::notes::LogNotes;
 use crate::source::Source;
@@ -15,76 +14,30 @@ use rds_charset::TellingRead;
 use rds_view_lines::LogFault;
 use std::alloc::Global;
 
-/// Reads a log to its end, and returns the group of each of its slots, the oldest first.
+/// Reads a log to its end with at most `reads` reads, and returns the group of each of its slots, the oldest first. Takes
+/// notes for a person who asks for this programme. The new notes replace the old content of `notes`.
 ///
 /// # Errors
 ///
-/// The first fault: a malformed line, a failed read, 2^32 reads without an end, or no memory for the slots.
-pub fn gather<R: TellingRead>(alloc: Global, reader: &mut R) -> Result<Vec<Option<Group>>, LogFault>
-    ensures all { IfOk result (λ log. GathersAll (traffic R.remaining R.failures reader.old reader.new) log.items) }
-    ensures none { IfErr result (λ fault. GathersNone (2 ^ 32)
-        (traffic R.remaining R.failures reader.old reader.new) fault) }
-    ensures reads { MadeReads (2 ^ 32) (R.reads reader.old) (R.reads reader.new) result }
-{
-    gather_within(alloc, reader, MOST_READS)
-}
-
-/// Does what [`gather`] does with at most `reads` reads. A log that has not ended by then is too long.
-pub fn gather_within<R: TellingRead>(
+/// The first fault: a malformed line, a failed read, as many reads without an end, or no memory for the slots.
+pub fn gather<R: TellingRead>(
     alloc: Global,
     reader: &mut R,
+    pi: u16,
     reads: u64,
+    notes: &mut LogNotes,
 ) -> Result<Vec<Option<Group>>, LogFault>
     requires { reads ≤ 2 ^ 32 }
     ensures all { IfOk result (λ log. GathersAll (traffic R.remaining R.failures reader.old reader.new) log.items) }
     ensures none { IfErr result (λ fault. GathersNone reads
         (traffic R.remaining R.failures reader.old reader.new) fault) }
     ensures reads { MadeReads reads (R.reads reader.old) (R.reads reader.new) result }
-{
-    gather_noting(alloc, reader, 0, reads, &mut LogNotes::new(0))
-}
-
-/// Does what [`gather`] does, and takes notes for a person who asks for this programme. The result is the same.
-pub fn gather_with_notes<R: TellingRead>(
-    alloc: Global,
-    reader: &mut R,
-    pi: u16,
-    notes: &mut LogNotes,
-) -> Result<Vec<Option<Group>>, LogFault>
-    ensures all { IfOk result (λ log. GathersAll (traffic R.remaining R.failures reader.old reader.new) log.items) }
-    ensures none { IfErr result (λ fault. GathersNone (2 ^ 32)
-        (traffic R.remaining R.failures reader.old reader.new) fault) }
-    ensures reads { MadeReads (2 ^ 32) (R.reads reader.old) (R.reads reader.new) result }
     ensures heard { OnOk result
         (HeardLog pi (traffic R.remaining R.failures reader.old reader.new) notes.new.heard) }
     ensures fault { IfErr result (λ fault.
         NotesFault (traffic R.remaining R.failures reader.old reader.new) fault notes.new.bad) }
 {
     *notes = LogNotes::new(pi);
-    gather_noting(alloc, reader, pi, MOST_READS, notes)
-}
-
-/// Gathers with at most `reads` reads. The notes are empty before.
-fn gather_noting<R: TellingRead>(
-    alloc: Global,
-    reader: &mut R,
-    pi: u16,
-    reads: u64,
-    notes: &mut LogNotes,
-) -> Result<Vec<Option<Group>>, LogFault>
-    requires reads { reads ≤ 2 ^ 32 }
-    requires groups { notes.old.heard.groups ≡ 0 }
-    requires heard { HeardLines pi [] notes.old.heard }
-    requires bad { notes.old.bad ≡ None }
-    ensures all { IfOk result (λ log. GathersAll (traffic R.remaining R.failures reader.old reader.new) log.items) }
-    ensures none { IfErr result (λ fault. GathersNone reads
-        (traffic R.remaining R.failures reader.old reader.new) fault) }
-    ensures reads { MadeReads reads (R.reads reader.old) (R.reads reader.new) result }
-    ensures heard { OnOk result
-        (HeardLog pi (traffic R.remaining R.failures reader.old reader.new) notes.new.heard) }
-    ensures fault { IfErr result (λ fault.
-        NotesFault (traffic R.remaining R.failures reader.old reader.new) fault notes.new.bad) }
-{
     let mut source = Source::new(reads);
     let mut slots = Vec::new(alloc);
     let mut said = LogLine::Skip;

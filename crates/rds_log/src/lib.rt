@@ -27,8 +27,8 @@ mod source;
 mod verdict;
 
 pub use audit_log::{audit, audit_with_notes, audit_within};
-pub use decode_log::{decode, decode_with_notes, decode_within};
-pub use gather_log::{gather, gather_with_notes, gather_within};
+pub use decode_log::{MOST_READS, decode, decode_with_notes, decode_within};
+pub use gather_log::gather;
 pub use heard::{GroupCounts, Heard};
 pub use laws::{
     a_line_has_one_cause, bytes_have_one_verdict, bytes_write_one_output, what_an_answer_means,

@@ -21,7 +21,7 @@ use rds_audit::LogStart;
 use rds_charset::{Lines, TellingRead, TellingWrite, put};
 use rds_cli::{Programme, Request, Task, identification_of, read_words};
 use rds_fields::{Dwell, Head, Late};
-use rds_log::{audit_with_notes, decode_with_notes, fill_with_notes};
+use rds_log::{MOST_READS, audit_with_notes, decode_with_notes, fill_with_notes};
 use rds_script::{Form, MOST_RECORDS, play_script};
 use rds_view_lines::LogFault;
 use rds_witness::witness_with_notes;
@@ -176,7 +176,7 @@ fn run_task<R: TellingRead, W: TellingWrite>(
     let asked = task;
     match task {
         Task::Decode => {
-            let decoded = decode_with_notes(reader, writer, pi, dwell, &mut notes.log);
+            let decoded = decode_with_notes(reader, writer, pi, dwell, MOST_READS, &mut notes.log);
             end_with(asked, decoded, writer, &mut notes.end)
         }
         Task::Encode(programme, late) => {
@@ -191,7 +191,8 @@ fn run_task<R: TellingRead, W: TellingWrite>(
         }
         Task::Audit(late, running) => {
             let start = start_of(running);
-            match audit_with_notes(reader, writer, pi, dwell, late, start, &mut notes.log) {
+            let log = &mut notes.log;
+            match audit_with_notes(reader, writer, pi, dwell, late, start, MOST_READS, log) {
                 Ok(passed) => answer_by(passed, OK, NO, &mut notes.end),
                 Err(fault) => fail_with(asked, fault, writer, &mut notes.end),
             }

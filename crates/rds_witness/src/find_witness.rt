@@ -19,7 +19,7 @@ use crate::search::Found;
 use rds_block::Group;
 use rds_charset::{Lines, TellingRead, TellingWrite, WriteFault, put};
 use rds_fields::Dwell;
-use rds_log::{LogNotes, gather_with_notes};
+use rds_log::{LogNotes, MOST_READS, gather};
 use rds_view_lines::LogFault;
 use std::alloc::Global;
 
@@ -62,7 +62,7 @@ pub fn witness_with_notes<R: TellingRead, W: TellingWrite>(
     ensures bad { (n : ℕ) → result ≡ Err (faults.BadLine n)
         → NotesFault (traffic R.remaining R.failures reader.old reader.new) (faults.BadLine n) notes.new.bad }
 {
-    let log = gather_with_notes(alloc, reader, pi, notes)?;
+    let log = gather(alloc, reader, pi, MOST_READS, notes)?;
     let Ok(found) = find_surely(alloc, log.as_slice(), pi, dwell) else {
         return Err(LogFault::Memory);
     };

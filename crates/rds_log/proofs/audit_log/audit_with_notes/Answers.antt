@@ -5,7 +5,7 @@ use Rattle.rds_log.proofs.audit_log.audit_with_notes.Goals as goal
 
 pub returns-clause-means : goal.returns-clause-means
 returns-clause-means g c =
-    meaning c.args.start c.args.pi c.args.dwell c.args.late (2 ^ 32)
+    meaning c.args.start c.args.pi c.args.dwell c.args.late c.args.reads
     (traffic g.R.Read.remaining g.R.TellingRead.failures c.args.reader.now c.judge.new.reader)
     (traffic g.W.Write.contents g.W.TellingWrite.failures c.args.writer.now c.write_verdict.new.writer)
     c.write_verdict.result

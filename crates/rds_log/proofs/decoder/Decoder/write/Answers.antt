@@ -1,17 +1,9 @@
 use Rattle.std.proofs.Common.{refl}
-use Rattle.std.proofs.lemmas.Result.{err_from_is_err_and}
-use Rattle.rds_log.proofs.Decodes.{writes_all, writes_part}
+use Rattle.rds_log.proofs.Decodes.{writes}
 use Rattle.rds_log.proofs.decoder.Decoder.write.Goals as goal
-
-pub returns-in_err-put-clause-wrote : goal.returns-in_err-put-clause-wrote
-returns-in_err-put-clause-wrote g c t start lines s =
-    let p = err_from_is_err_and c.from_residual.result c.from_residual.ensures.1 in
-    rw p.1 (writes_part t c.args.self.now lines (g.W.Write.contents start) (g.W.Write.contents c.args.writer.now) (g.W.Write.contents c.put.new.writer)
-    (g.W.TellingWrite.failures start) (g.W.TellingWrite.failures c.args.writer.now) (g.W.TellingWrite.failures c.put.new.writer)
-    s (rw c.bytes-2.ensures at c.in_err-put.ensures.0) c.in_err-put.ensures.1)
 
 pub returns-clause-wrote : goal.returns-clause-wrote
 returns-clause-wrote g c t start lines s =
-    writes_all t c.args.self.now _ lines (g.W.Write.contents start) (g.W.Write.contents c.args.writer.now) (g.W.Write.contents c.put.new.writer)
-    (g.W.TellingWrite.failures start) (g.W.TellingWrite.failures c.args.writer.now) (g.W.TellingWrite.failures c.put.new.writer)
-    s refl c.clear.ensures (rw c.bytes-2.ensures at c.in_ok-put.ensures.0) c.in_ok-put.ensures.1
+    writes t c.args.self.now _ lines (g.W.Write.contents start) (g.W.Write.contents c.args.writer.now) (g.W.Write.contents c.write.new.writer)
+    (g.W.TellingWrite.failures start) (g.W.TellingWrite.failures c.args.writer.now) (g.W.TellingWrite.failures c.write.new.writer) c.write.result
+    s refl c.write.ensures.empty c.write.ensures.puts

@@ -3,7 +3,7 @@ use Rattle.rds_log.specs.Heard.{HeardLines}
 use Rattle.rds_log.specs.LogLines.{Line}
 use Rattle.rds_log.specs.LogWrites.{AreSlots}
 use Rattle.rds_log.specs.Inside.Source.{SourceStandsAt, budget, state_of}
-use Rattle.rds_log.proofs.gather_log.gather_noting.Given as goal
+use Rattle.rds_log.proofs.gather_log.gather.Given as goal
 
 abbrev pub invariant-loop-notes : goal.invariant-loop-notes
 invariant-loop-notes g l = record {

@@ -5,21 +5,21 @@ use Rattle.rds_log.specs.LogWrites.{tuned}
 use Rattle.rds_log.specs.Inside.Source.{state_of}
 use Rattle.rds_log.proofs.Decodes.{ends_at_fault, ends_by_fault, ends_by_write}
 use Rattle.rds_log.proofs.Noting.{fault_noted}
-use Rattle.rds_log.proofs.decode_log.decode_noting.Goals as goal
+use Rattle.rds_log.proofs.decode_log.decode_with_notes.Goals as goal
 
 pub loop-notes-init : goal.loop-notes-init
 loop-notes-init g c =
     let none : length c.new-decoder.result.output ≡ 0 = rw c.new-decoder.ensures.empty refl in
     let slots = c.new-decoder.ensures.slots in
     let few = c.new-source.ensures.budget in
-    let groups = c.requires.groups in
+    let groups = c.new.ensures.groups in
     record {
       room = omega (arith, none);
       empty = λ _. c.new-decoder.ensures.empty;
       slots = omega (arith, slots, few);
       groups = omega (arith, groups, few);
-      bad = c.requires.bad;
-      stands = ([], c.new-source.ensures.stands _, c.new-decoder.ensures.decoded _ refl refl, c.requires.heard);
+      bad = c.new.ensures.bad;
+      stands = ([], c.new-source.ensures.stands _, c.new-decoder.ensures.decoded _ refl refl, c.new.ensures.heard);
     }
 
 pub returns-in_err-write-in-Err-clause-decodes : goal.returns-in_err-write-in-Err-clause-decodes

@@ -5,7 +5,7 @@ use Rattle.rds_log.specs.Heard.{HeardLines}
 use Rattle.rds_log.specs.LogWrites.{tuned}
 use Rattle.rds_log.specs.LogLines.{Line}
 use Rattle.rds_log.specs.Inside.Source.{SourceStandsAt, budget, state_of}
-use Rattle.rds_log.proofs.decode_log.decode_noting.Given as goal
+use Rattle.rds_log.proofs.decode_log.decode_with_notes.Given as goal
 
 abbrev pub invariant-loop-notes : goal.invariant-loop-notes
 invariant-loop-notes g l = record {

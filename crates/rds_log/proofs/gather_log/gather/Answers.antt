@@ -2,16 +2,16 @@ use Rattle.std.proofs.Common.{◌≡◌, [], ◌∷◌, ◌++◌, arith, rules}
 use Rattle.rds_log.specs.Inside.Source.{state_of}
 use Rattle.rds_log.proofs.KeptSlots.{keeps_none, keeps_said, keeps_skip}
 use Rattle.rds_log.proofs.Noting.{fault_noted}
-use Rattle.rds_log.proofs.gather_log.gather_noting.Goals as goal
+use Rattle.rds_log.proofs.gather_log.gather.Goals as goal
 
 pub loop-notes-init : goal.loop-notes-init
 loop-notes-init g c =
     let few = c.new-source.ensures.budget in
-    let groups = c.requires.groups in
+    let groups = c.new.ensures.groups in
     record {
       groups = omega (arith, few, groups);
-      bad = c.requires.bad;
-      stands = ([], c.new-source.ensures.stands _, keeps_none c.new-slots.result.items c.new-slots.ensures.items, c.requires.heard);
+      bad = c.new.ensures.bad;
+      stands = ([], c.new-source.ensures.stands _, keeps_none c.new-slots.result.items c.new-slots.ensures.items, c.new.ensures.heard);
     }
 
 pub returns-in-Err-clause-fault : goal.returns-in-Err-clause-fault
