@@ -10,7 +10,7 @@
  *
  *     struct rdsrt_receiver receiver;
  *     struct rdsrt_view view;
- *     rdsrt_receiver_init(&receiver, 0xC201, 128);
+ *     rdsrt_receiver_init(&receiver, 0xC201, RDSRT_DEFAULT_DWELL);
  *     for (;;) {                                     // every 88 ms
  *         uint16_t blocks[4];                        // without their check bits
  *         bool all = next_group(blocks);             // yours: false if a block was lost, or if no group came
@@ -83,6 +83,9 @@ extern "C" {
 #define RDSRT_VERSION_MAJOR 0
 #define RDSRT_VERSION_MINOR 1
 #define RDSRT_VERSION_PATCH 0
+
+/* The default dwell of the program rdsrt, in slots: about 11 s. */
+#define RDSRT_DEFAULT_DWELL 128
 
 struct rdsrt_version { uint32_t abi, major, minor, patch; };
 

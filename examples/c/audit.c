@@ -25,7 +25,7 @@ int main(int count, char **words) {
     uint16_t blocks[4];
     unsigned long slot = 0, number = 0;
     unsigned long pi = count > 1 ? strtoul(words[1], NULL, 16) : 0x10000;
-    unsigned long dwell = count > 2 ? strtoul(words[2], NULL, 10) : 128;
+    unsigned long dwell = count > 2 ? strtoul(words[2], NULL, 10) : RDSRT_DEFAULT_DWELL;
     unsigned long late = count > 3 ? strtoul(words[3], NULL, 10) : 0;
 
     if (pi > 0xFFFF || dwell > 0xFFFF || late > 0xFFFF

@@ -91,7 +91,7 @@ int main(int count, char **words) {
     uint16_t blocks[4];
     unsigned long slot = 0, number = 0;
     unsigned long pi = count > 1 ? strtoul(words[1], NULL, 16) : 0x10000;
-    unsigned long dwell = count > 2 ? strtoul(words[2], NULL, 10) : 128;
+    unsigned long dwell = count > 2 ? strtoul(words[2], NULL, 10) : RDSRT_DEFAULT_DWELL;
 
     if (pi > 0xFFFF || dwell > 0xFFFF
         || rdsrt_receiver_init(&receiver, (uint16_t)pi, (uint16_t)dwell) != RDSRT_OK) {

@@ -107,7 +107,7 @@ int main(int count, char **words) {
     uint16_t blocks[4];
     it.pi = (uint16_t)(count > 2 ? strtoul(words[1], NULL, 16) : 0);
     it.pty = (uint8_t)(count > 2 ? strtoul(words[2], NULL, 10) : 255);
-    it.dwell = (uint16_t)(count > 3 ? strtoul(words[3], NULL, 10) : 128);
+    it.dwell = (uint16_t)(count > 3 ? strtoul(words[3], NULL, 10) : RDSRT_DEFAULT_DWELL);
     it.late = (uint16_t)(count > 4 ? strtoul(words[4], NULL, 10) : 0);
 
     if (start(&it) != RDSRT_OK) {

@@ -94,7 +94,7 @@ int main(int count, char **words) {
     static struct radio radio;
     char line[128];
     unsigned long pi = count > 1 ? strtoul(words[1], NULL, 16) : 0x10000;
-    unsigned long dwell = count > 2 ? strtoul(words[2], NULL, 10) : 128;
+    unsigned long dwell = count > 2 ? strtoul(words[2], NULL, 10) : RDSRT_DEFAULT_DWELL;
 
     if (pi > 0xFFFF || dwell > 0xFFFF
         || rdsrt_receiver_init(&radio.receiver, (uint16_t)pi, (uint16_t)dwell) != RDSRT_OK) {

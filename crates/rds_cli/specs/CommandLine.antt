@@ -40,6 +40,10 @@ number_rule name parser default = record (new_rule name) {
   parser = Some parser;
 }
 
+-- the dwell of a command that is given none: the number of the digits in `dwell_rule`
+abbrev pub default_dwell : ℕ
+default_dwell = 128
+
 -- `--m N` or `-m N`, from 1 to 65535
 abbrev pub dwell_rule : Rule
 dwell_rule = record (number_rule (codes "m") (Signed (pos 1) (pos 65535)) (codes "128")) { short = Some 109 }

@@ -40,19 +40,29 @@ fn number<'a>(
         .help(help)
 }
 
+/// The dwell M of a command that is given none, in slots. include/rdsrt.h has it as `RDSRT_DEFAULT_DWELL`; a test compares
+/// the other places with the help text.
+const DEFAULT_DWELL: &str = "128";
+
 /// Makes the option `-m`, `--m`.
 fn dwell<'a>(alloc: Global) -> Arg<'a>
     ensures rule { rule_of result ≡ dwell_rule }
     ensures local { result.global ≡ false }
 {
     let parser = value_parser!(u16).range(1..);
-    number(alloc, "m", parser, "128", "Dwell M in slots, 1 to 65535")
-        .short('m')
-        .long_help(
-            "Dwell M in slots, 1 to 65535. A slot is the time of one group, about 88 ms.\n\
+    number(
+        alloc,
+        "m",
+        parser,
+        DEFAULT_DWELL,
+        "Dwell M in slots, 1 to 65535",
+    )
+    .short('m')
+    .long_help(
+        "Dwell M in slots, 1 to 65535. A slot is the time of one group, about 88 ms.\n\
              A receiver drops a text if no part of it arrived for M slots. The station needs\n\
              the same M or a larger one. Then no receiver shows a mix of two texts.",
-        )
+    )
 }
 
 /// Makes the option `-k`, `--k`.

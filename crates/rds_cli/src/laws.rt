@@ -1,6 +1,6 @@
 //! What the definition of the command line says of written-out arguments.
 ghost use Rattle.std.specs.Prelude.{codes, false, true};
-ghost use Rattle.rds_cli.specs.CommandLine.{AskFor, AskForHelp};
+ghost use Rattle.rds_cli.specs.CommandLine.{AskFor, AskForHelp, default_dwell};
 ghost use Rattle.rds_cli.specs.Examples.{AreNotTaken, CallForHelp, auditing, auditing_running, decoding, encoding, filling, quietly, simulating, typed, witnessing};
 
 /// Shows the definition at work. The arguments of README's examples are taken and ask for these tasks. A dwell of 0
@@ -8,31 +8,31 @@ ghost use Rattle.rds_cli.specs.Examples.{AreNotTaken, CallForHelp, auditing, aud
 /// version are answered. `help` followed by a command is not taken, and the definition leaves open whether that gives
 /// help or is refused.
 pub fn words_of_the_examples()
-    ensures decode { AskFor (typed (codes "rdsrt decode --pi C201")) (decoding (codes "C201") 128) }
-    ensures decode_other { AskFor (typed (codes "rdsrt decode --pi F201")) (decoding (codes "F201") 128) }
+    ensures decode { AskFor (typed (codes "rdsrt decode --pi C201")) (decoding (codes "C201") default_dwell) }
+    ensures decode_other { AskFor (typed (codes "rdsrt decode --pi F201")) (decoding (codes "F201") default_dwell) }
     ensures decode_dwell { AskFor (typed (codes "rdsrt decode --pi C201 --m 8")) (decoding (codes "C201") 8) }
     ensures decode_spelling { AskFor (typed (codes "rdsrt decode --m=+004 --pi=C201"))
         (decoding (codes "C201") 4) }
     ensures encode { AskFor (typed (codes "rdsrt encode --pi C201 --pty 10 --m 8")) (encoding 8 10) }
     ensures sim { AskFor (typed (codes "rdsrt sim --pi C201 --pty 24 --m 8")) (simulating 8 24 false 0) }
-    ensures sim_tp { AskFor (typed (codes "rdsrt sim --pi C201 --pty 10 --tp")) (simulating 128 10 true 0) }
+    ensures sim_tp { AskFor (typed (codes "rdsrt sim --pi C201 --pty 10 --tp")) (simulating default_dwell 10 true 0) }
     ensures audit { AskFor (typed (codes "rdsrt audit --pi C201 --m 4")) (auditing 4 0) }
     ensures audit_late { AskFor (typed (codes "rdsrt audit --pi C201 --m 4 --k 2")) (auditing 4 2) }
     ensures audit_running { AskFor (typed (codes "rdsrt audit --running --pi C201"))
-        (auditing_running 128) }
+        (auditing_running default_dwell) }
     ensures witness { AskFor (typed (codes "rdsrt witness --pi C201 --m 8")) (witnessing 8) }
-    ensures slots { AskFor (typed (codes "rdsrt slots")) (filling 128 20) }
+    ensures slots { AskFor (typed (codes "rdsrt slots")) (filling default_dwell 20) }
     ensures slots_grain { AskFor (typed (codes "rdsrt slots --m 8 --grain 0")) (filling 8 0) }
     ensures large_grain { AreNotTaken (typed (codes "rdsrt slots --grain 88")) }
-    ensures sim_late { AskFor (typed (codes "rdsrt sim --pi C201 --k 1024")) (simulating 128 0 false 1024) }
+    ensures sim_late { AskFor (typed (codes "rdsrt sim --pi C201 --k 1024")) (simulating default_dwell 0 false 1024) }
     ensures sim_of_eleven { AskFor (typed (codes "rdsrt sim --pi C201 --m 8 --k 2 --pty 24 --tp --"))
         (simulating 8 24 true 2) }
     ensures decode_short { AskFor (typed (codes "rdsrt decode --pi C201 -m 8")) (decoding (codes "C201") 8) }
-    ensures sim_short { AskFor (typed (codes "rdsrt sim --pi C201 -k 2")) (simulating 128 0 false 2) }
+    ensures sim_short { AskFor (typed (codes "rdsrt sim --pi C201 -k 2")) (simulating default_dwell 0 false 2) }
     ensures decode_quiet { AskFor (typed (codes "rdsrt decode --pi C201 --quiet"))
-        (quietly (decoding (codes "C201") 128)) }
+        (quietly (decoding (codes "C201") default_dwell)) }
     ensures sim_quiet { AskFor (typed (codes "rdsrt sim --quiet --pi C201 --pty 10 --tp"))
-        (quietly (simulating 128 10 true 0)) }
+        (quietly (simulating default_dwell 10 true 0)) }
     ensures help { AskForHelp (typed (codes "rdsrt --help")) }
     ensures help_of_one { AskForHelp (typed (codes "rdsrt decode --help")) }
     ensures version { AskForHelp (typed (codes "rdsrt --version")) }

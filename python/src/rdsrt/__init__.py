@@ -18,14 +18,14 @@ An object holds no file, no thread and no memory of the library, so nothing has 
 pickled and compared. Threads may use different objects at the same time. One thread may change an object, and others
 may read what it shows meanwhile. A Python without the global lock (free-threaded) needs a lock of yours for that.
 """
-from ._library import NoLibrary
+from ._library import DEFAULT_DWELL, NoLibrary
 from .characters import InvalidText, closest, closest_name
 from .logs import SLOT, Group, MalformedLine, format_group, read_log, slots
 from .objects import (Audit, Encoder, Fault, Held, NoText, OutOfText, Receiver, Refused, Silent, Wait,
                       library_version)
 from .views import ContentType, Item, Tag, View, type_name
 
-__all__ = ["Audit", "ContentType", "Encoder", "Fault", "Group", "Held", "InvalidText", "Item", "MalformedLine",
-           "NoLibrary", "NoText", "OutOfText", "Receiver", "Refused", "SLOT", "Silent", "Tag", "View", "Wait",
-           "closest", "closest_name", "format_group", "library_version", "read_log", "slots", "type_name"]
+__all__ = ["Audit", "ContentType", "DEFAULT_DWELL", "Encoder", "Fault", "Group", "Held", "InvalidText", "Item",
+           "MalformedLine", "NoLibrary", "NoText", "OutOfText", "Receiver", "Refused", "SLOT", "Silent", "Tag", "View",
+           "Wait", "closest", "closest_name", "format_group", "library_version", "read_log", "slots", "type_name"]
 __version__ = "0.1.0"

@@ -6,6 +6,7 @@ import os
 from typing import Any, Dict, Iterator, List, Tuple
 
 ABI = 3
+DEFAULT_DWELL = 128
 OK, DONE, BAD_ARGUMENT, SILENT, HELD, NO_TEXT, OUT_OF_TEXT_1, OUT_OF_TEXT_2 = 0, 1, 2, 3, 4, 5, 6, 7
 TOO_LONG, BAD_BYTE, BAD_TAGS = 8, 9, 10
 

@@ -4,6 +4,8 @@ import operator
 import re
 from typing import Iterable, Iterator, List, Optional, Sequence, SupportsIndex, Tuple, Union
 
+from ._library import DEFAULT_DWELL
+
 Group = Tuple[int, int, int, int]
 """The four blocks of a group, 0 to 0xFFFF each, without their check bits."""
 SLOT = 104 / 1187.5
@@ -94,7 +96,7 @@ def format_group(group: Optional[Sequence[SupportsIndex]]) -> str:
 
 
 def slots(timed: Iterable[Tuple[float, Optional[Group]]], grain: float = 0.02,
-          dwell: int = 128) -> Iterator[Optional[Group]]:
+          dwell: int = DEFAULT_DWELL) -> Iterator[Optional[Group]]:
     """Yields the slots of groups with times of arrival: each group, and before it None for each slot without a group.
 
     `timed` has pairs of a time in seconds and a group. A pair of a time and None says that no group came up to this

@@ -4,6 +4,7 @@ import enum
 from typing import Any, Dict, Iterable, Iterator, List, NamedTuple, Optional, Sequence, SupportsIndex, Tuple, TypeVar
 
 from . import _library as c
+from ._library import DEFAULT_DWELL
 from .characters import InvalidText, coded, require_str, shown, symbols
 from .logs import Group, blocks_of, in_range
 from .views import ContentType, Item, Tag, View, content_type_of
@@ -137,7 +138,7 @@ class Receiver(_Plain):
     slots."""
     _type = c.Receiver
 
-    def __init__(self, pi: SupportsIndex, dwell: SupportsIndex = 128):
+    def __init__(self, pi: SupportsIndex, dwell: SupportsIndex = DEFAULT_DWELL):
         self._pi, self._dwell = in_range("pi", pi, 0, 0xFFFF), in_range("dwell", dwell, 1, 0xFFFF)
         self._its = c.Receiver()
         c.library().rdsrt_receiver_init(self._its, self.pi, self.dwell)
@@ -179,7 +180,7 @@ class Encoder(_Plain):
     name (PS)."""
     _type = c.Encoder
 
-    def __init__(self, pi: SupportsIndex, *, pty: SupportsIndex = 0, tp: bool = False, dwell: SupportsIndex = 128,
+    def __init__(self, pi: SupportsIndex, *, pty: SupportsIndex = 0, tp: bool = False, dwell: SupportsIndex = DEFAULT_DWELL,
                  late: SupportsIndex = 0):
         self._pi, self._pty, self._tp = in_range("pi", pi, 0, 0xFFFF), in_range("pty", pty, 0, 31), bool(tp)
         self._dwell, self._late = in_range("dwell", dwell, 1, 0xFFFF), in_range("late", late, 0, 1024)
@@ -310,7 +311,7 @@ class Audit(_Plain):
     spacing."""
     _type = c.Audit
 
-    def __init__(self, pi: SupportsIndex, dwell: SupportsIndex = 128, late: SupportsIndex = 0, *,
+    def __init__(self, pi: SupportsIndex, dwell: SupportsIndex = DEFAULT_DWELL, late: SupportsIndex = 0, *,
                  running: bool = False):
         self._pi, self._slots = in_range("pi", pi, 0, 0xFFFF), 0
         self._dwell, self._late = in_range("dwell", dwell, 1, 0xFFFF), in_range("late", late, 0, 1024)

@@ -1,0 +1,52 @@
+"""Tables that other languages repeat are those of the program: the default dwell, and the names of content types."""
+import re
+
+from tests.calls import DECODE
+from tests.support import ProgramCase, bytes_of, ran
+
+# each place of the default dwell: a file, and the pattern in front of the number
+DWELLS = [
+    ("include/rdsrt.h", r"#define RDSRT_DEFAULT_DWELL "),
+    ("python/src/rdsrt/_library.py", r"\nDEFAULT_DWELL = "),
+    ("page/app.js", r"DEFAULTS = \{ m: "),
+    ("page/index.html", r'id="log-m" min="1" max="65535" value="'),
+    ("page/index.html", r'id="dwell-m" min="1" max="65535" value="'),
+    ("examples/station", r'"--m", type=int, default='),
+    ("examples/slots", r'"--m", type=int, default='),
+    ("docs/GUIDE.md", r"The default is "),
+]
+# each table of names: a file, and the pattern in front of the names between quotation marks
+NAMES = [
+    ("page/lines.js", r"CLASSES = \["),
+    ("examples/c/decode.c", r"\{\s*(?=\"\", \"ITEM)"),
+    ("bench/c/decode.c", r"classes\[12\] = \{"),
+]
+
+
+def text_of(path):
+    return bytes_of(path).decode()
+
+
+def shown_class(number):
+    """The word for a tag of this content type in the output of the program."""
+    groups = [(0xC201, 0x3016, 0, 0x4BD7), (0xC201, 0x2140, 0x4849, 0x0D20),
+              (0xC201, 0xB000 | number >> 3, (number & 7) << 13 | 1 << 1, 0)]
+    log = "".join(" ".join(f"{block:04X}" for block in group) + "\n" for group in groups)
+    _, output = ran(DECODE, log.encode())
+    return re.search(rb'^2 tag1 (\S+) "HI"$', output, re.M)[1].decode()
+
+
+class Tables(ProgramCase):
+    def test_the_default_dwell_is_that_of_the_help(self):
+        _, shown = ran(["decode", "--help"])
+        wanted = re.search(rb"-m, --m.*?\[default: (\d+)\]", shown, re.S)[1].decode()
+        for path, before in DWELLS:
+            self.check(f"{path}: {before}", re.findall(before + r"(\d+)", text_of(path)), [wanted])
+
+    def test_the_names_of_content_types_are_those_of_the_output(self):
+        wanted = [shown_class(number) for number in range(1, 13)]
+        self.check("a content type without a name is a number", wanted.pop(), "12")
+        for path, before in NAMES:
+            found = re.search(before + r"(.*?)[\]}]", text_of(path), re.S)
+            names = re.findall(r'"([\w.]+)"', found[1] if found else "")
+            self.check(path, [f"ITEM.{name.removeprefix('ITEM.')}" for name in names], wanted)
