@@ -1,0 +1,78 @@
+-- From what one program promises to a weaker promise: of other engines, or of a reader that never fails.
+use Rattle.std.proofs.Common.{◌^◌, arith, inl, inr}
+use Rattle.std.proofs.Math.Logic.{∥∥₁_elim}
+use Rattle.std.specs.Prelude.{ℕ, List, Option}
+use Rattle.rds_charset.specs.Told.{Failed, Traffic}
+use Rattle.rds_receiver.specs.Receipts.{Tuning}
+use Rattle.rds_world.specs.declared.world.Config.{Config}
+use Rattle.rds_log.specs.LogWrites.{tuned}
+use Rattle.rds_view_lines.specs.ReadFailed.{SomeReadFailed}
+use Rattle.rds_script.specs.BorrowedReads.{plays_by}
+use Rattle.rds_script.specs.Play.{Plays}
+use Rattle.rds_script.specs.declared.form.Form.{Form}
+use Rattle.rds_script.specs.declared.form.Form.TheVariants.{Log, Simulation}
+use Rattle.rds_cli.specs.declared.request.Task.{Task}
+use Rattle.rds_cli.specs.declared.request.Task.TheVariants.{Audit, Decode, Encode, Simulate, Slots, Witness}
+use Rattle.rds_program.specs.Run.{NoMemory, Runs, RunsWords, TaskRuns, done, station_of}
+
+-- a run of engines that do more, with another statement for the case that no engine ran
+pub runs_by : {Rests Rested : Type 0} (words : List (List ℕ)) (Engine Weaker : Task → Tuning → Type 0) (w : Traffic)
+    (status : ℕ) → ((task : Task) (t : Tuning) → Engine task t → Weaker task t) → (Rests → Rested)
+    → RunsWords words Engine Rests w status → RunsWords words Weaker Rested w status
+runs_by words Engine Weaker w status engine rests did = record {
+  runs = λ asked pi given is. elim (did.runs asked pi given is) [
+    | inl memory ↦ inl (memory.0, rests memory.1)
+    | inr ran ↦ inr (engine asked.task (tuned pi asked.dwell) ran)
+  ];
+  fault_pi = λ asked given none. let it = did.fault_pi asked given none in (it.0, rests it.1);
+  nothing_asked = λ takes none. let it = did.nothing_asked takes none in (it.0, rests it.1);
+  help = λ asks. let it = did.help asks in (it.0, rests it.1);
+  refused = λ are. let it = did.refused are in (it.0, rests it.1);
+  not_taken = λ untaken. let it = did.not_taken untaken in (it.0, rests it.1);
+}
+
+-- a program that is out of memory for its arguments keeps every promise
+pub runs_without_memory : {Rests : Type 0} (words : List (List ℕ)) (Engine : Task → Tuning → Type 0) (w : Traffic)
+    (status : ℕ) → NoMemory w status → Rests → RunsWords words Engine Rests w status
+runs_without_memory words Engine w status memory rests = record {
+  runs = λ asked pi given is. inl (memory, rests);
+  fault_pi = λ asked given none. (inl memory, rests);
+  nothing_asked = λ takes none. (inl memory, rests);
+  help = λ asks. (inl memory, rests);
+  refused = λ are. (inl memory, rests);
+  not_taken = λ untaken. (inl memory, rests);
+}
+
+-- the run of a script, with another statement about its reads
+script_by : {P Q : Type 0} → (P → Q) → (form : Form) (config : Config) (task : Task) (known : Option (List ℕ))
+    (w : Traffic) (status : ℕ) → Runs (Plays form config (2 ^ 32) record { known = known; Failed = P }) done task w status
+    → Runs (Plays form config (2 ^ 32) record { known = known; Failed = Q }) done task w status
+script_by says form config task known w status ran = record {
+  outcome = ran.outcome;
+  mid = ran.mid;
+  failures = ran.failures;
+  ran = plays_by says form config (2 ^ 32) known (record w { after = ran.mid; failures_after = ran.failures })
+      ran.outcome ran.ran;
+  ended = ran.ended;
+}
+
+-- the run of a task, with another statement about its reads
+pub task_by : {P Q : Type 0} → (P → Q) → (task : Task) (t : Tuning) (r w : Traffic) (status : ℕ)
+    → TaskRuns task t r P w status → TaskRuns task t r Q w status
+task_by says Decode t r w status ran = ran
+task_by says (Audit late running) t r w status ran = ran
+task_by says Witness t r w status ran = ran
+task_by says (Slots grain) t r w status ran = ran
+task_by says (Encode programme late) t r w status ran =
+    script_by says Log (station_of t programme late) (Encode programme late) r.before w status ran
+task_by says (Simulate programme late) t r w status ran =
+    script_by says Simulation (station_of t programme late) (Simulate programme late) r.before w status ran
+
+-- a reader whose count of failures is always 0 never fails
+pub never_fails : Failed 0 0 → ⊥
+never_fails (inl one) = omega (arith, one)
+never_fails (inr most) = omega (arith, most.0)
+
+pub none_failed : {R : Type 0} → SomeReadFailed (λ (r : R). 0) → ⊥
+none_failed {R} some =
+    ∥∥₁_elim some (λ a b. absurd a) (λ (f : (before : R) × (after : R) × Failed 0 0). never_fails f.2)
