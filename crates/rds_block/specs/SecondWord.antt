@@ -1,41 +1,11 @@
--- Lemmas about block 2: it is read by shifts and masks, joined again, and no other fields have the same sum.
-use Rattle.std.proofs.Common.{[], ◌∷◌, ◌≡◌, ◌+◌, ◌*◌, ◌<◌, ◌/◌, ◌%◌, ◌^◌, ◌∙◌}
-use Rattle.std.proofs.Common.{List, length, get_or, ℕ, zero, suc, Bool, true}
-use Rattle.std.proofs.Common.{false, nat_eq, bit_and, bit_or, refl, sym, arith}
-use Rattle.std.proofs.lemmas.Nat.{pow_pos, or_shifted, and_mask}
+-- Lemmas about block 2: its fields are joined to it, and no other fields have the same sum.
+use Rattle.std.proofs.Common.{[], ◌∷◌, ◌≡◌, ◌+◌, ◌*◌, ◌<◌, ◌%◌, ◌^◌, ◌∙◌}
+use Rattle.std.proofs.Common.{List, length, get_or, ℕ, Bool, true}
+use Rattle.std.proofs.Common.{false, bit_or, refl, sym, arith}
+use Rattle.std.proofs.lemmas.Nat.{or_shifted}
 use Rattle.std.specs.Int.{from_bool}
-use Rattle.std.proofs.lemmas.Nat.Bits.{and_pow}
-use Rattle.std.proofs.lemmas.Bool.Decides.{nat_tests}
-use mathlib.Core.Bool.{not}
 use Rattle.rds_block.specs.declared.group.Group.{Group}
 use Rattle.rds_block.specs.Words.{words_of, second_word_of, AreWordsOf}
-
--- for a bit b and c above 0: b * c is not 0 exactly if b is 1
-bit_above_zero : (b c : ℕ) → b < 2 → 0 < c → from_bool (not (nat_eq (b * c) 0)) ≡ b
-bit_above_zero zero c h p =
-    let e : 0 * c ≡ 0 = omega arith in
-    rw e refl
-bit_above_zero (suc zero) c h p =
-    let e : suc zero * c ≡ c = omega arith in
-    let no : nat_eq c 0 ≡ false = grind (arith, nat_tests) in
-    rw (e, no) refl
-bit_above_zero (suc (suc b)) c h p = absurd (omega arith)
-
--- a test of bit k gives that bit
-bit_of_test : (n k : ℕ) → from_bool (not (nat_eq (bit_and n (2 ^ k)) 0)) ≡ n / 2 ^ k % 2
-bit_of_test n k = rw (and_pow n k) (bit_above_zero (n / 2 ^ k % 2) (2 ^ k) (omega arith) (pow_pos k))
-
--- a number of 16 bits is the sum of its parts
-sum_of_parts : (n : ℕ) → n < 65536 →
-    4096 * (n / 4096) + 2048 * (n / 2048 % 2) + 1024 * (n / 1024 % 2) + 32 * (n / 32 % 32) + n % 32 ≡ n
-sum_of_parts n h = omega arith
-
--- block 2 is the sum of the fields that shifts and masks read
-pub second_word_read : (n : ℕ) → n < 65536 →
-    n ≡ 4096 * (n / 4096) + 2048 * from_bool (not (nat_eq (bit_and n 2048) 0))
-    + 1024 * from_bool (not (nat_eq (bit_and n 1024) 0)) + 32 * bit_and (n / 32) 31 + bit_and n 31
-second_word_read n h =
-    sym (rw (bit_of_test n 11, bit_of_test n 10, and_mask (n / 32) 5, and_mask n 5) (sum_of_parts n h))
 
 -- joining lower bits to a multiple of 2 ^ k adds them
 pub or_above : (k a b x : ℕ) → x ≡ a * 2 ^ k → b < 2 ^ k → bit_or x b ≡ x + b

@@ -2,7 +2,7 @@
 ghost use Rattle.std.specs.Prelude.{◌≡◌, ◌+◌, ◌*◌, ◌^◌, ◌<◌};
 ghost use Rattle.std.specs.Int.{from_bool};
 
-use crate::Group;
+use crate::{Group, Place};
 use std::marker::Model;
 use std::simd::prelude::*;
 
@@ -41,12 +41,28 @@ impl Blocks {
         Blocks { bits }
     }
 
+    /// Packs the group of a slot. Returns `None` if the slot has no group.
+    #[inline(always)]
+    pub fn of_slot(group: Option<Group>) -> Option<Blocks>
+        ensures { result ≡ group }
+    {
+        Some(group?.blocks())
+    }
+
     /// Returns the group with its fields unpacked.
     pub fn group(self) -> Group
         ensures same { result ≡ self }
     {
-        let second = (self.bits >> 32 & 0xFFFF) as u16;
-        Group::from_blocks([self.pi(), second, self.c(), self.d()])
+        Group {
+            pi: self.pi(),
+            number: Place::new((self.bits >> 44 & 0xF) as u8).unwrap(),
+            version: self.bits >> 43 & 1 == 1,
+            tp: self.bits >> 42 & 1 == 1,
+            pty: Place::new((self.bits >> 37 & 0x1F) as u8).unwrap(),
+            low: Place::new(self.low()).unwrap(),
+            c: self.c(),
+            d: self.d(),
+        }
     }
 
     /// Returns the programme identification (PI).
@@ -102,6 +118,13 @@ impl Blocks {
 }
 
 impl Group {
+    /// Unpacks the group of a slot. Returns `None` if the slot has no group.
+    pub fn of_slot(group: Option<Blocks>) -> Option<Group>
+        ensures { result ≡ group }
+    {
+        Some(group?.group())
+    }
+
     /// Returns the group packed into its four blocks.
     pub fn blocks(&self) -> Blocks
         ensures { result ≡ self.now }

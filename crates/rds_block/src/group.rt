@@ -1,6 +1,6 @@
 //! A group as its fields, converted from and to four words.
 
-use crate::Place;
+use crate::{Blocks, Place};
 
 /// A group as its fields (IEC 62106, group structure). The meaning of `low`, `c` and `d` depends on the group type,
 /// that is, on `number` and `version`.
@@ -31,17 +31,7 @@ impl Group {
     pub fn from_blocks(blocks: [u16; 4]) -> Group
         ensures words { AreWordsOf blocks result }
     {
-        let [pi, second, c, d] = blocks;
-        Group {
-            pi,
-            number: Place::new((second >> 12) as u8).unwrap(),
-            version: second & 0x0800 != 0,
-            tp: second & 0x0400 != 0,
-            pty: Place::new((second >> 5 & 0x1F) as u8).unwrap(),
-            low: Place::new((second & 0x1F) as u8).unwrap(),
-            c,
-            d,
-        }
+        Blocks::new(blocks).group()
     }
 
     /// Returns the four words of the group.

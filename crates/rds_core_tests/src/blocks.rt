@@ -1,7 +1,7 @@
 //! Groups and their four blocks.
 
 use crate::same::same;
-use rds_block::{Group, Place};
+use rds_block::{Blocks, Group, Place};
 use std::test::Fail;
 
 /// The fields of a text segment of PI C201, TP 0, PTY 10, with flag 1 and address 0.
@@ -20,6 +20,12 @@ fn fields_of_a_text_segment(rt: HostRuntime) -> Result<(), Fail> {
     };
     same(&rt, Group::from_blocks(words), group);
     same(&rt, group.to_blocks(), words);
+    same(
+        &rt,
+        Group::of_slot(Blocks::of_slot(Some(group))),
+        Some(group),
+    );
+    same(&rt, Group::of_slot(Blocks::of_slot(None)), None);
     Ok(())
 }
 
