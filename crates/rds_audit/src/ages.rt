@@ -3,7 +3,7 @@ ghost use Rattle.std.specs.Prelude.{◌≡◌, ◌≢◌, ◌+◌, ◌*◌, ◌<
 ghost use Rattle.rds_audit.specs.Ages.{HasLasted, IsEarly, Joins, aged, ages_at, opened_ages};
 
 use crate::{AuditFault, LogStart};
-use rds_encoder::Distance;
+use rds_fields::Distance;
 
 /// The ages, in slots, of the current reign and of the one before it. They stop at a limit: `since_last` and
 /// `since_before` at 2 (M + K), `since_start` at M + K. Before the first reign, a complete log counts as M + K slots

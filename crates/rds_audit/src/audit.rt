@@ -25,8 +25,7 @@ use crate::{
     what_passes_is_safe_by_the_flag,
 };
 use rds_block::{Blocks, Group};
-use rds_encoder::Distance;
-use rds_fields::{Dwell, Late, Message, TagPair};
+use rds_fields::{Distance, Dwell, Late, Message, TagPair};
 use rds_receiver::heard;
 use std::marker::Model;
 use thiserror::Error;

@@ -13,8 +13,7 @@ use crate::audited::Audited;
 use crate::content::Content;
 use crate::stored::StoredReigns;
 use crate::{AuditFault, LogStart};
-use rds_encoder::Distance;
-use rds_fields::TagPair;
+use rds_fields::{Distance, TagPair};
 use std::marker::Model;
 
 /// What an audit judged of a service so far, for a person. No contract speaks of it.

@@ -3,8 +3,8 @@
 use crate::same::same;
 use rds_assembly::{Name, Text};
 use rds_block::Place;
-use rds_encoder::{Distance, Encoder, Refusal, Wait};
-use rds_fields::{Dwell, Head, Late, Tag, TagPair, Which};
+use rds_encoder::{Encoder, Refusal, Wait};
+use rds_fields::{Distance, Dwell, Head, Late, Tag, TagPair, Which};
 use std::process::Abort;
 use std::test::Fail;
 

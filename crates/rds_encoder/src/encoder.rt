@@ -14,7 +14,6 @@ ghost use Rattle.rds_encoder.specs.State.{advanced};
 ghost use Rattle.rds_encoder.specs.Stored.{IsStored, encoder_stored};
 ghost use Rattle.rds_encoder.specs.Tags.{fitting_reply, pair_on_air, tags_reply};
 
-use crate::distance::Distance;
 use crate::hold::Hold;
 use crate::round::{Round, Turn};
 use crate::silence::Silence;
@@ -24,7 +23,9 @@ use crate::track::Track;
 use crate::{Refusal, Wait};
 use rds_assembly::{Name, Text};
 use rds_block::{Group, Place};
-use rds_fields::{Dwell, Head, Late, Message, StoredPair, TagPair, Which, rtplus_announcement};
+use rds_fields::{
+    Distance, Dwell, Head, Late, Message, StoredPair, TagPair, Which, rtplus_announcement,
+};
 use std::marker::Model;
 
 /// Sends the text, the name and the tags of one station. It keeps counters that stop at their limits, and no slot

@@ -7,8 +7,8 @@ ghost use Rattle.rds_encoder.specs.StandsAt.{HoldsBack};
 ghost use Rattle.rds_encoder.specs.Stored.{hold_stored};
 
 use crate::Refusal;
-use crate::distance::Distance;
 use crate::stored::StoredHold;
+use rds_fields::Distance;
 use std::marker::Model;
 
 /// For how many more slots one service holds its next text or name back, and the flag of that one.

@@ -12,7 +12,6 @@
 //! ```
 #![tactic(auto)]
 
-mod distance;
 mod encoder;
 mod hold;
 mod laws;
@@ -23,7 +22,6 @@ mod stored;
 mod text_on_air;
 mod track;
 
-pub use distance::Distance;
 pub use encoder::Encoder;
 pub use laws::{
     broadcasts_are_spaced, even_turns_are_the_texts, numbers_name_broadcasts,

@@ -5,7 +5,7 @@ ghost use Rattle.rds_encoder.specs.Reply.{IsSetReply, IsTagsReply, unless_silent
 ghost use Rattle.rds_encoder.specs.StandsAt.{silence_left};
 
 use crate::Refusal;
-use crate::distance::Distance;
+use rds_fields::Distance;
 use std::marker::Model;
 
 /// For how many more slots an encoder is silent.

@@ -6,8 +6,8 @@ ghost use Rattle.rds_encoder.specs.Reply.{IsSetReply, held_reply, last_accepted,
 ghost use Rattle.rds_encoder.specs.StandsAt.{Follows, HoldsBack};
 
 use crate::Refusal;
-use crate::distance::Distance;
 use crate::hold::Hold;
+use rds_fields::Distance;
 use std::marker::Model;
 
 /// The text or name on air of one service, and its hold.

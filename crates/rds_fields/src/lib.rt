@@ -11,6 +11,7 @@
 //! ```
 #![tactic(auto)]
 
+mod distance;
 mod dwell;
 mod head;
 mod kinds;
@@ -22,6 +23,7 @@ mod radiotext_plus;
 mod stored;
 mod tag;
 
+pub use distance::Distance;
 pub use dwell::Dwell;
 pub use head::Head;
 pub use kinds::{Announced, Characters};

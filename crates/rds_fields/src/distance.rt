@@ -1,7 +1,7 @@
 //! The spacing d of a station: the dwell plus the lateness.
 ghost use Rattle.std.specs.Prelude.{◌≡◌, ◌+◌, ◌<◌, ◌≤◌};
 
-use rds_fields::{Dwell, Late};
+use crate::{Dwell, Late};
 use std::marker::Model;
 
 /// The spacing d of a station, in slots: the dwell M of its receivers plus the lateness K, 1 to 66559. No receiver

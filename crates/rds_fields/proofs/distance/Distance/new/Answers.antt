@@ -1,5 +1,5 @@
 use Rattle.std.proofs.Common.{rules}
-use Rattle.rds_encoder.proofs.distance.Distance.new.Goals as goal
+use Rattle.rds_fields.proofs.distance.Distance.new.Goals as goal
 
 pub returns : goal.returns
 returns c = search rules
