@@ -91,7 +91,7 @@ impl<S: Service> Assembly<S> {
         let is_held = self.has(address);
         let first = 4 * address as usize;
         let segment = &mut self.bytes[first..first + 4];
-        if is_held && is_same(segment, &bytes) {
+        if is_held && is_same_segment(segment, &bytes) {
             return false;
         }
         segment.copy_from_slice(&bytes);
@@ -126,11 +126,13 @@ impl<S: Service> Assembly<S> {
     }
 }
 
-/// Returns whether the four bytes are equal, compared as one word.
-fn is_same(segment: &[u8], bytes: &[u8; 4]) -> bool
-    requires { length segment.now ≡ 4 }
-    ensures { IsTrue result ↔ (segment.now ≡ bytes.now) }
+/// Returns whether two segments are equal. Compares their four bytes as one word.
+pub fn is_same_segment(one: &[u8], other: &[u8]) -> bool
+    requires one { length one.now ≡ 4 }
+    requires other { length other.now ≡ 4 }
+    ensures { IsTrue result ↔ (one.now ≡ other.now) }
 {
-    let held = [segment[0], segment[1], segment[2], segment[3]];
-    u32::from_le_bytes(held) == u32::from_le_bytes(*bytes)
+    let word = [one[0], one[1], one[2], one[3]];
+    let other_word = [other[0], other[1], other[2], other[3]];
+    u32::from_le_bytes(word) == u32::from_le_bytes(other_word)
 }

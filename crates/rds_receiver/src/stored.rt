@@ -8,7 +8,7 @@ ghost use Rattle.rds_fields.specs.Stored.{is_set};
 ghost use Rattle.rds_receiver.specs.Tags.{says_of_rtplus};
 ghost use Rattle.rds_receiver.specs.Stored.{IsStored, receiver_stored, segments_stored};
 
-use rds_assembly::LONGEST_TEXT;
+use rds_assembly::{LONGEST_TEXT, is_same_segment};
 use rds_block::Blocks;
 use rds_fields::{Message, RTPLUS_AID, RTPLUS_CODE, StoredPair};
 
@@ -39,17 +39,8 @@ impl StoredSegments {
             return false;
         }
         let first = 4 * usize::from(address);
-        is_same(&self.bytes[first..first + 4], &bytes)
+        is_same_segment(&self.bytes[first..first + 4], &bytes)
     }
-}
-
-/// Returns whether the four bytes are equal, compared as one word.
-fn is_same(segment: &[u8], bytes: &[u8; 4]) -> bool
-    requires { length segment.now ≡ 4 }
-    ensures { IsTrue result ↔ (segment.now ≡ bytes.now) }
-{
-    let held = [segment[0], segment[1], segment[2], segment[3]];
-    u32::from_le_bytes(held) == u32::from_le_bytes(*bytes)
 }
 
 /// All that a receiver holds, as plain numbers. Whether a value is whole is not stored: `restore` finds it out again.

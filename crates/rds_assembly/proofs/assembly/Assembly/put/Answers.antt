@@ -7,14 +7,14 @@ use Rattle.std.proofs.lemmas.Nat.Bits.{bit_at_set_same, bit_at_set_other}
 use Rattle.rds_assembly.proofs.HeldLemmas.{held_again, put_held, others_stay, segment_stands}
 use Rattle.rds_assembly.proofs.assembly.Assembly.put.Goals as goal
 
-pub returns-then-is_same-clause-put : goal.returns-then-is_same-clause-put
-returns-then-is_same-clause-put g c =
+pub returns-then-is_same_segment-clause-put : goal.returns-then-is_same_segment-clause-put
+returns-then-is_same_segment-clause-put g c =
     let a = c.args.address in
     let few = g.met.S.Service.few in
     let inside = c.self.inside in
     let four : 4 * a + 4 - 4 * a ≡ 4 = omega arith in
     let there : contains_key (held_cells inside.mask inside.bytes) a ≡ true = ap (λ m. contains_key m a) c.self.view_is ∙ sym c.has-is_held.ensures ∙ c.if-is_held.true in
-    let here : segment_of inside.bytes a ≡ c.args.bytes = rw four at (c.is_same.ensures.0 c.if-is_same.true) in
+    let here : segment_of inside.bytes a ≡ c.args.bytes = rw four at (c.is_same_segment.ensures.0 c.if-is_same_segment.true) in
     ap (held_cells inside.mask) (put_same (4 * a) (4 * a + 4 - 4 * a) inside.bytes) ∙ held_again inside.mask a inside.bytes c.args.bytes (omega arith) there here
     ∙ ap (λ m. insert m c.args.address c.args.bytes) c.self.view_is
 

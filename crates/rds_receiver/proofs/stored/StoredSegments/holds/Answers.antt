@@ -22,7 +22,7 @@ returns c same =
     let four : 4 * a + 4 - 4 * a ≡ 4 = omega arith in
     let bit : bit_at s.mask a ≡ 1 = sym (shr_and_one s.mask a) ∙ c.if-not-is_held.false in
     let there : contains_key (held_cells s.mask s.bytes) a ≡ true = contains-held s.mask s.bytes a c.requires ∙ ap (λ n. n == 1) bit in
-    let here : segment_of s.bytes a ≡ c.args.bytes = rw (c.from-first.ensures, four) at (c.is_same.ensures.0 same) in
+    let here : segment_of s.bytes a ≡ c.args.bytes = rw (c.from-first.ensures, four) at (c.is_same_segment.ensures.0 same) in
     record {
       same_flag = same_flag _ _ c.if-flag-is_set.false;
       same_cells = held_again s.mask a s.bytes c.args.bytes c.requires there here;
