@@ -1,5 +1,5 @@
 -- The state of an audit after a log. Lists have the newest first.
-use Rattle.std.specs.Prelude.{◌≡◌, ◌<◌, ℕ, List, [], ◌∷◌, Option, Result, IfErr, IfOk, MatchOption, length}
+use Rattle.std.specs.Prelude.{◌≡◌, ◌<◌, ℕ, List, [], ◌∷◌, Option, Some, None, Result, Err, IfErr, IfOk, MatchOption, MatchResult, length}
 use Rattle.rds_block.specs.declared.group.Group.{Group}
 use Rattle.rds_fields.specs.declared.message.Message.{Message}
 use Rattle.rds_receiver.specs.Receipts.{AreHeard, Fragment}
@@ -10,7 +10,7 @@ use Rattle.rds_audit.specs.Lengths.{Gauge, lengths_of, name_gauge, sent_last, ta
 use Rattle.rds_safety.specs.Marks.{Mark, marks, name_mark, text_mark}
 use Rattle.rds_audit.specs.Reigns.{Reign, SentTags, reigns}
 use Rattle.rds_audit.specs.Recording.{IsJudgedAs, counted_as}
-use Rattle.rds_audit.specs.Rules.{BreaksFirst, IsFaultOf, Passes}
+use Rattle.rds_audit.specs.Rules.{BreaksFirst, IsFaultOf, LogPasses, Passes}
 
 -- the fragments of the newest reign
 abbrev pub fragments_of : List Reign → List Fragment
@@ -71,6 +71,16 @@ abbrev pub WhereTheAuditStands : AuditState → (ℕ → List (Option Message) �
 WhereTheAuditStands a Holds =
     (pi d : ℕ) (log : List (Option Group)) (s : AuditStandsAt pi d a log) (judged : List (Option Message))
     → IsJudgedAs a.start d s.heard judged → Holds d judged
+
+-- the audit took the next slot, with this group or with none: it stands at the log with that slot; the result is its
+-- fault, which is that of the log; after a fault the result is that fault, and nothing changes
+pub record TakesSlot (a after : AuditState) (group : Option Group) (result : Result (Unit {0}) AuditFault) : Type 0 where
+  pub stands : (pi d : ℕ) (log : List (Option Group)) → AuditStandsAt pi d a log → AuditStandsAt pi d after (group ∷ log)
+  pub fault : MatchResult result (λ _. after.fault ≡ None) (λ fault. after.fault ≡ Some fault)
+  pub start : after.start ≡ a.start
+  pub which : WhereTheAuditStands after
+      (λ d heard. MatchResult result (λ _. LogPasses d heard) (λ fault. IsFaultOf d heard fault))
+  pub again : (fault : AuditFault) → a.fault ≡ Some fault → (result ≡ Err fault) × (after ≡ a)
 
 -- the audit took this message in the next slot of a log: without an error its state follows from the log with that
 -- slot; with one, the slot breaks the rule of the fault first

@@ -36,6 +36,13 @@ pub record AuditState : Type 0 where
   pub name : ReignsState
   pub fault : Option AuditFault
 
+-- all but the two services is the same
+pub record KeepsAllElse (a after : AuditState) : Type 0 where
+  pub programme : after.programme ≡ a.programme
+  pub distance : after.distance ≡ a.distance
+  pub start : after.start ≡ a.start
+  pub fault : after.fault ≡ a.fault
+
 -- the content without fragments and tags
 abbrev pub no_content : ℕ → ContentState
 no_content longest = record { cells = replicate 16 None; lengths = record { least = 0; most = longest }; tags_end = 0 }

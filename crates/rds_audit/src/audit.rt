@@ -4,12 +4,12 @@ ghost use Rattle.std.specs.Prelude.{ℕ, true, false, List, Option, Some, None, 
 ghost use Rattle.rds_block.specs.declared.group.Group.{Group};
 ghost use Rattle.rds_fields.specs.declared.message.Message.{Message};
 ghost use Rattle.rds_fields.specs.declared.message.Message.TheVariants.{Tags};
-ghost use Rattle.rds_fields.specs.Spells.{Spells};
 ghost use Rattle.rds_receiver.specs.Receipts.{Hears};
 ghost use Rattle.rds_audit.specs.declared.audit.AuditFault.{AuditFault};
 ghost use Rattle.rds_audit.specs.declared.log_start.LogStart.TheVariants as LogStart;
 ghost use Rattle.rds_audit.specs.AuditLaws.{IsSafeLog, IsSafeRecording};
-ghost use Rattle.rds_audit.specs.AuditStandsAt.{AuditStandsAt, HoldsLog, HoldsSlot, Judges, WhereTheAuditStands};
+ghost use Rattle.rds_audit.specs.AuditStandsAt.{AuditStandsAt, HoldsLog, HoldsSlot, Judges, TakesSlot, WhereTheAuditStands};
+ghost use Rattle.rds_audit.specs.AuditState.{KeepsAllElse};
 ghost use Rattle.rds_audit.specs.Dense.{HasPlans};
 ghost use Rattle.rds_audit.specs.FlagLaws.{NamesAreSafeByFlag, TextsAreSafeByFlag};
 ghost use Rattle.rds_audit.specs.Reigns.{AlternateFlags, reigns};
@@ -26,7 +26,7 @@ use crate::{
 };
 use rds_block::{Blocks, Group};
 use rds_fields::{Distance, Dwell, Late, Message, TagPair};
-use rds_receiver::heard;
+use rds_receiver::heard_blocks;
 use std::marker::Model;
 use thiserror::Error;
 
@@ -147,39 +147,20 @@ impl Audit {
     /// Takes the next slot: the group that was sent in it, or nothing. A group of another programme counts as nothing.
     /// Error if the slot breaks a rule. After a fault, each call returns that fault again and changes nothing.
     pub fn slot(&mut self, group: Option<Group>) -> Result<(), AuditFault>
-        ensures stands { (pi d : ℕ) (log : List (Option Group))
-            → AuditStandsAt pi d self.old log → AuditStandsAt pi d self.new (group ∷ log) }
-        ensures fault { MatchResult result
-            (λ _. self.new.fault ≡ None) (λ fault. self.new.fault ≡ Some fault) }
-        ensures start { self.new.start ≡ self.old.start }
-        ensures which { WhereTheAuditStands self.new (λ d heard.
-            MatchResult result (λ _. LogPasses d heard) (λ fault. IsFaultOf d heard fault)) }
-        ensures again { (fault : AuditFault) → self.old.fault ≡ Some fault
-            → (result ≡ Err fault) × (self.new ≡ self.old) }
+        ensures { TakesSlot self.old self.new group result }
     {
-        match group {
-            Some(group) => self.slot_blocks(Some(group.blocks())),
-            None => self.slot_blocks(None),
-        }
+        self.slot_blocks(Blocks::of_slot(group))
     }
 
-    /// Does the same as [`slot`](Self::slot) for a group as its blocks. It builds no `Message`.
+    /// Does the same as [`slot`](Self::slot) for a group as its blocks.
     #[inline(always)]
     pub fn slot_blocks(&mut self, group: Option<Blocks>) -> Result<(), AuditFault>
-        ensures stands { (pi d : ℕ) (log : List (Option Group))
-            → AuditStandsAt pi d self.old log → AuditStandsAt pi d self.new (group ∷ log) }
-        ensures fault { MatchResult result
-            (λ _. self.new.fault ≡ None) (λ fault. self.new.fault ≡ Some fault) }
-        ensures start { self.new.start ≡ self.old.start }
-        ensures which { WhereTheAuditStands self.new (λ d heard.
-            MatchResult result (λ _. LogPasses d heard) (λ fault. IsFaultOf d heard fault)) }
-        ensures again { (fault : AuditFault) → self.old.fault ≡ Some fault
-            → (result ≡ Err fault) × (self.new ≡ self.old) }
+        ensures { TakesSlot self.old self.new group result }
     {
         if let Some(known) = self.fault {
             // Prover: this call names the message that the log gets in this slot; its result is not used
             // (docs/PROVER.md, "Idioms").
-            heard(self.pi, group_of(group));
+            heard_blocks(self.pi, group);
             return Err(known);
         }
         if let Err(fault) = self.take_slot(group) {
@@ -249,55 +230,43 @@ impl Audit {
     /// Takes the group of this slot, if it is one of the programme. Error if it breaks a rule.
     #[inline(always)]
     fn take_slot(&mut self, group: Option<Blocks>) -> Result<(), AuditFault>
-        ensures programme { self.new.programme ≡ self.old.programme }
-        ensures distance { self.new.distance ≡ self.old.distance }
-        ensures start { self.new.start ≡ self.old.start }
-        ensures fault { self.new.fault ≡ self.old.fault }
+        ensures rest { KeepsAllElse self.old self.new }
         ensures takes { (message : Option Message) × Hears self.old.programme group message
             × Judges self.old self.new message result }
     {
-        let Some(group) = group else {
-            return Ok(());
-        };
-        if group.pi() != self.pi {
-            return Ok(());
+        match heard_blocks(self.pi, group) {
+            Some(message) => self.hear(message),
+            None => Ok(()),
         }
-        self.hear(group)
     }
 
-    /// Takes a group of the programme that was sent in this slot. Error if it breaks a rule.
+    /// Takes a message of the programme that was sent in this slot. Error if it breaks a rule.
     #[inline(always)]
-    fn hear(&mut self, group: Blocks) -> Result<(), AuditFault>
-        ensures programme { self.new.programme ≡ self.old.programme }
-        ensures distance { self.new.distance ≡ self.old.distance }
-        ensures start { self.new.start ≡ self.old.start }
-        ensures fault { self.new.fault ≡ self.old.fault }
-        ensures takes { (message : Message) × Spells message group
-            × Judges self.old self.new (Some message) result }
+    fn hear(&mut self, message: Message) -> Result<(), AuditFault>
+        ensures rest { KeepsAllElse self.old self.new }
+        ensures judges { Judges self.old self.new (Some message) result }
     {
         let distance = self.distance;
-        if let Some(it) = Message::text_in(group) {
-            return self.text.take(distance, it.flag, it.address, it.bytes);
+        match message {
+            Message::Text {
+                flag,
+                address,
+                bytes,
+            } => self.text.take(distance, flag, address.get(), bytes),
+            Message::Name {
+                flag,
+                address,
+                bytes,
+            } => self.name.take(distance, flag, address.get(), bytes),
+            Message::Tags(pair) => self.take_tags(pair),
+            Message::Announce { .. } | Message::Other => Ok(()),
         }
-        if let Some(it) = Message::name_in(group) {
-            return self.name.take(distance, it.flag, it.address, it.bytes);
-        }
-        if let Some(pair) = Message::tags_in(group) {
-            return self.take_tags(pair);
-        }
-        if let Some(_) = Message::announced_in(group) {
-            return Ok(());
-        }
-        Ok(())
     }
 
     /// Takes tags that were sent in this slot, except before the first text segment of the log of a running station:
     /// their text may have been sent before the log. Error if they break a rule.
     fn take_tags(&mut self, pair: TagPair) -> Result<(), AuditFault>
-        ensures programme { self.new.programme ≡ self.old.programme }
-        ensures distance { self.new.distance ≡ self.old.distance }
-        ensures start { self.new.start ≡ self.old.start }
-        ensures fault { self.new.fault ≡ self.old.fault }
+        ensures rest { KeepsAllElse self.old self.new }
         ensures judges { Judges self.old self.new (Some (Tags pair)) result }
     {
         if self.awaits_text() {
@@ -321,10 +290,7 @@ impl Audit {
 
     /// Ends the slot.
     fn end_slot(&mut self)
-        ensures programme { self.new.programme ≡ self.old.programme }
-        ensures distance { self.new.distance ≡ self.old.distance }
-        ensures start { self.new.start ≡ self.old.start }
-        ensures fault { self.new.fault ≡ self.old.fault }
+        ensures rest { KeepsAllElse self.old self.new }
         ensures holds { (heard : List (Option Message)) (message : Option Message)
             → HoldsSlot self.old.distance message heard self.old
             → HoldsLog self.old.distance (message ∷ heard) self.new }
@@ -333,11 +299,4 @@ impl Audit {
         self.text.grow_older(distance);
         self.name.grow_older(distance);
     }
-}
-
-/// Returns the group of a slot as its fields.
-fn group_of(group: Option<Blocks>) -> Option<Group>
-    ensures { result ≡ group }
-{
-    Some(group?.group())
 }

@@ -1,7 +1,7 @@
 //! Tests of a receiver's view, and of the results of its calls. The tests of the built program have worked logs.
 
 use crate::same::same;
-use rds_block::Group;
+use rds_block::{Blocks, Group};
 use rds_fields::{Dwell, Which};
 use rds_receiver::{Receiver, heard};
 use std::process::Abort;
@@ -125,7 +125,7 @@ fn told_whether_the_view_stays(rt: HostRuntime) -> Result<(), Fail> {
     let mut other = Receiver::new(PI, Dwell::new(4).ok_or("dwell")?);
     for (group, may_differ) in rows {
         same(&rt, receiver.slot(group), may_differ);
-        same(&rt, other.slot_message(heard(PI, group)), may_differ);
+        same(&rt, other.slot_blocks(Blocks::of_slot(group)), may_differ);
         same(&rt, other.text(), receiver.text());
     }
     assert!(rt; heard(0xF201, hi).is_none());

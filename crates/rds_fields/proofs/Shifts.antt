@@ -6,16 +6,6 @@ use mathlib.Core.Bool.{not}
 use Rattle.rds_block.specs.SecondWord.{or_above}
 use Rattle.rds_fields.specs.Bits.{Sent, FitsBits, bits_of}
 
--- joining the three parts of the 37 bits adds them
-pub parts_joined : (low c d : ℕ) → low < 32 → c < 65536 → d < 65536 →
-    bit_or (bit_or (low * 2 ^ 32 % 2 ^ 64) (c * 2 ^ 16 % 2 ^ 64)) d ≡ 2 ^ 32 * low + 2 ^ 16 * c + d
-parts_joined low c d hl hc hd =
-    let el : low * 2 ^ 32 % 2 ^ 64 ≡ low * 2 ^ 32 = omega arith in
-    let ec : c * 2 ^ 16 % 2 ^ 64 ≡ c * 2 ^ 16 = omega arith in
-    let e1 = or_above 32 low (c * 2 ^ 16) (low * 2 ^ 32) refl (omega arith) in
-    let e2 = or_above 16 (2 ^ 16 * low + c) d (low * 2 ^ 32 + c * 2 ^ 16) (omega arith) (omega arith) in
-    rw (el, ec, e1, e2) (omega arith)
-
 -- the eight fields of a number
 abbrev pub fields_of : ℕ → Sent
 fields_of n = record {
@@ -53,14 +43,6 @@ from_bool-not_zero (suc (suc b)) h = absurd (omega arith)
 -- a test of the lowest bit gives that bit
 pub low_bit : (n : ℕ) → from_bool (not (nat_eq (bit_and n 1) 0)) ≡ n % 2
 low_bit n = rw (and_mask n 1) (from_bool-not_zero (n % 2) (omega arith))
-
--- low bits of a group 2A: the flag above a four-bit address
-pub text_low : (low : ℕ) → low < 32 → low ≡ 16 * from_bool (not (nat_eq (low / 16) 0)) + bit_and low 15
-text_low low h = rw (and_mask low 4, from_bool-not_zero (low / 16) (omega arith)) (omega arith)
-
--- low bits of a group 10A: the flag, three bits that may hold anything, and the address
-pub name_low : (low : ℕ) → low < 32 → low ≡ 16 * from_bool (not (nat_eq (low / 16) 0)) + 2 * (low / 2 % 8) + bit_and low 1
-name_low low h = rw (and_mask low 1, from_bool-not_zero (low / 16) (omega arith)) (omega arith)
 
 -- joining the eight fields gives their number
 pub fields_joined : (s : Sent) → FitsBits s →

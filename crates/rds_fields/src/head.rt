@@ -1,5 +1,5 @@
 //! The fields that all groups of a station share.
-ghost use Rattle.std.specs.Prelude.{◌≡◌, ◌<◌, false};
+ghost use Rattle.std.specs.Prelude.{◌≡◌, ◌<◌, ◌/◌, false};
 
 use rds_block::{Group, Place};
 
@@ -15,14 +15,14 @@ pub struct Head {
 }
 
 impl Head {
-    /// Makes the group of version A with this head, number, low bits, block 3 and block 4.
-    pub(crate) fn group_of(self, number: u8, low: u8, c: u16, d: u16) -> Group
-        requires number { number < 16 }
+    /// Makes the group of version A with this head, type code, low bits, block 3 and block 4.
+    pub(crate) fn group_of(self, code: u8, low: u8, c: u16, d: u16) -> Group
+        requires code { code < 32 }
         requires low { low < 32 }
         ensures pty { result.pty < 32 }
         ensures fields { result ≡ record {
           pi = self.pi;
-          number = number;
+          number = code / 2;
           version = false;
           tp = self.tp;
           pty = self.pty;
@@ -33,7 +33,7 @@ impl Head {
     {
         Group {
             pi: self.pi,
-            number: Place::new(number).unwrap(),
+            number: Place::new(code >> 1).unwrap(),
             version: false,
             tp: self.tp,
             pty: self.pty,

@@ -14,7 +14,6 @@
 mod distance;
 mod dwell;
 mod head;
-mod kinds;
 mod late;
 mod laws;
 mod message;
@@ -26,7 +25,6 @@ mod tag;
 pub use distance::Distance;
 pub use dwell::Dwell;
 pub use head::Head;
-pub use kinds::{Announced, Characters};
 pub use late::Late;
 pub use laws::{one_group, one_message};
 pub use message::Message;

@@ -1,23 +1,20 @@
 //! The message of a group, read and written.
-ghost use Rattle.std.specs.Prelude.{◌≡◌, ℕ, ◌+◌, ◌*◌, ◌<◌, ◌↔◌, IsNone, IfSome};
+ghost use Rattle.std.specs.Prelude.{◌≡◌, ℕ, ◌+◌, ◌*◌, ◌/◌, ◌<◌, ◌↔◌, IsNone, IfSome};
 ghost use Rattle.std.specs.Int.{from_bool};
 ghost use Rattle.rds_block.specs.declared.group.Group.{Group};
 ghost use Rattle.rds_fields.specs.Spells.{Carries};
 
-use crate::{Head, TagPair};
-use rds_block::{Group, Place};
+use crate::{Head, RTPLUS_CODE, TagPair, one_message};
+use rds_block::{Blocks, Group, Place};
 
-/// The group number of RadioText.
-pub(crate) const RADIOTEXT: u8 = 2;
+/// The code of group type 2A, which carries RadioText.
+const RADIOTEXT: u8 = 4;
 
-/// The group number of announcements of an application.
-pub(crate) const ANNOUNCEMENT: u8 = 3;
+/// The code of group type 3A, which carries announcements of an application.
+const ANNOUNCEMENT: u8 = 6;
 
-/// The group number of the programme type name.
-pub(crate) const TYPE_NAME: u8 = 10;
-
-/// The group number of the tags of RadioText Plus.
-pub(crate) const RADIOTEXT_PLUS: u8 = 11;
+/// The code of group type 10A, which carries the programme type name.
+const TYPE_NAME: u8 = 20;
 
 /// The message of a group (IEC 62106, groups 2A, 3A and 10A; IEC 62106-6, RadioText Plus in group 11A).
 #[derive(Clone, Copy, Debug, PartialEq, Eq)]
@@ -61,32 +58,40 @@ impl Message {
         ensures spelled { Spells result group.now }
         ensures only { (m : Message) → Spells m group.now → m ≡ result }
     {
-        if group.version {
-            return Message::Other;
-        }
-        let low = group.low.get();
-        match group.number.get() {
+        Message::of_blocks(group.blocks())
+    }
+
+    /// Does the same as [`of`](Self::of) for a group as its blocks.
+    #[inline(always)]
+    pub fn of_blocks(group: Blocks) -> Message
+        ensures spelled { Spells result group }
+        ensures only { (m : Message) → Spells m group → m ≡ result }
+    {
+        // Prover: a call of a law, which gives the clause `only` (docs/PROVER.md, "Idioms").
+        one_message();
+        match group.kind() {
             RADIOTEXT => Message::Text {
-                flag: low >> 4 != 0,
-                address: Place::new(low & 0x0F).unwrap(),
-                bytes: bytes_of(group.c, group.d),
-            },
-            ANNOUNCEMENT => Message::Announce {
-                code: group.low,
-                bits: group.c,
-                aid: group.d,
+                flag: flag_in(group.low()),
+                address: Place::new(group.low() & 0x0F).unwrap(),
+                bytes: bytes_of(group.c(), group.d()),
             },
             TYPE_NAME => Message::Name {
-                flag: low >> 4 != 0,
-                address: Place::new(low & 1).unwrap(),
-                bytes: bytes_of(group.c, group.d),
+                flag: flag_in(group.low()),
+                address: Place::new(group.low() & 1).unwrap(),
+                bytes: bytes_of(group.c(), group.d()),
             },
-            RADIOTEXT_PLUS => Message::Tags(TagPair::from_blocks(low, group.c, group.d)),
+            ANNOUNCEMENT => Message::Announce {
+                code: Place::new(group.low()).unwrap(),
+                bits: group.c(),
+                aid: group.d(),
+            },
+            RTPLUS_CODE => Message::Tags(TagPair::from_bits(group.content())),
             _ => Message::Other,
         }
     }
 
-    /// Returns the group that is written for the message with this head. None for `Other`, which many groups spell.
+    /// Returns the group that is written for the message with this head. Returns `None` for `Other`, which many groups
+    /// spell.
     pub fn group(&self, head: Head) -> Option<Group>
         ensures written { IfSome result (IsWritten self.now head) }
         ensures one { IfSome result (λ g. (h : Group) → IsWritten self.now head h → h ≡ g) }
@@ -116,11 +121,19 @@ impl Message {
             }
             Message::Tags(pair) => {
                 let (low, c, d) = pair.to_blocks();
-                Some(head.group_of(RADIOTEXT_PLUS, low, c, d))
+                Some(head.group_of(RTPLUS_CODE, low, c, d))
             }
             Message::Other => None,
         }
     }
+}
+
+/// Returns the A/B flag, the highest of the five low bits of block 2.
+fn flag_in(low: u8) -> bool
+    requires { low < 32 }
+    ensures { from_bool result ≡ low / 16 }
+{
+    low >> 4 == 1
 }
 
 /// Returns the five low bits of block 2: the flag above a four-bit address.
@@ -143,7 +156,7 @@ fn blocks_of(bytes: [u8; 4]) -> (u16, u16)
 }
 
 /// Unpacks two words into four bytes, high byte first.
-pub(crate) fn bytes_of(c: u16, d: u16) -> [u8; 4]
+fn bytes_of(c: u16, d: u16) -> [u8; 4]
     ensures { Carries c d result }
 {
     [

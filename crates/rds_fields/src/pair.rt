@@ -93,16 +93,6 @@ impl TagPair {
         self.two
     }
 
-    /// Reads the pair from the five low bits of block 2 and from blocks 3 and 4.
-    pub(crate) fn from_blocks(low: u8, c: u16, d: u16) -> TagPair
-        requires { low < 32 }
-        ensures spelled { (s : Sent) × SpellsPair result (2 ^ 32 * low + 2 ^ 16 * c + d) s }
-        ensures third { c < 2 ^ 16 }
-        ensures fourth { d < 2 ^ 16 }
-    {
-        TagPair::from_bits(u64::from(low) << 32 | u64::from(c) << 16 | u64::from(d))
-    }
-
     /// Returns the five low bits of block 2 and blocks 3 and 4 that are written for the pair.
     pub(crate) fn to_blocks(self) -> (u8, u16, u16)
         ensures { SpellsPair self (2 ^ 32 * result.0 + 2 ^ 16 * result.1 + result.2)

@@ -120,7 +120,7 @@ fn pause_of(
 /// Returns whether a line has a group of a name.
 fn is_name(said: LogLine) -> bool {
     match said {
-        LogLine::Slot(Some(group)) => Message::name_in(group).is_some(),
+        LogLine::Slot(Some(group)) => matches!(Message::of_blocks(group), Message::Name { .. }),
         LogLine::Slot(None) | LogLine::Skip => false,
     }
 }

@@ -4,11 +4,10 @@ use Rattle.std.specs.FinMap.{empty, insert}
 use Rattle.rds_block.specs.declared.group.Group.{Group}
 use Rattle.rds_fields.specs.declared.message.Message.{Message}
 use Rattle.rds_fields.specs.declared.message.Message.TheVariants.{Announce, Name, Other, Tags, Text}
-use Rattle.rds_fields.specs.Spells.{Spells}
 use Rattle.rds_fields.specs.Tag.{PairFields}
 use Rattle.rds_receiver.specs.Receipts.{Hears, Fragment, Segment, Tuning, name_fragment, segments, text_fragment}
 use Rattle.rds_receiver.specs.Run.{begins_in, run, run_before}
-use Rattle.rds_receiver.specs.StandsAt.{GoesOn, HasFlag, HoldsAlready, HoldsAt, HoldsRun, StandsAt}
+use Rattle.rds_receiver.specs.StandsAt.{HasFlag, HoldsAlready, HoldsAt, HoldsRun, StandsAt}
 use Rattle.rds_receiver.specs.State.{HeldSegments, ReceiverState}
 use Rattle.rds_receiver.specs.Tags.{or_before, pair_from, says_of_rtplus, unless_contrary}
 use Rattle.rds_receiver.proofs.Runs.{before_other, before_same, equal_or_not, held_taken, run_recent}
@@ -142,13 +141,6 @@ text_heard_by m first r between after heard f a b same other takes is st = by (e
         let took = subst (λ (x : ReceiverState). Takes record { flag = f; address = a; bytes = b } x.text after.text) (other ne) takes in
         text_heard m first r after heard f a b (ap (λ (x : ReceiverState). x.dwell) now) (ap (λ (x : ReceiverState). x.is_known) now) (ap (λ (x : ReceiverState). x.name) now)
         took (λ e. absurd (ne e)) (λ _. ap (λ (x : ReceiverState). x.pair) now) st
-
--- a slot with a group of the programme that spells what was heard
-pub group_goes_on : (t : Tuning) (r after : ReceiverState) (input : List (Option Group)) (g : Group) → StandsAt t r input
-    → g.pi ≡ t.programme → after.programme ≡ r.programme → (message : Message) × Spells message g × GoesOn r after (Some message)
-    → StandsAt t after (Some g ∷ input)
-group_goes_on t r after input g st own programme (message, spelled, on) =
-    slot_stands t r after input (Some g) (Some message) st (inl (own, spelled)) programme (on t.dwell t.first st.heard st.holds)
 
 -- a slot with an announcement that changes nothing: it says what is known, or nothing
 pub announcement_heard : (m first : ℕ) (r : ReceiverState) (heard : List (Option Message)) (code bits aid : ℕ)

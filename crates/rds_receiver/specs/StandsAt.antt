@@ -7,7 +7,7 @@ use Rattle.rds_assembly.specs.Cells.{Cells}
 use Rattle.rds_assembly.specs.Whole.{IsWholeName, IsWholeText}
 use Rattle.rds_receiver.specs.Receipts.{AreHeard, Segment, Tuning, name_fragment, segments, text_fragment}
 use Rattle.rds_receiver.specs.Run.{begins_in, cells_of, run}
-use Rattle.rds_receiver.specs.Shown.{IsShown}
+use Rattle.rds_receiver.specs.Shown.{IsShown, IsView, ShownView}
 use Rattle.rds_receiver.specs.State.{HeldSegments, ReceiverState}
 use Rattle.rds_receiver.specs.Tags.{is_known, pair_from}
 
@@ -52,6 +52,15 @@ pub record StandsAt (t : Tuning) (r : ReceiverState) (input : List (Option Group
 -- this holds of each tuning and input that the receiver stands at
 abbrev pub WhereItStands : ReceiverState → (Tuning → List (Option Group) → Type 0) → Type 0
 WhereItStands r Holds = (t : Tuning) (input : List (Option Group)) → StandsAt t r input → Holds t input
+
+-- the receiver took one more slot with this group, or with none: wherever it stood, it stands with that slot now
+abbrev pub TakesSlot : ReceiverState → ReceiverState → Option Group → Type 0
+TakesSlot r after group = WhereItStands r (λ t input. StandsAt t after (group ∷ input))
+
+-- one more slot with this group, or with none, changes no view: wherever the receiver stands, each view stays the view
+abbrev pub KeepsView : ReceiverState → Option Group → Type 0
+KeepsView r group =
+    (view : ShownView) → WhereItStands r (λ t input. IsView t input view → IsView t (group ∷ input) view)
 
 -- this holds of the dwell, the first slot and what was heard, for each tuning and input that the receiver stands at
 abbrev pub WhatItHeard : ReceiverState → (ℕ → ℕ → List (Option Message) → Type 0) → Type 0

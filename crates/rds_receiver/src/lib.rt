@@ -21,7 +21,7 @@ mod twice;
 mod view;
 
 pub use laws::{one_view, run_is_the_longest};
-pub use receiver::{Receiver, heard};
+pub use receiver::{Receiver, heard, heard_blocks};
 pub use stored::{StoredReceiver, StoredSegments};
 pub use twice::TwiceReceiver;
 pub use view::View;

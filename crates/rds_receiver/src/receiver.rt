@@ -4,11 +4,10 @@ ghost use Rattle.std.specs.Prelude.{ℕ, Bool, List, Option, Some, None, IsFalse
 ghost use Rattle.std.specs.Option.{option_copied};
 ghost use Rattle.rds_block.specs.declared.group.Group.{Group};
 ghost use Rattle.rds_fields.specs.declared.message.Message.{Message};
-ghost use Rattle.rds_fields.specs.Spells.{Spells};
 ghost use Rattle.rds_receiver.specs.Borrowed.{borrowed_tag, view_of};
 ghost use Rattle.rds_receiver.specs.Receipts.{Hears};
 ghost use Rattle.rds_receiver.specs.Shown.{IsItemShown, IsNameShown, IsTagShown, IsTextShown, IsView, ShownView};
-ghost use Rattle.rds_receiver.specs.StandsAt.{HearsMore, HoldsAt, ShowsAlike, StandsAt};
+ghost use Rattle.rds_receiver.specs.StandsAt.{HearsMore, HoldsAt, KeepsView, ShowsAlike, StandsAt, TakesSlot};
 ghost use Rattle.rds_receiver.specs.StandsAt.{WhatItHeard, WhereItStands, newest_slot};
 ghost use Rattle.rds_receiver.specs.State.{ReceiverState};
 ghost use Rattle.rds_receiver.specs.Stored.{IsStored, receiver_stored};
@@ -22,17 +21,24 @@ use rds_block::{Blocks, Group};
 use rds_fields::{Dwell, Message, RTPLUS_AID, RTPLUS_CODE, StoredPair, TagPair, Which};
 use std::marker::Model;
 
-/// Returns the message that a receiver of this programme hears in a slot. None if no group came, or if the group has
-/// another PI.
+/// Returns the message that a receiver of this programme hears in a slot. Returns `None` if no group came, or if the
+/// group has another PI.
 #[inline(always)]
 pub fn heard(pi: u16, group: Option<Group>) -> Option<Message>
     ensures { Hears pi group result }
 {
-    let group = group?;
-    if group.pi != pi {
-        return None;
+    heard_blocks(pi, Blocks::of_slot(group))
+}
+
+/// Does the same as [`heard`] for a group as its blocks.
+#[inline(always)]
+pub fn heard_blocks(pi: u16, group: Option<Blocks>) -> Option<Message>
+    ensures { Hears pi group result }
+{
+    match group {
+        Some(group) if group.pi() == pi => Some(Message::of_blocks(group)),
+        _ => None,
     }
-    Some(Message::of(&group))
 }
 
 /// A receiver of one programme, which shows the text, the name and the tags. It accepts every group, from any encoder.
@@ -112,53 +118,27 @@ impl Receiver {
         }
     }
 
-    /// Handles one slot, with a group or nothing. Call this, `slot_blocks` or `slot_message` exactly once for each
-    /// slot. If it returns false, the view did not change.
+    /// Handles one slot, with a group or nothing. Call this or `slot_blocks` exactly once for each slot. If it returns
+    /// false, the view did not change.
     pub fn slot(&mut self, group: Option<Group>) -> bool
-        ensures stands { WhereItStands self.old (λ t input. StandsAt t self.new (group ∷ input)) }
-        ensures same { IsFalse result → (view : ShownView)
-            → WhereItStands self.old (λ t input. IsView t input view → IsView t (group ∷ input) view) }
+        ensures stands { TakesSlot self.old self.new group }
+        ensures same { IsFalse result → KeepsView self.old group }
     {
-        match group {
-            Some(group) => self.slot_blocks(Some(group.blocks())),
-            None => self.slot_blocks(None),
-        }
+        self.slot_blocks(Blocks::of_slot(group))
     }
 
-    /// Does the same as [`slot`](Self::slot) for a group as its blocks. It builds no `Message`.
+    /// Does the same as [`slot`](Self::slot) for a group as its blocks.
     #[inline(always)]
     pub fn slot_blocks(&mut self, group: Option<Blocks>) -> bool
-        ensures stands { WhereItStands self.old (λ t input. StandsAt t self.new (group ∷ input)) }
-        ensures same { IsFalse result → (view : ShownView)
-            → WhereItStands self.old (λ t input. IsView t input view → IsView t (group ∷ input) view) }
+        ensures stands { TakesSlot self.old self.new group }
+        ensures same { IsFalse result → KeepsView self.old group }
     {
         let aged = self.grow_older();
-        let Some(group) = group else {
+        let Some(message) = heard_blocks(self.pi, group) else {
             return aged;
         };
-        if group.pi() != self.pi {
-            return aged;
-        }
-        let is_new = self.hear_blocks(group);
+        let is_new = self.hear(message);
         is_new || aged
-    }
-
-    /// Does the same as [`slot`](Self::slot) for a group that was read before: takes the message that is heard in the
-    /// slot.
-    #[inline(always)]
-    pub fn slot_message(&mut self, message: Option<Message>) -> bool
-        ensures stands { WhereItStands self.old (λ t input. (group : Option Group)
-            → Hears t.programme group message → StandsAt t self.new (group ∷ input)) }
-        ensures same { IsFalse result → (view : ShownView)
-            → WhereItStands self.old (λ t input. (group : Option Group)
-            → Hears t.programme group message → IsView t input view → IsView t (group ∷ input) view) }
-    {
-        let gave_up = self.grow_older();
-        let Some(message) = message else {
-            return gave_up;
-        };
-        let heard = self.hear(message);
-        heard || gave_up
     }
 
     /// Returns all that is shown, borrowed from the receiver.
@@ -289,28 +269,6 @@ impl Receiver {
             Message::Tags(pair) => self.hear_tags(pair),
             Message::Other => false,
         }
-    }
-
-    /// Handles a group of the programme. If it returns false, all that is shown stays the same.
-    #[inline(always)]
-    fn hear_blocks(&mut self, group: Blocks) -> bool
-        ensures programme { self.new.programme ≡ self.old.programme }
-        ensures holds { (message : Message) × Spells message group × HearsMore self.old self.new message }
-        ensures same { IsFalse result → ShowsAlike self.old self.new }
-    {
-        if let Some(it) = Message::text_in(group) {
-            return self.hear_text(it.flag, it.address, it.bytes);
-        }
-        if let Some(it) = Message::name_in(group) {
-            return self.name.take(it.flag, it.address, it.bytes);
-        }
-        if let Some(it) = Message::announced_in(group) {
-            return self.hear_announcement(it.code, it.aid);
-        }
-        if let Some(pair) = Message::tags_in(group) {
-            return self.hear_tags(pair);
-        }
-        false
     }
 
     /// Takes a text segment. Drops the pair of tags first if the flag changed.

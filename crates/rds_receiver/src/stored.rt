@@ -1,13 +1,12 @@
 //! A receiver as plain numbers, for a program that stores it.
 ghost use Rattle.std.specs.Prelude.{◌≡◌, ◌≢◌, ◌+◌, ◌<◌, ◌≤◌, ◌∷◌, ◌↔◌, ℕ, IsFalse, IsTrue, List, None, Option, Some, false, length, true};
 ghost use Rattle.rds_fields.specs.declared.message.Message.{Message};
-ghost use Rattle.rds_fields.specs.Spells.{Spells};
-ghost use Rattle.rds_receiver.specs.Shown.{IsView, ShownView};
-ghost use Rattle.rds_receiver.specs.StandsAt.{GoesOn, HoldsAlready, HoldsAt, ShowsAlike, StandsAt, WhereItStands, newest_slot};
+ghost use Rattle.rds_receiver.specs.StandsAt.{GoesOn, HoldsAlready, HoldsAt, KeepsView, ShowsAlike, TakesSlot, newest_slot};
 ghost use Rattle.rds_fields.specs.Stored.{is_set};
 ghost use Rattle.rds_receiver.specs.Tags.{says_of_rtplus};
 ghost use Rattle.rds_receiver.specs.Stored.{IsStored, receiver_stored, segments_stored};
 
+use crate::receiver::heard_blocks;
 use rds_assembly::{LONGEST_TEXT, is_same_segment};
 use rds_block::Blocks;
 use rds_fields::{Message, RTPLUS_AID, RTPLUS_CODE, StoredPair};
@@ -68,45 +67,41 @@ impl StoredReceiver {
     /// - an announcement that changes nothing of what is known;
     /// - a group that is no text, name, tags or announcement.
     pub fn rest(&mut self, group: Option<Blocks>) -> bool
-        ensures stands { IsTrue result → WhereItStands (receiver_stored self.old)
-            (λ t input. StandsAt t (receiver_stored self.new) (group ∷ input)) }
-        ensures same { IsTrue result → (view : ShownView) → WhereItStands (receiver_stored self.old)
-            (λ t input. IsView t input view → IsView t (group ∷ input) view) }
+        ensures stands { IsTrue result → TakesSlot (receiver_stored self.old) (receiver_stored self.new) group }
+        ensures same { IsTrue result → KeepsView (receiver_stored self.old) group }
         ensures good { IsStored self.old → IsStored self.new }
         ensures kept { IsFalse result → self.new ≡ self.old }
     {
-        let Some(group) = group else {
-            return self.grow_older();
-        };
-        if group.pi() != self.pi {
-            return self.grow_older();
+        match heard_blocks(self.pi, group) {
+            Some(message) => self.rest_message(message),
+            None => self.grow_older(),
         }
-        self.rest_group(group)
     }
 
-    /// Does the same as [`rest`](Self::rest) for a group of the programme.
+    /// Does the same as [`rest`](Self::rest) for a message of the programme.
     #[inline(always)]
-    fn rest_group(&mut self, group: Blocks) -> bool
+    fn rest_message(&mut self, message: Message) -> bool
         ensures programme { self.new.pi ≡ self.old.pi }
-        ensures holds { IsTrue result → (message : Message) × Spells message group
-            × GoesOn (receiver_stored self.old) (receiver_stored self.new) (Some message) }
+        ensures holds { IsTrue result → GoesOn (receiver_stored self.old) (receiver_stored self.new) (Some message) }
         ensures same { IsTrue result → ShowsAlike (receiver_stored self.old) (receiver_stored self.new) }
         ensures good { IsStored self.old → IsStored self.new }
         ensures kept { IsFalse result → self.new ≡ self.old }
     {
-        if let Some(it) = Message::text_in(group) {
-            return self.rest_text(it.flag, it.address, it.bytes);
+        match message {
+            Message::Text {
+                flag,
+                address,
+                bytes,
+            } => self.rest_text(flag, address.get(), bytes),
+            Message::Name {
+                flag,
+                address,
+                bytes,
+            } => self.rest_name(flag, address.get(), bytes),
+            Message::Announce { code, aid, .. } => self.rest_announced(code.get(), aid),
+            Message::Tags(_) => false,
+            Message::Other => self.grow_older(),
         }
-        if let Some(it) = Message::name_in(group) {
-            return self.rest_name(it.flag, it.address, it.bytes);
-        }
-        if let Some(it) = Message::announced_in(group) {
-            return self.rest_announced(it.code, it.aid);
-        }
-        if let Some(_) = Message::tags_in(group) {
-            return false;
-        }
-        self.grow_older()
     }
 
     /// Handles a slot with a text segment that is held: ages all segments and makes the text's age 0. Otherwise returns

@@ -1,9 +1,8 @@
 -- Lemmas: a receiver of a world that got on time each free one of enough slots of a broadcast shows it, as each receiver
 -- of a station does.
-use Rattle.std.proofs.Common.{◌≡◌, ◌+◌, ◌-◌, ◌*◌, ◌<◌, ◌≤◌, ℕ, inl, inr, Bool, true, false, List, [], ◌∷◌, ◌++◌, length-append, Option, Some, refl, sym, ap, ◌∙◌, subst, arith, length}
+use Rattle.std.proofs.Common.{◌≡◌, ◌+◌, ◌-◌, ◌≤◌, ℕ, inl, inr, Bool, true, false, List, [], ◌∷◌, ◌++◌, length-append, Option, Some, refl, sym, ap, ◌∙◌, subst, arith, length}
 use Rattle.std.specs.Prelude.{slice_index_or}
 use Rattle.rds_fields.specs.declared.message.Message.{Message}
-use Rattle.rds_assembly.specs.Body.{segment_count, text_body}
 use Rattle.rds_encoder.specs.Delivery.{free_in}
 use Rattle.rds_encoder.specs.Entries.{Entry, Tick, text_moves}
 use Rattle.rds_encoder.specs.Plan.{Broadcast, HasNumber}
@@ -24,7 +23,6 @@ use Rattle.rds_world.specs.StandsAt.{StandsAt}
 use Rattle.rds_world.specs.State.{distance}
 use Rattle.rds_world.specs.Station.{AreSlots, IsFreeIn, slots_in, station_plans}
 use Rattle.rds_world.specs.declared.world.Config.{Config}
-use Rattle.rds_world.proofs.InTime.{in_time, input_reaches}
 use Rattle.rds_world.proofs.LawfulStation.{free_before}
 use Rattle.rds_world.proofs.SafeWorld.{listens}
 use Rattle.rds_world.proofs.StationDelivered.{one_segment}

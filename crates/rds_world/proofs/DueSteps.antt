@@ -1,4 +1,4 @@
--- Lemmas: how far back a receiver may get a message, slot by slot, and which messages are kept.
+-- Lemmas: how far back a receiver may get a message, slot by slot, and which groups are kept.
 use Rattle.std.proofs.Common.{◌≡◌, ◌+◌, ◌<◌, ◌≤◌, ℕ, zero, suc, List, [], ◌∷◌, Option, Some, None, refl, sym, ap, ◌∙◌, subst, arith, length, take}
 use Rattle.std.specs.Prelude.{IfSome, slice_get, slice_index_or}
 use Rattle.std.proofs.lemmas.List.{get_or_default, get_or_past, get_or-take}
@@ -11,8 +11,7 @@ use Rattle.rds_world.specs.declared.event.Reception.TheVariants.{Got, Lost, Rest
 use Rattle.rds_world.specs.Due.{IsDue, IsDueTo, last_named, named, reach_of}
 use Rattle.rds_world.specs.Event.{Event}
 use Rattle.rds_world.specs.Slots.{sent_back}
-use Rattle.rds_receiver.specs.OneView.{same_heard_in}
-use Rattle.rds_world.specs.StandsAt.{AreLastSent, IsHeardOfSome}
+use Rattle.rds_world.specs.StandsAt.{AreLastSent}
 use Rattle.rds_world.specs.declared.world.Config.{Config}
 use Rattle.rds_world.proofs.Received.{hears_sent}
 
@@ -28,14 +27,13 @@ named_past i (e ∷ before) = by (slice_index_or e.receptions i Lost) (last_name
     by Restart None h = tt
     by Restart (Some s) h = omega (arith, h)
 
--- the messages that are kept after one more slot
-pub one_more_sent : (config : Config) (sent : Option Message) (group : Option Group) (message : Option Message) (before messages : List (Option Message)) → IsSent config.head sent group
-    → Hears config.head.pi group message → AreLastSent config before messages → AreLastSent config (sent ∷ before) (take (config.late + 1) (message ∷ messages))
-one_more_sent config sent group message before messages now hears kept back within =
-    let at = by back within in (get_or-take (config.late + 1) (message ∷ messages) back None (omega (arith, within)) ∙ at.0, at.1)
+-- the groups that are kept after one more slot
+pub one_more_sent : (config : Config) (sent : Option Message) (group : Option Group) (before : List (Option Message)) (groups : List (Option Group)) → IsSent config.head sent group
+    → AreLastSent config before groups → AreLastSent config (sent ∷ before) (take (config.late + 1) (group ∷ groups))
+one_more_sent config sent group before groups now kept back within = rw (get_or-take (config.late + 1) (group ∷ groups) back None (omega (arith, within))) (by back within)
   where
-    by : (back : ℕ) → back ≤ config.late → (slice_index_or (message ∷ messages) back None ≡ sent_back back (sent ∷ before)) × IsHeardOfSome config.head.pi (sent_back back (sent ∷ before))
-    by zero within = (same_heard_in config.head.pi group message sent hears (hears_sent config sent group now), (group, hears_sent config sent group now))
+    by : (back : ℕ) → back ≤ config.late → Hears config.head.pi (slice_index_or (group ∷ groups) back None) (sent_back back (sent ∷ before))
+    by zero within = hears_sent config sent group now
     by (suc back) within = kept back (omega (arith, within))
 
 -- a reception at a place within the list is that of the event
@@ -51,7 +49,7 @@ pub reached_next : (k : ℕ) (e : Event) (before : List Event) (last : Option �
 reached_next k e before last = (let next : length before + 1 ≡ length (e ∷ before) = omega arith in ap (λ (n : ℕ). reach_of k n last) next)
 
 -- if nothing is kept so far back, nothing is read
-pub nothing_there : (groups : List (Option Message)) (back : ℕ) → slice_get groups back ≡ None → slice_index_or groups back None ≡ None
+pub nothing_there : (groups : List (Option Group)) (back : ℕ) → slice_get groups back ≡ None → slice_index_or groups back None ≡ None
 nothing_there [] back e = refl
 nothing_there (g ∷ groups) zero e = absurd (cc)
 nothing_there (g ∷ groups) (suc back) e = nothing_there groups back e

@@ -15,7 +15,6 @@ use Rattle.rds_encoder.specs.Spaced.{IsSpaced, RestartsComeFirst}
 use Rattle.rds_receiver.specs.Receipts.{Fragment}
 use Rattle.rds_safety.specs.Lawful.{HasOne, HasFragment, HasTags, IsLawful, Kind, names, texts}
 use Rattle.rds_safety.specs.Marks.{IsMarkIn, Mark, Sends, Tagged, marks, name_mark, text_mark}
-use Rattle.rds_safety.specs.Plans.{AreLawful}
 use Rattle.rds_world.specs.Station.{AreSlots, EndsASlot, IsFreeIn, IsValid, TheEncoderIsLawful, slots_in, station_plans}
 
 -- the laws about each encoder

@@ -7,8 +7,8 @@ use Rattle.rds_fields.specs.declared.message.Message.{Message}
 use Rattle.rds_encoder.specs.Sent.{IsSent}
 use Rattle.rds_receiver.specs.Receipts.{Hears}
 use Rattle.rds_receiver.specs.OneView.{same_heard}
-use Rattle.rds_receiver.specs.Shown.{IsView, ShowsView, ShownView}
-use Rattle.rds_receiver.specs.StandsAt.{StandsAt, WhereItStands}
+use Rattle.rds_receiver.specs.Shown.{IsView, ShowsView}
+use Rattle.rds_receiver.specs.StandsAt.{KeepsView, TakesSlot}
 use Rattle.rds_receiver.specs.State.{ReceiverState}
 use Rattle.rds_safety.specs.Late.{Input}
 use Rattle.rds_world.specs.StandsAt.{HasHeard, IsNew, StaysShown, tuned_to}
@@ -26,17 +26,17 @@ input_from first heard origins = record { first = first; heard = heard; origins 
 
 -- one more group was handled, so one more entry was heard
 pub hears_more : (config : Config) (input : Input) (old new : ReceiverState) (group : Option Group) (heard : Option Message) (origin : Option ℕ)
-    → Hears config.head.pi group heard → WhereItStands old (λ t groups. (g : Option Group) → Hears t.programme g heard → StandsAt t new (g ∷ groups))
+    → Hears config.head.pi group heard → TakesSlot old new group
     → HasHeard config input old → HasHeard config (input_from input.first (heard ∷ input.heard) (origin ∷ input.origins)) new
 hears_more config input old new group heard origin hears goes_on has = record {
   groups = group ∷ has.groups;
   spelled = (hears, has.spelled);
-  stands = goes_on record { programme = config.head.pi; dwell = config.dwell; first = input.first } has.groups has.stands group hears;
+  stands = goes_on record { programme = config.head.pi; dwell = config.dwell; first = input.first } has.groups has.stands;
 }
 
 -- one more group was handled, and the view did not change
 pub stays_shown : (config : Config) (input : Input) (old : ReceiverState) (group : Option Group) (heard : Option Message) (origin : Option ℕ)
-    → Hears config.head.pi group heard → ((view : ShownView) → WhereItStands old (λ t groups. (g : Option Group) → Hears t.programme g heard → IsView t groups view → IsView t (g ∷ groups) view))
+    → Hears config.head.pi group heard → KeepsView old group
     → HasHeard config input old → StaysShown config input (input_from input.first (heard ∷ input.heard) (origin ∷ input.origins))
 stays_shown config input old group heard origin hears stays has view shown =
     let (other, are, shows) = shown.is in
@@ -45,7 +45,7 @@ stays_shown config input old group heard origin hears stays has view shown =
     record {
       groups = group ∷ has.groups;
       spelled = (hears, has.spelled);
-      is = stays view (tuned_to config input) has.groups has.stands group hears by_own;
+      is = stays view (tuned_to config input) has.groups has.stands by_own;
     }
 
 pub heard_nothing : (config : Config) (first : ℕ) (r : ReceiverState) → IsNew config r

@@ -2,8 +2,7 @@
 use Rattle.std.proofs.Common.{◌≡◌, ◌-◌, ◌<◌, ℕ, List, [], ◌∷◌, ◌++◌, length, refl, sym, ap, ◌∙◌, subst, arith, Option}
 use Rattle.std.specs.List.{AllByRecursion}
 use Rattle.rds_fields.specs.declared.message.Message.{Message}
-use Rattle.rds_assembly.specs.Value.{IsName, IsText}
-use Rattle.rds_encoder.specs.Entries.{Entry, Move, Begin, Set, End, Tick, name_moves, slot_of, text_moves}
+use Rattle.rds_encoder.specs.Entries.{Entry, Move, Begin, Set, End, name_moves, slot_of, text_moves}
 use Rattle.rds_encoder.specs.Plan.{plan_of}
 use Rattle.rds_encoder.specs.Spaced.{IsUnset, RestartsComeFirst}
 use Rattle.rds_encoder.specs.Sent.{sent_log}
@@ -12,7 +11,7 @@ use Rattle.rds_world.specs.declared.event.Command.{Command}
 use Rattle.rds_world.specs.declared.event.Command.TheVariants.{Quiet, Restart, SetText, SetName, SetTags}
 use Rattle.rds_world.specs.Event.{Event}
 use Rattle.rds_world.specs.Slots.{SetValues, SetsAValue, commanded, entries, log, plans_of}
-use Rattle.rds_world.specs.Station.{AreSlots, AreSlotsToo, EndsASlot, IsValid, SlotsOfAWorldAreSlots, TheEncoderIsLawful, station_plans}
+use Rattle.rds_world.specs.Station.{EndsASlot, IsValid, SlotsOfAWorldAreSlots, TheEncoderIsLawful, station_plans}
 
 -- one service: its moves in a slot are at most one restart or set, and then the end of the slot
 pub record IsService (moves : List Entry → List Move) : Type 0 where

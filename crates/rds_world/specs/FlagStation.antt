@@ -15,7 +15,7 @@ use Rattle.rds_safety.specs.Marks.{marks, text_mark}
 use Rattle.rds_safety.specs.OwnClock.{IsTrueClock}
 use Rattle.rds_safety.specs.Safe.{Listener, ShowsNoTags}
 use Rattle.rds_world.specs.Event.{Event}
-use Rattle.rds_world.specs.Slots.{SetValues, entries, log, plans_of}
+use Rattle.rds_world.specs.Slots.{SetValues, log, plans_of}
 use Rattle.rds_world.specs.Station.{AreSlots, IsFreeIn, station_plans}
 
 -- nothing was planned before, or x is empty

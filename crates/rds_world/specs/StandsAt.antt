@@ -1,5 +1,5 @@
 -- The state of a world after a list of slots. Lists have the newest first.
-use Rattle.std.specs.Prelude.{◌≡◌, ◌+◌, ◌<◌, ◌≤◌, ◌∷◌, []}
+use Rattle.std.specs.Prelude.{◌≡◌, ◌<◌, ◌≤◌, ◌∷◌, []}
 use Rattle.std.specs.Prelude.{ℕ, List, Option, Some, None, false, length, slice_get, slice_index_or, true}
 use Rattle.rds_block.specs.declared.group.Group.{Group}
 use Rattle.rds_fields.specs.declared.message.Message.{Message}
@@ -36,24 +36,19 @@ IsNew config r =
 pub record AllHaveHeard (config : Config) (inputs : ℕ → Input) (receivers : List ReceiverState) : Type 0 where
   pub each : (i : ℕ) (r : ReceiverState) → slice_get receivers i ≡ Some r → HasHeard config (inputs i) r
 
--- this is heard of some group, or of none
-abbrev pub IsHeardOfSome : ℕ → Option Message → Type 0
-IsHeardOfSome pi message = (group : Option Group) × Hears pi group message
-
--- these are the messages of the last K + 1 slots of a log, the newest first, and receivers of the programme hear them
--- from some groups
-abbrev pub AreLastSent : Config → List (Option Message) → List (Option Message) → Type 0
-AreLastSent config sent messages =
-    (back : ℕ) → back ≤ config.late → (slice_index_or messages back None ≡ sent_back back sent)
-    × IsHeardOfSome config.head.pi (sent_back back sent)
+-- these are the groups of the last K + 1 slots, the newest first: receivers of the programme hear the messages of the log
+-- from them
+abbrev pub AreLastSent : Config → List (Option Message) → List (Option Group) → Type 0
+AreLastSent config sent groups =
+    (back : ℕ) → back ≤ config.late → Hears config.head.pi (slice_index_or groups back None) (sent_back back sent)
 
 -- the inputs of all receivers after one more slot, with the log up to this slot
 abbrev pub all_received : List Reception → ℕ → List (Option Message) → (ℕ → Input) → ℕ → Input
 all_received receptions slot sent inputs i = received (slice_index_or receptions i Lost) slot sent (inputs i)
 
--- this holds of each slot, log and list of inputs for which the kept messages are the last ones of the log, each
+-- this holds of each slot, log and list of inputs for which the kept groups are the last ones of the log, each
 -- reception is due, and the receivers have heard the inputs
-abbrev pub WhereTheyListen : Config → List Reception → List (Option Message) → List ReceiverState
+abbrev pub WhereTheyListen : Config → List Reception → List (Option Group) → List ReceiverState
     → (ℕ → List (Option Message) → (ℕ → Input) → Type 0) → Type 0
 WhereTheyListen config receptions kept receivers Holds =
     (slot : ℕ) (sent : List (Option Message)) (inputs : ℕ → Input) (last : ℕ → Option ℕ) → AreLastSent config sent kept

@@ -1,7 +1,7 @@
 -- The state of a world: its configuration, its encoder, its receivers with their reaches, a mark for each receiver
--- whose view did not change in the newest slot, and the messages of the last slots, the newest first.
+-- whose view did not change in the newest slot, and the groups of the last slots, the newest first.
 use Rattle.std.specs.Prelude.{ℕ, ◌+◌, Bool, List, Option}
-use Rattle.rds_fields.specs.declared.message.Message.{Message}
+use Rattle.rds_block.specs.declared.group.Group.{Group}
 use Rattle.rds_encoder.specs.State.{EncoderState}
 use Rattle.rds_receiver.specs.State.{ReceiverState}
 use Rattle.rds_world.specs.declared.world.Config.{Config}
@@ -16,4 +16,4 @@ pub record WorldState : Type 0 where
   pub receivers : List ReceiverState
   pub stays : List Bool
   pub reaches : List ℕ
-  pub sent : List (Option Message)
+  pub sent : List (Option Group)

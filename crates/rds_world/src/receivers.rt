@@ -1,4 +1,4 @@
-//! The receivers' part of a slot: hands out the messages, and marks the receivers whose view did not change.
+//! The receivers' part of a slot: hands out the groups, and marks the receivers whose view did not change.
 ghost use Rattle.std.specs.Prelude.{◌≡◌, ◌≤◌, ℕ, List, None, Option, IsTrue, false, length, slice_index_or, true};
 ghost use Rattle.std.specs.List.{AllByRecursion};
 ghost use Rattle.rds_fields.specs.declared.message.Message.{Message};
@@ -12,7 +12,7 @@ ghost use Rattle.rds_world.specs.StandsAt.{StaysShown, WhereTheyListen, all_rece
 
 use crate::recent::Recent;
 use crate::{Config, MOST_RECEIVERS, Reception};
-use rds_fields::Message;
+use rds_block::Blocks;
 use rds_receiver::Receiver;
 
 /// Makes eight receivers that have heard nothing yet.
@@ -34,7 +34,7 @@ pub(crate) fn eight_receivers(config: &Config) -> [Receiver; MOST_RECEIVERS]
     ]
 }
 
-/// Gives each receiver its reception of a slot from the recent messages. Returns a mark for each: if it is true, the
+/// Gives each receiver its reception of a slot from the recent groups. Returns a mark for each: if it is true, the
 /// view of that receiver did not change.
 pub(crate) fn hand_out(
     receivers: &mut [Receiver],
@@ -66,7 +66,7 @@ fn receive(
     config: &Config,
     reception: Reception,
     recent: &Recent,
-    newest: &Option<Message>,
+    newest: &Option<Blocks>,
 ) -> bool
     requires { newest.now ≡ slice_index_or recent.now.items 0 None }
     ensures heard { (slot : ℕ) (sent : List (Option Message)) (input : Input) (last : Option ℕ)
@@ -81,8 +81,8 @@ fn receive(
         → StaysShown config.now input (received reception slot sent input) }
 {
     match reception {
-        Reception::Got(back) => !receiver.slot_message(recent.back_from(newest, back)),
-        Reception::Lost => !receiver.slot_message(None),
+        Reception::Got(back) => !receiver.slot_blocks(recent.back_from(newest, back)),
+        Reception::Lost => !receiver.slot_blocks(None),
         Reception::Restart => {
             *receiver = Receiver::new(config.head.pi, config.dwell);
             false

@@ -1,26 +1,27 @@
-//! A ring of the messages of the last K + 1 slots.
+//! A ring of the groups of the last K + 1 slots.
 ghost use Rattle.std.specs.Prelude.{◌≡◌, ◌+◌, [], ◌∷◌, None, IfOk, slice_index_or, take};
 ghost use Rattle.circular_buffer.specs.Buffer.{buffer};
 
 use circular_buffer::HeapCircularBuffer;
-use rds_fields::{Late, Message};
+use rds_block::Blocks;
+use rds_fields::Late;
 use std::alloc::{AllocError, Global};
 use std::marker::Model;
 
-/// A ring of the messages of the last K + 1 slots, the newest first. A slot in which nothing was sent has `None`.
+/// A ring of the groups of the last K + 1 slots, the newest first. A slot in which nothing was sent has `None`.
 #[derive(Drop)]
 pub(crate) struct Recent {
-    messages: HeapCircularBuffer<Option<Message>>,
+    groups: HeapCircularBuffer<Option<Blocks>>,
 }
 
 impl Model for Recent {
     ghost use Rattle.std.specs.Prelude.{Option};
-    ghost use Rattle.rds_fields.specs.declared.message.Message.{Message};
+    ghost use Rattle.rds_block.specs.declared.group.Group.{Group};
     ghost use Rattle.circular_buffer.specs.Buffer.{Buffer};
 
-    ghost Value = { Buffer (Option Message) };
+    ghost Value = { Buffer (Option Group) };
 
-    ghost view = { λ r. r.messages };
+    ghost view = { λ r. r.groups };
 }
 
 impl Recent {
@@ -30,22 +31,22 @@ impl Recent {
     {
         let places = usize::from(late.get()) + 1;
         Ok(Recent {
-            messages: HeapCircularBuffer::with_capacity(alloc, places)?,
+            groups: HeapCircularBuffer::with_capacity(alloc, places)?,
         })
     }
 
-    /// Adds the message of one more slot. A full ring drops its oldest message.
-    pub(crate) fn push(&mut self, message: Option<Message>)
+    /// Adds the group of one more slot. A full ring drops its oldest group.
+    pub(crate) fn push(&mut self, group: Option<Blocks>)
         ensures { self.new
-            ≡ buffer (take self.old.capacity (message ∷ self.old.items)) self.old.capacity }
+            ≡ buffer (take self.old.capacity (group ∷ self.old.items)) self.old.capacity }
     {
-        self.messages.push_front(message);
+        self.groups.push_front(group);
     }
 
-    /// Returns the message sent this many slots before the newest one, whose message is `newest`. None if nothing was
-    /// sent, or if the ring does not go back so far. Most groups come in their own slot, so the ring is read once for
-    /// all receivers.
-    pub(crate) fn back_from(&self, newest: &Option<Message>, slots: u16) -> Option<Message>
+    /// Returns the group sent this many slots before the newest one, whose group is `newest`. Returns `None` if nothing
+    /// was sent, or if the ring does not go back so far. Most groups come in their own slot, so the ring is read once
+    /// for all receivers.
+    pub(crate) fn back_from(&self, newest: &Option<Blocks>, slots: u16) -> Option<Blocks>
         requires { newest.now ≡ slice_index_or self.now.items 0 None }
         ensures { result ≡ slice_index_or self.now.items slots None }
     {
@@ -56,11 +57,11 @@ impl Recent {
         }
     }
 
-    /// Returns the message sent this many slots before the newest one. None if nothing was sent, or if the ring does
-    /// not go back so far.
-    pub(crate) fn back(&self, slots: u16) -> Option<Message>
+    /// Returns the group sent this many slots before the newest one. Returns `None` if nothing was sent, or if the ring
+    /// does not go back so far.
+    pub(crate) fn back(&self, slots: u16) -> Option<Blocks>
         ensures { result ≡ slice_index_or self.now.items slots None }
     {
-        *self.messages.get(usize::from(slots))?
+        *self.groups.get(usize::from(slots))?
     }
 }

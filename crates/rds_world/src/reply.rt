@@ -30,7 +30,7 @@ pub enum WorldRefused {
     /// There are more than 8 receivers.
     #[error("there are more than 8 receivers")]
     TooManyReceivers,
-    /// Out of memory for the messages of the last K + 1 slots.
+    /// Out of memory for the groups of the last K + 1 slots.
     #[error("out of memory")]
     Memory,
 }

@@ -14,7 +14,7 @@ pub enum PlayRefused {
     /// There are more than 8 receivers.
     #[error("there are more than 8 receivers")]
     TooManyReceivers,
-    /// Out of memory for the messages of the last K + 1 slots.
+    /// Out of memory for the groups of the last K + 1 slots.
     #[error("out of memory")]
     Memory,
     /// The index of the first event that cannot be taken, if it has another number of receptions than there are

@@ -21,9 +21,10 @@ use crate::station::obey;
 use crate::{
     Answer, MOST_RECEIVERS, SlotEvent, StepRefused, WorldRefused, only_what_was_on_air_is_shown,
 };
+use rds_block::Blocks;
 use rds_encoder::Encoder;
 use rds_fields::{Dwell, Head, Late};
-use rds_receiver::{Receiver, heard};
+use rds_receiver::Receiver;
 use std::alloc::Global;
 use std::marker::Model;
 
@@ -77,7 +78,7 @@ impl Model for World {
 
 impl World {
     /// Makes a world before its first slot: the encoder at a restart, and receivers that have heard nothing yet. Error
-    /// if there are more than 8 receivers, or if out of memory. It allocates memory for the messages of K + 1 slots; no
+    /// if there are more than 8 receivers, or if out of memory. It allocates memory for the groups of K + 1 slots; no
     /// later call allocates.
     pub fn new(alloc: Global, config: Config, receivers: usize) -> Result<World, WorldRefused>
         ensures refused { IsErrOf result WorldRefused.TooManyReceivers ↔ (MOST_RECEIVERS < receivers) }
@@ -136,7 +137,7 @@ impl World {
         let sent = self.encoder.tick(event.free);
         // Prover: a `Copy` value is copied by a new name before its second use (docs/PROVER.md, "Workarounds").
         let handed = sent;
-        self.recent.push(heard(self.config.head.pi, handed));
+        self.recent.push(Blocks::of_slot(handed));
         self.stays = hand_out(
             &mut self.receivers[..self.count],
             &self.config,

@@ -1,4 +1,5 @@
-use Rattle.std.proofs.Common.{◌≡◌, ◌+◌, ◌-◌, ◌∙◌, None, Some, false, refl, rules, subst}
+use Rattle.std.proofs.Common.{◌≡◌, ◌+◌, ◌-◌, None, Some, false, refl, rules, subst}
+use Rattle.rds_receiver.specs.Receipts.{Hears}
 use Rattle.rds_world.specs.Due.{IsDue}
 use Rattle.rds_world.specs.declared.event.Reception.{Reception}
 use Rattle.rds_world.specs.Slots.{sent_back}
@@ -9,13 +10,12 @@ pub returns-in-Got-clause-heard : goal.returns-in-Got-clause-heard
 returns-in-Got-clause-heard c slot sent input last kept due has =
     let config = c.args.config.now in
     let back = c.in-Got.back in
-    let is_due = subst (λ (r : Reception). IsDue c.args.config.now.late slot last r) c.in-Got.is due in
-    let (same, (group, hears)) = kept back is_due.soon in
-    let handed : c.back_from.result ≡ sent_back back sent = c.back_from.ensures ∙ same in
-    rw c.in-Got.is (hears_more config input _ _ group (sent_back back sent) (Some (slot - back)) hears (rw handed at c.slot_message.ensures.stands) has)
+    let is_due = subst (λ (r : Reception). IsDue config.late slot last r) c.in-Got.is due in
+    let hears : Hears config.head.pi c.back_from.result (sent_back back sent) = rw c.back_from.ensures (kept back is_due.soon) in
+    rw c.in-Got.is (hears_more config input _ _ c.back_from.result (sent_back back sent) (Some (slot - back)) hears c.slot_blocks.ensures.stands has)
 
 pub returns-in-Lost-clause-heard : goal.returns-in-Lost-clause-heard
-returns-in-Lost-clause-heard c slot sent input last kept due has = rw c.in-Lost.is (hears_more c.args.config.now input _ _ None None None refl c.slot_message-in-Lost.ensures.stands has)
+returns-in-Lost-clause-heard c slot sent input last kept due has = rw c.in-Lost.is (hears_more c.args.config.now input _ _ None None None refl c.slot_blocks-in-Lost.ensures.stands has)
 
 pub returns-in-Restart-clause-heard : goal.returns-in-Restart-clause-heard
 returns-in-Restart-clause-heard c slot sent input last kept due has = rw c.in-Restart.is (heard_nothing c.args.config.now (slot + 1) _ c.new.ensures.stands)
@@ -24,13 +24,12 @@ pub returns-in-Got-clause-stays : goal.returns-in-Got-clause-stays
 returns-in-Got-clause-stays c slot sent input last kept due has stays =
     let config = c.args.config.now in
     let back = c.in-Got.back in
-    let is_due = subst (λ (r : Reception). IsDue c.args.config.now.late slot last r) c.in-Got.is due in
-    let (same, (group, hears)) = kept back is_due.soon in
-    let handed : c.back_from.result ≡ sent_back back sent = c.back_from.ensures ∙ same in
-    let calm : c.slot_message.result ≡ false = search rules in
-    rw c.in-Got.is (stays_shown config input _ group (sent_back back sent) (Some (slot - back)) hears (rw handed at (c.slot_message.ensures.same calm)) has)
+    let is_due = subst (λ (r : Reception). IsDue config.late slot last r) c.in-Got.is due in
+    let hears : Hears config.head.pi c.back_from.result (sent_back back sent) = rw c.back_from.ensures (kept back is_due.soon) in
+    let calm : c.slot_blocks.result ≡ false = search rules in
+    rw c.in-Got.is (stays_shown config input _ c.back_from.result (sent_back back sent) (Some (slot - back)) hears (c.slot_blocks.ensures.same calm) has)
 
 pub returns-in-Lost-clause-stays : goal.returns-in-Lost-clause-stays
 returns-in-Lost-clause-stays c slot sent input last kept due has stays =
-    let calm : c.slot_message-in-Lost.result ≡ false = search rules in
-    rw c.in-Lost.is (stays_shown c.args.config.now input _ None None None refl (c.slot_message-in-Lost.ensures.same calm) has)
+    let calm : c.slot_blocks-in-Lost.result ≡ false = search rules in
+    rw c.in-Lost.is (stays_shown c.args.config.now input _ None None None refl (c.slot_blocks-in-Lost.ensures.same calm) has)

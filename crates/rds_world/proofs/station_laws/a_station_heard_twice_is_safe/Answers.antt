@@ -1,4 +1,4 @@
-use Rattle.std.proofs.Common.{◌+◌, ◌<◌, arith}
+use Rattle.std.proofs.Common.{◌+◌, arith}
 use Rattle.rds_safety.specs.Twice.{lateness_of_two}
 use Rattle.rds_world.proofs.station_laws.a_station_heard_twice_is_safe.Goals as goal
 

@@ -1,4 +1,4 @@
-use Rattle.std.proofs.Common.{◌+◌, ◌<◌, arith}
+use Rattle.std.proofs.Common.{◌+◌, arith}
 use Rattle.rds_world.proofs.WorldSlots.{slots_of_a_world}
 use Rattle.rds_world.proofs.station_laws.a_station_is_safe.Goals as goal
 

@@ -1,5 +1,5 @@
-use Rattle.std.proofs.Common.{Some, refl, subst}
-use Rattle.rds_fields.specs.declared.message.Message.TheVariants.{Announce, Name, Other, Tags, Text}
+use Rattle.std.proofs.Common.{Some, inl, inr, refl, subst}
+use Rattle.rds_fields.specs.declared.message.Message.TheVariants.{Name, Text}
 use Rattle.rds_audit.specs.AuditStandsAt.{Judges}
 use Rattle.rds_audit.specs.AuditState.{AuditState}
 use Rattle.rds_audit.specs.contracts.audit.Audit.{the_view}
@@ -7,43 +7,28 @@ use Rattle.rds_audit.proofs.AuditSteps.{names_judge, nothing_judged, texts_judge
 use Rattle.rds_audit.proofs.Recordings.{announcement_counts, name_counts, other_counts, text_counts}
 use Rattle.rds_audit.proofs.audit.Audit.hear.Goals as goal
 
-pub returns-in-Some-clause-takes : goal.returns-in-Some-clause-takes
-returns-in-Some-clause-takes c =
-    let message = Text c.in-Some.it.flag c.in-Some.it.address c.in-Some.it.bytes in (
-      message,
-      c.in-Some.ensures.spelled,
-      subst (λ (a : AuditState). Judges a (the_view (record c.self.inside { text = c.take.new.self })) (Some message) c.take.result) c.self.view_is
-          (texts_judge c.take.result (the_view c.self.inside) (the_view (record c.self.inside { text = c.take.new.self })) (Some message) refl refl
-          (λ judged h. text_counts _ judged _ _ _) record { holds = c.take.ensures.holds; breaks = c.take.ensures.fault }),
-    )
+pub returns-in-Text-clause-judges : goal.returns-in-Text-clause-judges
+returns-in-Text-clause-judges c =
+    let it = c.in-Text in
+    let message = Text it.flag c.get.result it.bytes in
+    let judges =
+    subst (λ (a : AuditState). Judges a (the_view (record c.self.inside { text = c.take.new.self })) (Some message) c.take.result) c.self.view_is
+    (texts_judge c.take.result (the_view c.self.inside) (the_view (record c.self.inside { text = c.take.new.self })) (Some message) refl refl
+    (λ judged h. text_counts _ judged _ _ _) record { holds = c.take.ensures.holds; breaks = c.take.ensures.fault }) in
+    rw (it.is, ← c.get.ensures.value) judges
 
-pub returns-in-Some-name_in-clause-takes : goal.returns-in-Some-name_in-clause-takes
-returns-in-Some-name_in-clause-takes c =
-    let it = c.in-Some-name_in.it in
-    let message = Name it.flag it.address it.bytes in (
-      message,
-      c.in-Some-name_in.ensures.spelled,
-      subst (λ (a : AuditState). Judges a (the_view (record c.self.inside { name = c.take-in-Some-name_in.new.self })) (Some message) c.take-in-Some-name_in.result) c.self.view_is
-          (names_judge c.take-in-Some-name_in.result (the_view c.self.inside) (the_view (record c.self.inside { name = c.take-in-Some-name_in.new.self })) (Some message) refl refl
-          (λ judged h. name_counts _ judged _ _ _) record { holds = c.take-in-Some-name_in.ensures.holds; breaks = c.take-in-Some-name_in.ensures.fault }),
-    )
+pub returns-in-Name-clause-judges : goal.returns-in-Name-clause-judges
+returns-in-Name-clause-judges c =
+    let it = c.in-Name in
+    let message = Name it.flag c.get-in-Name.result it.bytes in
+    let judges =
+    subst (λ (a : AuditState). Judges a (the_view (record c.self.inside { name = c.take-in-Name.new.self })) (Some message) c.take-in-Name.result) c.self.view_is
+    (names_judge c.take-in-Name.result (the_view c.self.inside) (the_view (record c.self.inside { name = c.take-in-Name.new.self })) (Some message) refl refl
+    (λ judged h. name_counts _ judged _ _ _) record { holds = c.take-in-Name.ensures.holds; breaks = c.take-in-Name.ensures.fault }) in
+    rw (it.is, ← c.get-in-Name.ensures.value) judges
 
-pub returns-in-Some-tags_in-clause-takes : goal.returns-in-Some-tags_in-clause-takes
-returns-in-Some-tags_in-clause-takes c = (Tags c.in-Some-tags_in.pair, c.in-Some-tags_in.ensures.spelled, c.take_tags.ensures.judges)
-
-pub returns-in-Some-announced_in-clause-takes : goal.returns-in-Some-announced_in-clause-takes
-returns-in-Some-announced_in-clause-takes c =
-    let it = c.in-Some-announced_in.field-0 in
-    (Announce it.code c.args.group.c it.aid, c.in-Some-announced_in.ensures.spelled, nothing_judged c.args.self.now _ (λ judged h. announcement_counts _ judged _ _ _))
-
-pub returns-clause-takes : goal.returns-clause-takes
-returns-clause-takes c = (
-  Other,
-  record {
-    text = c.in_default.ensures.none;
-    announce = c.in_default-announced_in.ensures.none;
-    name = c.in_default-name_in.ensures.none;
-    tags = c.in_default-tags_in.ensures.none;
-  },
-  nothing_judged c.args.self.now _ (λ judged h. other_counts _ judged),
-)
+pub returns-in-Announce-clause-judges : goal.returns-in-Announce-clause-judges
+returns-in-Announce-clause-judges c = elim c.in-Announce.is [
+  | inl (code, bits, aid, is) ↦ rw is (nothing_judged c.args.self.now _ (λ judged h. announcement_counts _ judged _ _ _))
+  | inr is ↦ rw is (nothing_judged c.args.self.now _ (λ judged h. other_counts _ judged))
+]

@@ -1,34 +1,27 @@
-use Rattle.std.proofs.Common.{◌≡◌, ◌≢◌, None, inr, refl, arith}
+use Rattle.std.proofs.Common.{◌≡◌, None, Some}
+use Rattle.rds_receiver.specs.Receipts.{Hears}
 use Rattle.rds_receiver.proofs.Alike.{view_stays}
-use Rattle.rds_receiver.proofs.Steps.{group_goes_on, nothing_heard, slot_stands}
+use Rattle.rds_receiver.proofs.Steps.{nothing_heard, slot_stands}
 use Rattle.rds_receiver.proofs.stored.StoredReceiver.rest.Goals as goal
 
-pub returns-in_default-clause-stands : goal.returns-in_default-clause-stands
-returns-in_default-clause-stands c done t input st =
-    slot_stands t _ _ input c.args.group None st (rw c.in_default.is refl) c.grow_older.ensures.programme
+pub returns-in-None-clause-stands : goal.returns-in-None-clause-stands
+returns-in-None-clause-stands c done t input st =
+    let tuned : c.args.self.now.pi ≡ t.programme = st.tuned in
+    let hears : Hears t.programme c.args.group None = rw (c.in-None.is, tuned) at c.heard_blocks.ensures in
+    slot_stands t _ _ input c.args.group None st hears c.grow_older.ensures.programme
     (nothing_heard t.dwell t.first _ st.heard (c.grow_older.ensures.holds done t.dwell t.first st.heard st.holds))
 
-pub returns-in_default-clause-same : goal.returns-in_default-clause-same
-returns-in_default-clause-same c done view t input st shown =
-    view_stays t _ _ input _ view st (returns-in_default-clause-stands c done t input st) (c.grow_older.ensures.same done) shown
+pub returns-in-None-clause-same : goal.returns-in-None-clause-same
+returns-in-None-clause-same c done view t input st shown =
+    view_stays t _ _ input _ view st (returns-in-None-clause-stands c done t input st) (c.grow_older.ensures.same done) shown
 
-pub returns-then-pi-self-clause-stands : goal.returns-then-pi-self-clause-stands
-returns-then-pi-self-clause-stands c done t input st =
-    let tuned = st.tuned in
-    let other : c.in-Some.group.pi ≢ t.programme = λ e. absurd (grind (arith, tuned)) in
-    slot_stands t _ _ input c.args.group None st (rw c.in-Some.is (inr (other, refl))) c.grow_older-then-pi-self.ensures.programme
-    (nothing_heard t.dwell t.first _ st.heard (c.grow_older-then-pi-self.ensures.holds done t.dwell t.first st.heard st.holds))
+pub returns-in-Some-clause-stands : goal.returns-in-Some-clause-stands
+returns-in-Some-clause-stands c done t input st =
+    let tuned : c.args.self.now.pi ≡ t.programme = st.tuned in
+    let hears : Hears t.programme c.args.group (Some c.in-Some.message) = rw (c.in-Some.is, tuned) at c.heard_blocks.ensures in
+    slot_stands t _ _ input c.args.group (Some c.in-Some.message) st hears c.rest_message.ensures.programme
+    (c.rest_message.ensures.holds done t.dwell t.first st.heard st.holds)
 
-pub returns-then-pi-self-clause-same : goal.returns-then-pi-self-clause-same
-returns-then-pi-self-clause-same c done view t input st shown =
-    view_stays t _ _ input _ view st (returns-then-pi-self-clause-stands c done t input st) (c.grow_older-then-pi-self.ensures.same done) shown
-
-pub returns-clause-stands : goal.returns-clause-stands
-returns-clause-stands c done t input st =
-    let tuned = st.tuned in
-    let own : c.in-Some.group.pi ≡ t.programme = grind (arith, tuned) in
-    rw c.in-Some.is (group_goes_on t _ _ input c.in-Some.group st own c.rest_group.ensures.programme (c.rest_group.ensures.holds done))
-
-pub returns-clause-same : goal.returns-clause-same
-returns-clause-same c done view t input st shown =
-    view_stays t _ _ input _ view st (returns-clause-stands c done t input st) (c.rest_group.ensures.same done) shown
+pub returns-in-Some-clause-same : goal.returns-in-Some-clause-same
+returns-in-Some-clause-same c done view t input st shown =
+    view_stays t _ _ input _ view st (returns-in-Some-clause-stands c done t input st) (c.rest_message.ensures.same done) shown

@@ -1,6 +1,6 @@
-use Rattle.std.proofs.Common.{rules, ◌≡◌, ◌∙◌, [], None, Option, arith, refl, subst, sym}
+use Rattle.std.proofs.Common.{rules, ◌≡◌, ◌∙◌, [], Option, arith, refl, subst, sym}
 use Rattle.circular_buffer.specs.Buffer.{Buffer}
-use Rattle.rds_fields.specs.declared.message.Message.{Message}
+use Rattle.rds_block.specs.declared.group.Group.{Group}
 use Rattle.rds_world.specs.StandsAt.{AreLastSent, IsNew}
 use Rattle.rds_world.proofs.DueSteps.{at_first}
 use Rattle.rds_world.proofs.Received.{heard_nothing, one_of_first, some_slots}
@@ -24,7 +24,7 @@ returns-clause-stands c =
       reaches = record {
         each = λ i reach e. one_of_first (λ n. n ≡ 1) c.args.receivers _ i reach (one, (one, (one, (one, (one, (one, (one, (one, tt)))))))) e ∙ at_first config.late;
       };
-      sent = subst (λ (b : Buffer (Option Message)). AreLastSent config [] b.items) (sym c.in-Ok.ensures) (λ back within. (refl, (None, refl)));
+      sent = subst (λ (b : Buffer (Option Group)). AreLastSent config [] b.items) (sym c.in-Ok.ensures) (λ back within. refl);
       stay = λ i is. tt;
     }
 

@@ -1,7 +1,7 @@
 use Rattle.std.proofs.Common.{◌≡◌, ◌++◌, ◌∷◌, ℕ, List, Option, length, take, drop, sym, subst, refl, arith}
 use Rattle.std.specs.Prelude.{slice_index_or}
 use Rattle.circular_buffer.specs.Buffer.{Buffer}
-use Rattle.rds_fields.specs.declared.message.Message.{Message}
+use Rattle.rds_block.specs.declared.group.Group.{Group}
 use Rattle.rds_receiver.specs.State.{ReceiverState}
 use Rattle.rds_world.specs.declared.event.Reception.{Reception}
 use Rattle.rds_world.specs.declared.event.Reception.TheVariants.{Lost}
@@ -35,9 +35,9 @@ returns-clause-stands c config events st =
     let sent = c.tick-sent.ensures.sent set.head apart (commanded now.command before) done in
     let all_sent = log apart (now ∷ events) in
     let kept : AreLastSent set all_sent c.push.new.self.items =
-    subst (λ (b : Buffer (Option Message)). AreLastSent set all_sent b.items) (sym c.push.ensures)
-    (subst (λ (n : ℕ). AreLastSent set all_sent (take n (c.heard.result ∷ world.recent.items))) (sym c.self.invariant.3)
-    (one_more_sent set (sent_at apart now events) c.tick-sent.result c.heard.result (log apart events) world.recent.items sent c.heard.ensures own.sent)) in
+    subst (λ (b : Buffer (Option Group)). AreLastSent set all_sent b.items) (sym c.push.ensures)
+    (subst (λ (n : ℕ). AreLastSent set all_sent (take n (c.of_slot.result ∷ world.recent.items))) (sym c.self.invariant.3)
+    (one_more_sent set (sent_at apart now events) c.of_slot.result (log apart events) world.recent.items (rw c.of_slot.ensures sent) own.sent)) in
     let told = sym c.as_slice-receptions.ensures.value in
     let due_told = subst (λ (xs : List Reception). (i : ℕ) → IsDue late (length events) (last_named i events) (slice_index_or xs i Lost)) told due_now in
     let heard = c.hand_out-self-inside.ensures.heard (length events) all_sent (λ i. input_of apart i events) (λ i. last_named i events) kept due_told own.receivers in
