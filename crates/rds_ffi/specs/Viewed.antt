@@ -3,11 +3,10 @@ use Rattle.std.specs.Prelude.{◌≡◌, ◌≢◌, ◌+◌, ◌-◌, ◌≤◌,
 use Rattle.std.specs.Prelude.{if◌then◌else◌, length, take, drop, replicate}
 use Rattle.std.specs.Borrow.{Bor}
 use Rattle.rds_fields.specs.Stored.{is_set}
-use Rattle.rds_fields.specs.Tag.{PairFields, TagFields}
+use Rattle.rds_fields.specs.Tag.{PairFields, TagFields, tag_in}
 use Rattle.rds_fields.specs.declared.pair.Which.{Which}
 use Rattle.rds_fields.specs.declared.pair.Which.TheVariants.{One, Two}
 use Rattle.rds_receiver.specs.Shown.{ShownView}
-use Rattle.rds_receiver.specs.Tags.{tag_in}
 use Rattle.rds_ffi.specs.declared.view.RdsrtText.{RdsrtText}
 use Rattle.rds_ffi.specs.declared.view.RdsrtName.{RdsrtName}
 use Rattle.rds_ffi.specs.declared.view.RdsrtItem.{RdsrtItem}

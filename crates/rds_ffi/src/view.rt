@@ -1,7 +1,7 @@
 //! The view of a receiver as a plain struct.
 ghost use Rattle.std.specs.Prelude.{◌≡◌, ◌≢◌, ◌+◌, ◌≤◌, ℕ, List, None, Some, length};
 ghost use Rattle.std.specs.Option.{ForSome, option_copied};
-ghost use Rattle.rds_receiver.specs.Shown.{IsView};
+ghost use Rattle.rds_receiver.specs.Shown.{IsShortText, IsView};
 ghost use Rattle.rds_receiver.specs.StandsAt.{WhatItHeard, WhereItStands};
 ghost use Rattle.rds_receiver.specs.Tags.{cut_by, pair_held, tag_of};
 ghost use Rattle.rds_ffi.specs.Viewed as specs;
@@ -76,7 +76,7 @@ pub(crate) fn seen(receiver: &Receiver) -> RdsrtView
 
 /// Returns the text.
 pub(crate) fn plain_text(text: Option<&[u8]>) -> RdsrtText
-    requires { ForSome text (λ x. length x.now ≤ 64) }
+    requires { IsShortText text }
     ensures same { text_viewed result ≡ option_copied text.entry }
     ensures count { result.length ≡ count_of text.entry }
     ensures plain { IsPlainText result }
@@ -133,7 +133,7 @@ fn plain_item(item: Option<(bool, bool)>) -> RdsrtItem
 
 /// Returns a tag of the pair, if it is shown with the text.
 fn plain_tag(text: Option<&[u8]>, which: Which, pair: Option<TagPair>) -> RdsrtTag
-    requires { ForSome text (λ x. length x.now ≤ 64) }
+    requires { IsShortText text }
     ensures same { tag_viewed result (option_copied text.entry)
         ≡ tag_of which (option_copied text.entry) pair }
     ensures within { result.start + result.length ≤ count_of text.entry }
@@ -147,11 +147,7 @@ fn plain_tag(text: Option<&[u8]>, which: Which, pair: Option<TagPair>) -> RdsrtT
     let Some(pair) = pair else {
         return no_tag();
     };
-    let tag = match which {
-        Which::One => pair.one(),
-        Which::Two => pair.two(),
-    };
-    cut(tag, text.len())
+    cut(pair.tag(which), text.len())
 }
 
 /// Returns the value for no tag.

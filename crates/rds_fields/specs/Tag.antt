@@ -3,6 +3,8 @@
 use Rattle.std.specs.Prelude.{◌≡◌, ◌+◌, ◌<◌, ◌==◌, ◌||◌, ◌&&◌}
 use Rattle.std.specs.Prelude.{ℕ, List, Bool, true, Option, Some, None, length}
 use Rattle.std.specs.Prelude.{take, drop, nat_le, nat_lt, if◌then◌else◌}
+use Rattle.rds_fields.specs.declared.pair.Which.{Which}
+use Rattle.rds_fields.specs.declared.pair.Which.TheVariants.{One, Two}
 
 -- the three numbers of a tag
 pub record TagFields : Type 0 where
@@ -30,6 +32,11 @@ pub record IsPair (p : PairFields) : Type 0 where
   pub one : IsTag p.one
   pub two : IsTag p.two
   pub short : p.two.extra < 32
+
+-- this tag of the two
+abbrev pub tag_in : Which → PairFields → TagFields
+tag_in One pair = pair.one
+tag_in Two pair = pair.two
 
 -- the place after the last character of the piece
 abbrev pub end_of : TagFields → ℕ

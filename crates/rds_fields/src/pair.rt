@@ -45,6 +45,7 @@ impl Model for TagPair {
 
 impl TagPair {
     ghost use Rattle.rds_fields.specs.Bits.{Sent, SpellsPair, sent_of};
+    ghost use Rattle.rds_fields.specs.Tag.{tag_in};
 
     /// Makes a pair. `Extra` if the second tag has over 32 characters: its length marker has only five bits.
     pub fn new(toggle: bool, running: bool, one: Tag, two: Tag) -> Result<TagPair, TagRefused>
@@ -76,6 +77,16 @@ impl TagPair {
         ensures { result ≡ self.running }
     {
         self.running
+    }
+
+    /// Returns this tag of the two.
+    pub fn tag(self, which: Which) -> Tag
+        ensures { result ≡ tag_in which self }
+    {
+        match which {
+            Which::One => self.one,
+            Which::Two => self.two,
+        }
     }
 
     /// Returns the first tag.

@@ -3,8 +3,7 @@ use Rattle.std.proofs.Common.{◌≡◌, ℕ, List, Option, Some, None, refl, sy
 use Rattle.rds_block.specs.declared.group.Group.{Group}
 use Rattle.rds_fields.specs.declared.message.Message.{Message}
 use Rattle.rds_fields.specs.declared.pair.Which.{Which}
-use Rattle.rds_fields.specs.declared.pair.Which.TheVariants.{One, Two}
-use Rattle.rds_fields.specs.Tag.{PairFields, TagFields}
+use Rattle.rds_fields.specs.Tag.{PairFields, tag_in}
 use Rattle.rds_assembly.specs.Cells.{Cells}
 use Rattle.rds_assembly.specs.Whole.{IsWholeName, IsWholeText}
 use Rattle.rds_receiver.specs.Receipts.{AreHeard, Segment, Tuning, name_fragment, text_fragment}
@@ -12,7 +11,7 @@ use Rattle.rds_receiver.specs.Run.{begins_in, cells_of, run_at}
 use Rattle.rds_receiver.specs.Shown.{IsNameShown, IsShown, IsTextShown}
 use Rattle.rds_receiver.specs.StandsAt.{StandsAt}
 use Rattle.rds_receiver.specs.State.{ReceiverState}
-use Rattle.rds_receiver.specs.Tags.{cut_by, item_of, pair_from, pair_held, tag_in, tag_of}
+use Rattle.rds_receiver.specs.Tags.{cut_by, item_of, pair_from, pair_held, tag_of}
 use Rattle.rds_receiver.specs.OneView.{same_heard}
 use Rattle.rds_receiver.proofs.Runs.{run_at_newest}
 
@@ -58,10 +57,3 @@ no_item (Some x) held e = ap (item_of (Some x)) (sym e)
 pub no_tag : (which : Which) (text : Option (List ℕ)) (held : Option PairFields) → held ≡ None → None ≡ tag_of which text held
 no_tag which None held e = refl
 no_tag which (Some x) held e = ap (tag_of which (Some x)) (sym e)
-
--- the tag that was asked for
-pub first_tag : (which : Which) (pair : PairFields) (tag one : TagFields) → which ≡ One → tag ≡ one → one ≡ pair.one → tag ≡ tag_in which pair
-first_tag which pair tag one asked is of = is ∙ of ∙ ap (λ (w : Which). tag_in w pair) (sym asked)
-
-pub second_tag : (which : Which) (pair : PairFields) (tag two : TagFields) → which ≡ Two → tag ≡ two → two ≡ pair.two → tag ≡ tag_in which pair
-second_tag which pair tag two asked is of = is ∙ of ∙ ap (λ (w : Which). tag_in w pair) (sym asked)

@@ -42,12 +42,20 @@ pub record ShownView : Type 0 where
   pub one : Option (ℕ × List ℕ)
   pub two : Option (ℕ × List ℕ)
 
+-- the text or name has at most 64 bytes, if there is one
+abbrev pub IsShortText : Option (Bor (List ℕ)) → Type 0
+IsShortText text = ForSome text (λ x. length x.now ≤ 64)
+
+-- the piece of the tag has at most 64 bytes, if there is one
+abbrev pub IsShortTag : Option (ℕ × Bor (List ℕ)) → Type 0
+IsShortTag tag = ForSome tag (λ tag. length tag.1.now ≤ 64)
+
 -- no text, name or piece has more than 64 bytes
 pub record IsShort (text name : Option (Bor (List ℕ))) (one two : Option (ℕ × Bor (List ℕ))) : Type 0 where
-  pub text_bytes : ForSome text (λ x. length x.now ≤ 64)
-  pub name_bytes : ForSome name (λ x. length x.now ≤ 64)
-  pub one_bytes : ForSome one (λ tag. length tag.1.now ≤ 64)
-  pub two_bytes : ForSome two (λ tag. length tag.1.now ≤ 64)
+  pub text_bytes : IsShortText text
+  pub name_bytes : IsShortText name
+  pub one_bytes : IsShortTag one
+  pub two_bytes : IsShortTag two
 
 -- the view after what was heard
 pub record ShowsView (m first : ℕ) (heard : List (Option Message)) (view : ShownView) : Type 0 where

@@ -5,9 +5,8 @@ use Rattle.std.specs.Prelude.{ℕ, Bool, true, false, List, Option, Some, None, 
 use Rattle.rds_fields.specs.declared.message.Message.{Message}
 use Rattle.rds_fields.specs.declared.message.Message.TheVariants.{Text, Name, Announce, Tags, Other}
 use Rattle.rds_fields.specs.declared.pair.Which.{Which}
-use Rattle.rds_fields.specs.declared.pair.Which.TheVariants.{One, Two}
 use Rattle.rds_fields.specs.RadioTextPlus.{rtplus_aid, rtplus_code}
-use Rattle.rds_fields.specs.Tag.{PairFields, TagFields, piece_in}
+use Rattle.rds_fields.specs.Tag.{PairFields, TagFields, piece_in, tag_in}
 use Rattle.rds_receiver.specs.Receipts.{text_fragment}
 use Rattle.rds_receiver.specs.Run.{begins_in, run_at}
 
@@ -62,10 +61,6 @@ abbrev pub item_of : Option (List ℕ) → Option PairFields → Option (Bool ×
 item_of None pair = None
 item_of (Some x) None = None
 item_of (Some x) (Some pair) = Some (pair.toggle, pair.running)
-
-abbrev pub tag_in : Which → PairFields → TagFields
-tag_in One pair = pair.one
-tag_in Two pair = pair.two
 
 -- the class of a tag and its piece of the text, if it has one
 abbrev pub cut_by : TagFields → List ℕ → Option (ℕ × List ℕ)

@@ -192,10 +192,7 @@ impl Receiver {
     {
         let text = self.text()?;
         let pair = self.pair?;
-        let tag = match which {
-            Which::One => pair.one(),
-            Which::Two => pair.two(),
-        };
+        let tag = pair.tag(which);
         let piece = tag.piece_in(text)?;
         Some((tag.class(), piece))
     }

@@ -1,8 +1,9 @@
 -- The program's types for the beginning of an output line and for a part of a view, with the content of a part and its
 -- line.
 use Rattle.std.specs.Prelude.{◌≤◌, ℕ, Bool, false, List, length}
-use Rattle.std.specs.Option.{ForSome, option_copied}
+use Rattle.std.specs.Option.{option_copied}
 use Rattle.rds_receiver.specs.Borrowed.{borrowed_tag}
+use Rattle.rds_receiver.specs.Shown.{IsShortTag, IsShortText}
 use Rattle.rds_view_lines.specs.Output.{is_same_item, is_same_tag, is_same_text, item_content, line_of}
 use Rattle.rds_view_lines.specs.Output.{receiver_stamp, slot_stamp, tag_content, text_content, unless_same}
 use Rattle.rds_view_lines.specs.declared.change.Part.{Part}
@@ -30,9 +31,9 @@ part_content (Tag tag) = tag_content (borrowed_tag tag)
 
 -- no text, name or piece has more than 64 bytes
 abbrev pub IsShortPart : Part → Type 0
-IsShortPart (Text text) = ForSome text (λ x. length x.now ≤ 64)
+IsShortPart (Text text) = IsShortText text
 IsShortPart (Item item) = Unit {0}
-IsShortPart (Tag tag) = ForSome tag (λ tag. length tag.1.now ≤ 64)
+IsShortPart (Tag tag) = IsShortTag tag
 
 -- the line of a part, if the part differs from the slot before
 abbrev pub part_change : List ℕ → List ℕ → Part → Part → List ℕ

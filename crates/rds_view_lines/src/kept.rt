@@ -1,7 +1,8 @@
 //! A copy of a receiver's view.
 ghost use Rattle.std.specs.Prelude.{◌≡◌, ◌≤◌, length};
-ghost use Rattle.std.specs.Option.{ForSome, option_copied};
+ghost use Rattle.std.specs.Option.{option_copied};
 ghost use Rattle.rds_receiver.specs.Borrowed.{borrowed_tag};
+ghost use Rattle.rds_receiver.specs.Shown.{IsShortTag, IsShortText};
 ghost use Rattle.rds_view_lines.specs.KeptView.{tag_kept, text_kept};
 
 use arrayvec::ArrayVec;
@@ -67,14 +68,14 @@ impl KeptView {
 }
 
 fn copied_text(text: Option<&[u8]>) -> Option<Bytes>
-    requires { ForSome text (λ x. length x.now ≤ 64) }
+    requires { IsShortText text }
     ensures { text_kept result ≡ option_copied text.entry }
 {
     Some(copied(text?))
 }
 
 fn copied_tag(tag: Option<(u8, &[u8])>) -> Option<(u8, Bytes)>
-    requires { ForSome tag (λ tag. length tag.1.now ≤ 64) }
+    requires { IsShortTag tag }
     ensures { tag_kept result ≡ borrowed_tag tag.entry }
 {
     let (class, piece) = tag?;
@@ -92,14 +93,14 @@ fn copied(bytes: &[u8]) -> Bytes
 
 fn as_text(text: &Option<Bytes>) -> Option<&[u8]>
     ensures bytes { option_copied result ≡ text_kept text.now }
-    ensures short { ForSome result (λ x. length x.now ≤ 64) }
+    ensures short { IsShortText result }
 {
     Some(text.as_ref()?.as_slice())
 }
 
 fn as_tag(tag: &Option<(u8, Bytes)>) -> Option<(u8, &[u8])>
     ensures tag { borrowed_tag result ≡ tag_kept tag.now }
-    ensures short { ForSome result (λ tag. length tag.1.now ≤ 64) }
+    ensures short { IsShortTag result }
 {
     let (class, piece) = tag.as_ref()?;
     Some((*class, piece.as_slice()))
