@@ -35,11 +35,11 @@ pub record HoldsReigns (g : Gauge) (d slot : ℕ) (sent : List Mark) (st : Reign
   pub content : HoldsContent g (fragments_of (reigns d sent)) (tags_of (reigns d sent)) st.content
   pub passes : Passes d g.kind sent
 
--- the same in the slot after these marks
+-- the state holds these marks, one slot after the newest
 abbrev pub HoldsMarks : Gauge → ℕ → List Mark → ReignsState → Type 0
 HoldsMarks g d sent st = HoldsReigns g d (length sent) sent st
 
--- the same in the slot of the newest mark
+-- the state holds these marks, in the slot of the newest
 abbrev pub HoldsNewest : Gauge → ℕ → Mark → List Mark → ReignsState → Type 0
 HoldsNewest g d newest before st = HoldsReigns g d (length before) (newest ∷ before) st
 

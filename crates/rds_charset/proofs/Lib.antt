@@ -1,10 +1,6 @@
-pub mod Appending
 pub mod Characters
-pub mod Digits
-pub mod DigitLanes
 pub mod DisplayedText
 pub mod Outcomes
 pub mod Symbols
 pub mod Stopping
 pub mod PrintedText
-pub mod SpreadDigits

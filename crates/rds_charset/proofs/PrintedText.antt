@@ -1,8 +1,8 @@
 -- Lemmas about the printed form of a text: its length, and that it is read as the text.
 use Rattle.std.proofs.KnownBytes.{Appends-trans}
-use Rattle.rds_charset.specs.Puts.{AppendsPrefix-append, AppendsPrefix-longer}
+use Rattle.rds_io.specs.Puts.{AppendsPrefix-append, AppendsPrefix-longer}
 use Rattle.std.specs.Io.KnownBytes.{Appends}
-use Rattle.rds_charset.specs.Told.{AppendsPrefix}
+use Rattle.rds_io.specs.Told.{AppendsPrefix}
 use Rattle.std.proofs.Common.{◌≡◌, ◌+◌, ◌*◌, ◌/◌, ◌%◌, ◌<◌, ◌≤◌, ◌==◌, ℕ, Bool, true, false, inl, inr, List, [], ◌∷◌, ◌++◌, length, length-append, refl, sym, ap, ◌∙◌, arith, Option, Some, None, encode_utf8, if◌then◌else◌, append_assoc, subst}
 use Rattle.std.proofs.lemmas.Bool.Decides.{nat_tests}
 use Rattle.std.proofs.lemmas.Grind.{flat_map-append}
@@ -13,7 +13,8 @@ use Rattle.std.specs.List.{All}
 use Rattle.std.specs.Option.{option_map_or}
 use Rattle.std.specs.Str.{IsUtf8}
 use Rattle.rds_charset.proofs.Characters.{IsLawful-from_byte}
-use Rattle.rds_charset.specs.Printed.{escaped, printed, printed_byte, shown_character, upper_digit}
+use Rattle.rds_io.specs.Digits.{upper_digit}
+use Rattle.rds_charset.specs.Printed.{escaped, printed, printed_byte, shown_character}
 use Rattle.rds_charset.specs.ReadAs.{IsSymbol, IsReadAs}
 use Rattle.rds_charset.specs.Table.{character_of}
 
@@ -117,8 +118,8 @@ AppendsPrefix-printed a b c bytes done symbol rest line whole is first part =
     subst (AppendsPrefix a c) (sym same) longer
 
 -- the contents of a fresh line after a symbol was pushed
-pub pushed-printed : (slice pushed fresh symbol : List ℕ) → slice ≡ pushed → pushed ≡ fresh ++ printed symbol → fresh ≡ [] → slice ≡ printed symbol
-pushed-printed slice pushed fresh symbol one two three = one ∙ two ∙ ap (λ items. items ++ printed symbol) three
+pub pushed-printed : (pushed fresh symbol : List ℕ) → pushed ≡ fresh ++ printed symbol → fresh ≡ [] → pushed ≡ printed symbol
+pushed-printed pushed fresh symbol one two = one ∙ ap (λ items. items ++ printed symbol) two
 
 -- a symbol taken from the rest of a text
 pub append-chunk : (bytes done left symbol rest : List ℕ) → bytes ≡ done ++ left → left ≡ symbol ++ rest → bytes ≡ (done ++ symbol) ++ rest

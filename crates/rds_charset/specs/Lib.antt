@@ -1,11 +1,8 @@
 pub mod Faults
 pub mod Laws
 pub mod Printed
-pub mod Digits
 pub mod Displays
 pub mod ReadAs
 pub mod Stops
 pub mod Stretches
 pub mod Table
-pub mod Told
-pub mod Puts

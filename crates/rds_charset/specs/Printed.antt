@@ -2,14 +2,11 @@
 -- is the project's own form.
 -- A backslash is not in the table, so it only begins an escape. A quotation mark is escaped, so that a printed text can
 -- be shown between two of them.
-use Rattle.std.specs.Prelude.{◌+◌, ◌++◌, ◌/◌, ◌%◌, ◌==◌, [], ◌∷◌}
-use Rattle.std.specs.Prelude.{ℕ, List, Option, None, codes, encode_utf8, flat_map, nat_lt, if◌then◌else◌}
+use Rattle.std.specs.Prelude.{◌++◌, ◌/◌, ◌%◌, ◌==◌, [], ◌∷◌}
+use Rattle.std.specs.Prelude.{ℕ, List, Option, None, codes, encode_utf8, flat_map, if◌then◌else◌}
 use Rattle.std.specs.Option.{option_map_or}
+use Rattle.rds_io.specs.Digits.{upper_digit}
 use Rattle.rds_charset.specs.Table.{character_of}
-
--- the digit of a number below 16, with A to F for 10 to 15
-abbrev pub upper_digit : ℕ → ℕ
-upper_digit n = if nat_lt n 10 then 0x30 + n else 0x37 + n
 
 -- the escape of a byte: a backslash, an x and two digits
 abbrev pub escaped : ℕ → List ℕ

@@ -1,8 +1,7 @@
-//! Characters in and out: the bytes of a text as people read them, and readers and writers that count their failures.
+//! Characters in and out: the bytes of a text as people read them.
 //!
 //! A text on air is a list of bytes. Its printed form is UTF-8, in which each byte is a character of one fixed table or
-//! an escape such as `\x0D`. Reading the printed form gives the bytes again. Nothing here allocates memory. A `Told`
-//! counts its calls of `read_one` and `write_one` that failed.
+//! an escape such as `\x0D`. Reading the printed form gives the bytes again. Nothing here allocates memory.
 //!
 //! `write_text` writes exactly the printed form. If a write fails, it has written a first part of it:
 //!
@@ -12,21 +11,15 @@
 #![tactic(auto)]
 
 mod display;
-mod hexadecimal;
 mod laws;
-mod lines;
 mod printing;
 mod reading;
 mod table;
-mod told;
 
 pub use display::push_displayed;
-pub use hexadecimal::{digits_of_four, four_words, word_at};
 pub use laws::{
     displayed_takes_three, printed_is_read_back, printed_is_text, printed_takes_four,
     text_is_read_one_way,
 };
-pub use lines::Lines;
 pub use printing::{push_text, write_text};
 pub use reading::{Stop, TextFault, measure_text, read_text};
-pub use told::{TellingRead, TellingWrite, Told, WriteFault, put};

@@ -1,13 +1,13 @@
 //! The printed form of a text, written and appended.
 
 ghost use Rattle.std.specs.Prelude.{◌≡◌, ◌≤◌, ◌<◌, ◌+◌, ◌*◌, ◌++◌, length};
-ghost use Rattle.rds_charset.specs.Printed.{printed, printed_byte, shown_character, upper_digit};
-ghost use Rattle.rds_charset.specs.Puts.{Puts};
-ghost use Rattle.rds_charset.specs.Told.{traffic};
+ghost use Rattle.rds_charset.specs.Printed.{printed, printed_byte, shown_character};
+ghost use Rattle.rds_io.specs.Digits.{upper_digit};
+ghost use Rattle.rds_io.specs.Puts.{Puts};
+ghost use Rattle.rds_io.specs.Told.{traffic};
 
 use crate::table::character_of;
-use crate::told::{TellingWrite, WriteFault, put};
-use arrayvec::ArrayVec;
+use rds_io::{Lines, TellingWrite, WriteFault};
 
 /// The most bytes of a text in one chunk.
 const CHUNK: usize = 64;
@@ -29,19 +29,18 @@ pub fn write_text<W: TellingWrite>(bytes: &[u8], writer: &mut W) -> Result<(), W
     ensures { Puts (traffic W.contents W.failures writer.old writer.new) (printed bytes.now) result }
 {
     for chunk in bytes.chunks(CHUNK) {
-        let mut line = ArrayVec::<u8, ROOM>::new();
+        let mut line = Lines::<ROOM>::new();
         push_text(chunk, &mut line);
-        put(line.as_slice(), writer)?;
+        line.write(writer)?;
     }
     Ok(())
 }
 
-/// Appends the printed form of a text to a line that has room for four bytes for each byte of the text, so that a whole
-/// line can go out in one write.
-pub fn push_text<const N: usize>(text: &[u8], line: &mut ArrayVec<u8, N>)
-    requires { length line.old.items + 4 * length text.now ≤ N }
-    ensures printed { line.new.items ≡ line.old.items ++ printed text.now }
-    ensures room { length line.new.items ≤ length line.old.items + 4 * length text.now }
+/// Appends the printed form of a text, at most four bytes for each byte of the text.
+pub fn push_text<const N: usize>(text: &[u8], line: &mut Lines<N>)
+    requires { length line.old + 4 * length text.now ≤ N }
+    ensures printed { line.new ≡ line.old ++ printed text.now }
+    ensures room { length line.new ≤ length line.old + 4 * length text.now }
 {
     for &byte in text {
         push_byte(byte, line);
@@ -49,19 +48,19 @@ pub fn push_text<const N: usize>(text: &[u8], line: &mut ArrayVec<u8, N>)
 }
 
 /// Appends the printed form of one byte of a text to a line.
-fn push_byte<const N: usize>(byte: u8, line: &mut ArrayVec<u8, N>)
-    requires { length line.old.items + 4 ≤ N }
-    ensures { line.new.items ≡ line.old.items ++ printed_byte byte }
+fn push_byte<const N: usize>(byte: u8, line: &mut Lines<N>)
+    requires { length line.old + 4 ≤ N }
+    ensures { line.new ≡ line.old ++ printed_byte byte }
 {
     match shown_character(byte) {
         Some(character) => {
             let mut utf8 = [0; 4];
             let utf8 = character.encode_utf8(&mut utf8);
-            line.try_extend_from_slice(utf8.as_bytes()).unwrap();
+            line.push(utf8.as_bytes());
         }
         None => {
             let escape = [b'\\', b'x', upper_digit(byte / 16), upper_digit(byte % 16)];
-            line.try_extend_from_slice(&escape).unwrap();
+            line.push(&escape);
         }
     }
 }
@@ -78,7 +77,7 @@ fn shown_character(byte: u8) -> Option<char>
 }
 
 /// Returns the hexadecimal digit of a number below 16, with A to F for 10 to 15.
-pub(crate) fn upper_digit(number: u8) -> u8
+fn upper_digit(number: u8) -> u8
     requires { number < 16 }
     ensures { result ≡ upper_digit number }
 {

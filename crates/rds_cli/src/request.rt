@@ -9,8 +9,8 @@ use crate::command_line::whole;
 use clap::error::ErrorKind;
 use clap::{ArgMatches, Error};
 use rds_block::Place;
-use rds_charset::word_at;
 use rds_fields::{Dwell, Late};
+use rds_io::word_at;
 use std::alloc::Global;
 
 /// The programme type and the traffic flag, which every group of a station carries.

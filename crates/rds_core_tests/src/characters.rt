@@ -1,9 +1,9 @@
 //! Tests of what no clause says: the characters themselves, and readers and writers that fail.
 
 use crate::same::same;
-use rds_charset::{
-    Lines, TellingRead, TellingWrite, TextFault, Told, WriteFault, digits_of_four, four_words,
-    read_text, word_at, write_text,
+use rds_charset::{TextFault, push_text, read_text, write_text};
+use rds_io::{
+    Lines, TellingRead, TellingWrite, Told, WriteFault, digits_of_four, four_words, word_at,
 };
 use std::alloc::Global;
 use std::io::{self, ErrorKind, Read, Write};
@@ -230,7 +230,7 @@ fn words_of_a_line(rt: HostRuntime) {
     line.push(b" ");
     line.push_number(2140);
     line.push(b" ");
-    line.push_text(&[0x48, 0x22]);
+    push_text(&[0x48, 0x22], &mut line);
     same(
         &rt,
         line.bytes(),

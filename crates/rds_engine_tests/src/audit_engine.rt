@@ -2,10 +2,9 @@
 
 use crate::logs::{Endless, LINE, ONE_BYTE};
 use crate::same::same;
-use rds_charset::Told;
 use rds_fields::{Dwell, Late};
+use rds_io::{LogFault, Told};
 use rds_log::audit_within;
-use rds_view_lines::LogFault;
 use std::alloc::Global;
 use std::cell::Cell;
 use std::io::Read;
@@ -27,7 +26,7 @@ fn on_time() -> Result<Late, Fail> {
     Ok(Late::new(0).ok_or("late")?)
 }
 
-/// The answer to a log that may be read so many times, and how many bytes are written.
+/// Audits with at most `most` reads. Returns the answer and the number of written bytes.
 fn audited_within(
     reader: impl Read + Drop,
     alloc: Global,

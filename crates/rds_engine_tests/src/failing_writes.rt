@@ -3,11 +3,10 @@
 use crate::logs::{TWO_LINES, TWO_TEXTS};
 use crate::same::same;
 use crate::scripts::{ENCODED, ENCODED_LOG, SIMULATED, SIMULATED_OUTPUT, config};
-use rds_charset::Told;
 use rds_fields::{Dwell, Late};
+use rds_io::{LogFault, Told};
 use rds_log::{audit, decode};
 use rds_script::{encode, simulate};
-use rds_view_lines::LogFault;
 use std::alloc::Global;
 use std::cell::Cell;
 use std::io::{self, ErrorKind, Write};

@@ -1,12 +1,11 @@
 //! Tests of the notes on a log. The expected notes are written by hand.
 
 use rds_audit::{AuditFault, LogStart};
-use rds_charset::Told;
 use rds_fields::{Dwell, Late};
+use rds_io::{LogFault, Told};
 use rds_log::{
     LineCause, LogNotes, MOST_READS, NoNote, audit_with_notes, decode_with_notes, gather,
 };
-use rds_view_lines::LogFault;
 use rds_witness::witness_with_notes;
 use std::test::Fail;
 

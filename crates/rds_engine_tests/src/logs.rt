@@ -1,10 +1,9 @@
 //! Logs without an end, and readers and writers that are slow, or fail.
 
 use crate::same::same;
-use rds_charset::{TellingRead, Told};
 use rds_fields::Dwell;
+use rds_io::{LogFault, TellingRead, Told};
 use rds_log::{decode, decode_within};
-use rds_view_lines::LogFault;
 use std::alloc::Global;
 use std::cell::Cell;
 use std::io::{self, ErrorKind, Read, Write};
@@ -43,7 +42,7 @@ impl Read for Endless<'_> {
     }
 }
 
-/// As many reads are made as may be, and not one more. A line that never ends writes nothing.
+/// The engine makes exactly the allowed number of reads. A line that never ends writes nothing.
 #[test]
 fn too_long(rt: HostRuntime) -> Result<(), Fail> {
     let shown = b"0 text \"HI\"\n".as_slice();

@@ -3,13 +3,12 @@
 use crate::failing_writes::Stubborn;
 use crate::same::same;
 use crate::scripts::{ENCODED, ENCODED_LOG, SIMULATED, SIMULATED_OUTPUT, config};
-use rds_charset::Told;
 use rds_encoder::Refusal;
 use rds_fields::Late;
+use rds_io::{LogFault, Told};
 use rds_script::{
     BadRow, MOST_RECORDS, RowCause, ScriptNotes, Thing, Wait, encode, play_script, simulate,
 };
-use rds_view_lines::LogFault;
 use std::alloc::Global;
 use std::cell::Cell;
 use std::process::Abort;

@@ -2,11 +2,10 @@
 
 use crate::same::same;
 use rds_block::Place;
-use rds_charset::{TellingRead, Told};
 use rds_fields::{Dwell, Head, Late};
+use rds_io::{LogFault, TellingRead, Told};
 use rds_log::audit;
 use rds_script::{encode, simulate};
-use rds_view_lines::LogFault;
 use rds_world::Config;
 use std::alloc::Global;
 use std::cell::Cell;

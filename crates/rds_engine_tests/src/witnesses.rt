@@ -2,10 +2,9 @@
 
 use crate::logs::{Endless, LINE};
 use crate::same::same;
-use rds_charset::Told;
 use rds_fields::Dwell;
+use rds_io::{LogFault, Told};
 use rds_log::{LogNotes, MOST_READS, gather};
-use rds_view_lines::LogFault;
 use rds_witness::witness;
 use std::alloc::Global;
 use std::cell::Cell;

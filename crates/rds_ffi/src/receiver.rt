@@ -64,8 +64,8 @@ pub extern "C" fn rdsrt_receiver_slot(receiver: &mut StoredReceiver, blocks: &[u
     go_on(receiver, slot)
 }
 
-/// Handles a slot with a receiver that is rebuilt for it. The function is not inlined, so that slots without a change
-/// pay nothing for it.
+/// Handles a slot with a receiver that is rebuilt for it.
+// Cold path.
 #[inline(never)]
 fn go_on(receiver: &mut StoredReceiver, slot: Option<Blocks>) -> u32
     ensures few { (result ≡ RDSRT_OK) ⊎ (result ≡ RDSRT_CHANGED) }

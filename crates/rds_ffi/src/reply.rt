@@ -7,8 +7,8 @@ use rds_assembly::TextRefused;
 use rds_encoder::Refusal;
 use rds_fields::Which;
 
-/// The reply to a set: its code and, with some codes, a number: of slots to wait, or the place of the byte that is
-/// refused.
+/// The reply to a set. `number` is the slots to wait (`RDSRT_SILENT`, `RDSRT_HELD`), the place of the byte
+/// (`RDSRT_BAD_BYTE`), or 0.
 #[repr(C)]
 #[derive(Clone, Copy)]
 pub struct RdsrtReply {

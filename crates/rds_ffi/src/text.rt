@@ -8,9 +8,9 @@ ghost use Rattle.rds_ffi.specs.Codes.{RDSRT_TOO_LONG};
 ghost use Rattle.rds_ffi.specs.Texts.{IsToldBy};
 
 use crate::codes;
-use arrayvec::ArrayVec;
 use rds_assembly::LONGEST_TEXT;
 use rds_charset::{TextFault, push_displayed, push_text, read_text};
+use rds_io::Lines;
 use std::str;
 
 /// The most bytes of a text in its printed form.
@@ -41,9 +41,9 @@ pub extern "C" fn rdsrt_text_to_utf8(text: &[u8], into: &mut [u8], count: &mut u
     if text.len() > LONGEST_TEXT {
         return codes::TOO_LONG;
     }
-    let mut line = ArrayVec::<u8, ROOM>::new();
+    let mut line = Lines::<ROOM>::new();
     push_text(text, &mut line);
-    put_whole(line.as_slice(), into, count)
+    put_whole(line.bytes(), into, count)
 }
 
 /// Writes a text of up to 64 bytes as a display shows it, which is UTF-8, and returns the number of its bytes.
@@ -68,9 +68,9 @@ pub extern "C" fn rdsrt_text_to_display(text: &[u8], into: &mut [u8], count: &mu
     if text.len() > LONGEST_TEXT {
         return codes::TOO_LONG;
     }
-    let mut line = ArrayVec::<u8, DISPLAY_ROOM>::new();
+    let mut line = Lines::<DISPLAY_ROOM>::new();
     push_displayed(text, &mut line);
-    put_whole(line.as_slice(), into, count)
+    put_whole(line.bytes(), into, count)
 }
 
 /// Writes these bytes to the front of the slice, if they fit, and returns their number.

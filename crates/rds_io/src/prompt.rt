@@ -3,7 +3,7 @@
 ghost use Rattle.std.specs.Prelude.{◌≡◌, true};
 ghost use Rattle.std.specs.Io.KnownBytes.{IsAtEnd};
 
-use rds_charset::{TellingWrite, put};
+use crate::{TellingWrite, put};
 use std::io::{self, Read};
 
 /// A reader that prints a line before its first read, if there is one. At the end of its input it stops reading, so

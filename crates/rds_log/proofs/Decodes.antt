@@ -5,9 +5,9 @@ use Rattle.std.proofs.lemmas.List.{append-nil}
 use Rattle.std.proofs.KnownBytes.{Appends-trans}
 use Rattle.std.specs.Io.KnownBytes.{Appends, Consumes}
 use Rattle.rds_block.specs.declared.group.Group.{Group}
-use Rattle.rds_charset.specs.Told.{AppendsPrefix, Failed, Traffic}
-use Rattle.rds_charset.specs.Puts.{AppendsPrefix-append, Puts}
-use Rattle.rds_charset.specs.declared.told.WriteFault.{WriteFault}
+use Rattle.rds_io.specs.Told.{AppendsPrefix, Failed, Traffic}
+use Rattle.rds_io.specs.Puts.{AppendsPrefix-append, Puts}
+use Rattle.rds_io.specs.declared.told.WriteFault.{WriteFault}
 use Rattle.rds_receiver.specs.Receipts.{Tuning}
 use Rattle.rds_log.specs.LogLines.{Line}
 use Rattle.rds_log.specs.LineSays.{LineSays}
@@ -18,8 +18,8 @@ use Rattle.rds_log.specs.Inside.Source.{HasNoNext, IsBadLineFault, IsInside, IsT
 use Rattle.rds_log.specs.Decode.{Decodes, WroteLines, WrotePart}
 use Rattle.rds_log.specs.Inside.Decoder.{HasDecoded}
 use Rattle.rds_log.specs.declared.decoder.Decoder.{Decoder}
-use Rattle.rds_view_lines.specs.declared.fault.LogFault.{LogFault}
-use Rattle.rds_view_lines.specs.declared.fault.LogFault.TheVariants.{BadLine, BadRow, Read, Write, TooLong, Memory}
+use Rattle.rds_io.specs.declared.fault.LogFault.{LogFault}
+use Rattle.rds_io.specs.declared.fault.LogFault.TheVariants.{BadLine, BadRow, Read, Write, TooLong, Memory}
 use Rattle.rds_log.specs.declared.log_line.LogLine.TheVariants.{Slot}
 use Rattle.rds_log.specs.declared.source.Source.{Source}
 use Rattle.rds_log.specs.declared.decoder.ViewLines.{ViewLines}

@@ -1,14 +1,14 @@
 -- How the output of a filler goes on: it waits, it is written, or the writer fails at it.
 use Rattle.std.proofs.Common.{◌≡◌, ◌⊎◌, ◌+◌, ◌<◌, ◌≤◌, ℕ, zero, suc, List, [], ◌∷◌, ◌++◌, Option, Some, None, append_assoc, add-one, ap, sym, subst, ◌∙◌, refl, inl, inr, arith, codes, take}
 use Rattle.std.specs.Prelude.{Err, MatchResult, Ok, OnOk, Result, length, nat_lt}
-use Rattle.rds_charset.specs.declared.told.WriteFault.{WriteFault}
+use Rattle.rds_io.specs.declared.told.WriteFault.{WriteFault}
 use Rattle.std.proofs.lemmas.Bool.{cases_lt}
 use Rattle.std.proofs.lemmas.List.{append-nil}
 use Rattle.std.proofs.KnownBytes.{Appends-trans}
 use Rattle.std.specs.Io.KnownBytes.{Appends}
 use Rattle.rds_block.specs.declared.group.Group.{Group}
-use Rattle.rds_charset.specs.Told.{AppendsPrefix, Failed, Traffic}
-use Rattle.rds_charset.specs.Puts.{AppendsPrefix-append, AppendsPrefix-longer, Puts}
+use Rattle.rds_io.specs.Told.{AppendsPrefix, Failed, Traffic}
+use Rattle.rds_io.specs.Puts.{AppendsPrefix-append, AppendsPrefix-longer, Puts}
 use Rattle.rds_arrivals.specs.Arrivals.{Arrival, lost_before}
 use Rattle.rds_arrivals.specs.declared.stamp.Stamp.{Stamp}
 use Rattle.rds_log.specs.LogLines.{Line}

@@ -3,7 +3,7 @@ use Rattle.std.proofs.Common.{◌≡◌, ◌⊎◌, ◌+◌, ◌-◌, ◌<◌, �
 use Rattle.std.specs.Prelude.{IfNone, IfSome}
 use Rattle.std.proofs.lemmas.List.{take_all, length-take, get_or-take}
 use Rattle.rds_block.specs.declared.group.Group.{Group}
-use Rattle.rds_charset.specs.Digits.{HasWord}
+use Rattle.rds_io.specs.Digits.{HasWord}
 use Rattle.rds_log.specs.LogLines.{Line, content_length, ends_with_return}
 use Rattle.rds_log.specs.LineSays.{HasDashes, IsBad, IsBlock, IsLaidOut, LineSays, SaysSlot}
 use Rattle.rds_log.specs.declared.log_line.Block.{Block}

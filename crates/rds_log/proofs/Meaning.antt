@@ -3,7 +3,7 @@ use Rattle.std.proofs.Common.{◌≡◌, ◌+◌, ◌<◌, ℕ, Bool, true, fals
 use Rattle.std.proofs.Math.Nat.{le_refl}
 use Rattle.std.specs.Prelude.{Result}
 use Rattle.rds_block.specs.declared.group.Group.{Group}
-use Rattle.rds_charset.specs.Told.{Traffic}
+use Rattle.rds_io.specs.Told.{Traffic}
 use Rattle.rds_fields.specs.declared.message.Message.{Message}
 use Rattle.rds_audit.specs.AuditLaws.{WhatPassesAsARecordingIsSafe, WhatPassesIsSafe}
 use Rattle.rds_audit.specs.Recording.{IsJudgedAs, from_first_text, preceded}
@@ -13,7 +13,7 @@ use Rattle.rds_audit.specs.declared.log_start.LogStart.{LogStart}
 use Rattle.rds_audit.specs.declared.log_start.LogStart.TheVariants.{Complete, Running}
 use Rattle.rds_log.specs.Audit.{Audits, IsSafe, Means, SlotsAreSafe, SlotsFail, SlotsHaveNoPlans, SlotsPass}
 use Rattle.rds_log.specs.declared.verdict.Verdict.TheVariants.{Yes, No}
-use Rattle.rds_view_lines.specs.declared.fault.LogFault.{LogFault}
+use Rattle.rds_io.specs.declared.fault.LogFault.{LogFault}
 
 -- a log that passes is safe as it is
 pub safe_as_it_is : WhatPassesIsSafe → WhatPassesAsARecordingIsSafe → (start : LogStart) (m k : ℕ) (heard : List (Option Message)) → 0 < m

@@ -4,8 +4,8 @@ use Rattle.rds_log.specs.LogLines.{Line}
 use Rattle.rds_log.specs.Inside.Source.{HasNoNext, ReaderState, since}
 use Rattle.rds_log.specs.Notes.{HasNote, NotesFault}
 use Rattle.rds_log.specs.declared.notes.BadStart.{BadStart}
-use Rattle.rds_view_lines.specs.declared.fault.LogFault.{LogFault}
-use Rattle.rds_view_lines.specs.declared.fault.LogFault.TheVariants.{BadLine, BadRow, Read, Write, TooLong, Memory}
+use Rattle.rds_io.specs.declared.fault.LogFault.{LogFault}
+use Rattle.rds_io.specs.declared.fault.LogFault.TheVariants.{BadLine, BadRow, Read, Write, TooLong, Memory}
 
 pub fault_noted : (most : ℕ) (start now : ReaderState) (lines : List Line) (first : List ℕ) (fault : LogFault) (noted : Option BadStart) → HasNoNext most start now lines first fault
     → HasNote first fault noted → NotesFault (since start now) fault noted

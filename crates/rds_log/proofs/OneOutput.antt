@@ -12,8 +12,8 @@ use Rattle.rds_receiver.specs.Receipts.{Tuning}
 use Rattle.rds_receiver.specs.Shown.{ShownView}
 use Rattle.rds_receiver.specs.OneView.{same_view}
 use Rattle.rds_view_lines.specs.Output.{changes_of}
-use Rattle.rds_charset.specs.Told.{Traffic}
-use Rattle.rds_view_lines.specs.Alike.{WriteAlike}
+use Rattle.rds_io.specs.Told.{Traffic}
+use Rattle.rds_io.specs.Alike.{WriteAlike}
 use Rattle.rds_log.specs.LogWrites.{AreSlots, AreViews, LogWrites}
 use Rattle.rds_log.specs.Decode.{DecodesAll}
 use Rattle.rds_log.proofs.WholeBytes.{read_whole}

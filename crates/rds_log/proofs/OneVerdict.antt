@@ -6,7 +6,7 @@ use Rattle.std.proofs.lemmas.Bool.Decides.{eqb_tells}
 use Rattle.std.proofs.lemmas.List.{append-nil}
 use Rattle.std.proofs.lemmas.List.Elements.{All-append, All-cons, All-nil}
 use Rattle.rds_block.specs.declared.group.Group.{Group}
-use Rattle.rds_charset.specs.Told.{Traffic}
+use Rattle.rds_io.specs.Told.{Traffic}
 use Rattle.rds_fields.specs.declared.message.Message.{Message}
 use Rattle.rds_receiver.specs.OneView.{same_heard}
 use Rattle.rds_receiver.specs.Receipts.{AreHeard}
@@ -16,7 +16,7 @@ use Rattle.rds_audit.specs.Judging.{judged_more, some_judged}
 use Rattle.rds_audit.specs.Rules.{IsFaultOf}
 use Rattle.rds_audit.specs.declared.log_start.LogStart.{LogStart}
 use Rattle.rds_audit.specs.declared.audit.AuditFault.{AuditFault}
-use Rattle.rds_view_lines.specs.Alike.{WriteAlike}
+use Rattle.rds_io.specs.Alike.{WriteAlike}
 use Rattle.rds_log.specs.Audit.{AnswersVerdictOf, Audits, IsVerdictOf, IsYes, SlotsFail, SlotsPass, AuditStopsAtSlot, WholePasses, verdict_line}
 use Rattle.rds_log.specs.LogWrites.{AreSlots}
 use Rattle.rds_log.specs.Reads.{BeginsWith}

@@ -6,7 +6,7 @@ use Rattle.std.specs.Prelude.{◌≡◌, ◌↔◌, ◌+◌, ◌++◌, ◌∷◌
 use Rattle.std.specs.Prelude.{ℕ, Bool, true, false, List, IsTrue, Ok, Err, Result, None, Some, codes, decimal, length, Option}
 use Rattle.std.specs.Io.KnownBytes.{Appends, Consumes, IsAtEnd}
 use Rattle.rds_block.specs.declared.group.Group.{Group}
-use Rattle.rds_charset.specs.Told.{AppendsPrefix, HasFailed, IsCalm, PutsNothing, Traffic}
+use Rattle.rds_io.specs.Told.{AppendsPrefix, HasFailed, IsCalm, PutsNothing, Traffic}
 use Rattle.rds_fields.specs.declared.message.Message.{Message}
 use Rattle.rds_receiver.specs.Receipts.{AreHeard}
 use Rattle.rds_audit.specs.AuditLaws.{IsSafeLog, IsSafeRecording}
@@ -23,8 +23,8 @@ use Rattle.rds_audit.specs.declared.log_start.LogStart.TheVariants.{Complete, Ru
 use Rattle.rds_log.specs.LogLines.{AreLines, Line}
 use Rattle.rds_log.specs.LogWrites.{AreSlots}
 use Rattle.rds_log.specs.Reads.{BeginsWith, NextIsBad, ReadsUpTo}
-use Rattle.rds_view_lines.specs.declared.fault.LogFault.{LogFault}
-use Rattle.rds_view_lines.specs.declared.fault.LogFault.TheVariants.{BadLine, BadRow, Read, Write, TooLong, Memory}
+use Rattle.rds_io.specs.declared.fault.LogFault.{LogFault}
+use Rattle.rds_io.specs.declared.fault.LogFault.TheVariants.{BadLine, BadRow, Read, Write, TooLong, Memory}
 use Rattle.rds_log.specs.declared.verdict.Verdict.{Verdict}
 use Rattle.rds_log.specs.declared.verdict.Verdict.TheVariants.{Yes, No}
 

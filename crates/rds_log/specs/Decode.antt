@@ -2,13 +2,13 @@
 -- first. r is the traffic with the reader, w the traffic with the writer.
 use Rattle.std.specs.Prelude.{ℕ, List, Ok, Err, Result, Option}
 use Rattle.std.specs.Io.KnownBytes.{Appends, Consumes, IsAtEnd}
-use Rattle.rds_charset.specs.Told.{AppendsPrefix, HasFailed, IsCalm, Traffic}
+use Rattle.rds_io.specs.Told.{AppendsPrefix, HasFailed, IsCalm, Traffic}
 use Rattle.rds_receiver.specs.Receipts.{Tuning}
 use Rattle.rds_log.specs.LogLines.{Line}
 use Rattle.rds_log.specs.LogWrites.{LinesWrite, LogWrites}
 use Rattle.rds_log.specs.Reads.{BeginsWith, NextIsBad, ReadsUpTo}
-use Rattle.rds_view_lines.specs.declared.fault.LogFault.{LogFault}
-use Rattle.rds_view_lines.specs.declared.fault.LogFault.TheVariants.{BadLine, BadRow, Read, Write, TooLong, Memory}
+use Rattle.rds_io.specs.declared.fault.LogFault.{LogFault}
+use Rattle.rds_io.specs.declared.fault.LogFault.TheVariants.{BadLine, BadRow, Read, Write, TooLong, Memory}
 
 -- the output of these lines was written
 pub record WroteLines (t : Tuning) (w : Traffic) (lines : List Line) : Type 0 where

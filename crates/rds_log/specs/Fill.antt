@@ -3,15 +3,15 @@
 use Rattle.std.specs.Prelude.{◌≡◌, ◌⊎◌, ◌+◌, ◌^◌, ◌++◌, [], ◌∷◌, ℕ, zero, suc, List, Ok, Err, Result, Option, Some, None, codes, drop, length, nat_lt, take, if◌then◌else◌}
 use Rattle.std.specs.Io.KnownBytes.{Appends, Consumes, IsAtEnd}
 use Rattle.rds_block.specs.declared.group.Group.{Group}
-use Rattle.rds_charset.specs.Told.{AppendsPrefix, HasFailed, IsCalm, Traffic}
+use Rattle.rds_io.specs.Told.{AppendsPrefix, HasFailed, IsCalm, Traffic}
 use Rattle.rds_arrivals.specs.Arrivals.{Arrival, lost_before}
 use Rattle.rds_arrivals.specs.Stamps.{stamp_in}
 use Rattle.rds_arrivals.specs.declared.stamp.Stamp.{Stamp}
 use Rattle.rds_log.specs.LogLines.{AreLines, Line}
 use Rattle.rds_log.specs.LineSays.{LineSays, deciding}
 use Rattle.rds_log.specs.Reads.{BeginsWith, NextIsBad, ReadsUpTo}
-use Rattle.rds_view_lines.specs.declared.fault.LogFault.{LogFault}
-use Rattle.rds_view_lines.specs.declared.fault.LogFault.TheVariants.{BadLine, BadRow, Read, Write, TooLong, Memory}
+use Rattle.rds_io.specs.declared.fault.LogFault.{LogFault}
+use Rattle.rds_io.specs.declared.fault.LogFault.TheVariants.{BadLine, BadRow, Read, Write, TooLong, Memory}
 use Rattle.rds_log.specs.declared.log_line.LogLine.TheVariants.{Skip, Slot}
 
 -- the time of a slot's line: that of its text after the blocks and a space, in the bytes that are kept of a line

@@ -4,7 +4,7 @@ use Rattle.std.specs.Prelude.{ℕ, Bool, List, Option, Some, None, IsTrue, Match
 use Rattle.std.specs.Option.{option_map_or, option_or}
 use Rattle.std.specs.Io.KnownBytes.{Consumes, IsAtEnd}
 use Rattle.rds_block.specs.declared.group.Group.{Group}
-use Rattle.rds_charset.specs.Told.{Traffic}
+use Rattle.rds_io.specs.Told.{Traffic}
 use Rattle.rds_log.specs.LogLines.{AreLines, Line}
 use Rattle.rds_log.specs.LogWrites.{AreSlots}
 use Rattle.rds_log.specs.declared.heard.Heard.{Heard}

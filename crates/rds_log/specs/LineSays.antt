@@ -4,7 +4,7 @@ use Rattle.std.specs.Prelude.{◌≡◌, ◌⊎◌, ◌≤◌, ◌+◌, ℕ, [],
 use Rattle.rds_assembly.specs.Body.{space}
 use Rattle.rds_block.specs.declared.group.Group.{Group}
 use Rattle.rds_block.specs.Words.{AreWordsOf}
-use Rattle.rds_charset.specs.Digits.{HasWord}
+use Rattle.rds_io.specs.Digits.{HasWord}
 use Rattle.rds_log.specs.LogLines.{Line, content_length}
 use Rattle.rds_log.specs.declared.log_line.Block.{Block}
 use Rattle.rds_log.specs.declared.log_line.Block.TheVariants.{Word, Missing}

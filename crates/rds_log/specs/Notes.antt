@@ -2,7 +2,7 @@
 use Rattle.std.specs.Prelude.{◌≡◌, ◌⊎◌, ℕ, List, Option, Some, None, Ok, Err, Result, IfNone, IfSome, take}
 use Rattle.std.specs.Io.KnownBytes.{Consumes}
 use Rattle.rds_audit.specs.declared.log_start.LogStart.{LogStart}
-use Rattle.rds_charset.specs.Told.{Traffic}
+use Rattle.rds_io.specs.Told.{Traffic}
 use Rattle.rds_log.specs.Audit.{Judges}
 use Rattle.rds_log.specs.Heard.{HeardLog}
 use Rattle.rds_log.specs.LineCauses.{AreGoodBlocks, IsLineCause}
@@ -14,8 +14,8 @@ use Rattle.rds_log.specs.declared.notes.NoNote.{NoNote}
 use Rattle.rds_log.specs.declared.notes.LogNotes.{LogNotes}
 use Rattle.rds_log.specs.declared.verdict.Verdict.{Verdict}
 use Rattle.rds_log.specs.declared.verdict.Verdict.TheVariants.{No, Yes}
-use Rattle.rds_view_lines.specs.declared.fault.LogFault.{LogFault}
-use Rattle.rds_view_lines.specs.declared.fault.LogFault.TheVariants.{BadLine, BadRow, Read, Write, TooLong, Memory}
+use Rattle.rds_io.specs.declared.fault.LogFault.{LogFault}
+use Rattle.rds_io.specs.declared.fault.LogFault.TheVariants.{BadLine, BadRow, Read, Write, TooLong, Memory}
 
 -- the note on a line that begins with these bytes: a cause in the note holds of the line. There is no cause only for a
 -- line that is skipped, or whose four blocks are good

@@ -2,11 +2,11 @@
 use Rattle.std.specs.Prelude.{◌≡◌, ◌⊎◌, ◌≤◌, ◌+◌, ◌-◌, ◌*◌, ◌++◌, ◌∷◌, []}
 use Rattle.std.specs.Prelude.{ℕ, Bool, List, All, Err, Result, length, Option, if◌then◌else◌}
 use Rattle.std.specs.Io.KnownBytes.{Consumes, IsAtEnd}
-use Rattle.rds_charset.specs.Told.{Traffic, count_after}
+use Rattle.rds_io.specs.Told.{Traffic, count_after}
 use Rattle.rds_log.specs.LogLines.{AreLines, IsLine, Line, line_feed, text_of}
 use Rattle.rds_log.specs.Inside.Cutter.{IsBadLine}
-use Rattle.rds_view_lines.specs.declared.fault.LogFault.{LogFault}
-use Rattle.rds_view_lines.specs.declared.fault.LogFault.TheVariants.{TooLong}
+use Rattle.rds_io.specs.declared.fault.LogFault.{LogFault}
+use Rattle.rds_io.specs.declared.fault.LogFault.TheVariants.{TooLong}
 
 -- the bytes continue with a line feed, or the reader is at its end
 abbrev pub EndsLine : List ℕ → Option (List ℕ) → Type 0
@@ -19,7 +19,7 @@ BeginsWith text left lines =
     ((line : Line) × (rest : List ℕ) × (text ≡ text_of lines line ++ rest) × All IsLine lines × IsLine line)
     ⊎ (IsAtEnd left × AreLines text lines)
 
--- after these lines comes a malformed one, which is number n
+-- the line after these, number n, is malformed
 pub record NextIsBad (n : ℕ) (lines : List Line) (text : List ℕ) (left : Option (List ℕ)) : Type 0 where
   pub line : Line
   pub rest : List ℕ

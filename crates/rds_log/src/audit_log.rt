@@ -1,12 +1,12 @@
 //! The engine of `audit`: whether the groups of a station pass.
 ghost use Rattle.std.specs.Prelude.{◌≡◌, ◌≢◌, ◌≤◌, ◌+◌, ◌^◌, [], IfErr, None, Ok, false, true};
-ghost use Rattle.rds_charset.specs.Told.{traffic};
+ghost use Rattle.rds_io.specs.Told.{traffic};
 ghost use Rattle.rds_audit.specs.declared.log_start.LogStart.TheVariants as LogStart;
 ghost use Rattle.rds_log.specs.Audit.{Answers, Audits, Judges, Means};
 ghost use Rattle.rds_log.specs.Heard.{HeardLines, HeardLog};
 ghost use Rattle.rds_log.specs.Notes.{NotesFault, NotesNo, NotesVerdict};
 ghost use Rattle.rds_log.specs.Reads.{MadeReads};
-ghost use Rattle.rds_view_lines.specs.declared.fault.LogFault.TheVariants as faults;
+ghost use Rattle.rds_io.specs.declared.fault.LogFault.TheVariants as faults;
 
 use crate::decode_log::MOST_READS;
 use crate::laws::what_an_answer_means;
@@ -15,9 +15,8 @@ use crate::notes::{LogNotes, NoNote};
 use crate::source::Source;
 use crate::verdict::Verdict;
 use rds_audit::{Audit, LogStart};
-use rds_charset::{Lines, TellingRead, TellingWrite, put};
 use rds_fields::{Dwell, Late};
-use rds_view_lines::LogFault;
+use rds_io::{Lines, LogFault, TellingRead, TellingWrite, put};
 
 /// Audits the complete log of a station, one slot a line, and writes the answer line: `yes` with the number of slots, or `no`
 /// with the first slot that breaks a rule and the name of the fault.

@@ -10,7 +10,7 @@ use crate::log_line::{DECIDING, LineStart, LogLine, said_by};
 use crate::notes::BadStart;
 use arrayvec::ArrayVec;
 use memchr::memchr;
-use rds_view_lines::BadLine;
+use rds_io::BadLine;
 use std::simd::prelude::*;
 
 /// How many bytes are searched for a line feed at once.
@@ -103,7 +103,8 @@ impl Cutter {
         self.kept.try_extend_from_slice(&bytes[..count]).unwrap();
     }
 
-    /// Keeps the first bytes of a malformed line. The function is not inlined, so that other lines pay nothing for it.
+    /// Keeps the first bytes of a malformed line.
+    // Cold path.
     #[inline(never)]
     fn keep_bad(&mut self, line: &[u8])
         requires { self.old.kept.items ≡ [] }

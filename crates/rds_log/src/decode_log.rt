@@ -1,6 +1,6 @@
 //! The engine of `decode`: the view of a receiver of a log.
 ghost use Rattle.std.specs.Prelude.{◌≤◌, ◌^◌, IfErr, OnOk};
-ghost use Rattle.rds_charset.specs.Told.{traffic};
+ghost use Rattle.rds_io.specs.Told.{traffic};
 ghost use Rattle.rds_log.specs.Decode.{Decodes};
 ghost use Rattle.rds_log.specs.Heard.{HeardLog};
 ghost use Rattle.rds_log.specs.LogWrites.{tuned};
@@ -11,9 +11,8 @@ use crate::decoder::Decoder;
 use crate::log_line::LogLine;
 use crate::notes::LogNotes;
 use crate::source::Source;
-use rds_charset::{TellingRead, TellingWrite};
 use rds_fields::Dwell;
-use rds_view_lines::LogFault;
+use rds_io::{LogFault, TellingRead, TellingWrite};
 
 /// The most reads of a log. A longer log is too long.
 pub const MOST_READS: u64 = 1 << 32;

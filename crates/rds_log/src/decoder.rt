@@ -2,7 +2,7 @@
 ghost use Rattle.std.specs.Prelude.{◌≡◌, ◌≤◌, ◌<◌, ◌+◌, ◌-◌, ◌^◌, ◌++◌, ◌∷◌, ◌↔◌, []};
 ghost use Rattle.std.specs.Prelude.{ℕ, List, Option, IsOk, IsTrue, MatchResult, OnOk, length};
 ghost use Rattle.rds_block.specs.declared.group.Group.{Group};
-ghost use Rattle.rds_charset.specs.Told.{IsCalm, Traffic, traffic};
+ghost use Rattle.rds_io.specs.Told.{IsCalm, Traffic, traffic};
 ghost use Rattle.rds_receiver.specs.Receipts.{Tuning};
 ghost use Rattle.rds_log.specs.LogLines.{Line};
 ghost use Rattle.rds_log.specs.LineSays.{LineSays};
@@ -11,8 +11,8 @@ ghost use Rattle.rds_log.specs.declared.decoder.TheConstants.{OUTPUT_ROOM};
 
 use crate::log_line::LogLine;
 use rds_block::Blocks;
-use rds_charset::{Lines, TellingWrite, WriteFault};
 use rds_fields::Dwell;
+use rds_io::{Lines, TellingWrite, WriteFault};
 use rds_receiver::Receiver;
 use rds_view_lines::{KeptView, SLOT_ROOM, Stamp, show};
 

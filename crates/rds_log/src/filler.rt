@@ -1,7 +1,7 @@
 //! The lines of a filled log: each group with its time, and a line for each slot that was lost before it.
 ghost use Rattle.std.specs.Prelude.{◌≡◌, ◌≤◌, ◌+◌, ◌++◌, ◌∷◌, [], ℕ, List, Option, IfSome, MatchResult, None, OnOk, codes, length, take};
 ghost use Rattle.rds_block.specs.declared.group.Group.{Group};
-ghost use Rattle.rds_charset.specs.Told.{IsCalm, Traffic, traffic};
+ghost use Rattle.rds_io.specs.Told.{IsCalm, Traffic, traffic};
 ghost use Rattle.rds_log.specs.Fill.{AreFilled, WroteFilledPart, lost_lines, time_of};
 ghost use Rattle.rds_log.specs.LineSays.{LineSays, deciding};
 ghost use Rattle.rds_log.specs.LogLines.{Line};
@@ -9,8 +9,8 @@ ghost use Rattle.rds_log.specs.declared.filler.TheConstants.{FILLED_ROOM, LINE_R
 
 use crate::log_line::LogLine;
 use rds_arrivals::{Break, Grain, Stamp, lost_between, stamp_in};
-use rds_charset::{Lines, TellingWrite, WriteFault};
 use rds_fields::Dwell;
+use rds_io::{Lines, TellingWrite, WriteFault};
 
 /// The most bytes of output that wait to be written.
 const FILLED_ROOM: usize = 8192;

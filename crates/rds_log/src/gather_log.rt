@@ -1,6 +1,6 @@
 //! Keeps all slots of a log in memory.
 ghost use Rattle.std.specs.Prelude.{◌≡◌, ◌≤◌, ◌^◌, IfErr, IfOk, OnOk};
-ghost use Rattle.rds_charset.specs.Told.{traffic};
+ghost use Rattle.rds_io.specs.Told.{traffic};
 ghost use Rattle.rds_log.specs.Gather.{GathersAll, GathersNone};
 ghost use Rattle.rds_log.specs.Heard.{HeardLog};
 ghost use Rattle.rds_log.specs.Notes.{NotesFault};
@@ -10,8 +10,7 @@ use crate::log_line::LogLine;
 use crate::notes::LogNotes;
 use crate::source::Source;
 use rds_block::{Blocks, Group};
-use rds_charset::TellingRead;
-use rds_view_lines::LogFault;
+use rds_io::{LogFault, TellingRead};
 use std::alloc::Global;
 
 /// Reads a log to its end with at most `reads` reads, and returns the group of each of its slots, the oldest first. Takes

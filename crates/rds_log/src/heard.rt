@@ -128,8 +128,8 @@ impl Heard {
         }
     }
 
-    /// Counts a group of this programme. It takes only two numbers and is not inlined, so that the other slots pay
-    /// nothing for it.
+    /// Counts a group of this programme.
+    // Cold path.
     #[inline(never)]
     fn count(&mut self, pi: u16, own: u16)
         requires groups { self.old.groups < 2 ^ 64 - 1 }

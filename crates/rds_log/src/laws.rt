@@ -1,9 +1,9 @@
 //! The laws of logs.
 ghost use Rattle.std.specs.Prelude.{◌≡◌, ◌+◌, ◌<◌, ℕ, Bool, List, Ok, Option, Some};
 ghost use Rattle.rds_block.specs.declared.group.Group.{Group};
-ghost use Rattle.rds_charset.specs.Told.{Traffic};
+ghost use Rattle.rds_io.specs.Told.{Traffic};
 ghost use Rattle.rds_receiver.specs.Receipts.{Tuning};
-ghost use Rattle.rds_view_lines.specs.Alike.{WriteAlike};
+ghost use Rattle.rds_io.specs.Alike.{WriteAlike};
 ghost use Rattle.rds_log.specs.Audit.{AnswersVerdictOf, Audits, IsVerdictOf, SlotsAreSafe};
 ghost use Rattle.rds_log.specs.Audit.{SlotsFail, SlotsHaveNoPlans, SlotsPass};
 ghost use Rattle.rds_log.specs.LineCauses.{IsLineCause};

@@ -9,7 +9,7 @@ ghost use Rattle.rds_log.specs.LineSays.{IsSkipped, LineSays, SaysSlot, block_wo
 
 use arrayvec::ArrayVec;
 use rds_block::Blocks;
-use rds_charset::{four_words, word_at};
+use rds_io::{four_words, word_at};
 
 /// The number of bytes of the four blocks of a slot line and the spaces between them.
 const BLOCKS: usize = 19;
@@ -76,7 +76,8 @@ fn group_of(line: &[u8]) -> Option<Blocks>
     Some(Blocks::new(words))
 }
 
-/// Returns the meaning of any line. The function is not inlined, so that most lines pay nothing for it.
+/// Returns the meaning of any line.
+// Cold path.
 #[inline(never)]
 fn said_otherwise(line: &[u8]) -> Option<LogLine>
     ensures some { IfSome result (LineSays line.now) }
@@ -137,8 +138,8 @@ fn is_laid_out(line: &[u8], length: usize) -> bool
         && (length == BLOCKS || line[BLOCKS] == b' ')
 }
 
-/// Returns the group of a line's four blocks. `None` if a block is malformed. The function is not inlined, so that
-/// lines without such blocks pay nothing for it.
+/// Returns the group of a line's four blocks. `None` if a block is malformed.
+// Cold path.
 #[inline(never)]
 fn slot_of_blocks(line: &[u8]) -> Option<Option<Blocks>>
     requires { 19 ≤ length line.now }

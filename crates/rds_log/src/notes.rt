@@ -49,8 +49,8 @@ pub struct Pause {
 }
 
 impl NoNote {
-    /// Returns the note on the slot of this line, at which an audit stopped. The function is not inlined, so that slots
-    /// that pass pay nothing for it.
+    /// Returns the note on the slot of this line, at which an audit stopped.
+    // Cold path.
     #[inline(never)]
     pub(crate) fn of(
         audit: &Audit,

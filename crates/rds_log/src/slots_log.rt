@@ -7,9 +7,8 @@ use crate::notes::BadStart;
 use crate::source::Source;
 use arrayvec::ArrayVec;
 use rds_arrivals::Grain;
-use rds_charset::{TellingRead, TellingWrite};
 use rds_fields::Dwell;
-use rds_view_lines::LogFault;
+use rds_io::{LogFault, TellingRead, TellingWrite};
 
 /// Notes of `slots` for a person.
 #[derive(Drop)]

@@ -4,13 +4,12 @@ ghost use Rattle.std.specs.Prelude.{ℕ, List, None, Some, IfErr, IfOk, IsTrue, 
 ghost use Rattle.rds_log.specs.LogLines.{Line};
 ghost use Rattle.rds_log.specs.Notes.{HasNote};
 ghost use Rattle.rds_log.specs.Reads.{MadeReads, to_come};
-ghost use Rattle.rds_view_lines.specs.declared.fault.LogFault.TheVariants as faults;
+ghost use Rattle.rds_io.specs.declared.fault.LogFault.TheVariants as faults;
 
 use crate::cutter::{Cutter, line_end};
 use crate::log_line::{LineStart, LogLine};
 use crate::notes::BadStart;
-use rds_charset::TellingRead;
-use rds_view_lines::{BadLine, LogFault};
+use rds_io::{BadLine, LogFault, TellingRead};
 
 /// The number of bytes of one read.
 const CHUNK: usize = 65536;
@@ -154,8 +153,8 @@ impl Source {
         self.cutter.lines
     }
 
-    /// Returns the note on a fault of this source: the first bytes of a malformed line, and why it is malformed. The
-    /// function is not inlined, so that good lines pay nothing for it.
+    /// Returns the note on a fault of this source: the first bytes of a malformed line, and why it is malformed.
+    // Cold path.
     #[inline(never)]
     pub(crate) fn note(&self, fault: LogFault) -> Option<BadStart>
         ensures { HasNote self.now.cutter.kept.items fault result }

@@ -3,7 +3,7 @@ ghost use Rattle.std.specs.Prelude.{◌≡◌, ◌≤◌, ◌+◌, ◌++◌, ◌
 ghost use Rattle.rds_log.specs.Audit.{IsYes, fault_name, verdict_line};
 
 use rds_audit::AuditFault;
-use rds_charset::Lines;
+use rds_io::Lines;
 
 /// The most bytes of the line of a verdict.
 pub(crate) const ANSWER_ROOM: usize = 64;

@@ -5,7 +5,7 @@ use Rattle.clap.specs.Words.{FailsBy, fault_of, kind_of}
 use Rattle.clap.specs.declared.error.Error.{Error}
 use Rattle.clap.specs.declared.error.kind.ErrorKind.{ErrorKind}
 use Rattle.clap.specs.declared.error.kind.ErrorKind.TheVariants.{DisplayHelp, DisplayVersion, OutOfMemory}
-use Rattle.rds_charset.specs.Told.{Traffic}
+use Rattle.rds_io.specs.Told.{Traffic}
 use Rattle.rds_log.specs.LogWrites.{tuned}
 use Rattle.rds_receiver.specs.Receipts.{Tuning}
 use Rattle.rds_cli.specs.Asks.{asked_by}

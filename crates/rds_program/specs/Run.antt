@@ -6,19 +6,19 @@ use Rattle.clap.specs.Words.{kind_of}
 use Rattle.clap.specs.declared.error.Error.{Error}
 use Rattle.clap.specs.declared.error.kind.ErrorKind.{ErrorKind}
 use Rattle.clap.specs.declared.error.kind.ErrorKind.TheVariants.{OutOfMemory}
-use Rattle.rds_charset.specs.Puts.{Puts}
-use Rattle.rds_charset.specs.Told.{HasFailed, PutsNothing, Traffic}
-use Rattle.rds_charset.specs.declared.told.WriteFault.{WriteFault}
+use Rattle.rds_io.specs.Puts.{Puts}
+use Rattle.rds_io.specs.Told.{HasFailed, PutsNothing, Traffic}
+use Rattle.rds_io.specs.declared.told.WriteFault.{WriteFault}
 use Rattle.rds_receiver.specs.Receipts.{Tuning}
 use Rattle.rds_world.specs.declared.world.Config.{Config}
 use Rattle.rds_audit.specs.AuditState.{start_if}
 use Rattle.rds_log.specs.Audit.{Audits}
 use Rattle.rds_log.specs.Decode.{Decodes}
 use Rattle.rds_log.specs.LogWrites.{tuned}
-use Rattle.rds_view_lines.specs.ReadFailed.{SomeReadFailed}
+use Rattle.rds_io.specs.ReadFailed.{SomeReadFailed}
 use Rattle.rds_script.specs.Play.{Plays, Reading}
-use Rattle.rds_view_lines.specs.declared.fault.LogFault.{LogFault}
-use Rattle.rds_view_lines.specs.declared.fault.LogFault.TheVariants.{BadLine, BadRow, Read, Write, TooLong, Memory}
+use Rattle.rds_io.specs.declared.fault.LogFault.{LogFault}
+use Rattle.rds_io.specs.declared.fault.LogFault.TheVariants.{BadLine, BadRow, Read, Write, TooLong, Memory}
 use Rattle.rds_script.specs.declared.form.Form.TheVariants.{Log, Simulation}
 use Rattle.rds_witness.specs.Witness.{Witnesses}
 use Rattle.rds_cli.specs.Asks.{asked_by}

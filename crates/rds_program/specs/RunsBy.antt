@@ -2,11 +2,11 @@
 use Rattle.std.proofs.Common.{◌^◌, arith, inl, inr}
 use Rattle.std.proofs.Math.Logic.{∥∥₁_elim}
 use Rattle.std.specs.Prelude.{ℕ, List, Option}
-use Rattle.rds_charset.specs.Told.{Failed, Traffic}
+use Rattle.rds_io.specs.Told.{Failed, Traffic}
 use Rattle.rds_receiver.specs.Receipts.{Tuning}
 use Rattle.rds_world.specs.declared.world.Config.{Config}
 use Rattle.rds_log.specs.LogWrites.{tuned}
-use Rattle.rds_view_lines.specs.ReadFailed.{SomeReadFailed}
+use Rattle.rds_io.specs.ReadFailed.{SomeReadFailed}
 use Rattle.rds_script.specs.BorrowedReads.{plays_by}
 use Rattle.rds_script.specs.Play.{Plays}
 use Rattle.rds_script.specs.declared.form.Form.{Form}

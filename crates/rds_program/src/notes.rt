@@ -3,9 +3,9 @@
 use arrayvec::ArrayVec;
 use rds_cli::Task;
 use rds_fields::Dwell;
+use rds_io::LogFault;
 use rds_log::{LogNotes, SlotNotes};
 use rds_script::ScriptNotes;
-use rds_view_lines::LogFault;
 
 /// The most bytes that are kept of a refusal. Refusals of arguments of a usual length are shorter.
 const REFUSED_ROOM: usize = 4096;

@@ -1,9 +1,9 @@
 //! The whole program over its arguments.
 ghost use Rattle.std.specs.Prelude.{◌≡◌, ◌⊎◌, ◌≤◌, ◌+◌, ◌^◌, ◌++◌, ℕ};
 ghost use Rattle.std.specs.Prelude.{None, codes, decimal, false, true, if◌then◌else◌, length, map};
-ghost use Rattle.rds_charset.specs.Told.{PutsNothing, Traffic, traffic};
+ghost use Rattle.rds_io.specs.Told.{PutsNothing, Traffic, traffic};
 ghost use Rattle.rds_log.specs.LogWrites.{tuned};
-ghost use Rattle.rds_view_lines.specs.ReadFailed.{SomeReadFailed};
+ghost use Rattle.rds_io.specs.ReadFailed.{SomeReadFailed};
 ghost use Rattle.clap.specs.Words.{kind_of};
 ghost use Rattle.rds_audit.specs.AuditState.{start_if};
 ghost use Rattle.rds_cli.specs.CommandLine.{IsPi};
@@ -18,12 +18,11 @@ use clap::Error;
 use clap::error::ErrorKind;
 use rds_arrivals::Grain;
 use rds_audit::LogStart;
-use rds_charset::{Lines, TellingRead, TellingWrite, put};
 use rds_cli::{Programme, Request, Task, identification_of, read_words};
 use rds_fields::{Dwell, Head, Late};
+use rds_io::{Lines, LogFault, TellingRead, TellingWrite, put};
 use rds_log::{MOST_READS, audit_with_notes, decode_with_notes, fill_with_notes};
 use rds_script::{Form, MOST_RECORDS, play_script};
-use rds_view_lines::LogFault;
 use rds_witness::witness_with_notes;
 use rds_world::Config;
 use std::alloc::Global;

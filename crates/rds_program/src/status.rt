@@ -1,9 +1,9 @@
 //! The exit statuses, and the ends of a run without an engine.
 ghost use Rattle.std.specs.Prelude.{◌≡◌, codes, false, true};
-ghost use Rattle.rds_charset.specs.Told.{traffic};
+ghost use Rattle.rds_io.specs.Told.{traffic};
 ghost use Rattle.rds_program.specs.Run.{PutsLine};
 
-use rds_charset::{TellingWrite, Told, put};
+use rds_io::{TellingWrite, Told, put};
 use std::io::Write;
 
 /// The status if all was done, if the audit answers yes, or if help was asked for.

@@ -3,12 +3,11 @@
 use crate::notes::{End, RunNotes};
 use arrayvec::ArrayVec;
 use rds_audit::AuditFault;
-use rds_charset::{TellingWrite, put};
 use rds_cli::Task;
 use rds_encoder::Refusal;
+use rds_io::{LogFault, TellingWrite, put};
 use rds_log::{BadStart, NoNote};
 use rds_script::Thing;
-use rds_view_lines::LogFault;
 use std::io::{self, ErrorKind, Write};
 
 /// The most bytes of a note. All notes are shorter.

@@ -2,10 +2,9 @@
 
 use crate::notes::{End, Options, RunNotes};
 use crate::tell::print_notes;
-use rds_charset::Told;
 use rds_cli::Task;
 use rds_fields::Dwell;
-use rds_view_lines::LogFault;
+use rds_io::{LogFault, Told};
 use std::test::Fail;
 
 /// An input without an end is told, with warnings and without.

@@ -15,7 +15,7 @@ pub record Bounds : Type 0 where
   pub since : ℕ
   pub ahead : ℕ
 
--- the bounds of a clock by which less than a dwell is less than d slots of the station
+-- a clock that counts fewer than M slots only while fewer than d slots of the station pass
 abbrev pub own_bounds : ℕ → Bounds
 own_bounds d = record { between = d; since = d; ahead = 0 }
 

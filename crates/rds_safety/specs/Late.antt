@@ -15,8 +15,8 @@ HasEntry first (newest ∷ before) slot entry =
 abbrev pub SentIn : {X : Type 0} → List (Option X) → ℕ → Option X → Type 0
 SentIn log slot entry = HasEntry 0 log slot entry
 
--- an input: the entry that a receiver got in each slot from `first` on, and the slot in which it was sent; nothing has
--- no origin
+-- an input: the entry that a receiver got in each slot from `first` on. `origins` has the slot in which the entry was
+-- sent, or none if nothing came
 pub record InputOf (X : Type 0) : Type 0 where
   pub first : ℕ
   pub heard : List (Option X)

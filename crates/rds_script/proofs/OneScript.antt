@@ -8,9 +8,9 @@ use Rattle.csv.specs.Reading.{AreRecords, Reached, default_config, strip_bom}
 use Rattle.csv.specs.declared.parser.State.{State}
 use Rattle.csv.specs.declared.parser.State.TheVariants.{StartRecord}
 use Rattle.rds_charset.specs.Laws.{TextIsReadOneWay}
-use Rattle.rds_charset.specs.Told.{Traffic}
+use Rattle.rds_io.specs.Told.{Traffic}
 use Rattle.rds_world.specs.declared.world.Config.{Config}
-use Rattle.rds_view_lines.specs.Alike.{WriteAlike}
+use Rattle.rds_io.specs.Alike.{WriteAlike}
 use Rattle.rds_script.specs.Rows.{Record}
 use Rattle.rds_script.specs.Play.{PlaysAll, RowsWrite, ScriptWrites}
 use Rattle.rds_script.specs.declared.form.Form.{Form}

@@ -5,8 +5,8 @@ use Rattle.std.specs.Prelude.{Err, Ok, Result}
 use Rattle.std.specs.Io.KnownBytes.{Appends}
 use Rattle.std.proofs.KnownBytes.{Appends-trans}
 use Rattle.csv.specs.Reading.{reader_state}
-use Rattle.rds_charset.specs.Puts.{AppendsPrefix-append}
-use Rattle.rds_charset.specs.Told.{AppendsPrefix, HasFailed, Traffic}
+use Rattle.rds_io.specs.Puts.{AppendsPrefix-append}
+use Rattle.rds_io.specs.Told.{AppendsPrefix, HasFailed, Traffic}
 use Rattle.rds_world.specs.declared.world.Config.{Config}
 use Rattle.rds_script.specs.Inside.Player.{Played, PlayedSoFar, PlayerStandsAt, PlaysNext, ScriptStandsAt}
 use Rattle.rds_script.specs.Notes.{NotesTell}
@@ -14,8 +14,8 @@ use Rattle.rds_script.specs.Rows.{Record, RowsSay}
 use Rattle.rds_script.specs.declared.notes.BadRow.{BadRow as BadRecord}
 use Rattle.rds_script.specs.declared.notes.ScriptNotes.{ScriptNotes}
 use Rattle.rds_script.specs.Play.{HasAllRecords, HasRecords, Reading, RowsWrite, WroteRows}
-use Rattle.rds_view_lines.specs.declared.fault.LogFault.{LogFault}
-use Rattle.rds_view_lines.specs.declared.fault.LogFault.TheVariants.{BadLine, BadRow, Memory, Read, TooLong, Write}
+use Rattle.rds_io.specs.declared.fault.LogFault.{LogFault}
+use Rattle.rds_io.specs.declared.fault.LogFault.TheVariants.{BadLine, BadRow, Memory, Read, TooLong, Write}
 use Rattle.rds_script.specs.declared.form.Form.{Form}
 use Rattle.rds_script.specs.declared.player.Player.{Player}
 use Rattle.rds_script.specs.declared.records.Records.{Records}

@@ -1,14 +1,14 @@
 -- A reader and a view of it, as for a borrowed reader: a statement about one is a statement about the other.
 use Rattle.std.proofs.Math.Logic.{∥∥₁_map}
 use Rattle.std.specs.Prelude.{ℕ, Err, List, Ok, Option, Result}
-use Rattle.rds_charset.specs.Told.{Failed, Traffic}
+use Rattle.rds_io.specs.Told.{Failed, Traffic}
 use Rattle.rds_world.specs.declared.world.Config.{Config}
-use Rattle.rds_view_lines.specs.ReadFailed.{SomeReadFailed}
+use Rattle.rds_io.specs.ReadFailed.{SomeReadFailed}
 use Rattle.rds_script.specs.Notes.{NotesTell}
 use Rattle.rds_script.specs.Play.{Plays}
 use Rattle.rds_script.specs.declared.notes.ScriptNotes.{ScriptNotes}
-use Rattle.rds_view_lines.specs.declared.fault.LogFault.{LogFault}
-use Rattle.rds_view_lines.specs.declared.fault.LogFault.TheVariants.{BadLine, BadRow, Read, Write, TooLong, Memory}
+use Rattle.rds_io.specs.declared.fault.LogFault.{LogFault}
+use Rattle.rds_io.specs.declared.fault.LogFault.TheVariants.{BadLine, BadRow, Read, Write, TooLong, Memory}
 use Rattle.rds_script.specs.declared.form.Form.{Form}
 
 -- a read that failed behind the view

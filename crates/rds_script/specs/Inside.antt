@@ -1,5 +1,5 @@
--- The state of the crate's objects after each of their inputs, a file for each object, from the bytes of a reader to
--- the lines that are written.
+-- What each private object holds after its inputs: one file an object, in the order of the data, from the bytes of a
+-- reader to the lines that are written.
 pub mod FailureFlag
 pub mod Unread
 pub mod Watched

@@ -22,7 +22,7 @@ use Rattle.rds_world.specs.Event.{Event}
 use Rattle.rds_world.specs.Replies.{reply_at}
 use Rattle.rds_world.specs.Slots.{entries, input_of, sent_at}
 use Rattle.rds_world.specs.StandsAt.{IsViewOfInput}
-use Rattle.rds_charset.specs.Digits.{word_digits}
+use Rattle.rds_io.specs.Digits.{word_digits}
 use Rattle.rds_view_lines.specs.Output.{change, line_of, nothing_shown, receiver_stamp, slot_stamp}
 use Rattle.rds_script.specs.declared.form.Form.{Form}
 use Rattle.rds_script.specs.declared.form.Form.TheVariants.{Simulation, Log}

@@ -8,9 +8,9 @@ ghost use Rattle.rds_script.specs.declared.answer_lines.TheConstants.{ANSWER_ROO
 
 use crate::form::Form;
 use rds_block::Group;
-use rds_charset::{Lines, digits_of_four};
 use rds_encoder::Refusal;
 use rds_fields::Which;
+use rds_io::{Lines, digits_of_four};
 use rds_view_lines::Stamp;
 use rds_world::{Answer, Command, Reply};
 
@@ -88,7 +88,7 @@ fn push_reply_line<const N: usize>(
     lines.push(b"\n");
 }
 
-/// The thing that a reply is about.
+/// Returns the word for what the command sets.
 fn reply_thing(command: &Command, reply: Reply) -> &'static [u8]
     ensures thing { result.now ≡ reply_thing command.now reply }
     ensures short { length result.now ≤ 7 }

@@ -1,9 +1,9 @@
 //! A reader that remembers whether one of its reads failed, and what it read.
 ghost use Rattle.std.specs.Prelude.{◌≡◌, true};
-ghost use Rattle.rds_view_lines.specs.ReadFailed.{SomeReadFailed};
+ghost use Rattle.rds_io.specs.ReadFailed.{SomeReadFailed};
 
 use crate::line_ends::ReadSoFar;
-use rds_charset::TellingRead;
+use rds_io::TellingRead;
 use std::io::{self, ErrorKind, Read};
 
 /// Wraps a reader, and sets a flag at the first failed read.

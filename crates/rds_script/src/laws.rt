@@ -1,8 +1,8 @@
 //! The laws of scripts.
 ghost use Rattle.std.specs.Prelude.{◌≡◌, ℕ, List, Some};
 ghost use Rattle.std.specs.Io.KnownBytes.{Appends};
-ghost use Rattle.rds_charset.specs.Told.{Traffic};
-ghost use Rattle.rds_view_lines.specs.Alike.{WriteAlike};
+ghost use Rattle.rds_io.specs.Told.{Traffic};
+ghost use Rattle.rds_io.specs.Alike.{WriteAlike};
 ghost use Rattle.rds_script.specs.Rows.{Record, SaysEvent};
 ghost use Rattle.rds_script.specs.Play.{PlaysAll, RowsWrite, ScriptWrites};
 ghost use Rattle.rds_script.specs.declared.form.Form.{Form};

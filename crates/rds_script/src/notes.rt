@@ -89,7 +89,7 @@ fn note_refused(wait: &mut Option<Wait>, slot: u64, command: &Command, refusal: 
     }
 }
 
-/// Makes the note of a refusal, if that ends after some slots.
+/// Makes a note of `Silent` or `Held`, which end after some slots.
 fn wait_for(slot: u64, thing: Thing, refusal: Refusal) -> Option<Wait>
     ensures { result ≡ wait_for slot thing refusal }
 {

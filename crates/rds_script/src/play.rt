@@ -1,8 +1,8 @@
 //! The engines of `sim` and `encode`: each row is a slot of a station.
 ghost use Rattle.std.specs.Prelude.{◌≡◌, ◌≢◌, ◌≤◌, ◌<◌, ◌+◌, ◌-◌, ◌^◌, [], ℕ, Bool, List, None, Ok, Option, Result, length, true};
 ghost use Rattle.csv.specs.Records.{fields_of};
-ghost use Rattle.rds_charset.specs.Told.{traffic};
-ghost use Rattle.rds_view_lines.specs.ReadFailed.{SomeReadFailed};
+ghost use Rattle.rds_io.specs.Told.{traffic};
+ghost use Rattle.rds_io.specs.ReadFailed.{SomeReadFailed};
 ghost use Rattle.rds_script.specs.Inside.Player.{Played, PlayerStandsAt, PlaysNext, ScriptStandsAt, nothing_played};
 ghost use Rattle.rds_script.specs.Notes.{NotesTell};
 ghost use Rattle.rds_script.specs.Play.{Plays, reading};
@@ -16,8 +16,7 @@ use crate::records::Records;
 use crate::row::RowRefused;
 use crate::watched::{ROW_ROOM, RowLines};
 use csv::ByteRecord;
-use rds_charset::{TellingRead, TellingWrite};
-use rds_view_lines::LogFault;
+use rds_io::{LogFault, TellingRead, TellingWrite};
 use rds_world::Config;
 use std::alloc::Global;
 

@@ -110,8 +110,7 @@ impl Player {
     }
 
     /// Makes the world of the first row.
-    ///
-    /// The function is not inlined, so that the other rows do not clear the room for its copies.
+    // Cold path.
     #[inline(never)]
     fn make_world(&mut self, receivers: usize) -> Result<(), RowRefused>
         requires few { receivers ≤ MOST_RECEIVERS }

@@ -1,7 +1,7 @@
 //! Reads the records of a script.
 ghost use Rattle.std.specs.Prelude.{◌≡◌, ◌∷◌, [], ℕ, List, IfErr, IfOk, MatchBool, Option};
 ghost use Rattle.csv.specs.Records.{fields_of};
-ghost use Rattle.rds_view_lines.specs.ReadFailed.{SomeReadFailed};
+ghost use Rattle.rds_io.specs.ReadFailed.{SomeReadFailed};
 ghost use Rattle.rds_script.specs.Inside.Player.{IsReadFault, ScriptStandsAt};
 ghost use Rattle.rds_script.specs.Rows.{Record};
 ghost use Rattle.rds_script.specs.Play.{HasAllRecords};
@@ -9,8 +9,7 @@ ghost use Rattle.rds_script.specs.Play.{HasAllRecords};
 use crate::failure_flag::FailureFlag;
 use crate::line_ends::line_ends_in;
 use csv::{ByteRecord, Reader, ReaderBuilder};
-use rds_charset::TellingRead;
-use rds_view_lines::LogFault;
+use rds_io::{LogFault, TellingRead};
 use std::alloc::Global;
 
 /// A script, read record by record. Fields are between commas, with or without quotation marks. There is no header row,

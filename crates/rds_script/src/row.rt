@@ -107,8 +107,8 @@ fn read_command(word: &[u8], argument: &[u8], command: &mut Command) -> bool
     read_told(word, argument, command)
 }
 
-/// Reads any command of a word and its argument. The function is not inlined, so that most rows do not clear the room
-/// for its copies.
+/// Reads any command of a word and its argument.
+// Cold path.
 #[inline(never)]
 fn read_told(word: &[u8], argument: &[u8], command: &mut Command) -> bool
     ensures text { IsTrue result → IsUtf8 argument.now }

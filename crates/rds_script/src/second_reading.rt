@@ -319,7 +319,7 @@ fn receptions_cause(field: &[u8]) -> Option<RowCause>
     None
 }
 
-/// Returns the cause for a letter, at this place, that makes no reception with its digits.
+/// Returns why this letter with these digits is not a reception. `place` is the place of the letter.
 fn reception_cause(byte: u8, digits: &[u8], place: usize) -> RowCause
     requires decimal { AllDigits 10 digits.now }
     requires none { (r : Reception) → byte ≡ letter r → HasDigits r digits.now → ⊥ }

@@ -18,7 +18,7 @@ use crate::form::Form;
 use crate::notes::{Wait, note_wait};
 use crate::row::RowRefused;
 use arrayvec::ArrayVec;
-use rds_charset::Lines;
+use rds_io::Lines;
 use rds_view_lines::{KeptView, SLOT_ROOM, Stamp, show};
 use rds_world::{Config, MOST_RECEIVERS, SlotEvent, StepRefused, World};
 use std::alloc::Global;

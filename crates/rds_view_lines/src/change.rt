@@ -6,7 +6,8 @@ ghost use Rattle.rds_view_lines.specs.Output.{bit_content, change, class_name, i
 ghost use Rattle.rds_view_lines.specs.Output.{name_or_number, quoted, tag_content, text_content};
 ghost use Rattle.rds_view_lines.specs.declared.change.TheConstants.{LINE_ROOM, SLOT_ROOM};
 
-use rds_charset::Lines;
+use rds_charset::push_text;
+use rds_io::Lines;
 use rds_receiver::View;
 
 /// The most bytes of the line of a part: its name, the name of a content type, and a text of 64 bytes, each byte
@@ -144,7 +145,7 @@ pub fn push_quoted<const N: usize>(text: &[u8], lines: &mut Lines<N>)
     ensures room { length lines.new ≤ length lines.old + 259 }
 {
     lines.push(b" \"");
-    lines.push_text(text);
+    push_text(text, lines);
     lines.push(b"\"");
 }
 

@@ -9,12 +9,11 @@ ghost use Rattle.rds_view_lines.specs.Part.{stamp_of};
 
 use crate::change::{Stamp, push_changes};
 use crate::kept::KeptView;
-use rds_charset::Lines;
+use rds_io::Lines;
 use rds_receiver::Receiver;
 
 /// Appends the line of each part that differs from the view that was shown, and keeps the receiver's view.
-///
-/// Few slots change a view. The function is not inlined, so that the other slots do not clear the room for its copies.
+// Cold path: few slots change a view.
 #[inline(never)]
 pub fn show<const N: usize>(
     stamp: Stamp,

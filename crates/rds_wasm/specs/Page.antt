@@ -2,7 +2,7 @@
 use Rattle.std.specs.Prelude.{◌≡◌, ◌⊎◌, ◌==◌, ℕ, List, [], None, Some, length, take}
 use Rattle.std.specs.List.{slice_split}
 use Rattle.std.specs.Str.{IsUtf8}
-use Rattle.rds_charset.specs.Told.{PutsNothing, Traffic}
+use Rattle.rds_io.specs.Told.{PutsNothing, Traffic}
 use Rattle.rds_program.specs.Run.{RunsFrom, RunsWords}
 
 -- the arguments are the lines of a text

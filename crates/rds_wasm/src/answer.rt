@@ -1,11 +1,11 @@
 //! The program over arguments that are lines of one text.
 ghost use Rattle.std.specs.Prelude.{◌≡◌, IfOk, map};
 ghost use Rattle.std.specs.Str.{IsUtf8};
-ghost use Rattle.rds_charset.specs.Told.{PutsNothing, traffic};
+ghost use Rattle.rds_io.specs.Told.{PutsNothing, traffic};
 ghost use Rattle.rds_wasm.specs.Page.{Prints, Refuses, words_in};
 
 use crate::slice_reader::SliceReader;
-use rds_charset::TellingWrite;
+use rds_io::TellingWrite;
 use rds_program::{FAULT, REFUSED, RunNotes, print_notes, run_with_notes, write_no_memory};
 use std::alloc::{AllocError, Global};
 

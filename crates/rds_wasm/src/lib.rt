@@ -5,11 +5,11 @@ mod answer;
 mod slice_reader;
 
 ghost use Rattle.std.specs.Prelude.{◌≡◌, []};
-ghost use Rattle.rds_charset.specs.Told.{failures_of, inner_of};
+ghost use Rattle.rds_io.specs.Told.{failures_of, inner_of};
 ghost use Rattle.rds_wasm.specs.Page.{Begun, RunsInPage};
 
 use answer::answer;
-use rds_charset::Told;
+use rds_io::Told;
 use std::alloc::Global;
 
 /// How the program ended.

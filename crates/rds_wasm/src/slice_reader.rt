@@ -1,7 +1,7 @@
 //! A reader of bytes in memory, whose reads never fail.
 ghost use Rattle.std.specs.Prelude.{◌≡◌, Some};
 
-use rds_charset::TellingRead;
+use rds_io::TellingRead;
 use std::io::{self, Read};
 
 /// The remaining bytes, and the number of counted reads.

@@ -1,13 +1,13 @@
 //! The engine of `witness`: finds a receiver that shows a mix because the log breaks a rule.
 ghost use Rattle.std.specs.Prelude.{◌≡◌, ◌≤◌, ◌^◌, [], ℕ, Err, OnOk, length};
 ghost use Rattle.rds_block.specs.declared.group.Group.{Group};
-ghost use Rattle.rds_charset.specs.Puts.{Puts};
-ghost use Rattle.rds_charset.specs.Told.{traffic};
+ghost use Rattle.rds_io.specs.Puts.{Puts};
+ghost use Rattle.rds_io.specs.Told.{traffic};
 ghost use Rattle.rds_log.specs.Heard.{HeardLog};
 ghost use Rattle.rds_log.specs.LogWrites.{tuned};
 ghost use Rattle.rds_log.specs.Notes.{NotesFault};
 ghost use Rattle.rds_log.specs.Reads.{MadeReads};
-ghost use Rattle.rds_view_lines.specs.declared.fault.LogFault.TheVariants as faults;
+ghost use Rattle.rds_io.specs.declared.fault.LogFault.TheVariants as faults;
 ghost use Rattle.rds_witness.specs.Lines.{IsAnswer, no_witness_up_to};
 ghost use Rattle.rds_witness.specs.Search.{IsSure};
 ghost use Rattle.rds_witness.specs.Witness.{Answers, Witnesses};
@@ -17,10 +17,9 @@ use crate::no_mixes::find_surely;
 use crate::place::Place;
 use crate::search::Found;
 use rds_block::Group;
-use rds_charset::{Lines, TellingRead, TellingWrite, WriteFault, put};
 use rds_fields::Dwell;
+use rds_io::{Lines, LogFault, TellingRead, TellingWrite, WriteFault, put};
 use rds_log::{LogNotes, MOST_READS, gather};
-use rds_view_lines::LogFault;
 use std::alloc::Global;
 
 /// Reads a log of all groups of a station, one slot a line, and looks for a burst of lost slots after which a receiver

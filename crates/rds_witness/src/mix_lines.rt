@@ -12,8 +12,8 @@ use crate::checking::{is_never_shown, receiver_before, slots_until};
 use crate::place::Place;
 use crate::thing::{Thing, shows};
 use rds_block::Group;
-use rds_charset::Lines;
 use rds_fields::{Dwell, Which};
+use rds_io::Lines;
 use rds_receiver::View;
 use rds_view_lines::{push_class, push_quoted};
 

@@ -92,6 +92,6 @@ pub record StandsAt (config : Config) (w : WorldState) (events : List Event) : T
 abbrev pub WhereItStands : WorldState → (Config → List Event → Type 0) → Type 0
 WhereItStands w Holds = (config : Config) (events : List Event) → StandsAt config w events → Holds config events
 
--- the receiver shows this view: it is that of each input that the receiver stands at
+-- the receiver shows this view: the view follows from every input that can lead to this state
 abbrev pub Shows : ReceiverState → ShownView → Type 0
 Shows r view = receiver.WhereItStands r (λ t input. IsView t input view)

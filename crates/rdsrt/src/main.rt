@@ -9,8 +9,7 @@
 //! ```
 #![tactic(auto)]
 
-use rds_charset::Told;
-use rds_io::{Prompting, Reasoned, prompt_for};
+use rds_io::{Prompting, Reasoned, Told, prompt_for};
 use rds_program::{
     RunNotes, no_words, print_notes, print_refusal, run_with_notes, texts, words_of,
 };

@@ -2,7 +2,7 @@
 use Rattle.std.specs.Prelude.{◌≡◌, ◌++◌, ◌∷◌, [], ℕ, List, Option, Some, None}
 use Rattle.std.specs.Io.KnownBytes.{Appends}
 use Rattle.rds_block.specs.declared.group.Group.{Group}
-use Rattle.rds_charset.specs.Told.{AppendsPrefix, HasFailed, IsCalm, Traffic}
+use Rattle.rds_io.specs.Told.{AppendsPrefix, HasFailed, IsCalm, Traffic}
 use Rattle.rds_arrivals.specs.Arrivals.{Arrival, lost_between}
 use Rattle.rds_log.specs.LogLines.{Line}
 use Rattle.rds_log.specs.Fill.{AreFilled}

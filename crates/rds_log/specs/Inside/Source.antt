@@ -4,13 +4,13 @@ use Rattle.std.specs.Prelude.{◌≡◌, ◌≤◌, ◌+◌, ◌-◌, ◌++◌, 
 use Rattle.std.specs.Prelude.{ℕ, Bool, List, MatchBool, MatchOption, None, Ok, Err}
 use Rattle.std.specs.Prelude.{Option, Result, Some, drop, false, length, take, true}
 use Rattle.std.specs.Io.KnownBytes.{Consumes, IsAtEnd}
-use Rattle.rds_charset.specs.Told.{HasFailed, IsCalm, Traffic, count_after}
+use Rattle.rds_io.specs.Told.{HasFailed, IsCalm, Traffic, count_after}
 use Rattle.rds_log.specs.LogLines.{AreLines, EndsAt, IsLine, Line, text_of}
 use Rattle.rds_log.specs.LineSays.{LineSays, deciding}
 use Rattle.rds_log.specs.Inside.Cutter.{CutterStandsAt}
 use Rattle.rds_log.specs.Reads.{NextIsBad, ReadsUpTo, to_come}
-use Rattle.rds_view_lines.specs.declared.fault.LogFault.{LogFault}
-use Rattle.rds_view_lines.specs.declared.fault.LogFault.TheVariants.{BadLine, BadRow, Read, Write, TooLong, Memory}
+use Rattle.rds_io.specs.declared.fault.LogFault.{LogFault}
+use Rattle.rds_io.specs.declared.fault.LogFault.TheVariants.{BadLine, BadRow, Read, Write, TooLong, Memory}
 use Rattle.rds_log.specs.declared.log_line.LogLine.{LogLine}
 use Rattle.rds_log.specs.declared.source.Source.{Source}
 

@@ -3,4 +3,4 @@ use Rattle.rds_charset.specs.Printed.{printed}
 use Rattle.rds_charset.proofs.printing.push_text.Given as goal
 
 abbrev pub invariant-loop-byte : goal.invariant-loop-byte
-invariant-loop-byte g l = l.line.items ≡ l.initial.line.items ++ printed (take l.byte-index l.text)
+invariant-loop-byte g l = l.line ≡ l.initial.line ++ printed (take l.byte-index l.text)

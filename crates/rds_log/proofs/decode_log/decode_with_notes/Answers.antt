@@ -1,6 +1,6 @@
 use Rattle.std.proofs.Common.{◌≡◌, ◌≢◌, ◌∷◌, [], None, arith, length, refl, rules}
 use Rattle.std.proofs.lemmas.Result.{err_from_is_err_and}
-use Rattle.rds_charset.specs.Told.{traffic}
+use Rattle.rds_io.specs.Told.{traffic}
 use Rattle.rds_log.specs.LogWrites.{tuned}
 use Rattle.rds_log.specs.Inside.Source.{state_of}
 use Rattle.rds_log.proofs.Decodes.{ends_at_fault, ends_by_fault, ends_by_write}

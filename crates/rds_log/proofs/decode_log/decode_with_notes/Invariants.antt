@@ -1,5 +1,5 @@
 use Rattle.std.proofs.Common.{◌≡◌, ◌+◌, ◌^◌, ◌≤◌, [], List, None, length}
-use Rattle.rds_charset.specs.Told.{traffic}
+use Rattle.rds_io.specs.Told.{traffic}
 use Rattle.rds_log.specs.Inside.Decoder.{HasDecoded}
 use Rattle.rds_log.specs.Heard.{HeardLines}
 use Rattle.rds_log.specs.LogWrites.{tuned}

@@ -1,5 +1,5 @@
 use Rattle.std.proofs.Common.{refl}
-use Rattle.rds_charset.specs.Told.{traffic}
+use Rattle.rds_io.specs.Told.{traffic}
 use Rattle.rds_program.specs.RunsBy.{runs_by}
 use Rattle.rds_program.proofs.program.run.Goals as goal
 

@@ -1,5 +1,5 @@
 use Rattle.std.proofs.Common.{◌^◌}
-use Rattle.rds_charset.specs.Told.{traffic}
+use Rattle.rds_io.specs.Told.{traffic}
 use Rattle.rds_script.specs.BorrowedReads.{failed_behind, plays_by}
 use Rattle.rds_program.proofs.program.run_script.Goals as goal
 

@@ -1,5 +1,5 @@
 use Rattle.std.proofs.Common.{◌≡◌, ◌+◌, ◌≤◌, [], List, None, length}
-use Rattle.rds_charset.specs.Told.{traffic}
+use Rattle.rds_io.specs.Told.{traffic}
 use Rattle.std.specs.Prelude.{ℕ, Option}
 use Rattle.rds_world.specs.declared.world.Config.{Config}
 use Rattle.rds_script.specs.declared.form.Form.{Form}

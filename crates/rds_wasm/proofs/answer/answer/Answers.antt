@@ -1,5 +1,5 @@
 use Rattle.std.proofs.Common.{◌≡◌, Some, map, refl, rules}
-use Rattle.rds_charset.specs.Told.{traffic}
+use Rattle.rds_io.specs.Told.{traffic}
 use Rattle.rds_program.specs.RunsBy.{never_fails, none_failed, runs_by, runs_without_memory, task_by}
 use Rattle.rds_wasm.specs.Page.{words_in}
 use Rattle.rds_wasm.proofs.answer.answer.Goals as goal

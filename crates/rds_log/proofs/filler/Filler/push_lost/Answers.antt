@@ -1,6 +1,6 @@
 use Rattle.std.proofs.Common.{◌≡◌, ◌++◌, ◌∙◌, List, ℕ, ap, append_assoc, arith, subst, sym}
 use Rattle.std.proofs.lemmas.Result.{err_from_is_err_and}
-use Rattle.rds_charset.specs.Told.{traffic}
+use Rattle.rds_io.specs.Told.{traffic}
 use Rattle.rds_log.specs.Fill.{lost_lines}
 use Rattle.rds_log.specs.Inside.Filler.{HasOutput, LostOutput}
 use Rattle.rds_log.proofs.Filled.{lost_longer, lost_split, more_lost, waits}

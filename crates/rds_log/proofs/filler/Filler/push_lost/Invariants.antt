@@ -1,5 +1,5 @@
 use Rattle.std.proofs.Common.{◌++◌, ℕ, List}
-use Rattle.rds_charset.specs.Told.{traffic}
+use Rattle.rds_io.specs.Told.{traffic}
 use Rattle.rds_log.specs.Fill.{lost_lines}
 use Rattle.rds_log.specs.Inside.Filler.{HasOutput, KeepsTime}
 use Rattle.rds_log.specs.contracts.filler.Filler.push_lost.{W-type}

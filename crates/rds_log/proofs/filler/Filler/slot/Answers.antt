@@ -1,6 +1,6 @@
 use Rattle.std.proofs.Common.{◌∙◌, sym}
 use Rattle.std.proofs.lemmas.Result.{err_from_is_err_and}
-use Rattle.rds_charset.specs.Told.{traffic}
+use Rattle.rds_io.specs.Told.{traffic}
 use Rattle.rds_log.proofs.Filled.{fails_at_slot, same_output, slot_done}
 use Rattle.rds_log.proofs.filler.Filler.slot.Goals as goal
 

@@ -1,7 +1,7 @@
 use Rattle.std.proofs.Common.{[], refl, arith}
 use Rattle.std.proofs.KnownBytes.{Consumes-nil}
 use Rattle.std.proofs.lemmas.List.Elements.{All-nil}
-use Rattle.rds_charset.specs.Told.{count_none}
+use Rattle.rds_io.specs.Told.{count_none}
 use Rattle.rds_log.proofs.source.Source.new.Goals as goal
 
 pub returns-clause-stands : goal.returns-clause-stands

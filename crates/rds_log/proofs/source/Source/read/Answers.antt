@@ -2,7 +2,7 @@ use Rattle.std.proofs.Common.{◌≡◌, ◌-◌, Err, Ok, arith, false, length,
 use Rattle.std.proofs.KnownBytes.{Keeps-refl}
 use Rattle.std.proofs.lemmas.List.{length-take}
 use Rattle.rds_log.specs.Inside.Source.{state_of}
-use Rattle.rds_view_lines.specs.declared.fault.LogFault.TheVariants.{Read, TooLong}
+use Rattle.rds_io.specs.declared.fault.LogFault.TheVariants.{Read, TooLong}
 use Rattle.rds_log.proofs.Reading.{line_told, made_all, made_in_vain, reads_more, reads_none, reads_up_to}
 use Rattle.rds_log.proofs.source.Source.read.Goals as goal
 

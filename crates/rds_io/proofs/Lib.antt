@@ -1,0 +1,4 @@
+pub mod Appending
+pub mod Digits
+pub mod DigitLanes
+pub mod SpreadDigits
