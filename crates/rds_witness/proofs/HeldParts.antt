@@ -1,5 +1,5 @@
 -- When what a stored receiver holds is a part of what another one holds, its runs are parts of the other's.
-use Rattle.std.proofs.Common.{◌≡◌, ◌⊎◌, ◌≤◌, ◌∷◌, [], ◌∙◌, ℕ, true, List, Option, Some, ap, arith, cond, inl, inr, length, nat_eq, refl, subst, sym}
+use Rattle.std.proofs.Common.{◌≡◌, ◌⊎◌, ◌≤◌, ◌∷◌, [], ◌∙◌, ℕ, true, List, None, Option, Some, ap, arith, cond, inl, inr, length, nat_eq, refl, subst, sym}
 use Rattle.std.specs.FinMap.{empty, get, get-empty, get-insert}
 use Rattle.std.specs.Cmp.{unsigned_tied}
 use Rattle.std.specs.Ordering.{nat_cmp}
@@ -8,15 +8,21 @@ use Rattle.std.proofs.lemmas.Cmp.{nat_cmp_total}
 use Rattle.rds_assembly.specs.Held.{held_cells}
 use Rattle.rds_assembly.proofs.HeldLemmas.{nothing_held}
 use Rattle.rds_block.specs.declared.group.Group.{Group}
-use Rattle.rds_fields.specs.Stored.{is_set}
+use Rattle.rds_fields.specs.Stored.{is_set, pair_stored}
 use Rattle.rds_fields.specs.declared.message.Message.{Message}
-use Rattle.rds_receiver.specs.Receipts.{AreHeard, Fragment, Segment, segments}
-use Rattle.rds_receiver.specs.Run.{cells_of, run, run_at}
-use Rattle.rds_receiver.specs.StandsAt.{HoldsRun, newest_slot}
-use Rattle.rds_receiver.specs.Stored.{segments_stored}
+use Rattle.rds_log.specs.LogWrites.{tuned}
+use Rattle.rds_receiver.specs.OneView.{same_heard}
+use Rattle.rds_receiver.specs.Receipts.{AreHeard, Fragment, Segment, name_fragment, segments, text_fragment}
+use Rattle.rds_receiver.specs.Run.{begins_in, cells_of, run, run_at}
+use Rattle.rds_receiver.specs.StandsAt.{HoldsRun, StandsAt, newest_slot}
+use Rattle.rds_receiver.specs.State.{ReceiverState}
+use Rattle.rds_receiver.specs.Stored.{receiver_stored, segments_stored}
+use Rattle.rds_receiver.specs.Tags.{is_known, pair_from, pair_held}
+use Rattle.rds_receiver.specs.declared.stored.StoredReceiver.{StoredReceiver}
 use Rattle.rds_receiver.specs.declared.stored.StoredSegments.{StoredSegments}
 use Rattle.rds_receiver.proofs.Runs.{run_at_newest}
-use Rattle.rds_witness.specs.Part.{HasCells, IsPart}
+use Rattle.rds_witness.specs.Covered.{IsInputPart}
+use Rattle.rds_witness.specs.Part.{HasCells, IsPart, IsTagPart}
 
 -- what `is_part` finds
 pub record HoldsPart (one other : StoredSegments) : Type 0 where
@@ -78,3 +84,49 @@ heard_part pick pi m one other input more h k part mine theirs long holds other_
     (subst (λ (r : List Segment). HoldsRun m (newest_slot 0 k) r (segments_stored other)) (run_at_newest pick m 0 k) other_holds) in
     held_part m (newest_slot 0 h) (run_at pick m 0 h) (run_at pick m 0 k) one other part
     (subst (λ (r : List Segment). HoldsRun m (newest_slot 0 h) r (segments_stored one)) (run_at_newest pick m 0 h) holds) moved
+
+-- ---- whole receivers
+
+-- what `is_receiver_part` finds
+pub record HoldsPartOf (one other : StoredReceiver) : Type 0 where
+  pub text : HoldsPart one.text other.text
+  pub name : HoldsPart one.name other.name
+  pub pair : (pair_stored one.pair ≡ None) ⊎ (pair_stored one.pair ≡ pair_stored other.pair)
+  pub known : is_set one.is_known ≡ true → is_set other.is_known ≡ true
+
+holds_itself : (s : StoredSegments) → HoldsPart s s
+holds_itself s = record { cells = λ a b held. held; newer = inr (refl, omega arith) }
+
+pair_of : (pi m : ℕ) (r : ReceiverState) (input : List (Option Group)) (stands : StandsAt (tuned pi m) r input) → r.pair ≡ pair_held m 0 stands.heard
+pair_of pi m r input stands = stands.holds.pair ∙ ap (λ (s : List Segment). pair_from 0 (begins_in s) stands.heard) (run_at_newest text_fragment m 0 stands.heard)
+
+module _ (pi m : ℕ) (one other : StoredReceiver) (part : HoldsPartOf one other) (input more : List (Option Group)) (mine : StandsAt (tuned pi m) (receiver_stored one) input) (theirs : StandsAt (tuned pi m) (receiver_stored other) more) (long : length input ≡ length more) where
+  tags_part : IsTagPart m 0 mine.heard theirs.heard
+  tags_part = (by_pair part.pair, λ is. sym theirs.holds.known ∙ part.known (mine.holds.known ∙ is))
+    where
+      by_pair : (pair_stored one.pair ≡ None) ⊎ (pair_stored one.pair ≡ pair_stored other.pair) → (pair_held m 0 mine.heard ≡ None) ⊎ (pair_held m 0 mine.heard ≡ pair_held m 0 theirs.heard)
+      by_pair (inl none) = inl (sym (pair_of pi m (receiver_stored one) input mine) ∙ none)
+      by_pair (inr same) = inr (sym (pair_of pi m (receiver_stored one) input mine) ∙ same ∙ pair_of pi m (receiver_stored other) more theirs)
+
+  pub holds_part : IsInputPart (tuned pi m) input more
+  holds_part = record {
+    long = long;
+    texts = λ h k heard others.
+        let same = same_heard pi input h mine.heard heard mine.are in
+        let same_other = same_heard pi more k theirs.heard others theirs.are in
+        rw (same, same_other) (heard_part text_fragment pi m one.text other.text input more mine.heard theirs.heard part.text mine.are theirs.are long mine.holds.text theirs.holds.text);
+    names = λ h k heard others.
+        let same = same_heard pi input h mine.heard heard mine.are in
+        let same_other = same_heard pi more k theirs.heard others theirs.are in
+        rw (same, same_other) (heard_part name_fragment pi m one.name other.name input more mine.heard theirs.heard part.name mine.are theirs.are long mine.holds.name theirs.holds.name);
+    tags = λ h k heard others.
+        let same = same_heard pi input h mine.heard heard mine.are in
+        let same_other = same_heard pi more k theirs.heard others theirs.are in
+        rw (same, same_other) tags_part;
+  }
+
+-- one receiver at two inputs
+pub same_part : (pi m : ℕ) (s : StoredReceiver) (input more : List (Option Group)) → StandsAt (tuned pi m) (receiver_stored s) input → StandsAt (tuned pi m) (receiver_stored s) more → length input ≡ length more
+    → IsInputPart (tuned pi m) input more
+same_part pi m s input more mine theirs long =
+    holds_part pi m s s record { text = holds_itself s.text; name = holds_itself s.name; pair = inr refl; known = λ is. is } input more mine theirs long

@@ -1,31 +1,46 @@
 -- What kept receivers cover when one more is offered.
-use Rattle.std.proofs.Common.{◌≡◌, ◌∙◌, ◌+◌, ◌<◌, ◌++◌, ◌∷◌, [], ℕ, All, List, Option, arith, length, refl, sym}
+use Rattle.std.proofs.Common.{◌≡◌, ◌⊎◌, ◌∙◌, ◌+◌, ◌<◌, ◌++◌, ◌∷◌, [], ℕ, zero, suc, All, List, None, Option, arith, get_or, inl, inr, length, refl, subst, sym}
 use Rattle.std.specs.List.{Contains}
 use Rattle.std.proofs.lemmas.List.Elements.{All-contains, All-push, Contains-append_left, Contains-append_right}
 use Rattle.rds_block.specs.declared.group.Group.{Group}
 use Rattle.rds_log.specs.LogWrites.{tuned}
 use Rattle.rds_fields.specs.declared.message.Message.{Message}
 use Rattle.rds_receiver.specs.OneView.{same_heard, same_heard_in}
-use Rattle.rds_receiver.specs.Receipts.{Fragment, Tuning, name_fragment, text_fragment}
+use Rattle.rds_receiver.specs.Receipts.{AreHeard, Fragment, Tuning, name_fragment, text_fragment}
 use Rattle.rds_receiver.specs.Run.{run_at}
 use Rattle.rds_receiver.specs.StandsAt.{StandsAt, WhereItStands}
+use Rattle.rds_receiver.specs.Tags.{pair_held}
 use Rattle.rds_receiver.specs.Stored.{IsStored, receiver_stored}
 use Rattle.rds_receiver.specs.State.{ReceiverState}
-use Rattle.rds_receiver.specs.declared.stored.StoredReceiver.{StoredReceiver}
-use Rattle.rds_witness.specs.Covered.{Covers, IsAt, IsInputPart, IsRunPart, Keeps}
+use Rattle.rds_witness.specs.Covered.{Covers, IsAt, IsCovered, IsInputPart, IsRunPart, Keeps}
+use Rattle.rds_witness.specs.Part.{IsTagPart}
+use Rattle.rds_witness.specs.declared.covering.Lossy.{Lossy}
 use Rattle.rds_witness.proofs.HeldParts.{heard_long}
 use Rattle.rds_witness.proofs.PartSteps.{part_heard, part_itself, part_through}
+use Rattle.rds_witness.proofs.TagParts.{tag_part_heard}
+
+tags_through : (m first : ℕ) (one two three : List (Option Message)) → IsTagPart m first one two → IsTagPart m first two three → IsTagPart m first one three
+tags_through m first one two three p q = (by_first p.0, λ is. q.1 (p.1 is))
+  where
+    by_second : pair_held m first one ≡ pair_held m first two → (pair_held m first two ≡ None) ⊎ (pair_held m first two ≡ pair_held m first three) → (pair_held m first one ≡ None) ⊎ (pair_held m first one ≡ pair_held m first three)
+    by_second same (inl none) = inl (same ∙ none)
+    by_second same (inr other) = inr (same ∙ other)
+
+    by_first : (pair_held m first one ≡ None) ⊎ (pair_held m first one ≡ pair_held m first two) → (pair_held m first one ≡ None) ⊎ (pair_held m first one ≡ pair_held m first three)
+    by_first (inl none) = inl none
+    by_first (inr same) = by_second same q.0
 
 pub input_through : (t : Tuning) (r : ReceiverState) (one two three : List (Option Group)) → StandsAt t r two → IsInputPart t one two → IsInputPart t two three → IsInputPart t one three
 input_through t r one two three stands p q = record {
   long = p.long ∙ q.long;
   texts = λ h k heard others. part_through _ _ _ (p.texts h stands.heard heard stands.are) (q.texts stands.heard k stands.are others);
   names = λ h k heard others. part_through _ _ _ (p.names h stands.heard heard stands.are) (q.names stands.heard k stands.are others);
+  tags = λ h k heard others. tags_through t.dwell t.first h stands.heard k (p.tags h stands.heard heard stands.are) (q.tags stands.heard k stands.are others);
 }
 
 -- one that is kept holds all that is offered
-pub keeps_part : (t : Tuning) (n : ℕ) (kept : List StoredReceiver) (one by : StoredReceiver) → Contains kept by
-    → ((input more : List (Option Group)) → StandsAt t (receiver_stored one) input → StandsAt t (receiver_stored by) more → length input ≡ length more → IsInputPart t input more)
+pub keeps_part : (t : Tuning) (n : ℕ) (kept : List Lossy) (one by : Lossy) → Contains kept by
+    → ((input more : List (Option Group)) → StandsAt t (receiver_stored one.receiver) input → StandsAt t (receiver_stored by.receiver) more → length input ≡ length more → IsInputPart t input more)
     → All (IsAt t n) kept → Keeps t n one kept kept
 keeps_part t n kept one by there part at = record {
   at = at;
@@ -40,13 +55,13 @@ keeps_part t n kept one by there part at = record {
           other = its.input;
           stands = its.stands;
           stored = its.stored;
-          part = input_through t (receiver_stored one) input covers.other its.input covers.stands covers.part (part covers.other its.input covers.stands its.stands same);
+          part = input_through t (receiver_stored one.receiver) input covers.other its.input covers.stands covers.part (part covers.other its.input covers.stands its.stands same);
         };
       };
 }
 
 -- what is offered is kept too
-pub keeps_more : (t : Tuning) (n : ℕ) (kept : List StoredReceiver) (one : StoredReceiver) → All (IsAt t n) kept → IsAt t n one → Keeps t n one kept (kept ++ one ∷ [])
+pub keeps_more : (t : Tuning) (n : ℕ) (kept : List Lossy) (one : Lossy) → All (IsAt t n) kept → IsAt t n one → Keeps t n one kept (kept ++ one ∷ [])
 keeps_more t n kept one at its = record {
   at = All-push (IsAt t n) kept one at its;
   stays = λ input covered. record { by = covered.by; is_there = Contains-append_left kept (one ∷ []) covered.by covered.is_there; covers = covered.covers };
@@ -54,8 +69,8 @@ keeps_more t n kept one at its = record {
 }
 
 -- one slot later
-pub at_next : (pi m n : ℕ) (s later : StoredReceiver) (group : Option Group) → (IsStored s → WhereItStands (receiver_stored s) (λ t input. StandsAt t (receiver_stored later) (group ∷ input)))
-    → (IsStored s → IsStored later) → IsAt (tuned pi m) n s → IsAt (tuned pi m) (n + 1) later
+pub at_next : (pi m n : ℕ) (s later : Lossy) (group : Option Group) → (IsStored s.receiver → WhereItStands (receiver_stored s.receiver) (λ t input. StandsAt t (receiver_stored later.receiver) (group ∷ input)))
+    → (IsStored s.receiver → IsStored later.receiver) → IsAt (tuned pi m) n s → IsAt (tuned pi m) (n + 1) later
 at_next pi m n s later group stands good its = record {
   input = group ∷ its.input;
   long = let long = its.long in omega (arith, long);
@@ -71,15 +86,25 @@ run_next pick pi m group one other some long part (x ∷ h) (y ∷ k) heard othe
     let as_long : length h ≡ length k = sym (heard_long pi one h heard.1) ∙ long ∙ heard_long pi other k others.1 in
     rw same (part_heard pick m x h k some as_long (part h k heard.1 others.1))
 
+tags_next : (pi m : ℕ) (group : Option Group) (one other : List (Option Group)) → 0 < m → IsInputPart (tuned pi m) one other → (h k : List (Option Message)) → AreHeard pi (group ∷ one) h → AreHeard pi (group ∷ other) k
+    → IsTagPart m 0 h k
+tags_next pi m group one other some part [] k heard others = absurd heard
+tags_next pi m group one other some part (x ∷ h) [] heard others = absurd others
+tags_next pi m group one other some part (x ∷ h) (y ∷ k) heard others =
+    let same : y ≡ x = same_heard_in pi group y x others.0 heard.0 in
+    let as_long : length h ≡ length k = sym (heard_long pi one h heard.1) ∙ part.long ∙ heard_long pi other k others.1 in
+    rw same (tag_part_heard m x h k some as_long (part.texts h k heard.1 others.1) (part.tags h k heard.1 others.1))
+
 pub input_next : (pi m : ℕ) (group : Option Group) (one other : List (Option Group)) → 0 < m → IsInputPart (tuned pi m) one other → IsInputPart (tuned pi m) (group ∷ one) (group ∷ other)
 input_next pi m group one other some part = record {
   long = let long = part.long in omega (arith, long);
   texts = run_next text_fragment pi m group one other some part.long part.texts;
   names = run_next name_fragment pi m group one other some part.long part.names;
+  tags = tags_next pi m group one other some part;
 }
 
-pub covers_next : (pi m : ℕ) (s later : StoredReceiver) (group : Option Group) (input : List (Option Group)) → (IsStored s → WhereItStands (receiver_stored s) (λ t input. StandsAt t (receiver_stored later) (group ∷ input)))
-    → (IsStored s → IsStored later) → Covers (tuned pi m) input s → Covers (tuned pi m) (group ∷ input) later
+pub covers_next : (pi m : ℕ) (s later : Lossy) (group : Option Group) (input : List (Option Group)) → (IsStored s.receiver → WhereItStands (receiver_stored s.receiver) (λ t input. StandsAt t (receiver_stored later.receiver) (group ∷ input)))
+    → (IsStored s.receiver → IsStored later.receiver) → Covers (tuned pi m) input s → Covers (tuned pi m) (group ∷ input) later
 covers_next pi m s later group input stands good covers = record {
   other = group ∷ covers.other;
   stands = stands covers.stored (tuned pi m) covers.other covers.stands;
@@ -93,7 +118,28 @@ input_itself pi m input = record {
   long = refl;
   texts = λ h k heard others. let same = same_heard pi input h k heard others in rw same (part_itself (run_at text_fragment m 0 k));
   names = λ h k heard others. let same = same_heard pi input h k heard others in rw same (part_itself (run_at name_fragment m 0 k));
+  tags = λ h k heard others. let same = same_heard pi input h k heard others in rw same (inr refl, λ is. is);
 }
 
-pub covers_itself : (pi m : ℕ) (input : List (Option Group)) (s : StoredReceiver) → StandsAt (tuned pi m) (receiver_stored s) input → IsStored s → Covers (tuned pi m) input s
+pub covers_itself : (pi m : ℕ) (input : List (Option Group)) (s : Lossy) → StandsAt (tuned pi m) (receiver_stored s.receiver) input → IsStored s.receiver → Covers (tuned pi m) input s
 covers_itself pi m input s stands stored = record { other = input; stands = stands; stored = stored; part = input_itself pi m input }
+
+-- ---- a list with one more in front
+
+pub covered_first : (t : Tuning) (one : Lossy) (set : List Lossy) (input : List (Option Group)) → Covers t input one → IsCovered t (one ∷ set) input
+covered_first t one set input covers = record { by = one; is_there = (0, omega arith, refl); covers = covers }
+
+pub contains_next : (one : Lossy) (set : List Lossy) (by : Lossy) → Contains set by → Contains (one ∷ set) by
+contains_next one set by (k, inside, is) = (suc k, omega (arith, inside), is)
+
+pub at_first : (t : Tuning) (n : ℕ) (one : Lossy) (set : List Lossy) → IsAt t n one → All (IsAt t n) set → All (IsAt t n) (one ∷ set)
+at_first t n one set its at zero d less = its
+at_first t n one set its at (suc k) d less = at k d (omega (arith, less))
+
+-- what the first one does for the inputs that it covers, and the others for theirs, is done for all
+pub by_first : (t : Tuning) (one : Lossy) (set : List Lossy) (input : List (Option Group)) (Holds : Type 0) → IsCovered t (one ∷ set) input → (Covers t input one → Holds) → (IsCovered t set input → Holds) → Holds
+by_first t one set input Holds covered first others = by_place covered.is_there
+  where
+    by_place : Contains (one ∷ set) covered.by → Holds
+    by_place (zero, inside, is) = first (subst (Covers t input) (sym is) covered.covers)
+    by_place (suc k, inside, is) = others record { by = covered.by; is_there = (k, omega (arith, inside), is); covers = covered.covers }

@@ -3,6 +3,8 @@ pub mod Mixes
 pub mod Logs
 pub mod Parts
 pub mod PartSteps
+pub mod TagParts
+pub mod PairRuns
 pub mod Stored
 pub mod HeldParts
 pub mod KeptReceivers

@@ -1,47 +1,139 @@
 -- Why a slot has no mix if receivers that hold all that others hold show nothing else than one that loses nothing.
-use Rattle.std.proofs.Common.{◌≡◌, ◌+◌, ◌<◌, ◌≤◌, ℕ, Bool, false, true, List, Option, Some, arith, length, subst}
+use Rattle.std.proofs.Common.{◌≡◌, ◌∙◌, ◌⊎◌, ◌+◌, ◌<◌, ◌≤◌, ◌∷◌, ℕ, Bool, false, true, List, None, Option, Some, ap, arith, inl, inr, length, refl, subst, sym}
 use Rattle.std.specs.Prelude.{nat_le, if◌then◌else◌}
 use Rattle.std.proofs.lemmas.List.Elements.{All-contains}
 use Rattle.rds_block.specs.declared.group.Group.{Group}
-use Rattle.rds_receiver.specs.Receipts.{Tuning}
-use Rattle.rds_receiver.specs.Shown.{IsNameShown, IsTextShown}
+use Rattle.rds_fields.specs.declared.message.Message.{Message}
+use Rattle.rds_fields.specs.declared.pair.Which.{Which}
+use Rattle.rds_fields.specs.declared.pair.Which.TheVariants.{One, Two}
+use Rattle.rds_fields.specs.Tag.{PairFields}
+use Rattle.rds_assembly.specs.Cells.{Cells}
+use Rattle.rds_assembly.specs.ServiceLaws.{one_name}
+use Rattle.rds_assembly.specs.Whole.{IsWholeName}
+use Rattle.rds_receiver.specs.OneView.{same_text_shown}
+use Rattle.rds_receiver.specs.Receipts.{AreHeard, Tuning}
+use Rattle.rds_receiver.specs.Shown.{IsNameShown, IsShown, IsTextShown, IsView, ShownView, ShowsView}
 use Rattle.rds_receiver.specs.Stored.{receiver_stored}
-use Rattle.rds_receiver.specs.declared.stored.StoredReceiver.{StoredReceiver}
-use Rattle.rds_witness.specs.Covered.{IsCovered}
+use Rattle.rds_receiver.specs.Tags.{cut_by, pair_held, tag_in, tag_of}
+use Rattle.rds_witness.specs.Covered.{Covers, IsCovered, IsInputPart}
 use Rattle.rds_witness.specs.Lost.{got}
-use Rattle.rds_witness.specs.Mix.{IsMix, Name, Text, until}
-use Rattle.rds_witness.specs.Search.{IsShownBefore, ShowNoOthers, ShowsNoOther}
+use Rattle.rds_witness.specs.Mix.{Has, IsMix, Name, Shows, Tag, Text, Thing, until}
+use Rattle.rds_witness.specs.Search.{HasOnlySeen, HasViews, IsOfRun, IsReplaced, IsSeenBefore, IsTagOfRun, ShowOnlySeen, ShowsOnlySeen}
 use Rattle.rds_witness.specs.declared.burst.Burst.{Burst}
+use Rattle.rds_witness.specs.declared.covering.Lossy.{Lossy}
+use Rattle.rds_witness.proofs.KeptReceivers.{by_first}
+use Rattle.rds_witness.proofs.Losses.{got_long}
 use Rattle.rds_witness.proofs.PartSteps.{part_cells, whole_name, whole_text}
 
--- whatever heard again is held by these receivers
-abbrev pub Hold : Tuning → List (Option Group) → ℕ → List StoredReceiver → Type 0
-Hold t log n receivers = (burst : Burst) → burst.first ≤ burst.last → burst.last + 1 < n → IsCovered t receivers (got (Some burst) log n)
+-- ---- what a tag shows
 
-module _ (t : Tuning) (log : List (Option Group)) (n slots : ℕ) (is : slots ≡ until t.dwell log n) (receivers : List StoredReceiver) (hold : Hold t log (n + 1) receivers) (show : ShowNoOthers t log slots receivers) where
-  pub no_text_mix : (burst : Burst) (x : List ℕ) → IsMix t log burst n (Text x) → ⊥
-  no_text_mix burst x mix =
-      let covered = hold burst mix.place.order (let behind = mix.place.before in omega (arith, behind)) in
-      let harmless : ShowsNoOther t log slots (receiver_stored covered.by) = All-contains (λ s. ShowsNoOther t log slots (receiver_stored s)) receivers covered.by show covered.is_there in
-      let (heard, are, view) = mix.new.is in
-      let k = covered.covers.stands.heard in
-      let k_are = covered.covers.stands.are in
-      let shown : IsTextShown t.dwell t.first heard (Some x) = subst (IsTextShown t.dwell t.first heard) mix.new.has view.text in
-      let there : IsTextShown t.dwell t.first k (Some x) = whole_text _ _ x (part_cells _ _ (covered.covers.part.texts heard k are k_are)) shown in
-      let before : IsShownBefore t log slots (Text x) = harmless.0 covered.covers.other k x covered.covers.stands k_are there in
-      mix.never before.slot before.view (subst (λ (u : ℕ). before.slot < u) is before.before) before.is before.shows
+-- a shown tag comes of a shown text and a held pair
+pub record Cuts (which : Which) (text : Option (List ℕ)) (pair : Option PairFields) (class : ℕ) (piece : List ℕ) : Type 0 where
+  pub x : List ℕ
+  pub p : PairFields
+  pub has_text : text ≡ Some x
+  pub has_pair : pair ≡ Some p
+  pub cut : cut_by (tag_in which p) x ≡ Some (class, piece)
 
-  pub no_name_mix : (burst : Burst) (x : List ℕ) → IsMix t log burst n (Name x) → ⊥
-  no_name_mix burst x mix =
-      let covered = hold burst mix.place.order (let behind = mix.place.before in omega (arith, behind)) in
-      let harmless : ShowsNoOther t log slots (receiver_stored covered.by) = All-contains (λ s. ShowsNoOther t log slots (receiver_stored s)) receivers covered.by show covered.is_there in
-      let (heard, are, view) = mix.new.is in
-      let k = covered.covers.stands.heard in
-      let k_are = covered.covers.stands.are in
-      let shown : IsNameShown t.dwell t.first heard (Some x) = subst (IsNameShown t.dwell t.first heard) mix.new.has view.name in
-      let there : IsNameShown t.dwell t.first k (Some x) = whole_name _ _ x (part_cells _ _ (covered.covers.part.names heard k are k_are)) shown in
-      let before : IsShownBefore t log slots (Name x) = harmless.1 covered.covers.other k x covered.covers.stands k_are there in
-      mix.never before.slot before.view (subst (λ (u : ℕ). before.slot < u) is before.before) before.is before.shows
+pub cuts : (which : Which) (text : Option (List ℕ)) (pair : Option PairFields) (class : ℕ) (piece : List ℕ) → tag_of which text pair ≡ Some (class, piece) → Cuts which text pair class piece
+cuts which None pair class piece is = absurd (cc)
+cuts which (Some x) None class piece is = absurd (cc)
+cuts which (Some x) (Some p) class piece is = record { x = x; p = p; has_text = refl; has_pair = refl; cut = is }
+
+cuts_again : (which : Which) (text other : Option (List ℕ)) (pair more : Option PairFields) (class : ℕ) (piece : List ℕ) → ((x : List ℕ) → text ≡ Some x → other ≡ Some x) → (pair ≡ None) ⊎ (pair ≡ more)
+    → tag_of which text pair ≡ Some (class, piece) → tag_of which other more ≡ Some (class, piece)
+cuts_again which text other pair more class piece shows (inl none) is = (let c = cuts which text pair class piece is in let has = c.has_pair in absurd (cc))
+cuts_again which text other pair more class piece shows (inr same) is =
+    let c = cuts which text pair class piece is in
+    let there : other ≡ Some c.x = shows c.x c.has_text in
+    let held : more ≡ Some c.p = sym same ∙ c.has_pair in
+    rw (there, held) c.cut
+
+-- ---- a part has no other things
+
+shown_name : (cells : Cells) (shown : Option (List ℕ)) (x : List ℕ) → IsShown IsWholeName cells shown → IsWholeName cells x → shown ≡ Some x
+shown_name cells None x p q = absurd (p x q)
+shown_name cells (Some y) x p q = ap Some (one_name cells y x p q)
+
+module _ (t : Tuning) (one other : List (Option Group)) (part : IsInputPart t one other) (v w : ShownView) (is : IsView t one v) (is_other : IsView t other w) where
+  text_part : (x : List ℕ) → v.text ≡ Some x → w.text ≡ Some x
+  text_part x has =
+      let (h, are, view) = is in
+      let (k, k_are, k_view) = is_other in
+      let shown : IsTextShown t.dwell t.first h (Some x) = subst (IsTextShown t.dwell t.first h) has view.text in
+      same_text_shown t.dwell t.first k w.text (Some x) k_view.text (whole_text _ _ x (part_cells _ _ (part.texts h k are k_are)) shown)
+
+  name_part : (x : List ℕ) → v.name ≡ Some x → w.name ≡ Some x
+  name_part x has =
+      let (h, are, view) = is in
+      let (k, k_are, k_view) = is_other in
+      let shown : IsNameShown t.dwell t.first h (Some x) = subst (IsNameShown t.dwell t.first h) has view.name in
+      shown_name _ w.name x k_view.name (whole_name _ _ x (part_cells _ _ (part.names h k are k_are)) shown)
+
+  pub view_part : (thing : Thing) → Has v thing → Has w thing
+  view_part (Text x) has = text_part x has
+  view_part (Name x) has = name_part x has
+  view_part (Tag One class piece) has =
+      let (h, are, view) = is in
+      let (k, k_are, k_view) = is_other in
+      k_view.one ∙ cuts_again One v.text w.text (pair_held t.dwell t.first h) (pair_held t.dwell t.first k) class piece text_part (part.tags h k are k_are).0 (sym view.one ∙ has)
+  view_part (Tag Two class piece) has =
+      let (h, are, view) = is in
+      let (k, k_are, k_view) = is_other in
+      k_view.two ∙ cuts_again Two v.text w.text (pair_held t.dwell t.first h) (pair_held t.dwell t.first k) class piece text_part (part.tags h k are k_are).0 (sym view.two ∙ has)
+
+-- ---- the receiver that loses nothing
+
+-- it shows its own things in this slot
+own_tag : (t : Tuning) (log : List (Option Group)) (n slots : ℕ) (which : Which) (class : ℕ) (piece : List ℕ) (view : ShownView) → n < slots → (is : IsView t (got None log (n + 1)) view)
+    → tag_of which view.text (pair_held t.dwell t.first is.0) ≡ Some (class, piece) → IsTagOfRun t log slots class piece
+own_tag t log n slots which class piece view less is has =
+    let c = cuts which view.text (pair_held t.dwell t.first is.0) class piece has in
+    record {
+      slot = n;
+      before = less;
+      view = view;
+      is = is;
+      text = c.x;
+      shown = c.has_text;
+      pair = c.p;
+      of_run = record { slot = n; before = omega arith; old = is.0; new = is.0; were = is.1; are = is.1; held = c.has_pair; same = refl };
+      which = which;
+      cut = c.cut;
+    }
+
+pub own_things : (t : Tuning) (log : List (Option Group)) (n slots : ℕ) (view : ShownView) (thing : Thing) → n < slots → IsView t (got None log (n + 1)) view → Has view thing → IsSeenBefore t log slots thing
+own_things t log n slots view (Text x) less is has = record { slot = n; view = view; before = less; is = is; shows = has }
+own_things t log n slots view (Name x) less is has = record { slot = n; view = view; before = less; is = is; shows = has }
+own_things t log n slots view (Tag One class piece) less is has = own_tag t log n slots One class piece view less is (sym is.2.one ∙ has)
+own_things t log n slots view (Tag Two class piece) less is has = own_tag t log n slots Two class piece view less is (sym is.2.two ∙ has)
+
+-- ---- a slot without a mix
+
+-- a mix that is seen before is a tag of a replaced pair
+seen_mix : (t : Tuning) (log : List (Option Group)) (burst : Burst) (n : ℕ) (thing : Thing) → IsMix t log burst n thing → IsSeenBefore t log (until t.dwell log n) thing → IsReplaced t log (until t.dwell log n) thing
+seen_mix t log burst n (Text x) mix seen = mix.never seen.slot seen.view seen.before seen.is seen.shows
+seen_mix t log burst n (Name x) mix seen = mix.never seen.slot seen.view seen.before seen.is seen.shows
+seen_mix t log burst n (Tag which class piece) mix seen = seen
+
+pub no_mix : (t : Tuning) (log : List (Option Group)) (n slots : ℕ) → slots ≡ until t.dwell log n → n < slots → HasViews t log (length log) → (whole : Lossy) (receivers : List Lossy)
+    → ((input : List (Option Group)) → length input ≡ n + 1 → Covers t input whole → IsInputPart t input (got None log (n + 1)))
+    → ((burst : Burst) → burst.first ≤ burst.last → burst.last + 1 < n + 1 → IsCovered t (whole ∷ receivers) (got (Some burst) log (n + 1)))
+    → ShowOnlySeen t log slots receivers → (burst : Burst) (thing : Thing) → IsMix t log burst n thing → IsReplaced t log (until t.dwell log n) thing
+no_mix t log n slots is soon views whole receivers same_whole hold show burst thing mix =
+    seen_mix t log burst n thing mix (subst (λ (u : ℕ). IsSeenBefore t log u thing) is
+    (by_first t whole receivers (got (Some burst) log (n + 1)) (IsSeenBefore t log slots thing) (hold burst mix.place.order (let behind = mix.place.before in omega (arith, behind))) by_whole by_other))
+  where
+    by_whole : Covers t (got (Some burst) log (n + 1)) whole → IsSeenBefore t log slots thing
+    by_whole covers =
+        let (view, here) = views n mix.place.inside in
+        own_things t log n slots view thing soon here (view_part t (got (Some burst) log (n + 1)) (got None log (n + 1)) (same_whole (got (Some burst) log (n + 1)) (got_long (Some burst) log (n + 1)) covers) mix.new.after view mix.new.is here thing mix.new.has)
+
+    by_other : IsCovered t receivers (got (Some burst) log (n + 1)) → IsSeenBefore t log slots thing
+    by_other covered =
+        let shows : ShowsOnlySeen t log slots (receiver_stored covered.by.receiver) = All-contains (λ s. ShowsOnlySeen t log slots (receiver_stored s.receiver)) receivers covered.by show covered.is_there in
+        let only = shows covered.covers.other covered.covers.stands in
+        only.seen thing (view_part t (got (Some burst) log (n + 1)) covered.covers.other covered.covers.part mix.new.after only.view mix.new.is only.is thing mix.new.has)
 
 pub now_before_until : (dwell : ℕ) (log : List (Option Group)) (n : ℕ) → 0 < dwell → n < length log → n < until dwell log n
 now_before_until dwell log n some inside = by_end (nat_le (n + dwell) (length log))

@@ -1,5 +1,5 @@
--- Stored receivers that hold all that another receiver holds, so that it shows nothing that they do not show (this
--- project's own rule).
+-- A list of receivers covers a receiver if one of the list holds all that it holds. The list then shows each text, name
+-- and tag that the receiver shows (this project's own rule).
 use Rattle.std.specs.Prelude.{◌≡◌, ◌∷◌, ◌+◌, ℕ, All, List, Option, length}
 use Rattle.std.specs.List.{Contains}
 use Rattle.rds_block.specs.declared.group.Group.{Group}
@@ -8,8 +8,8 @@ use Rattle.rds_receiver.specs.Receipts.{AreHeard, Fragment, Tuning, name_fragmen
 use Rattle.rds_receiver.specs.Run.{run_at}
 use Rattle.rds_receiver.specs.StandsAt.{StandsAt}
 use Rattle.rds_receiver.specs.Stored.{IsStored, receiver_stored}
-use Rattle.rds_receiver.specs.declared.stored.StoredReceiver.{StoredReceiver}
-use Rattle.rds_witness.specs.Part.{IsPart}
+use Rattle.rds_witness.specs.Part.{IsPart, IsTagPart}
+use Rattle.rds_witness.specs.declared.covering.Lossy.{Lossy}
 
 -- the run of one service after an input is a part of its run after another input
 abbrev pub IsRunPart : (Message → Option Fragment) → Tuning → List (Option Group) → List (Option Group) → Type 0
@@ -17,41 +17,43 @@ IsRunPart pick t one other =
     (h k : List (Option Message)) → AreHeard t.programme one h → AreHeard t.programme other k
     → IsPart (run_at pick t.dwell t.first h) (run_at pick t.dwell t.first k)
 
--- the inputs have as many slots, and the runs after the first are parts of the runs after the second
+-- the inputs have as many slots, and what a receiver holds after the first is a part of what one holds after the second
 pub record IsInputPart (t : Tuning) (one other : List (Option Group)) : Type 0 where
   pub long : length one ≡ length other
   pub texts : IsRunPart text_fragment t one other
   pub names : IsRunPart name_fragment t one other
+  pub tags : (h k : List (Option Message)) → AreHeard t.programme one h → AreHeard t.programme other k
+      → IsTagPart t.dwell t.first h k
 
 -- the stored receiver stands at the end of an input of n slots
-pub record IsAt (t : Tuning) (n : ℕ) (s : StoredReceiver) : Type 0 where
+pub record IsAt (t : Tuning) (n : ℕ) (s : Lossy) : Type 0 where
   pub input : List (Option Group)
   pub long : length input ≡ n
-  pub stands : StandsAt t (receiver_stored s) input
-  pub stored : IsStored s
+  pub stands : StandsAt t (receiver_stored s.receiver) input
+  pub stored : IsStored s.receiver
 
 -- the stored receiver stands at the end of an input of which this one is a part
-pub record Covers (t : Tuning) (input : List (Option Group)) (s : StoredReceiver) : Type 0 where
+pub record Covers (t : Tuning) (input : List (Option Group)) (s : Lossy) : Type 0 where
   pub other : List (Option Group)
-  pub stands : StandsAt t (receiver_stored s) other
-  pub stored : IsStored s
+  pub stands : StandsAt t (receiver_stored s.receiver) other
+  pub stored : IsStored s.receiver
   pub part : IsInputPart t input other
 
 -- one of the stored receivers stands there
-pub record IsCovered (t : Tuning) (set : List StoredReceiver) (input : List (Option Group)) : Type 0 where
-  pub by : StoredReceiver
+pub record IsCovered (t : Tuning) (set : List Lossy) (input : List (Option Group)) : Type 0 where
+  pub by : Lossy
   pub is_there : Contains set by
   pub covers : Covers t input by
 
 -- after a receiver was offered: the kept receivers cover the inputs of n slots that it covers, and all that they
 -- covered before
-pub record Keeps (t : Tuning) (n : ℕ) (offered : StoredReceiver) (old new : List StoredReceiver) : Type 0 where
+pub record Keeps (t : Tuning) (n : ℕ) (offered : Lossy) (old new : List Lossy) : Type 0 where
   pub at : All (IsAt t n) new
   pub stays : (input : List (Option Group)) → IsCovered t old input → IsCovered t new input
   pub more : (input : List (Option Group)) → length input ≡ n → Covers t input offered → IsCovered t new input
 
 -- the same after receivers took a slot and were offered
-pub record KeepsNext (t : Tuning) (n : ℕ) (group : Option Group) (offered old new : List StoredReceiver) : Type 0 where
+pub record KeepsNext (t : Tuning) (n : ℕ) (group : Option Group) (offered old new : List Lossy) : Type 0 where
   pub at : All (IsAt t (n + 1)) new
   pub stays : (input : List (Option Group)) → IsCovered t old input → IsCovered t new input
   pub more : (input : List (Option Group)) → length input ≡ n → IsCovered t offered input

@@ -8,7 +8,7 @@ use Rattle.rds_fields.specs.declared.pair.Which.TheVariants.{One, Two}
 use Rattle.rds_receiver.specs.Receipts.{Tuning}
 use Rattle.rds_view_lines.specs.Output.{line_of, slot_stamp, tag_content, text_content}
 use Rattle.rds_witness.specs.Mix.{IsMix, Name, Tag, Text, Thing}
-use Rattle.rds_witness.specs.Search.{NoMixes}
+use Rattle.rds_witness.specs.Search.{NoMixes, NoMixesIn}
 use Rattle.rds_witness.specs.declared.burst.Burst.{Burst}
 
 abbrev pub tag_name : Which → List ℕ
@@ -47,14 +47,16 @@ pub record AreMixLines (t : Tuning) (log : List (Option Group)) (burst : Burst) 
 abbrev pub no_witness : List ℕ
 no_witness = codes "no witness found with one burst lost\n"
 
--- the slot at which the search ended
+-- the slot before which the search ended
 abbrev pub no_witness_up_to : ℕ → List ℕ
 no_witness_up_to slot = codes "no witness found with one burst lost up to slot " ++ decimal slot ++ codes "\n"
 
--- the answer to a log: one or more lines of mixes; or that no witness was found, which is written only if no burst
--- makes a mix of a text or a name; or the slot up to which none was found
+-- the answer to a log: the mixes of a slot before which no burst makes one; or that no witness was found, which is
+-- written only if no burst makes a mix; or a slot before which no burst makes one. `NoMixes` leaves out tags of pairs
+-- that the station replaced.
 abbrev pub IsAnswer : Tuning → List (Option Group) → Bool → List ℕ → Type 0
 IsAnswer t log true written =
-    (burst : Burst) × (slot : ℕ) × AreMixLines t log burst slot written × (written ≢ [])
+    (burst : Burst) × (slot : ℕ) × AreMixLines t log burst slot written × (written ≢ []) × NoMixesIn t log slot
 IsAnswer t log false written =
-    ((written ≡ no_witness) × NoMixes t log) ⊎ ((slot : ℕ) × (written ≡ no_witness_up_to slot))
+    ((written ≡ no_witness) × NoMixes t log)
+    ⊎ ((slot : ℕ) × (written ≡ no_witness_up_to slot) × NoMixesIn t log slot)

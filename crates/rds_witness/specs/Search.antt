@@ -1,44 +1,80 @@
 -- A search over all bursts at once (this project's own rule).
-use Rattle.std.specs.Prelude.{◌≡◌, ◌≤◌, ◌<◌, ◌+◌, ℕ, All, List, Option, None, Some, length}
+use Rattle.std.specs.Prelude.{◌≡◌, ◌≤◌, ◌<◌, ◌+◌, ◌∷◌, ℕ, All, List, Option, Some, None, length}
 use Rattle.rds_block.specs.declared.group.Group.{Group}
 use Rattle.rds_fields.specs.declared.message.Message.{Message}
-use Rattle.rds_receiver.specs.Receipts.{AreHeard, Tuning}
-use Rattle.rds_receiver.specs.Shown.{IsNameShown, IsTextShown, IsView, ShownView}
+use Rattle.rds_fields.specs.declared.pair.Which.{Which}
+use Rattle.rds_fields.specs.Tag.{PairFields}
+use Rattle.rds_receiver.specs.Receipts.{AreHeard, Tuning, text_fragment}
+use Rattle.rds_receiver.specs.Run.{begins_in, run_at}
+use Rattle.rds_receiver.specs.Shown.{IsView, ShownView}
 use Rattle.rds_receiver.specs.StandsAt.{StandsAt}
 use Rattle.rds_receiver.specs.State.{ReceiverState}
 use Rattle.rds_receiver.specs.Stored.{IsStored, receiver_stored}
-use Rattle.rds_receiver.specs.declared.stored.StoredReceiver.{StoredReceiver}
+use Rattle.rds_receiver.specs.Tags.{cut_by, pair_held, tag_in}
 use Rattle.rds_witness.specs.Covered.{IsAt, IsCovered}
 use Rattle.rds_witness.specs.Lost.{got}
-use Rattle.rds_witness.specs.Mix.{IsMix, Name, Shows, Text, Thing}
+use Rattle.rds_witness.specs.Mix.{Has, IsMix, Name, Shows, Tag, Text, Thing, until}
 use Rattle.rds_witness.specs.declared.burst.Burst.{Burst}
+use Rattle.rds_witness.specs.declared.covering.Lossy.{Lossy}
 use Rattle.rds_witness.specs.declared.seen.AllSeen.{AllSeen}
 use Rattle.rds_witness.specs.declared.seen.Seen.{Seen}
 use Rattle.rds_witness.specs.declared.search.Found.{Found}
-use Rattle.rds_witness.specs.declared.search.Found.TheVariants.{Candidate, Nothing, Stopped}
-use Rattle.rds_witness.specs.declared.seen.Now.{Now}
+use Rattle.rds_witness.specs.declared.search.Found.TheVariants.{Doubt, Nothing, Stopped}
 use Rattle.rds_witness.specs.declared.sweep.Sweep.{Sweep}
 
--- no burst makes a receiver show a mix of a text or a name in the first n slots
-abbrev pub NoMixesIn : Tuning → List (Option Group) → ℕ → Type 0
-NoMixesIn t log n = (burst : Burst) (slot : ℕ) (x : List ℕ) → slot < n
-    → (IsMix t log burst slot (Text x) → ⊥) × (IsMix t log burst slot (Name x) → ⊥)
+-- a receiver that loses nothing held the pair after one of the first n slots, and its run of texts had the same first
+-- segment then as after the last of them
+pub record IsOfRun (t : Tuning) (log : List (Option Group)) (n : ℕ) (pair : PairFields) : Type 0 where
+  pub slot : ℕ
+  pub before : slot < n
+  pub old : List (Option Message)
+  pub new : List (Option Message)
+  pub were : AreHeard t.programme (got None log (slot + 1)) old
+  pub are : AreHeard t.programme (got None log n) new
+  pub held : pair_held t.dwell t.first old ≡ Some pair
+  pub same : begins_in (run_at text_fragment t.dwell t.first old) ≡ begins_in (run_at text_fragment t.dwell t.first new)
 
--- no burst makes a receiver show a mix of a text or a name
+-- a receiver that loses nothing shows a text in one of the first n slots, and a pair of tags of its run of texts, which
+-- may have been replaced, makes the tag of this text
+pub record IsTagOfRun (t : Tuning) (log : List (Option Group)) (n class : ℕ) (piece : List ℕ) : Type 0 where
+  pub slot : ℕ
+  pub before : slot < n
+  pub view : ShownView
+  pub is : IsView t (got None log (slot + 1)) view
+  pub text : List ℕ
+  pub shown : view.text ≡ Some text
+  pub pair : PairFields
+  pub of_run : IsOfRun t log (slot + 1) pair
+  pub which : Which
+  pub cut : cut_by (tag_in which pair) text ≡ Some (class, piece)
+
+-- the thing is a tag of a pair that the station replaced in the run of the text
+abbrev pub IsReplaced : Tuning → List (Option Group) → ℕ → Thing → Type 0
+IsReplaced t log n (Text x) = ⊥
+IsReplaced t log n (Name x) = ⊥
+IsReplaced t log n (Tag which class piece) = IsTagOfRun t log n class piece
+
+-- no burst makes a receiver show a mix in the first n slots, except tags of replaced pairs
+abbrev pub NoMixesIn : Tuning → List (Option Group) → ℕ → Type 0
+NoMixesIn t log n = (burst : Burst) (slot : ℕ) (thing : Thing) → slot < n → IsMix t log burst slot thing
+    → IsReplaced t log (until t.dwell log slot) thing
+
+-- no burst makes a receiver show a mix, except tags of replaced pairs
 abbrev pub NoMixes : Tuning → List (Option Group) → Type 0
 NoMixes t log = NoMixesIn t log (length log)
 
--- after n slots: the receiver that lost nothing; receivers that together hold all that any receiver holds that lost a
--- burst up to the newest slot; and receivers that hold all that any receiver holds that heard again after its burst
+-- after n slots: the receiver that lost nothing; receivers that with it hold all that any receiver holds that lost a
+-- burst up to the newest slot; and receivers that with it hold all that any receiver holds that heard again after its
+-- burst
 pub record StandsAfter (t : Tuning) (log : List (Option Group)) (n : ℕ) (sweep : Sweep) : Type 0 where
-  pub whole : StandsAt t sweep.whole (got None log n)
+  pub whole : StandsAt t (receiver_stored sweep.whole.receiver) (got None log n)
+  pub stored : IsStored sweep.whole.receiver
   pub losing_at : All (IsAt t n) sweep.losing.items
   pub hearing_at : All (IsAt t n) sweep.hearing.items
-  pub lose_none : IsCovered t sweep.losing.items (got None log n)
   pub lose : (burst : Burst) → burst.first ≤ burst.last → burst.last + 1 ≡ n
-      → IsCovered t sweep.losing.items (got (Some burst) log n)
+      → IsCovered t (sweep.whole ∷ sweep.losing.items) (got (Some burst) log n)
   pub hear : (burst : Burst) → burst.first ≤ burst.last → burst.last + 1 < n
-      → IsCovered t sweep.hearing.items (got (Some burst) log n)
+      → IsCovered t (sweep.whole ∷ sweep.hearing.items) (got (Some burst) log n)
 
 -- a receiver that loses nothing shows this in one of the first n slots
 pub record IsShownBefore (t : Tuning) (log : List (Option Group)) (n : ℕ) (thing : Thing) : Type 0 where
@@ -48,39 +84,41 @@ pub record IsShownBefore (t : Tuning) (log : List (Option Group)) (n : ℕ) (thi
   pub is : IsView t (got None log (slot + 1)) view
   pub shows : Shows view thing
 
--- the receiver that loses nothing has this state after the slot
+-- the same, and for a tag: it shows a text of which a pair of its run makes the tag
+abbrev pub IsSeenBefore : Tuning → List (Option Group) → ℕ → Thing → Type 0
+IsSeenBefore t log n (Text x) = IsShownBefore t log n (Text x)
+IsSeenBefore t log n (Name x) = IsShownBefore t log n (Name x)
+IsSeenBefore t log n (Tag which class piece) = IsTagOfRun t log n class piece
+
+-- the receiver that loses nothing has this state after the slot, and the pair is one of its run of texts
 pub record IsSeen (t : Tuning) (log : List (Option Group)) (seen : Seen) : Type 0 where
   pub inside : seen.slot < length log
   pub stands : StandsAt t (receiver_stored seen.receiver) (got None log (seen.slot + 1))
   pub stored : IsStored seen.receiver
+  pub pair : (pair : PairFields) → seen.pair ≡ Some pair → IsOfRun t log (seen.slot + 1) pair
+
+-- the receiver that loses nothing has a view in each of the first n slots
+abbrev pub HasViews : Tuning → List (Option Group) → ℕ → Type 0
+HasViews t log n = (slot : ℕ) → slot < n → (view : ShownView) × IsView t (got None log (slot + 1)) view
 
 abbrev pub AreSeen : Tuning → List (Option Group) → AllSeen → Type 0
-AreSeen t log all = All (IsSeen t log) all.seen.items
+AreSeen t log all = All (IsSeen t log) all.seen.items × HasViews t log (length log)
 
--- if the receiver shows a text, a receiver that loses nothing shows it in one of the first n slots
-abbrev pub ShowsNoOtherText : Tuning → List (Option Group) → ℕ → ReceiverState → Type 0
-ShowsNoOtherText t log n r = (input : List (Option Group)) (heard : List (Option Message)) (x : List ℕ)
-    → StandsAt t r input → AreHeard t.programme input heard → IsTextShown t.dwell t.first heard (Some x)
-    → IsShownBefore t log n (Text x)
+-- the view after this input has no other things than those seen in the first n slots
+pub record HasOnlySeen (t : Tuning) (log : List (Option Group)) (n : ℕ) (input : List (Option Group)) : Type 0 where
+  pub view : ShownView
+  pub is : IsView t input view
+  pub seen : (thing : Thing) → Has view thing → IsSeenBefore t log n thing
 
--- the same for a name
-abbrev pub ShowsNoOtherName : Tuning → List (Option Group) → ℕ → ReceiverState → Type 0
-ShowsNoOtherName t log n r = (input : List (Option Group)) (heard : List (Option Message)) (x : List ℕ)
-    → StandsAt t r input → AreHeard t.programme input heard → IsNameShown t.dwell t.first heard (Some x)
-    → IsShownBefore t log n (Name x)
+-- the receiver shows no other things, wherever it stands
+abbrev pub ShowsOnlySeen : Tuning → List (Option Group) → ℕ → ReceiverState → Type 0
+ShowsOnlySeen t log n r = (input : List (Option Group)) → StandsAt t r input → HasOnlySeen t log n input
 
-abbrev pub ShowsNoOther : Tuning → List (Option Group) → ℕ → ReceiverState → Type 0
-ShowsNoOther t log n r = ShowsNoOtherText t log n r × ShowsNoOtherName t log n r
+abbrev pub ShowOnlySeen : Tuning → List (Option Group) → ℕ → List Lossy → Type 0
+ShowOnlySeen t log n receivers = All (λ s. ShowsOnlySeen t log n (receiver_stored s.receiver)) receivers
 
-abbrev pub ShowNoOthers : Tuning → List (Option Group) → ℕ → List StoredReceiver → Type 0
-ShowNoOthers t log n receivers = All (λ s. ShowsNoOther t log n (receiver_stored s)) receivers
-
--- the receiver that loses nothing, after a slot that is one of the first ones
-abbrev pub IsNow : Tuning → List (Option Group) → Now → Type 0
-IsNow t log now = StandsAt t now.whole.now (got None log (now.slot + 1)) × (now.slot < now.slots)
-
--- the result `Nothing` comes only if no burst makes a receiver show a mix of a text or a name
+-- no burst makes a receiver show a mix before the slot of the result; before the end of the log, if it has none
 abbrev pub IsSure : Tuning → List (Option Group) → Found → Type 0
+IsSure t log (Doubt burst slot) = NoMixesIn t log slot
 IsSure t log Nothing = NoMixes t log
-IsSure t log (Candidate found) = Unit {0}
-IsSure t log (Stopped slot) = Unit {0}
+IsSure t log (Stopped slot) = NoMixesIn t log slot

@@ -2,7 +2,7 @@
 ghost use Rattle.std.specs.Prelude.{◌≡◌, ◌<◌, Some, length};
 ghost use Rattle.rds_witness.specs.Lost.{is_lost, received};
 
-use rds_block::Group;
+use rds_block::{Blocks, Group};
 
 /// Consecutive lost slots of a log: these two and all between them.
 #[derive(Clone, Copy)]
@@ -31,4 +31,11 @@ pub(crate) fn received(log: &[Option<Group>], lost: Option<Burst>, slot: usize) 
         }
     }
     log[slot]
+}
+
+/// Returns the blocks of a slot's group.
+pub(crate) fn blocks_of(group: Option<Group>) -> Option<Blocks>
+    ensures { result ≡ group }
+{
+    Some(group?.blocks())
 }

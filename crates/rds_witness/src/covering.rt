@@ -1,9 +1,10 @@
 //! Drops each receiver that holds only a part of what another kept one holds.
-ghost use Rattle.std.specs.Prelude.{◌≡◌, ◌≤◌, ◌<◌, ◌⊎◌, ◌↔◌, ◌∷◌, ◌+◌, All, IsTrue, List, OnOk, Option, Some, length, slice_index_or, ℕ};
+ghost use Rattle.std.specs.Prelude.{◌≡◌, ◌≤◌, ◌<◌, ◌⊎◌, ◌↔◌, ◌∷◌, ◌+◌, All, IsFalse, IsTrue, List, None, OnOk, Option, Some, length, slice_index_or, true, ℕ};
 ghost use Rattle.std.specs.FinMap.{get};
 ghost use Rattle.rds_assembly.specs.Body.{segment_of};
 ghost use Rattle.rds_assembly.specs.Held.{held_cells};
-ghost use Rattle.rds_fields.specs.Stored.{is_set};
+ghost use Rattle.rds_fields.specs.Stored.{is_set, pair_stored, tag_stored};
+ghost use Rattle.rds_receiver.specs.Shown.{IsView, ShownView};
 ghost use Rattle.rds_block.specs.declared.group.Group.{Group};
 ghost use Rattle.rds_receiver.specs.StandsAt.{StandsAt, WhereItStands};
 ghost use Rattle.rds_receiver.specs.declared.stored.StoredReceiver.{StoredReceiver};
@@ -11,13 +12,23 @@ ghost use Rattle.rds_receiver.specs.Stored.{IsStored, receiver_stored};
 ghost use Rattle.rds_log.specs.LogWrites.{tuned};
 ghost use Rattle.rds_witness.specs.Covered.{IsAt, IsInputPart, Keeps, KeepsNext};
 ghost use Rattle.rds_witness.specs.Part.{HasCells};
+ghost use Rattle.rds_witness.specs.declared.covering.Lossy.{Lossy};
 
-use rds_block::{Blocks, Group};
+use crate::burst::Burst;
+use rds_block::Blocks;
+use rds_fields::{StoredPair, StoredTag};
 use rds_receiver::{Receiver, StoredReceiver, StoredSegments};
 use std::alloc::AllocError;
 
 /// The most segments that are held.
 const SEGMENTS: u8 = 16;
+
+/// A receiver that lost a burst.
+#[derive(Clone, Copy)]
+pub(crate) struct Lossy {
+    pub(crate) receiver: StoredReceiver,
+    pub(crate) burst: Burst,
+}
 
 /// Returns whether the first receiver holds nothing at the address, or the second one holds the same bytes there.
 fn has_segment(one: &StoredSegments, other: &StoredSegments, address: u8) -> bool
@@ -81,56 +92,116 @@ pub(crate) fn is_part(one: &StoredSegments, other: &StoredSegments) -> bool
     true
 }
 
-/// Returns whether the runs of the first receiver are parts of those of the second one, if both heard as many slots.
+/// Returns whether two tags are equal.
+fn is_same_tag(one: &StoredTag, other: &StoredTag) -> bool
+    ensures { IsTrue result → tag_stored one.now ≡ tag_stored other.now }
+{
+    one.class == other.class && one.start == other.start && one.extra == other.extra
+}
+
+/// Returns whether the first receiver holds no pair of tags, or the pair that the second one holds.
+fn is_pair_part(one: &StoredPair, other: &StoredPair) -> bool
+    ensures { IsTrue result → (pair_stored one.now ≡ None) ⊎ (pair_stored one.now ≡ pair_stored other.now) }
+{
+    if one.is_held == 0 {
+        return true;
+    }
+    one.is_held == other.is_held
+        && one.toggle == other.toggle
+        && one.running == other.running
+        && is_same_tag(&one.one, &other.one)
+        && is_same_tag(&one.two, &other.two)
+}
+
+/// Returns whether the first receiver does not know RadioText Plus, or the second one knows it too.
+fn is_known_part(one: &StoredReceiver, other: &StoredReceiver) -> bool
+    ensures { IsTrue result → is_set one.now.is_known ≡ true → is_set other.now.is_known ≡ true }
+{
+    one.is_known == 0 || other.is_known != 0
+}
+
+/// Returns whether the first receiver holds a part of what the second one holds, if both heard as many slots.
 pub(crate) fn is_receiver_part(one: &StoredReceiver, other: &StoredReceiver) -> bool
     ensures { IsTrue result → (pi m : ℕ) (input more : List (Option Group))
         → StandsAt (tuned pi m) (receiver_stored one.now) input
         → StandsAt (tuned pi m) (receiver_stored other.now) more → length input ≡ length more
         → IsInputPart (tuned pi m) input more }
 {
+    if !is_known_part(one, other) {
+        return false;
+    }
+    if !is_pair_part(&one.pair, &other.pair) {
+        return false;
+    }
     is_part(&one.text, &other.text) && is_part(&one.name, &other.name)
 }
 
-/// Returns the blocks of a slot's group.
-fn blocks_of(group: Option<Group>) -> Option<Blocks>
-    ensures { result ≡ group }
+/// Handles the next slot. If it returns false, the view did not change.
+pub(crate) fn take_slot(stored: &mut StoredReceiver, group: Option<Blocks>) -> bool
+    ensures stands { IsStored stored.old → WhereItStands (receiver_stored stored.old)
+        (λ t input. StandsAt t (receiver_stored stored.new) (group ∷ input)) }
+    ensures same { IsStored stored.old → IsFalse result → (view : ShownView)
+        → WhereItStands (receiver_stored stored.old) (λ t input. IsView t input view → IsView t (group ∷ input) view) }
+    ensures good { IsStored stored.old → IsStored stored.new }
 {
-    Some(group?.blocks())
-}
-
-/// Returns the receiver one slot later.
-pub(crate) fn after_slot(stored: &StoredReceiver, group: Option<Group>) -> StoredReceiver
-    ensures stands { IsStored stored.now → WhereItStands (receiver_stored stored.now)
-        (λ t input. StandsAt t (receiver_stored result) (group ∷ input)) }
-    ensures good { IsStored stored.now → IsStored result }
-{
-    let blocks = blocks_of(group);
     // Prover: a value is copied by a new name before its second use (docs/PROVER.md, "Workarounds").
-    let given = blocks;
-    let mut rested = *stored;
-    if rested.rest(given) {
-        return rested;
+    let given = group;
+    if stored.rest(given) {
+        return false;
     }
     let mut receiver = Receiver::restore(stored);
-    receiver.slot_blocks(blocks);
-    receiver.store()
+    let changed = receiver.slot_blocks(group);
+    *stored = receiver.store();
+    changed
+}
+
+/// Returns the receiver one slot later. `lost` is the number of the slot if the receiver lost it.
+pub(crate) fn after_slot(one: &Lossy, group: Option<Blocks>, lost: Option<usize>) -> Lossy
+    ensures stands { IsStored one.now.receiver → WhereItStands (receiver_stored one.now.receiver)
+        (λ t input. StandsAt t (receiver_stored result.receiver) (group ∷ input)) }
+    ensures good { IsStored one.now.receiver → IsStored result.receiver }
+{
+    let mut lossy = *one;
+    take_slot(&mut lossy.receiver, group);
+    if let Some(last) = lost {
+        lossy.burst.last = last;
+    }
+    lossy
+}
+
+/// Returns the receiver without a loss after it lost this slot.
+pub(crate) fn after_first_loss(whole: &Lossy, slot: usize) -> Lossy
+    ensures stands { IsStored whole.now.receiver → WhereItStands (receiver_stored whole.now.receiver)
+        (λ t input. StandsAt t (receiver_stored result.receiver) (None ∷ input)) }
+    ensures good { IsStored whole.now.receiver → IsStored result.receiver }
+{
+    let mut lossy = after_slot(whole, None, None);
+    lossy.burst = Burst {
+        first: slot,
+        last: slot,
+    };
+    lossy
 }
 
 /// Returns the receiver at this place.
-pub(crate) fn receiver_at(receivers: &[StoredReceiver], place: usize) -> &StoredReceiver
+pub(crate) fn receiver_at(receivers: &[Lossy], place: usize) -> &Lossy
     requires { place < length receivers.now }
-    ensures { (d : StoredReceiver) → slice_index_or receivers.now place d ≡ result.now }
+    ensures { (d : Lossy) → slice_index_or receivers.now place d ≡ result.now }
 {
     &receivers[place]
 }
 
-/// Keeps a receiver, unless a kept one holds all that it holds.
-pub(crate) fn keep(kept: &mut Vec<StoredReceiver>, one: StoredReceiver) -> Result<(), AllocError>
-    ensures { OnOk result ((pi m n : ℕ) → All (IsAt (tuned pi m) n) kept.old.items → IsAt (tuned pi m) n one
-        → Keeps (tuned pi m) n one kept.old.items kept.new.items) }
+/// Keeps a receiver, unless the one without a loss or a kept one holds all that it holds.
+pub(crate) fn keep(whole: &Lossy, kept: &mut Vec<Lossy>, one: Lossy) -> Result<(), AllocError>
+    ensures { OnOk result ((pi m n : ℕ) → All (IsAt (tuned pi m) n) (whole.now ∷ kept.old.items)
+        → IsAt (tuned pi m) n one
+        → Keeps (tuned pi m) n one (whole.now ∷ kept.old.items) (whole.now ∷ kept.new.items)) }
 {
+    if is_receiver_part(&one.receiver, &whole.receiver) {
+        return Ok(());
+    }
     for place in 0..kept.len() {
-        if is_receiver_part(&one, receiver_at(kept.as_slice(), place)) {
+        if is_receiver_part(&one.receiver, &receiver_at(kept.as_slice(), place).receiver) {
             return Ok(());
         }
     }
@@ -138,19 +209,21 @@ pub(crate) fn keep(kept: &mut Vec<StoredReceiver>, one: StoredReceiver) -> Resul
     Ok(())
 }
 
-/// Keeps each of the receivers, one slot later.
+/// Keeps each of the receivers one slot later.
 pub(crate) fn keep_after_slot(
-    receivers: &[StoredReceiver],
-    group: &Option<Group>,
-    kept: &mut Vec<StoredReceiver>,
+    whole: &Lossy,
+    receivers: &[Lossy],
+    group: &Option<Blocks>,
+    lost: Option<usize>,
+    kept: &mut Vec<Lossy>,
 ) -> Result<(), AllocError>
     ensures { OnOk result ((pi m n : ℕ) → All (IsAt (tuned pi m) n) receivers.now
-        → All (IsAt (tuned pi m) (n + 1)) kept.old.items
-        → KeepsNext (tuned pi m) n group.now receivers.now kept.old.items kept.new.items) }
+        → All (IsAt (tuned pi m) (n + 1)) (whole.now ∷ kept.old.items)
+        → KeepsNext (tuned pi m) n group.now receivers.now (whole.now ∷ kept.old.items) (whole.now ∷ kept.new.items)) }
 {
     for place in 0..receivers.len() {
-        let later = after_slot(receiver_at(receivers, place), *group);
-        keep(kept, later)?;
+        let later = after_slot(receiver_at(receivers, place), *group, lost);
+        keep(whole, kept, later)?;
     }
     Ok(())
 }

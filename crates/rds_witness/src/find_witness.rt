@@ -13,9 +13,8 @@ ghost use Rattle.rds_witness.specs.Search.{IsSure};
 ghost use Rattle.rds_witness.specs.Witness.{Answers, Witnesses};
 
 use crate::mix_lines::{ROOM, push_mixes};
-use crate::no_mixes::find_surely;
 use crate::place::Place;
-use crate::search::Found;
+use crate::search::{Found, find};
 use rds_block::Group;
 use rds_fields::Dwell;
 use rds_io::{Lines, LogFault, TellingRead, TellingWrite, WriteFault, put};
@@ -62,7 +61,7 @@ pub fn witness_with_notes<R: TellingRead, W: TellingWrite>(
         → NotesFault (traffic R.remaining R.failures reader.old reader.new) (faults.BadLine n) notes.new.bad }
 {
     let log = gather(alloc, reader, pi, MOST_READS, notes)?;
-    let Ok(found) = find_surely(alloc, log.as_slice(), pi, dwell) else {
+    let Ok(found) = find(alloc, log.as_slice(), pi, dwell) else {
         return Err(LogFault::Memory);
     };
     let found = answer(log.as_slice(), pi, dwell, found, writer)?;
@@ -98,19 +97,19 @@ fn push_answer(
     ensures { IsSure (tuned pi dwell) log.now found → IsAnswer (tuned pi dwell) log.now result lines.new }
 {
     match found {
-        Found::Candidate(found) => {
+        Found::Doubt(burst, slot) => {
             let place = Place {
                 log,
                 pi,
                 dwell,
-                burst: found.burst,
-                slot: found.slot,
+                burst,
+                slot,
             };
             push_mixes(&place, lines);
             if !lines.bytes().is_empty() {
                 return true;
             }
-            push_stopped(found.slot, lines);
+            push_stopped(slot, lines);
         }
         Found::Nothing => lines.push(b"no witness found with one burst lost\n"),
         Found::Stopped(slot) => push_stopped(slot, lines),

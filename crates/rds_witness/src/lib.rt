@@ -1,24 +1,20 @@
 //! Witnesses against a log that breaks a rule: slots that a receiver must lose to show a mix.
 //!
-//! [`witness`] searches twice. The first search promises nothing, and its result is checked with receivers of their
-//! own. So each written mix is a mix by the definitions of `decode` (`IsMix`). If it finds nothing, a second search
-//! rules out every burst (`NoMixes`).
+//! [`witness`] follows all receivers that lost one burst at once, by a few that together hold all that the others hold.
+//! It stops at the first slot in which one of them shows a part that the receiver without a loss does not show. Two new
+//! receivers then play the log again, so that each written mix is a mix by the definitions of `decode` (`IsMix`). If
+//! there is no such slot, no burst makes a mix (`NoMixes`).
 #![tactic(auto)]
 
 mod burst;
 mod checking;
 mod covering;
 mod find_witness;
-mod first_shown;
-mod followed;
 mod laws;
 mod mix_lines;
-mod no_mixes;
-mod number;
 mod place;
 mod search;
 mod seen;
-mod services;
 mod sweep;
 mod thing;
 

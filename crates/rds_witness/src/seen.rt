@@ -1,44 +1,64 @@
-//! The texts and names that a receiver without a loss shows, and the first slot of each.
-ghost use Rattle.std.specs.Prelude.{◌≡◌, ◌+◌, ◌<◌, IfOk, IsTrue, List, None, OnOk, Option, length, slice_index_or};
+//! The parts that a receiver without a loss shows, and the first slot of each.
+ghost use Rattle.std.specs.Prelude.{◌≡◌, ◌+◌, ◌<◌, All, Bool, IfOk, IsTrue, List, None, OnOk, Option, Some, ℕ, length, slice_index_or, true};
+ghost use Rattle.std.specs.Option.{option_copied};
 ghost use Rattle.rds_block.specs.declared.group.Group.{Group};
+ghost use Rattle.rds_fields.specs.declared.pair.Which.{Which};
+ghost use Rattle.rds_fields.specs.Stored.{is_set};
+ghost use Rattle.rds_fields.specs.Tag.{PairFields};
 ghost use Rattle.rds_log.specs.LogWrites.{tuned};
+ghost use Rattle.rds_receiver.specs.Borrowed.{borrowed_tag, view_of};
 ghost use Rattle.rds_receiver.specs.Receipts.{Tuning};
+ghost use Rattle.rds_receiver.specs.Shown.{IsView, ShownView};
 ghost use Rattle.rds_receiver.specs.StandsAt.{StandsAt};
 ghost use Rattle.rds_receiver.specs.Stored.{IsStored, receiver_stored};
+ghost use Rattle.rds_receiver.specs.Tags.{cut_by, tag_in};
 ghost use Rattle.rds_witness.specs.Borrowed.{thing_of};
 ghost use Rattle.rds_witness.specs.Lost.{got};
+ghost use Rattle.rds_witness.specs.Mix as mix;
+ghost use Rattle.rds_witness.specs.declared.seen.AllSeen.{AllSeen};
 ghost use Rattle.rds_witness.specs.declared.seen.Seen.{Seen};
-ghost use Rattle.rds_witness.specs.Search.{AreSeen, IsNow, IsShownBefore, ShowsNoOther, ShowsNoOtherName, ShowsNoOtherText};
+ghost use Rattle.rds_witness.specs.Search.{AreSeen, IsOfRun, IsSeen, IsSeenBefore, ShowsOnlySeen};
 
-use crate::burst::received;
-use crate::number::{NAME_KIND, TEXT_KIND, number_of};
-use crate::thing::{Thing, shows};
+use crate::burst::{blocks_of, received};
+use crate::covering::take_slot;
+use crate::thing::{Thing, is_text};
 use rds_block::Group;
-use rds_fields::Dwell;
-use rds_receiver::{Receiver, StoredReceiver};
+use rds_fields::{Dwell, Tag, TagPair, Which};
+use rds_receiver::{Receiver, StoredReceiver, View};
 use std::alloc::{AllocError, Global};
 use std::collections::BTreeMap;
 
-/// A receiver after a slot.
+/// The most pairs of tags that are kept of one run. A search takes a tag of another replaced pair for a mix.
+const MOST_PAIRS: usize = 16;
+
+/// The start of a hash and the factor of each step (FNV-1a, 64 bits).
+const BASIS: u64 = 0xCBF2_9CE4_8422_2325;
+
+const PRIME: u64 = 0x0000_0100_0000_01B3;
+
+/// The kind of a text. The kind of a tag is its content type, from 1 to 63.
+const TEXT_KIND: u8 = 0;
+
+/// The kind of a name.
+const NAME_KIND: u8 = 64;
+
+/// A receiver after a slot, and a pair of tags of its run of texts.
 #[derive(Clone, Copy)]
 pub(crate) struct Seen {
     pub(crate) slot: usize,
     pub(crate) receiver: StoredReceiver,
+    pub(crate) pair: Option<TagPair>,
 }
 
-/// The receiver that loses nothing, after a slot, and the number of slots up to a dwell later.
-#[derive(Clone, Copy)]
-pub(crate) struct Now<'a> {
-    pub(crate) whole: &'a Receiver,
-    pub(crate) slot: usize,
-    pub(crate) slots: usize,
-}
-
-/// The receiver that loses nothing, in the slots in which it shows a text or a name for the first time.
+/// The receiver that loses nothing, in the slots in which it shows a part for the first time.
 #[derive(Drop)]
 pub(crate) struct AllSeen {
     pub(crate) seen: Vec<Seen>,
-    /// The place in `seen` of a text or a name, by its hash.
+    /// The pairs of tags that came in the run of texts. If a station replaces a pair before the text is complete, both
+    /// count as shown.
+    pub(crate) pairs: Vec<TagPair>,
+    /// The place in `seen` of a part, by its hash. If two parts have one hash, a search finds a mix that the check
+    /// refuses.
     places: BTreeMap<u64, usize>,
 }
 
@@ -47,6 +67,72 @@ fn seen_at(seen: &[Seen], place: usize) -> &Seen
     ensures { (d : Seen) → slice_index_or seen.now place d ≡ result.now }
 {
     &seen[place]
+}
+
+fn pair_at(pairs: &[TagPair], place: usize) -> TagPair
+    requires { place < length pairs.now }
+    ensures { (d : PairFields) → slice_index_or pairs.now place d ≡ result }
+{
+    pairs[place]
+}
+
+/// Returns the hash of a part of this kind: `TEXT_KIND`, `NAME_KIND`, or the content type of a tag.
+fn hash_of(kind: u8, bytes: &[u8]) -> u64 {
+    let mut hash = (BASIS ^ u64::from(kind)).wrapping_mul(PRIME);
+    for byte in bytes {
+        hash = (hash ^ u64::from(*byte)).wrapping_mul(PRIME);
+    }
+    hash
+}
+
+/// Returns whether the tag makes this piece of the text.
+fn is_cut(tag: Tag, text: &[u8], class: u8, piece: &[u8]) -> bool
+    ensures { IsTrue result → cut_by tag text.now ≡ Some (class, piece.now) }
+{
+    match tag.piece_in(text) {
+        Some(cut) => tag.class() == class && cut == piece,
+        None => false,
+    }
+}
+
+/// Returns whether a tag of the pair makes this piece of the text.
+fn is_of_pair(pair: Option<TagPair>, text: Option<&[u8]>, class: u8, piece: &[u8]) -> bool
+    ensures { IsTrue result → (held : PairFields) × (x : List ℕ) × (which : Which) × (pair ≡ Some held)
+        × (option_copied text.entry ≡ Some x) × (cut_by (tag_in which held) x ≡ Some (class, piece.now)) }
+{
+    let Some(pair) = pair else {
+        return false;
+    };
+    let Some(text) = text else {
+        return false;
+    };
+    is_cut(pair.one(), text, class, piece) || is_cut(pair.two(), text, class, piece)
+}
+
+/// Returns whether the run of texts of a receiver goes on in the next slot.
+fn goes_on(old: &StoredReceiver, new: &StoredReceiver) -> bool
+    ensures age { IsTrue result → old.now.text.age + 1 < old.now.dwell }
+    ensures flag { IsTrue result → is_set old.now.text.flag ≡ is_set new.now.text.flag }
+{
+    let flag = old.text.flag != 0;
+    let new_flag = new.text.flag != 0;
+    flag == new_flag && u32::from(old.text.age) + 1 < u32::from(old.dwell)
+}
+
+impl Seen {
+    /// Returns whether the receiver shows the part, or shows a text of which the pair makes the tag.
+    fn has(&self, thing: Thing<'_>) -> bool
+        ensures { IsTrue result → (t : Tuning) (log : List (Option Group)) (n : ℕ) → IsSeen t log self.now
+            → self.now.slot < n → IsSeenBefore t log n (thing_of thing.entry) }
+    {
+        let receiver = Receiver::restore(&self.receiver);
+        let view = receiver.view();
+        match thing {
+            Thing::Text(text) => is_text(view.text, text),
+            Thing::Name(name) => is_text(view.name, name),
+            Thing::Tag(_, class, piece) => is_of_pair(self.pair, view.text, class, piece),
+        }
+    }
 }
 
 impl AllSeen {
@@ -61,104 +147,212 @@ impl AllSeen {
     {
         let mut all = AllSeen {
             seen: Vec::new(alloc),
+            pairs: Vec::new(alloc),
             places: BTreeMap::new(alloc),
         };
-        let mut receiver = Receiver::new(pi, dwell);
+        let mut whole = Receiver::new(pi, dwell).store();
         for slot in 0..log.len() {
-            if receiver.slot(received(log, None, slot)) {
-                all.note(&receiver, slot)?;
+            let old = whole;
+            let changed = take_slot(&mut whole, blocks_of(received(log, None, slot)));
+            all.drop_pairs(&old, &whole);
+            if changed {
+                all.note(&whole, slot)?;
             }
         }
         Ok(all)
     }
 
-    /// Notes the receiver if it shows something for the first time in this slot.
-    fn note(&mut self, receiver: &Receiver, slot: usize) -> Result<(), AllocError>
-        ensures { OnOk result ((t : Tuning) (log : List (Option Group)) → slot < length log
-            → StandsAt t receiver.now (got None log (slot + 1)) → AreSeen t log self.old
-            → AreSeen t log self.new) }
+    /// Drops the pairs of tags unless the run of texts goes on.
+    fn drop_pairs(&mut self, old: &StoredReceiver, new: &StoredReceiver)
+        ensures seen { self.new.seen ≡ self.old.seen }
+        ensures pairs { (pi m n : ℕ) (log : List (Option Group))
+            → StandsAt (tuned pi m) (receiver_stored old.now) (got None log n)
+            → StandsAt (tuned pi m) (receiver_stored new.now) (got None log (n + 1))
+            → All (IsOfRun (tuned pi m) log n) self.old.pairs.items
+            → All (IsOfRun (tuned pi m) log (n + 1)) self.new.pairs.items }
     {
-        let place = self.seen.len();
-        if !self.is_new(receiver, place)? {
-            return Ok(());
+        if !goes_on(old, new) {
+            self.pairs.clear();
         }
-        let receiver = receiver.store();
-        self.seen.push(Seen { slot, receiver })?;
+    }
+
+    /// Notes the parts that the receiver shows for the first time in this slot.
+    fn note(&mut self, whole: &StoredReceiver, slot: usize) -> Result<(), AllocError>
+        ensures { OnOk result ((t : Tuning) (log : List (Option Group)) → slot < length log → IsStored whole.now
+            → StandsAt t (receiver_stored whole.now) (got None log (slot + 1))
+            → All (IsSeen t log) self.old.seen.items → All (IsOfRun t log (slot + 1)) self.old.pairs.items
+            → All (IsSeen t log) self.new.seen.items × All (IsOfRun t log (slot + 1)) self.new.pairs.items
+            × ((view : ShownView) × IsView t (got None log (slot + 1)) view)) }
+    {
+        let receiver = Receiver::restore(whole);
+        let view = receiver.view();
+        self.keep_pair(receiver.pair())?;
+        self.note_with(whole, view, slot, None)?;
+        self.note_tags(whole, view, slot)?;
         Ok(())
     }
 
-    /// Returns whether the receiver shows a text or a name for the first time, and keeps this place for it.
-    fn is_new(&mut self, receiver: &Receiver, place: usize) -> Result<bool, AllocError>
-        ensures { self.new.seen ≡ self.old.seen }
+    fn keep_pair(&mut self, pair: Option<TagPair>) -> Result<(), AllocError>
+        ensures seen { self.new.seen ≡ self.old.seen }
+        ensures pairs { OnOk result ((t : Tuning) (log : List (Option Group)) (n : ℕ)
+            → ((held : PairFields) → pair ≡ Some held → IsOfRun t log n held)
+            → All (IsOfRun t log n) self.old.pairs.items → All (IsOfRun t log n) self.new.pairs.items) }
     {
-        let text = match receiver.text() {
-            Some(text) => self.is_new_number(number_of(TEXT_KIND, text), place)?,
-            None => false,
+        let Some(pair) = pair else {
+            return Ok(());
         };
-        let name = match receiver.name() {
-            Some(name) => self.is_new_number(number_of(NAME_KIND, name), place)?,
-            None => false,
-        };
-        Ok(text || name)
+        if self.pairs.len() < MOST_PAIRS && !self.pairs.as_slice().contains(&pair) {
+            self.pairs.push(pair)?;
+        }
+        Ok(())
     }
 
-    fn is_new_number(&mut self, number: u64, place: usize) -> Result<bool, AllocError>
-        ensures { self.new.seen ≡ self.old.seen }
+    /// Notes the tags that the pairs of the run make of the text that is shown.
+    fn note_tags(
+        &mut self,
+        whole: &StoredReceiver,
+        view: View<'_>,
+        slot: usize,
+    ) -> Result<(), AllocError>
+        ensures { OnOk result ((t : Tuning) (log : List (Option Group)) → slot < length log → IsStored whole.now
+            → StandsAt t (receiver_stored whole.now) (got None log (slot + 1))
+            → All (IsSeen t log) self.old.seen.items → All (IsOfRun t log (slot + 1)) self.old.pairs.items
+            → All (IsSeen t log) self.new.seen.items × All (IsOfRun t log (slot + 1)) self.new.pairs.items) }
     {
-        if self.places.contains_key(&number) {
+        for place in 0..self.pairs.len() {
+            let pair = pair_at(self.pairs.as_slice(), place);
+            self.note_with(whole, view, slot, Some(pair))?;
+        }
+        Ok(())
+    }
+
+    /// Notes the receiver if it shows the tags of this pair, or a text or a name, for the first time.
+    fn note_with(
+        &mut self,
+        whole: &StoredReceiver,
+        view: View<'_>,
+        slot: usize,
+        pair: Option<TagPair>,
+    ) -> Result<(), AllocError>
+        ensures pairs { self.new.pairs ≡ self.old.pairs }
+        ensures seen { OnOk result ((t : Tuning) (log : List (Option Group)) → slot < length log → IsStored whole.now
+            → StandsAt t (receiver_stored whole.now) (got None log (slot + 1))
+            → ((held : PairFields) → pair ≡ Some held → IsOfRun t log (slot + 1) held)
+            → All (IsSeen t log) self.old.seen.items → All (IsSeen t log) self.new.seen.items) }
+    {
+        if !self.is_new(view, pair)? {
+            return Ok(());
+        }
+        let receiver = *whole;
+        self.seen.push(Seen {
+            slot,
+            receiver,
+            pair,
+        })?;
+        Ok(())
+    }
+
+    /// Returns whether the tags of this pair, or the text or the name, are shown for the first time, and takes the next
+    /// place of `seen` for them.
+    fn is_new(&mut self, view: View<'_>, pair: Option<TagPair>) -> Result<bool, AllocError>
+        ensures seen { self.new.seen ≡ self.old.seen }
+        ensures pairs { self.new.pairs ≡ self.old.pairs }
+    {
+        let Some(pair) = pair else {
+            let text = self.is_new_part(TEXT_KIND, view.text)?;
+            let name = self.is_new_part(NAME_KIND, view.name)?;
+            return Ok(text || name);
+        };
+        let Some(text) = view.text else {
+            return Ok(false);
+        };
+        let one = self.is_new_part(pair.one().class(), pair.one().piece_in(text))?;
+        let two = self.is_new_part(pair.two().class(), pair.two().piece_in(text))?;
+        Ok(one || two)
+    }
+
+    fn is_new_part(&mut self, kind: u8, part: Option<&[u8]>) -> Result<bool, AllocError>
+        ensures seen { self.new.seen ≡ self.old.seen }
+        ensures pairs { self.new.pairs ≡ self.old.pairs }
+    {
+        let Some(bytes) = part else {
+            return Ok(false);
+        };
+        let hash = hash_of(kind, bytes);
+        if self.places.contains_key(&hash) {
             return Ok(false);
         }
-        let _ = self.places.insert(number, place)?;
+        let place = self.seen.len();
+        let _ = self.places.insert(hash, place)?;
         Ok(true)
     }
 
-    /// Returns whether a receiver that loses nothing shows the text or the name now, or in another one of the first
-    /// slots.
-    fn has(&self, now: Now<'_>, thing: Thing<'_>, number: u64) -> bool
+    /// Returns whether a receiver that loses nothing shows the part in one of the first slots, or a text of which a
+    /// pair of its run makes the tag.
+    fn has(&self, slots: usize, thing: Thing<'_>, hash: u64) -> bool
         ensures { IsTrue result → (t : Tuning) (log : List (Option Group)) → AreSeen t log self.now
-            → IsNow t log now.entry → IsShownBefore t log now.entry.slots (thing_of thing.entry) }
+            → IsSeenBefore t log slots (thing_of thing.entry) }
     {
-        if shows(now.whole.view(), thing) {
-            return true;
-        }
-        let Some(place) = self.places.get(&number) else {
+        let Some(place) = self.places.get(&hash) else {
             return false;
         };
         if *place >= self.seen.len() {
             return false;
         }
         let seen = seen_at(self.seen.as_slice(), *place);
-        seen.slot < now.slots && shows(Receiver::restore(&seen.receiver).view(), thing)
+        seen.slot < slots && seen.has(thing)
     }
 
-    fn has_text(&self, now: Now<'_>, receiver: &Receiver) -> bool
+    fn has_text(&self, slots: usize, text: Option<&[u8]>) -> bool
         ensures { IsTrue result → (t : Tuning) (log : List (Option Group)) → AreSeen t log self.now
-            → IsNow t log now.entry → ShowsNoOtherText t log now.entry.slots receiver.now }
+            → (x : List ℕ) → option_copied text.entry ≡ Some x → IsSeenBefore t log slots (mix.Text x) }
     {
-        match receiver.text() {
-            Some(text) => self.has(now, Thing::Text(text), number_of(TEXT_KIND, text)),
+        match text {
+            Some(text) => self.has(slots, Thing::Text(text), hash_of(TEXT_KIND, text)),
             None => true,
         }
     }
 
-    fn has_name(&self, now: Now<'_>, receiver: &Receiver) -> bool
+    fn has_name(&self, slots: usize, name: Option<&[u8]>) -> bool
         ensures { IsTrue result → (t : Tuning) (log : List (Option Group)) → AreSeen t log self.now
-            → IsNow t log now.entry → ShowsNoOtherName t log now.entry.slots receiver.now }
+            → (x : List ℕ) → option_copied name.entry ≡ Some x → IsSeenBefore t log slots (mix.Name x) }
     {
-        match receiver.name() {
-            Some(name) => self.has(now, Thing::Name(name), number_of(NAME_KIND, name)),
+        match name {
+            Some(name) => self.has(slots, Thing::Name(name), hash_of(NAME_KIND, name)),
             None => true,
         }
     }
 
-    /// Returns whether a receiver that loses nothing shows the text and the name of this receiver in some of the first
-    /// slots.
-    pub(crate) fn has_all(&self, now: Now<'_>, receiver: &StoredReceiver) -> bool
+    fn has_tag(&self, slots: usize, tag: Option<(u8, &[u8])>) -> bool
+        ensures { IsTrue result → (t : Tuning) (log : List (Option Group)) → AreSeen t log self.now
+            → (which : Which) (class : ℕ) (piece : List ℕ) → borrowed_tag tag.entry ≡ Some (class, piece)
+            → IsSeenBefore t log slots (mix.Tag which class piece) }
+    {
+        match tag {
+            Some((class, piece)) => {
+                self.has(
+                    slots,
+                    Thing::Tag(Which::One, class, piece),
+                    hash_of(class, piece),
+                )
+            }
+            None => true,
+        }
+    }
+
+    /// Returns whether a receiver that loses nothing shows all parts of this one in some of the first slots.
+    pub(crate) fn has_all(&self, slots: usize, receiver: &StoredReceiver) -> bool
         ensures { IsTrue result → IsStored receiver.now → (t : Tuning) (log : List (Option Group))
-            → AreSeen t log self.now → IsNow t log now.entry
-            → ShowsNoOther t log now.entry.slots (receiver_stored receiver.now) }
+            → AreSeen t log self.now → ShowsOnlySeen t log slots (receiver_stored receiver.now) }
     {
         let receiver = Receiver::restore(receiver);
-        self.has_text(now, &receiver) && self.has_name(now, &receiver)
+        let view = receiver.view();
+        if !self.has_text(slots, view.text) {
+            return false;
+        }
+        if !self.has_name(slots, view.name) {
+            return false;
+        }
+        self.has_tag(slots, view.one) && self.has_tag(slots, view.two)
     }
 }

@@ -5,54 +5,71 @@ ghost use Rattle.rds_log.specs.LogWrites.{tuned};
 ghost use Rattle.rds_witness.specs.Lost.{received};
 ghost use Rattle.rds_witness.specs.Search.{StandsAfter};
 
-use crate::covering::{keep, keep_after_slot};
-use rds_block::Group;
+use crate::burst::Burst;
+use crate::covering::{Lossy, after_first_loss, after_slot, keep, keep_after_slot};
+use rds_block::Blocks;
 use rds_fields::Dwell;
-use rds_receiver::{Receiver, StoredReceiver};
+use rds_receiver::Receiver;
 use std::alloc::{AllocError, Global};
+use std::mem;
 
 /// The receivers of a search.
 #[derive(Drop)]
 pub(crate) struct Sweep {
-    /// The receiver that loses nothing.
-    pub(crate) whole: Receiver,
-    /// That receiver, and those that lose slots now.
-    pub(crate) losing: Vec<StoredReceiver>,
-    /// That receiver, and those that hear again.
-    pub(crate) hearing: Vec<StoredReceiver>,
+    /// The receiver that loses nothing. Its burst has no meaning.
+    pub(crate) whole: Lossy,
+    /// Receivers that lose slots now.
+    pub(crate) losing: Vec<Lossy>,
+    /// Receivers that hear again.
+    pub(crate) hearing: Vec<Lossy>,
+    /// The memory of the next list, so that a slot allocates nothing.
+    spare: Vec<Lossy>,
 }
 
 impl Sweep {
     /// Returns the receivers before the first slot.
-    pub(crate) fn new(alloc: Global, pi: u16, dwell: Dwell) -> Result<Sweep, AllocError>
-        ensures { IfOk result (λ sweep. (log : List (Option Group)) → StandsAfter (tuned pi dwell) log 0 sweep) }
+    pub(crate) fn new(alloc: Global, pi: u16, dwell: Dwell) -> Sweep
+        ensures { (log : List (Option Group)) → StandsAfter (tuned pi dwell) log 0 result }
     {
-        let whole = Receiver::new(pi, dwell);
-        let mut losing = Vec::new(alloc);
-        keep(&mut losing, whole.store())?;
-        Ok(Sweep {
-            whole,
-            losing,
+        Sweep {
+            whole: Lossy {
+                receiver: Receiver::new(pi, dwell).store(),
+                burst: Burst { first: 0, last: 0 },
+            },
+            losing: Vec::new(alloc),
             hearing: Vec::new(alloc),
-        })
+            spare: Vec::new(alloc),
+        }
     }
 
-    /// Lets all receivers hear the next slot, and lets those that lose slots now lose it too.
-    pub(crate) fn next(&mut self, alloc: Global, group: &Option<Group>) -> Result<(), AllocError>
+    /// Lets all receivers hear this slot, and lets those that lose slots now, and one more, lose it.
+    pub(crate) fn next(
+        &mut self,
+        alloc: Global,
+        group: &Option<Blocks>,
+        slot: usize,
+    ) -> Result<(), AllocError>
         ensures { OnOk result ((pi m n : ℕ) (log : List (Option Group)) → group.now ≡ received None log n
             → StandsAfter (tuned pi m) log n self.old → StandsAfter (tuned pi m) log (n + 1) self.new) }
     {
-        self.whole.slot(*group);
-        let whole = self.whole.store();
-        let mut hearing = Vec::new(alloc);
-        keep(&mut hearing, whole)?;
-        keep_after_slot(self.hearing.as_slice(), group, &mut hearing)?;
-        keep_after_slot(self.losing.as_slice(), group, &mut hearing)?;
-        let mut losing = Vec::new(alloc);
-        keep(&mut losing, whole)?;
-        keep_after_slot(self.losing.as_slice(), &None, &mut losing)?;
-        self.hearing = hearing;
-        self.losing = losing;
+        let whole = after_slot(&self.whole, *group, None);
+        let begins = after_first_loss(&self.whole, slot);
+        let mut hearing = mem::replace(&mut self.spare, Vec::new(alloc));
+        hearing.clear();
+        keep_after_slot(&whole, self.hearing.as_slice(), group, None, &mut hearing)?;
+        keep_after_slot(&whole, self.losing.as_slice(), group, None, &mut hearing)?;
+        let mut losing = mem::replace(&mut self.hearing, hearing);
+        losing.clear();
+        keep(&whole, &mut losing, begins)?;
+        keep_after_slot(
+            &whole,
+            self.losing.as_slice(),
+            &None,
+            Some(slot),
+            &mut losing,
+        )?;
+        self.spare = mem::replace(&mut self.losing, losing);
+        self.whole = whole;
         Ok(())
     }
 

@@ -30,7 +30,8 @@ pub(crate) fn shows(view: View<'_>, thing: Thing<'_>) -> bool
     }
 }
 
-fn is_text(shown: Option<&[u8]>, text: &[u8]) -> bool
+/// Returns whether this text is shown.
+pub(crate) fn is_text(shown: Option<&[u8]>, text: &[u8]) -> bool
     ensures { IsTrue result ↔ (option_copied shown.entry ≡ Some text.now) }
 {
     match shown {

@@ -1,22 +1,32 @@
-use Rattle.std.proofs.Common.{List, arith, subst, sym}
+use Rattle.std.proofs.Common.{◌∷◌, List, arith, refl, subst, suc, sym}
 use Rattle.std.specs.List.{Contains}
 use Rattle.rds_log.specs.LogWrites.{tuned}
-use Rattle.rds_receiver.specs.declared.stored.StoredReceiver.{StoredReceiver}
 use Rattle.rds_witness.specs.Covered.{Keeps}
-use Rattle.rds_witness.proofs.KeptReceivers.{keeps_more, keeps_part}
+use Rattle.rds_witness.specs.declared.covering.Lossy.{Lossy}
+use Rattle.rds_witness.proofs.KeptReceivers.{contains_next, keeps_more, keeps_part}
 use Rattle.rds_witness.proofs.covering.keep.Goals as goal
 
 pub returns-then-is_receiver_part : goal.returns-then-is_receiver_part
 returns-then-is_receiver_part c pi m n at its =
+    let whole = c.args.whole.now in
+    let kept = c.args.kept.now.items in
+    keeps_part (tuned pi m) n (whole ∷ kept) c.args.one whole (0, omega arith, refl)
+    (λ input more mine theirs long. c.is_receiver_part.ensures c.if-is_receiver_part.true pi m input more mine theirs long) at
+
+pub returns-then-is_receiver_part-2 : goal.returns-then-is_receiver_part-2
+returns-then-is_receiver_part-2 c pi m n at its =
+    let whole = c.args.whole.now in
     let kept = c.args.kept.now.items in
     let slice = c.as_slice.ensures in
     let count = c.len-place-end.ensures in
     let test = c.loop-place-test.true in
     let by = c.receiver_at.result.now in
     let there : Contains c.as_slice.result.now by = (c.loop-place.place, omega (arith, slice.len, count, test), c.receiver_at.ensures by) in
-    keeps_part (tuned pi m) n kept c.args.one by (subst (λ (l : List StoredReceiver). Contains l by) slice.value there)
-    (λ input more mine theirs long. c.is_receiver_part.ensures c.if-is_receiver_part.true pi m input more mine theirs long) at
+    keeps_part (tuned pi m) n (whole ∷ kept) c.args.one by (contains_next whole kept by (subst (λ (l : List Lossy). Contains l by) slice.value there))
+    (λ input more mine theirs long. c.is_receiver_part-in-loop-place.ensures c.if-is_receiver_part-2.true pi m input more mine theirs long) at
 
 pub returns : goal.returns
 returns c pi m n at its =
-    subst (Keeps (tuned pi m) n c.args.one c.args.kept.now.items) (sym c.in_ok-push.ensures.items) (keeps_more (tuned pi m) n c.args.kept.now.items c.args.one at its)
+    let whole = c.args.whole.now in
+    let kept = c.args.kept.now.items in
+    subst (λ (l : List Lossy). Keeps (tuned pi m) n c.args.one (whole ∷ kept) (whole ∷ l)) (sym c.in_ok-push.ensures.items) (keeps_more (tuned pi m) n (whole ∷ kept) c.args.one at its)

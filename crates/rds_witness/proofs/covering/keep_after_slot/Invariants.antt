@@ -1,14 +1,14 @@
 use Rattle.std.proofs.Common.{◌≡◌, ◌+◌, ◌<◌, ◌∷◌, ℕ, All, List, Option, get_or, length}
 use Rattle.rds_block.specs.declared.group.Group.{Group}
 use Rattle.rds_log.specs.LogWrites.{tuned}
-use Rattle.rds_receiver.specs.declared.stored.StoredReceiver.{StoredReceiver}
 use Rattle.rds_witness.specs.Covered.{Covers, IsAt, IsCovered}
+use Rattle.rds_witness.specs.declared.covering.Lossy.{Lossy}
 use Rattle.rds_witness.proofs.covering.keep_after_slot.Given as goal
 
 abbrev pub invariant-loop-place : goal.invariant-loop-place
-invariant-loop-place l = (pi m n : ℕ) → All (IsAt (tuned pi m) n) l.receivers → All (IsAt (tuned pi m) (n + 1)) l.fn.kept.items → record {
-  at : All (IsAt (tuned pi m) (n + 1)) l.kept.items;
-  stays : (input : List (Option Group)) → IsCovered (tuned pi m) l.fn.kept.items input → IsCovered (tuned pi m) l.kept.items input;
-  more : (place : ℕ) (d : StoredReceiver) (input : List (Option Group)) → place < l.place → length input ≡ n → Covers (tuned pi m) input (get_or l.receivers place d)
-      → IsCovered (tuned pi m) l.kept.items (l.group ∷ input);
+invariant-loop-place l = (pi m n : ℕ) → All (IsAt (tuned pi m) n) l.receivers → All (IsAt (tuned pi m) (n + 1)) (l.whole ∷ l.fn.kept.items) → record {
+  at : All (IsAt (tuned pi m) (n + 1)) (l.whole ∷ l.kept.items);
+  stays : (input : List (Option Group)) → IsCovered (tuned pi m) (l.whole ∷ l.fn.kept.items) input → IsCovered (tuned pi m) (l.whole ∷ l.kept.items) input;
+  more : (place : ℕ) (d : Lossy) (input : List (Option Group)) → place < l.place → length input ≡ n → Covers (tuned pi m) input (get_or l.receivers place d)
+      → IsCovered (tuned pi m) (l.whole ∷ l.kept.items) (l.group ∷ input);
 }

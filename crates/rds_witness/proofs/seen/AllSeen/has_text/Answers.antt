@@ -1,14 +1,11 @@
-use Rattle.std.proofs.Common.{◌≡◌, List, ℕ, subst}
-use Rattle.rds_assembly.specs.ServiceLaws.{one_text}
+use Rattle.std.proofs.Common.{◌≡◌, List, ℕ, ap, subst}
+use Rattle.std.specs.Option.{option_copied}
 use Rattle.rds_witness.specs.Mix.{Text}
-use Rattle.rds_witness.specs.Search.{IsShownBefore}
+use Rattle.rds_witness.specs.Search.{IsSeenBefore}
 use Rattle.rds_witness.proofs.seen.AllSeen.has_text.Goals as goal
 
 pub returns-in-Some : goal.returns-in-Some
-returns-in-Some c holds t log all now input heard x stands are shown =
-    let y = c.in-Some.text.now in
-    let same : y ≡ x = one_text _ y x (c.in-Some.ensures.shown t input stands heard are) shown in
-    subst (λ (z : List ℕ). IsShownBefore t log c.args.now.slots (Text z)) same (c.has.ensures holds t log all now)
-
-pub returns-in-None : goal.returns-in-None
-returns-in-None c holds t log all now input heard x stands are shown = absurd (c.in-None.ensures.shown t input stands heard are x shown)
+returns-in-Some c holds t log all x is =
+    let given = ap option_copied c.in-Some.is in
+    let same : c.in-Some.text.now ≡ x = cc in
+    subst (λ (z : List ℕ). IsSeenBefore t log c.args.slots (Text z)) same (c.has.ensures holds t log all)

@@ -1,30 +1,74 @@
-use Rattle.std.proofs.Common.{All, None, subst, sym}
+use Rattle.std.proofs.Common.{◌≡◌, ◌∙◌, ◌+◌, ◌∷◌, ℕ, All, List, None, Option, ap, arith, inl, inr, refl, subst, sym}
+use Rattle.std.proofs.lemmas.Bool.{cases_lt}
 use Rattle.std.proofs.lemmas.List.Elements.{All-nil}
+use Rattle.rds_block.specs.declared.group.Group.{Group}
 use Rattle.rds_log.specs.LogWrites.{tuned}
+use Rattle.rds_receiver.specs.Shown.{IsView, ShownView}
 use Rattle.rds_receiver.specs.StandsAt.{StandsAt}
-use Rattle.rds_witness.specs.Lost.{got-none}
-use Rattle.rds_witness.specs.Search.{AreSeen, IsSeen}
-use Rattle.rds_witness.proofs.Slots.{stands_more}
-use Rattle.rds_witness.proofs.seen.AllSeen.of.Goals.{then-slot+in_ok-note, else-slot}
+use Rattle.rds_receiver.specs.State.{ReceiverState}
+use Rattle.rds_receiver.specs.Stored.{receiver_stored}
+use Rattle.rds_view_lines.specs.NoChange.{view_of_none}
+use Rattle.rds_witness.specs.Lost.{got, got-more, got-none}
+use Rattle.rds_witness.specs.Search.{HasViews, IsOfRun, IsSeen}
+use Rattle.rds_witness.proofs.seen.AllSeen.of.Goals.{then-changed+in_ok-note, else-changed}
 use Rattle.rds_witness.proofs.seen.AllSeen.of.Goals as goal
 
 pub loop-slot-init : goal.loop-slot-init
 loop-slot-init c =
     let t = tuned c.args.pi c.args.dwell in
+    let log = c.args.log.now in
+    let begins : StandsAt t c.new-4.result (got None log 0) = subst (StandsAt t c.new-4.result) (sym (got-none None log)) (c.new-4.ensures.stands 0) in
     record {
-      stands = subst (StandsAt t c.new-receiver.result) (sym (got-none None c.args.log.now)) (c.new-receiver.ensures.stands 0);
-      all = subst (All (IsSeen t c.args.log.now)) (sym c.new.ensures.items) (All-nil (IsSeen t c.args.log.now));
+      stands = subst (λ (r : ReceiverState). StandsAt t r (got None log 0)) (sym c.store-whole.ensures.same) begins;
+      stored = c.store-whole.ensures.good;
+      view = subst (λ (l : List (Option Group)). (view : ShownView) × IsView t l view) (sym (got-none None log)) (_, view_of_none t);
+      views = λ slot less. absurd (omega (arith, less));
+      seen = subst (All (IsSeen t log)) (sym c.new.ensures.items) (All-nil (IsSeen t log));
+      pairs = subst (All (IsOfRun t log 0)) (sym c.new-2.ensures.items) (All-nil (IsOfRun t log 0));
     }
 
 pub loop-slot-preserved : goal.loop-slot-preserved
 loop-slot-preserved c =
     let t = tuned c.args.pi c.args.dwell in
     let log = c.args.log.now in
-    let stands = stands_more t c.slot.new.self None log c.loop-slot.slot c.received.result c.received.ensures (c.slot.ensures.stands _ _ c.loop-slot.invariant.stands) in
+    let n = c.loop-slot.slot in
+    let group = c.blocks_of.result in
+    let before = c.loop-slot.invariant in
+    let is : got None log (n + 1) ≡ group ∷ got None log n = got-more None log n ∙ ap (λ (g : Option Group). g ∷ got None log n) (sym (c.blocks_of.ensures ∙ c.received.ensures)) in
+    let stands : StandsAt t (receiver_stored c.take_slot-changed.new.stored) (got None log (n + 1)) =
+    subst (StandsAt t (receiver_stored c.take_slot-changed.new.stored)) (sym is) (c.take_slot-changed.ensures.stands before.stored t (got None log n) before.stands) in
+    let stored = c.take_slot-changed.ensures.good before.stored in
+    let pairs = c.drop_pairs.ensures.pairs c.args.pi c.args.dwell n log before.stands stands before.pairs in
+    let seen = subst (λ v. All (IsSeen t log) v.items) (sym c.drop_pairs.ensures.seen) before.seen in
+    let views : (view : ShownView) × IsView t (got None log (n + 1)) view → HasViews t log (n + 1) = λ view slot less. elim (cases_lt slot n) [
+      | inl earlier ↦ before.views slot earlier
+      | inr from ↦ (
+          let here : n ≡ slot = omega (arith, less, from) in
+          subst (λ (k : ℕ). (view : ShownView) × IsView t (got None log (k + 1)) view) here view)
+    ] in
     record {
       stands = stands;
-      all = elim c.if-slot.branch [
-        | then-slot+in_ok-note w ↦ subst (AreSeen t log) (sym w.all-is) (w.in_ok-note.ensures t log c.loop-slot-test.true stands c.loop-slot.invariant.all)
-        | else-slot w ↦ subst (AreSeen t log) (sym w.all-is) c.loop-slot.invariant.all
+      stored = stored;
+      view = elim c.if-changed.branch [
+        | then-changed+in_ok-note w ↦ (w.in_ok-note.ensures t log c.loop-slot-test.true stored stands seen pairs).2
+        | else-changed w ↦ (before.view.0, subst (λ (l : List (Option Group)). IsView t l before.view.0) (sym is) (c.take_slot-changed.ensures.same before.stored w.if-changed.false before.view.0 t (got None log n) before.stands before.view.1))
+      ];
+      views = elim c.if-changed.branch [
+        | then-changed+in_ok-note w ↦ views (w.in_ok-note.ensures t log c.loop-slot-test.true stored stands seen pairs).2
+        | else-changed w ↦ views (before.view.0, subst (λ (l : List (Option Group)). IsView t l before.view.0) (sym is) (c.take_slot-changed.ensures.same before.stored w.if-changed.false before.view.0 t (got None log n) before.stands before.view.1))
+      ];
+      seen = elim c.if-changed.branch [
+        | then-changed+in_ok-note w ↦ subst (λ v. All (IsSeen t log) v.seen.items) (sym w.all-is) (w.in_ok-note.ensures t log c.loop-slot-test.true stored stands seen pairs).0
+        | else-changed w ↦ subst (λ v. All (IsSeen t log) v.seen.items) (sym w.all-is) seen
+      ];
+      pairs = elim c.if-changed.branch [
+        | then-changed+in_ok-note w ↦ subst (λ v. All (IsOfRun t log (n + 1)) v.pairs.items) (sym w.all-is) (w.in_ok-note.ensures t log c.loop-slot-test.true stored stands seen pairs).1
+        | else-changed w ↦ subst (λ v. All (IsOfRun t log (n + 1)) v.pairs.items) (sym w.all-is) pairs
       ];
     }
+
+pub returns : goal.returns
+returns c =
+    let t = tuned c.args.pi c.args.dwell in
+    let log = c.args.log.now in
+    (c.loop-slot.invariant.seen, λ slot less. c.loop-slot.invariant.views slot (omega (arith, less, c.loop-slot-test.false)))

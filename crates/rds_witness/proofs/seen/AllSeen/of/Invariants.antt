@@ -1,12 +1,18 @@
-use Rattle.std.proofs.Common.{None}
+use Rattle.std.proofs.Common.{All, None}
 use Rattle.rds_log.specs.LogWrites.{tuned}
+use Rattle.rds_receiver.specs.Shown.{IsView, ShownView}
 use Rattle.rds_receiver.specs.StandsAt.{StandsAt}
+use Rattle.rds_receiver.specs.Stored.{IsStored, receiver_stored}
 use Rattle.rds_witness.specs.Lost.{got}
-use Rattle.rds_witness.specs.Search.{AreSeen}
+use Rattle.rds_witness.specs.Search.{HasViews, IsOfRun, IsSeen}
 use Rattle.rds_witness.proofs.seen.AllSeen.of.Given as goal
 
 abbrev pub invariant-loop-slot : goal.invariant-loop-slot
 invariant-loop-slot l = record {
-  stands : StandsAt (tuned l.pi l.fn.dwell) l.receiver (got None l.log l.slot);
-  all : AreSeen (tuned l.pi l.fn.dwell) l.log l.all;
+  stands : StandsAt (tuned l.fn.pi l.fn.dwell) (receiver_stored l.whole) (got None l.log l.slot);
+  stored : IsStored l.whole;
+  view : (view : ShownView) × IsView (tuned l.fn.pi l.fn.dwell) (got None l.log l.slot) view;
+  views : HasViews (tuned l.fn.pi l.fn.dwell) l.log l.slot;
+  seen : All (IsSeen (tuned l.fn.pi l.fn.dwell) l.log) l.all.seen.items;
+  pairs : All (IsOfRun (tuned l.fn.pi l.fn.dwell) l.log l.slot) l.all.pairs.items;
 }

@@ -1,6 +1,6 @@
 use Rattle.rds_log.specs.LogWrites.{tuned}
 use Rattle.rds_witness.specs.Search.{NoMixesIn, StandsAfter}
-use Rattle.rds_witness.proofs.no_mixes.first_doubt.Given as goal
+use Rattle.rds_witness.proofs.search.find.Given as goal
 
 abbrev pub invariant-loop-slot : goal.invariant-loop-slot
 invariant-loop-slot l = record {

@@ -1,0 +1,20 @@
+use Rattle.std.proofs.Common.{◌∙◌, ap, arith}
+use Rattle.rds_log.specs.LogWrites.{tuned}
+use Rattle.rds_receiver.specs.Stored.{receiver_stored}
+use Rattle.rds_witness.proofs.PairRuns.{same_run_of_log}
+use Rattle.rds_witness.proofs.seen.AllSeen.drop_pairs.Goals as goal
+
+pub returns-else-not-goes_on-clause-pairs : goal.returns-else-not-goes_on-clause-pairs
+returns-else-not-goes_on-clause-pairs c pi m n log was is all k d less =
+    let its = all k d less in
+    let going = c.if-not-goes_on.false in
+    record {
+      slot = its.slot;
+      before = let before = its.before in omega (arith, before);
+      old = its.old;
+      new = is.heard;
+      were = its.were;
+      are = is.are;
+      held = its.held;
+      same = its.same ∙ same_run_of_log pi m n log (receiver_stored c.args.old.now) (receiver_stored c.args.new.now) (c.goes_on.ensures.age going) (c.goes_on.ensures.flag going) was is its.new is.heard its.are is.are;
+    }
