@@ -22,7 +22,7 @@ use Rattle.rds_receiver.specs.declared.stored.StoredReceiver.{StoredReceiver}
 use Rattle.rds_receiver.specs.declared.stored.StoredSegments.{StoredSegments}
 use Rattle.rds_receiver.proofs.Runs.{run_at_newest}
 use Rattle.rds_witness.specs.Covered.{IsInputPart}
-use Rattle.rds_witness.specs.Part.{HasCells, IsPart, IsTagPart}
+use Rattle.rds_witness.specs.Part.{HasCells, IsPairPart, IsPart, IsTagPart}
 
 -- what `is_part` finds
 pub record HoldsPart (one other : StoredSegments) : Type 0 where
@@ -91,7 +91,7 @@ heard_part pick pi m one other input more h k part mine theirs long holds other_
 pub record HoldsPartOf (one other : StoredReceiver) : Type 0 where
   pub text : HoldsPart one.text other.text
   pub name : HoldsPart one.name other.name
-  pub pair : (pair_stored one.pair ≡ None) ⊎ (pair_stored one.pair ≡ pair_stored other.pair)
+  pub pair : IsPairPart (pair_stored one.pair) (pair_stored other.pair)
   pub known : is_set one.is_known ≡ true → is_set other.is_known ≡ true
 
 holds_itself : (s : StoredSegments) → HoldsPart s s
@@ -104,7 +104,7 @@ module _ (pi m : ℕ) (one other : StoredReceiver) (part : HoldsPartOf one other
   tags_part : IsTagPart m 0 mine.heard theirs.heard
   tags_part = (by_pair part.pair, λ is. sym theirs.holds.known ∙ part.known (mine.holds.known ∙ is))
     where
-      by_pair : (pair_stored one.pair ≡ None) ⊎ (pair_stored one.pair ≡ pair_stored other.pair) → (pair_held m 0 mine.heard ≡ None) ⊎ (pair_held m 0 mine.heard ≡ pair_held m 0 theirs.heard)
+      by_pair : IsPairPart (pair_stored one.pair) (pair_stored other.pair) → IsPairPart (pair_held m 0 mine.heard) (pair_held m 0 theirs.heard)
       by_pair (inl none) = inl (sym (pair_of pi m (receiver_stored one) input mine) ∙ none)
       by_pair (inr same) = inr (sym (pair_of pi m (receiver_stored one) input mine) ∙ same ∙ pair_of pi m (receiver_stored other) more theirs)
 

@@ -13,7 +13,7 @@ use Rattle.rds_receiver.specs.Tags.{pair_held}
 use Rattle.rds_receiver.specs.Stored.{IsStored, receiver_stored}
 use Rattle.rds_receiver.specs.State.{ReceiverState}
 use Rattle.rds_witness.specs.Covered.{Covers, IsAt, IsCovered, IsInputPart, IsRunPart, Keeps}
-use Rattle.rds_witness.specs.Part.{IsTagPart}
+use Rattle.rds_witness.specs.Part.{IsPairPart, IsTagPart}
 use Rattle.rds_witness.specs.declared.covering.Lossy.{Lossy}
 use Rattle.rds_witness.proofs.HeldParts.{heard_long}
 use Rattle.rds_witness.proofs.PartSteps.{part_heard, part_itself, part_through}
@@ -22,11 +22,11 @@ use Rattle.rds_witness.proofs.TagParts.{tag_part_heard}
 tags_through : (m first : ℕ) (one two three : List (Option Message)) → IsTagPart m first one two → IsTagPart m first two three → IsTagPart m first one three
 tags_through m first one two three p q = (by_first p.0, λ is. q.1 (p.1 is))
   where
-    by_second : pair_held m first one ≡ pair_held m first two → (pair_held m first two ≡ None) ⊎ (pair_held m first two ≡ pair_held m first three) → (pair_held m first one ≡ None) ⊎ (pair_held m first one ≡ pair_held m first three)
+    by_second : pair_held m first one ≡ pair_held m first two → IsPairPart (pair_held m first two) (pair_held m first three) → IsPairPart (pair_held m first one) (pair_held m first three)
     by_second same (inl none) = inl (same ∙ none)
     by_second same (inr other) = inr (same ∙ other)
 
-    by_first : (pair_held m first one ≡ None) ⊎ (pair_held m first one ≡ pair_held m first two) → (pair_held m first one ≡ None) ⊎ (pair_held m first one ≡ pair_held m first three)
+    by_first : IsPairPart (pair_held m first one) (pair_held m first two) → IsPairPart (pair_held m first one) (pair_held m first three)
     by_first (inl none) = inl none
     by_first (inr same) = by_second same q.0
 

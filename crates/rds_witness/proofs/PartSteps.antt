@@ -110,24 +110,26 @@ whole_name one other x has w = record { eight = w.eight; spelled = record { byte
 
 -- ---- what was heard
 
+-- both runs in the next slot, before it brings something
+pub part_aged : (pick : Message → Option Fragment) (m : ℕ) (one other : List (Option Message)) → length one ≡ length other → IsPart (run_at pick m 0 one) (run_at pick m 0 other)
+    → IsPart (run m (0 + length one) (segments pick 0 one)) (run m (0 + length one) (segments pick 0 other))
+part_aged pick m [] other long part = tt
+part_aged pick m (y ∷ one) [] long part = absurd (omega (arith, long))
+part_aged pick m (y ∷ one) (z ∷ other) long part =
+    let short : length one ≡ length other = omega (arith, long) in
+    let was : IsPart (run m (0 + length one) (segments pick 0 (y ∷ one))) (run m (0 + length one) (segments pick 0 (z ∷ other))) =
+    subst (λ (k : ℕ). IsPart (run m (0 + length one) (segments pick 0 (y ∷ one))) (run m (0 + k) (segments pick 0 (z ∷ other)))) (sym short) part in
+    let next : 0 + length one + 1 ≡ 0 + length (y ∷ one) = omega arith in
+    subst (λ (k : ℕ). IsPart (run m k (segments pick 0 (y ∷ one))) (run m k (segments pick 0 (z ∷ other)))) next (part_later m (0 + length one) (segments pick 0 (y ∷ one)) (segments pick 0 (z ∷ other)) was)
+
 -- whatever both hear in the next slot
 pub part_heard : (pick : Message → Option Fragment) (m : ℕ) (x : Option Message) (one other : List (Option Message)) → 0 < m → length one ≡ length other
     → IsPart (run_at pick m 0 one) (run_at pick m 0 other) → IsPart (run_at pick m 0 (x ∷ one)) (run_at pick m 0 (x ∷ other))
 part_heard pick m x one other some long part =
     let n = 0 + length one in
-    let aged : IsPart (run m n (segments pick 0 one)) (run m n (segments pick 0 other)) = older one other long part in
-    let taken : IsPart (run m n (with_segment n (picked pick x) (segments pick 0 one))) (run m n (with_segment n (picked pick x) (segments pick 0 other))) = by_fragment (picked pick x) aged in
+    let taken : IsPart (run m n (with_segment n (picked pick x) (segments pick 0 one))) (run m n (with_segment n (picked pick x) (segments pick 0 other))) = by_fragment (picked pick x) (part_aged pick m one other long part) in
     subst (λ (k : ℕ). IsPart (run m n (with_segment n (picked pick x) (segments pick 0 one))) (run m (0 + k) (with_segment (0 + k) (picked pick x) (segments pick 0 other)))) long taken
   where
-    older : (a b : List (Option Message)) → length a ≡ length b → IsPart (run_at pick m 0 a) (run_at pick m 0 b) → IsPart (run m (0 + length a) (segments pick 0 a)) (run m (0 + length a) (segments pick 0 b))
-    older [] b same p = tt
-    older (y ∷ a) [] same p = absurd (omega (arith, same))
-    older (y ∷ a) (z ∷ b) same p =
-        let short : length a ≡ length b = omega (arith, same) in
-        let was : IsPart (run m (0 + length a) (segments pick 0 (y ∷ a))) (run m (0 + length a) (segments pick 0 (z ∷ b))) = subst (λ (k : ℕ). IsPart (run m (0 + length a) (segments pick 0 (y ∷ a))) (run m (0 + k) (segments pick 0 (z ∷ b)))) (sym short) p in
-        let next : 0 + length a + 1 ≡ 0 + length (y ∷ a) = omega arith in
-        subst (λ (k : ℕ). IsPart (run m k (segments pick 0 (y ∷ a))) (run m k (segments pick 0 (z ∷ b)))) next (part_later m (0 + length a) (segments pick 0 (y ∷ a)) (segments pick 0 (z ∷ b)) was)
-
     by_fragment : (o : Option Fragment) → IsPart (run m (0 + length one) (segments pick 0 one)) (run m (0 + length one) (segments pick 0 other))
         → IsPart (run m (0 + length one) (with_segment (0 + length one) o (segments pick 0 one))) (run m (0 + length one) (with_segment (0 + length one) o (segments pick 0 other)))
     by_fragment None p = p

@@ -18,6 +18,7 @@ use Rattle.rds_receiver.specs.Tags.{cut_by, pair_held, tag_in, tag_of}
 use Rattle.rds_witness.specs.Covered.{Covers, IsCovered, IsInputPart}
 use Rattle.rds_witness.specs.Lost.{got}
 use Rattle.rds_witness.specs.Mix.{Has, IsMix, Name, Shows, Tag, Text, Thing, until}
+use Rattle.rds_witness.specs.Part.{IsPairPart}
 use Rattle.rds_witness.specs.Search.{HasOnlySeen, HasViews, IsOfRun, IsReplaced, IsSeenBefore, IsTagOfRun, ShowOnlySeen, ShowsOnlySeen}
 use Rattle.rds_witness.specs.declared.burst.Burst.{Burst}
 use Rattle.rds_witness.specs.declared.covering.Lossy.{Lossy}
@@ -40,7 +41,7 @@ cuts which None pair class piece is = absurd (cc)
 cuts which (Some x) None class piece is = absurd (cc)
 cuts which (Some x) (Some p) class piece is = record { x = x; p = p; has_text = refl; has_pair = refl; cut = is }
 
-cuts_again : (which : Which) (text other : Option (List ℕ)) (pair more : Option PairFields) (class : ℕ) (piece : List ℕ) → ((x : List ℕ) → text ≡ Some x → other ≡ Some x) → (pair ≡ None) ⊎ (pair ≡ more)
+cuts_again : (which : Which) (text other : Option (List ℕ)) (pair more : Option PairFields) (class : ℕ) (piece : List ℕ) → ((x : List ℕ) → text ≡ Some x → other ≡ Some x) → IsPairPart pair more
     → tag_of which text pair ≡ Some (class, piece) → tag_of which other more ≡ Some (class, piece)
 cuts_again which text other pair more class piece shows (inl none) is = (let c = cuts which text pair class piece is in let has = c.has_pair in absurd (cc))
 cuts_again which text other pair more class piece shows (inr same) is =

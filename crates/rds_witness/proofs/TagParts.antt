@@ -9,8 +9,8 @@ use Rattle.rds_receiver.specs.Run.{begins_in, run, run_at, run_before}
 use Rattle.rds_receiver.specs.Tags.{is_known, or_before, pair_from, pair_held, pair_since, says_of_rtplus, unless_contrary}
 use Rattle.rds_receiver.proofs.Pairs.{AllBelow, none_since, pair_goes_on, pair_of_name, pair_of_none, pair_of_other, run_below, segments_below}
 use Rattle.rds_receiver.proofs.Runs.{before_other, before_same, equal_or_not, run_over, run_recent, test_true}
-use Rattle.rds_witness.specs.Part.{IsPart, IsTagPart}
-use Rattle.rds_witness.proofs.PartSteps.{part_later}
+use Rattle.rds_witness.specs.Part.{IsPairPart, IsPart, IsTagPart}
+use Rattle.rds_witness.proofs.PartSteps.{part_aged}
 
 -- ---- one receiver
 
@@ -57,10 +57,6 @@ none_unknown since (Some (Announce code bits aid) ∷ before) unknown = by_says 
     by_says (Some true) off older = absurd (cc)
     by_says (Some false) off older = refl
 
-from_unknown : (begins : Option ℕ) (heard : List (Option Message)) → is_known heard ≡ false → pair_from 0 begins heard ≡ None
-from_unknown None heard unknown = refl
-from_unknown (Some since) heard unknown = none_unknown since heard unknown
-
 unless_none : (says : Option Bool) → unless_contrary says None ≡ None
 unless_none None = refl
 unless_none (Some true) = refl
@@ -84,7 +80,7 @@ from_tags_unknown (Some since) heard pair unknown = rw unknown (none_unknown sin
 -- ---- two receivers
 
 -- no pair, or the same one: so after both moved on
-moved : (a b c d : Option PairFields) → a ≡ b → c ≡ d → (a ≡ None) ⊎ (a ≡ c) → (b ≡ None) ⊎ (b ≡ d)
+moved : (a b c d : Option PairFields) → a ≡ b → c ≡ d → IsPairPart a c → IsPairPart b d
 moved a b c d one other (inl none) = inl (sym one ∙ none)
 moved a b c d one other (inr same) = inr (sym one ∙ same ∙ other)
 
@@ -100,32 +96,17 @@ known_next (Some (Announce code bits aid)) one other known is = by_says (says_of
     by_says None is = known is
     by_says (Some says) is = is
 
--- the runs in the next slot, before it brings something
-part_aged : (m : ℕ) (one other : List (Option Message)) → length one ≡ length other → IsPart (run_at text_fragment m 0 one) (run_at text_fragment m 0 other)
-    → IsPart (run m (0 + length one) (segments text_fragment 0 one)) (run m (0 + length other) (segments text_fragment 0 other))
-part_aged m [] other long part = tt
-part_aged m (y ∷ one) [] long part = absurd (omega (arith, long))
-part_aged m (y ∷ one) (z ∷ other) long part =
-    let short : length one ≡ length other = omega (arith, long) in
-    let mine : 0 + length one + 1 ≡ 0 + length (y ∷ one) = omega arith in
-    let theirs : 0 + length one + 1 ≡ 0 + length (z ∷ other) = omega (arith, short) in
-    let was : IsPart (run m (0 + length one) (segments text_fragment 0 (y ∷ one))) (run m (0 + length one) (segments text_fragment 0 (z ∷ other))) =
-    subst (λ (k : ℕ). IsPart (run m (0 + length one) (segments text_fragment 0 (y ∷ one))) (run m (0 + k) (segments text_fragment 0 (z ∷ other)))) (sym short) part in
-    let later = part_later m (0 + length one) (segments text_fragment 0 (y ∷ one)) (segments text_fragment 0 (z ∷ other)) was in
-    subst (λ (k : ℕ). IsPart (run m k (segments text_fragment 0 (y ∷ one))) (run m (0 + length (z ∷ other)) (segments text_fragment 0 (z ∷ other)))) mine
-    (subst (λ (k : ℕ). IsPart (run m (0 + length one + 1) (segments text_fragment 0 (y ∷ one))) (run m k (segments text_fragment 0 (z ∷ other)))) theirs later)
-
 module _ (m : ℕ) (one other : List (Option Message)) (some : 0 < m) (part : IsPart (run m (0 + length one) (segments text_fragment 0 one)) (run m (0 + length other) (segments text_fragment 0 other))) (tags : IsTagPart m 0 one other) where
-  aged_part : (aged m one ≡ None) ⊎ (aged m one ≡ aged m other)
+  aged_part : IsPairPart (aged m one) (aged m other)
   aged_part = by_runs (run m (0 + length one) (segments text_fragment 0 one)) (run m (0 + length other) (segments text_fragment 0 other)) refl refl part
     where
-      by_runs : (r s : List Segment) → run m (0 + length one) (segments text_fragment 0 one) ≡ r → run m (0 + length other) (segments text_fragment 0 other) ≡ s → IsPart r s → (aged m one ≡ None) ⊎ (aged m one ≡ aged m other)
+      by_runs : (r s : List Segment) → run m (0 + length one) (segments text_fragment 0 one) ≡ r → run m (0 + length other) (segments text_fragment 0 other) ≡ s → IsPart r s → IsPairPart (aged m one) (aged m other)
       by_runs [] s is_r is_s p = inl (aged_none m one is_r)
       by_runs (g ∷ older) [] is_r is_s p = absurd p
       by_runs (g ∷ older) (h ∷ rest) is_r is_s p = moved _ _ _ _ (sym (aged_same m one g older is_r)) (sym (aged_same m other h rest is_s)) tags.0
 
-  same_announced : (code bits aid : ℕ) → (aged m one ≡ None) ⊎ (aged m one ≡ aged m other)
-      → (pair_held m 0 (Some (Announce code bits aid) ∷ one) ≡ None) ⊎ (pair_held m 0 (Some (Announce code bits aid) ∷ one) ≡ pair_held m 0 (Some (Announce code bits aid) ∷ other))
+  same_announced : (code bits aid : ℕ) → IsPairPart (aged m one) (aged m other)
+      → IsPairPart (pair_held m 0 (Some (Announce code bits aid) ∷ one)) (pair_held m 0 (Some (Announce code bits aid) ∷ other))
   same_announced code bits aid (inl none) =
       inl (from_announced (begins_in (run m (0 + length one) (segments text_fragment 0 one))) one code bits aid ∙ ap (unless_contrary (says_of_rtplus code aid)) none ∙ unless_none (says_of_rtplus code aid))
   same_announced code bits aid (inr same) =
@@ -140,16 +121,16 @@ module _ (m : ℕ) (one other : List (Option Message)) (some : 0 < m) (part : Is
   held_tags heard g older pair is known =
       ap (λ (r : List Segment). pair_from 0 (begins_in r) (Some (Tags pair) ∷ heard)) is ∙ from_tags g older heard pair (below heard g older is) known
 
-  same_tags : (pair : PairFields) → (pair_held m 0 (Some (Tags pair) ∷ one) ≡ None) ⊎ (pair_held m 0 (Some (Tags pair) ∷ one) ≡ pair_held m 0 (Some (Tags pair) ∷ other))
+  same_tags : (pair : PairFields) → IsPairPart (pair_held m 0 (Some (Tags pair) ∷ one)) (pair_held m 0 (Some (Tags pair) ∷ other))
   same_tags pair = by_known (is_known one) refl
     where
       by_runs : (r s : List Segment) → run m (0 + length one) (segments text_fragment 0 one) ≡ r → run m (0 + length other) (segments text_fragment 0 other) ≡ s → IsPart r s → is_known one ≡ true
-          → (pair_held m 0 (Some (Tags pair) ∷ one) ≡ None) ⊎ (pair_held m 0 (Some (Tags pair) ∷ one) ≡ pair_held m 0 (Some (Tags pair) ∷ other))
+          → IsPairPart (pair_held m 0 (Some (Tags pair) ∷ one)) (pair_held m 0 (Some (Tags pair) ∷ other))
       by_runs [] s is_r is_s p known = inl (ap (λ (r : List Segment). pair_from 0 (begins_in r) (Some (Tags pair) ∷ one)) is_r)
       by_runs (g ∷ older) [] is_r is_s p known = absurd p
       by_runs (g ∷ older) (h ∷ rest) is_r is_s p known = inr (held_tags one g older pair is_r known ∙ sym (held_tags other h rest pair is_s (tags.1 known)))
 
-      by_known : (b : Bool) → is_known one ≡ b → (pair_held m 0 (Some (Tags pair) ∷ one) ≡ None) ⊎ (pair_held m 0 (Some (Tags pair) ∷ one) ≡ pair_held m 0 (Some (Tags pair) ∷ other))
+      by_known : (b : Bool) → is_known one ≡ b → IsPairPart (pair_held m 0 (Some (Tags pair) ∷ one)) (pair_held m 0 (Some (Tags pair) ∷ other))
       by_known false unknown = inl (from_tags_unknown (begins_in (run m (0 + length one) (segments text_fragment 0 one))) one pair unknown)
       by_known true known = by_runs _ _ refl refl part known
 
@@ -163,26 +144,26 @@ module _ (m : ℕ) (one other : List (Option Message)) (some : 0 < m) (part : Is
       ∙ pair_goes_on 0 n heard f a b x (run_before m f n (segments text_fragment 0 heard)) refl refl
       ∙ ap (λ (r : List Segment). pair_from 0 (begins_in r) (Some (Text f a b) ∷ heard)) (sym (run_recent m n x (segments text_fragment 0 heard) (omega (arith, some))))
 
-  same_text : (f : Bool) (a : ℕ) (b : List ℕ) → (pair_held m 0 (Some (Text f a b) ∷ one) ≡ None) ⊎ (pair_held m 0 (Some (Text f a b) ∷ one) ≡ pair_held m 0 (Some (Text f a b) ∷ other))
+  same_text : (f : Bool) (a : ℕ) (b : List ℕ) → IsPairPart (pair_held m 0 (Some (Text f a b) ∷ one)) (pair_held m 0 (Some (Text f a b) ∷ other))
   same_text f a b = by_runs _ _ refl refl part
     where
-      begins : run_before m f (0 + length one) (segments text_fragment 0 one) ≡ [] → (pair_held m 0 (Some (Text f a b) ∷ one) ≡ None) ⊎ (pair_held m 0 (Some (Text f a b) ∷ one) ≡ pair_held m 0 (Some (Text f a b) ∷ other))
+      begins : run_before m f (0 + length one) (segments text_fragment 0 one) ≡ [] → IsPairPart (pair_held m 0 (Some (Text f a b) ∷ one)) (pair_held m 0 (Some (Text f a b) ∷ other))
       begins none = inl (sym (with_text one f a b [] none))
 
       by_runs : (r s : List Segment) → run m (0 + length one) (segments text_fragment 0 one) ≡ r → run m (0 + length other) (segments text_fragment 0 other) ≡ s → IsPart r s
-          → (pair_held m 0 (Some (Text f a b) ∷ one) ≡ None) ⊎ (pair_held m 0 (Some (Text f a b) ∷ one) ≡ pair_held m 0 (Some (Text f a b) ∷ other))
+          → IsPairPart (pair_held m 0 (Some (Text f a b) ∷ one)) (pair_held m 0 (Some (Text f a b) ∷ other))
       by_runs [] s is_r is_s p = begins (before_same m (0 + length one) f (segments text_fragment 0 one) (rw is_r tt) ∙ is_r)
       by_runs (g ∷ older) [] is_r is_s p = absurd p
       by_runs (g ∷ older) (h ∷ rest) is_r is_s p = by_flag (equal_or_not f g.fragment.flag)
         where
-          by_flag : (f ≡ g.fragment.flag) ⊎ (f ≢ g.fragment.flag) → (pair_held m 0 (Some (Text f a b) ∷ one) ≡ None) ⊎ (pair_held m 0 (Some (Text f a b) ∷ one) ≡ pair_held m 0 (Some (Text f a b) ∷ other))
+          by_flag : (f ≡ g.fragment.flag) ⊎ (f ≢ g.fragment.flag) → IsPairPart (pair_held m 0 (Some (Text f a b) ∷ one)) (pair_held m 0 (Some (Text f a b) ∷ other))
           by_flag (inl same) =
               let mine = before_same m (0 + length one) f (segments text_fragment 0 one) (rw is_r same) in
               let theirs = before_same m (0 + length other) f (segments text_fragment 0 other) (rw is_s (same ∙ p.0)) in
               moved _ _ _ _ (with_text one f a b _ mine) (with_text other f a b _ theirs) aged_part
           by_flag (inr apart) = begins (before_other m (0 + length one) f g.fragment.flag (segments text_fragment 0 one) (rw is_r refl) apart)
 
-  same_next : (x : Option Message) → (pair_held m 0 (x ∷ one) ≡ None) ⊎ (pair_held m 0 (x ∷ one) ≡ pair_held m 0 (x ∷ other))
+  same_next : (x : Option Message) → IsPairPart (pair_held m 0 (x ∷ one)) (pair_held m 0 (x ∷ other))
   same_next None = moved _ _ _ _ (pair_of_none 0 (begins_in (run m (0 + length one) (segments text_fragment 0 one))) one) (pair_of_none 0 (begins_in (run m (0 + length other) (segments text_fragment 0 other))) other) aged_part
   same_next (Some Other) = moved _ _ _ _ (pair_of_other 0 (begins_in (run m (0 + length one) (segments text_fragment 0 one))) one) (pair_of_other 0 (begins_in (run m (0 + length other) (segments text_fragment 0 other))) other) aged_part
   same_next (Some (Name f a b)) =
@@ -194,7 +175,11 @@ module _ (m : ℕ) (one other : List (Option Message)) (some : 0 < m) (part : Is
 -- whatever both hear in the next slot
 pub tag_part_heard : (m : ℕ) (x : Option Message) (one other : List (Option Message)) → 0 < m → length one ≡ length other → IsPart (run_at text_fragment m 0 one) (run_at text_fragment m 0 other)
     → IsTagPart m 0 one other → IsTagPart m 0 (x ∷ one) (x ∷ other)
-tag_part_heard m x one other some long part tags = (same_next m one other some (part_aged m one other long part) tags x, known_next x one other tags.1)
+tag_part_heard m x one other some long part tags =
+    let aged_runs = part_aged text_fragment m one other long part in
+    let both : IsPart (run m (0 + length one) (segments text_fragment 0 one)) (run m (0 + length other) (segments text_fragment 0 other)) =
+    subst (λ (k : ℕ). IsPart (run m (0 + length one) (segments text_fragment 0 one)) (run m (0 + k) (segments text_fragment 0 other))) long aged_runs in
+    (same_next m one other some both tags x, known_next x one other tags.1)
 
 -- ---- when the run goes on
 

@@ -3,6 +3,7 @@
 use Rattle.std.specs.Prelude.{◌≡◌, ◌⊎◌, ◌≤◌, [], ◌∷◌, ℕ, List, None, Option, Some, true}
 use Rattle.std.specs.FinMap.{get}
 use Rattle.rds_assembly.specs.Cells.{Cells}
+use Rattle.rds_fields.specs.Tag.{PairFields}
 use Rattle.rds_fields.specs.declared.message.Message.{Message}
 use Rattle.rds_receiver.specs.Receipts.{Segment}
 use Rattle.rds_receiver.specs.Run.{cells_of}
@@ -20,9 +21,12 @@ IsPart (g ∷ older) [] = ⊥
 IsPart (g ∷ older) (h ∷ rest) =
     (g.fragment.flag ≡ h.fragment.flag) × (g.slot ≤ h.slot) × HasCells (cells_of (g ∷ older)) (cells_of (h ∷ rest))
 
+-- the first is no pair of tags, or the second
+abbrev pub IsPairPart : Option PairFields → Option PairFields → Type 0
+IsPairPart one other = (one ≡ None) ⊎ (one ≡ other)
+
 -- the first receiver holds no pair of tags or the pair of the second one, and knows RadioText Plus only if the second
 -- one does
 abbrev pub IsTagPart : ℕ → ℕ → List (Option Message) → List (Option Message) → Type 0
 IsTagPart m first one other =
-    ((pair_held m first one ≡ None) ⊎ (pair_held m first one ≡ pair_held m first other))
-    × (is_known one ≡ true → is_known other ≡ true)
+    IsPairPart (pair_held m first one) (pair_held m first other) × (is_known one ≡ true → is_known other ≡ true)

@@ -11,7 +11,7 @@ ghost use Rattle.rds_receiver.specs.declared.stored.StoredReceiver.{StoredReceiv
 ghost use Rattle.rds_receiver.specs.Stored.{IsStored, receiver_stored};
 ghost use Rattle.rds_log.specs.LogWrites.{tuned};
 ghost use Rattle.rds_witness.specs.Covered.{IsAt, IsInputPart, Keeps, KeepsNext};
-ghost use Rattle.rds_witness.specs.Part.{HasCells};
+ghost use Rattle.rds_witness.specs.Part.{HasCells, IsPairPart};
 ghost use Rattle.rds_witness.specs.declared.covering.Lossy.{Lossy};
 
 use crate::burst::Burst;
@@ -101,7 +101,7 @@ fn is_same_tag(one: &StoredTag, other: &StoredTag) -> bool
 
 /// Returns whether the first receiver holds no pair of tags, or the pair that the second one holds.
 fn is_pair_part(one: &StoredPair, other: &StoredPair) -> bool
-    ensures { IsTrue result → (pair_stored one.now ≡ None) ⊎ (pair_stored one.now ≡ pair_stored other.now) }
+    ensures { IsTrue result → IsPairPart (pair_stored one.now) (pair_stored other.now) }
 {
     if one.is_held == 0 {
         return true;

@@ -10,7 +10,7 @@ ghost use Rattle.rds_receiver.specs.Shown.{IsNameShown, IsTextShown, ShownView};
 ghost use Rattle.rds_witness.specs.Lines.{shown_line};
 ghost use Rattle.rds_witness.specs.Lost.{got};
 ghost use Rattle.rds_witness.specs.Mix.{IsMix, Thing};
-ghost use Rattle.rds_witness.specs.Part.{IsPart};
+ghost use Rattle.rds_witness.specs.Part.{IsPart, IsTagPart};
 ghost use Rattle.rds_witness.specs.Prints.{HasLine};
 ghost use Rattle.rds_witness.specs.declared.burst.Burst.{Burst};
 
@@ -24,12 +24,15 @@ pub fn what_a_mix_means()
 {}
 
 /// Shows that a receiver whose run is a part of another one's shows no text or name that the other one does not show,
-/// and that its run stays a part in the next slot, whatever both hear.
+/// and that its run and its tags stay a part in the next slot, whatever both hear.
 pub fn a_part_shows_no_more()
     ensures stays { (pick : Message → Option Fragment) (m : ℕ) (x : Option Message)
         (one other : List (Option Message)) → 0 < m → length one ≡ length other
         → IsPart (run_at pick m 0 one) (run_at pick m 0 other)
         → IsPart (run_at pick m 0 (x ∷ one)) (run_at pick m 0 (x ∷ other)) }
+    ensures tags_stay { (m : ℕ) (x : Option Message) (one other : List (Option Message)) → 0 < m
+        → length one ≡ length other → IsPart (run_at text_fragment m 0 one) (run_at text_fragment m 0 other)
+        → IsTagPart m 0 one other → IsTagPart m 0 (x ∷ one) (x ∷ other) }
     ensures texts { (m : ℕ) (one other : List (Option Message)) (x : List ℕ)
         → IsPart (run_at text_fragment m 0 one) (run_at text_fragment m 0 other)
         → IsTextShown m 0 one (Some x) → IsTextShown m 0 other (Some x) }

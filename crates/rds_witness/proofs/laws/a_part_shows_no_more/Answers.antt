@@ -1,10 +1,14 @@
 use Rattle.rds_receiver.specs.Receipts.{name_fragment, text_fragment}
 use Rattle.rds_receiver.specs.Run.{cells_of, run_at}
 use Rattle.rds_witness.proofs.PartSteps.{part_cells, part_heard, whole_name, whole_text}
+use Rattle.rds_witness.proofs.TagParts.{tag_part_heard}
 use Rattle.rds_witness.proofs.laws.a_part_shows_no_more.Goals as goal
 
 pub returns-clause-stays : goal.returns-clause-stays
 returns-clause-stays c = part_heard
+
+pub returns-clause-tags_stay : goal.returns-clause-tags_stay
+returns-clause-tags_stay c = tag_part_heard
 
 pub returns-clause-texts : goal.returns-clause-texts
 returns-clause-texts c m one other x part shown =
