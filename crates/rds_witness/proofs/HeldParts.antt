@@ -21,6 +21,7 @@ use Rattle.rds_receiver.specs.Tags.{is_known, pair_from, pair_held}
 use Rattle.rds_receiver.specs.declared.stored.StoredReceiver.{StoredReceiver}
 use Rattle.rds_receiver.specs.declared.stored.StoredSegments.{StoredSegments}
 use Rattle.rds_receiver.proofs.Runs.{run_at_newest}
+use Rattle.rds_receiver.proofs.Shows.{pair_is}
 use Rattle.rds_witness.specs.Covered.{IsInputPart}
 use Rattle.rds_witness.specs.Part.{HasCells, IsPairPart, IsPart, IsTagPart}
 
@@ -97,16 +98,13 @@ pub record HoldsPartOf (one other : StoredReceiver) : Type 0 where
 holds_itself : (s : StoredSegments) → HoldsPart s s
 holds_itself s = record { cells = λ a b held. held; newer = inr (refl, omega arith) }
 
-pair_of : (pi m : ℕ) (r : ReceiverState) (input : List (Option Group)) (stands : StandsAt (tuned pi m) r input) → r.pair ≡ pair_held m 0 stands.heard
-pair_of pi m r input stands = stands.holds.pair ∙ ap (λ (s : List Segment). pair_from 0 (begins_in s) stands.heard) (run_at_newest text_fragment m 0 stands.heard)
-
 module _ (pi m : ℕ) (one other : StoredReceiver) (part : HoldsPartOf one other) (input more : List (Option Group)) (mine : StandsAt (tuned pi m) (receiver_stored one) input) (theirs : StandsAt (tuned pi m) (receiver_stored other) more) (long : length input ≡ length more) where
   tags_part : IsTagPart m 0 mine.heard theirs.heard
   tags_part = (by_pair part.pair, λ is. sym theirs.holds.known ∙ part.known (mine.holds.known ∙ is))
     where
       by_pair : IsPairPart (pair_stored one.pair) (pair_stored other.pair) → IsPairPart (pair_held m 0 mine.heard) (pair_held m 0 theirs.heard)
-      by_pair (inl none) = inl (sym (pair_of pi m (receiver_stored one) input mine) ∙ none)
-      by_pair (inr same) = inr (sym (pair_of pi m (receiver_stored one) input mine) ∙ same ∙ pair_of pi m (receiver_stored other) more theirs)
+      by_pair (inl none) = inl (sym (pair_is (tuned pi m) (receiver_stored one) input mine.heard mine mine.are) ∙ none)
+      by_pair (inr same) = inr (sym (pair_is (tuned pi m) (receiver_stored one) input mine.heard mine mine.are) ∙ same ∙ pair_is (tuned pi m) (receiver_stored other) more theirs.heard theirs theirs.are)
 
   pub holds_part : IsInputPart (tuned pi m) input more
   holds_part = record {

@@ -10,3 +10,4 @@ pub mod HeldParts
 pub mod KeptReceivers
 pub mod Losses
 pub mod Rulings
+pub mod SameState

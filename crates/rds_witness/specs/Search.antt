@@ -1,5 +1,5 @@
 -- A search over all bursts at once (this project's own rule).
-use Rattle.std.specs.Prelude.{◌≡◌, ◌≤◌, ◌<◌, ◌+◌, ◌∷◌, ℕ, All, List, Option, Some, None, length}
+use Rattle.std.specs.Prelude.{◌≡◌, ◌≤◌, ◌<◌, ◌+◌, ◌∷◌, ℕ, All, IsFalse, List, Option, Some, None, length}
 use Rattle.rds_block.specs.declared.group.Group.{Group}
 use Rattle.rds_fields.specs.declared.message.Message.{Message}
 use Rattle.rds_fields.specs.declared.pair.Which.{Which}
@@ -116,6 +116,10 @@ ShowsOnlySeen t log n r = (input : List (Option Group)) → StandsAt t r input �
 
 abbrev pub ShowOnlySeen : Tuning → List (Option Group) → ℕ → List Lossy → Type 0
 ShowOnlySeen t log n receivers = All (λ s. ShowsOnlySeen t log n (receiver_stored s.receiver)) receivers
+
+-- if the view of the receiver did not change in the newest slot, it shows no other things
+abbrev pub IsChecked : Tuning → List (Option Group) → ℕ → Lossy → Type 0
+IsChecked t log n s = IsFalse s.changed → ShowsOnlySeen t log n (receiver_stored s.receiver)
 
 -- no burst makes a receiver show a mix before the slot of the result; before the end of the log, if it has none
 abbrev pub IsSure : Tuning → List (Option Group) → Found → Type 0

@@ -11,6 +11,8 @@ ghost use Rattle.rds_receiver.specs.declared.stored.StoredReceiver.{StoredReceiv
 ghost use Rattle.rds_receiver.specs.Stored.{IsStored, receiver_stored};
 ghost use Rattle.rds_log.specs.LogWrites.{tuned};
 ghost use Rattle.rds_witness.specs.Covered.{IsAt, IsInputPart, Keeps, KeepsNext};
+ghost use Rattle.rds_receiver.specs.Receipts.{Tuning};
+ghost use Rattle.rds_witness.specs.Search.{IsChecked, ShowOnlySeen, ShowsOnlySeen};
 ghost use Rattle.rds_witness.specs.Part.{HasCells, IsPairPart};
 ghost use Rattle.rds_witness.specs.declared.covering.Lossy.{Lossy};
 
@@ -28,6 +30,8 @@ const SEGMENTS: u8 = 16;
 pub(crate) struct Lossy {
     pub(crate) receiver: StoredReceiver,
     pub(crate) burst: Burst,
+    /// Whether its view may have changed in the newest slot.
+    pub(crate) changed: bool,
 }
 
 /// Returns whether the first receiver holds nothing at the address, or the second one holds the same bytes there.
@@ -160,9 +164,12 @@ pub(crate) fn after_slot(one: &Lossy, group: Option<Blocks>, lost: Option<usize>
     ensures stands { IsStored one.now.receiver → WhereItStands (receiver_stored one.now.receiver)
         (λ t input. StandsAt t (receiver_stored result.receiver) (group ∷ input)) }
     ensures good { IsStored one.now.receiver → IsStored result.receiver }
+    ensures same { IsStored one.now.receiver → (t : Tuning) (log : List (Option Group)) (k : ℕ)
+        (input : List (Option Group)) → StandsAt t (receiver_stored one.now.receiver) input
+        → ShowsOnlySeen t log k (receiver_stored one.now.receiver) → IsChecked t log k result }
 {
     let mut lossy = *one;
-    take_slot(&mut lossy.receiver, group);
+    lossy.changed = take_slot(&mut lossy.receiver, group);
     if let Some(last) = lost {
         lossy.burst.last = last;
     }
@@ -174,12 +181,14 @@ pub(crate) fn after_first_loss(whole: &Lossy, slot: usize) -> Lossy
     ensures stands { IsStored whole.now.receiver → WhereItStands (receiver_stored whole.now.receiver)
         (λ t input. StandsAt t (receiver_stored result.receiver) (None ∷ input)) }
     ensures good { IsStored whole.now.receiver → IsStored result.receiver }
+    ensures changed { IsTrue result.changed }
 {
     let mut lossy = after_slot(whole, None, None);
     lossy.burst = Burst {
         first: slot,
         last: slot,
     };
+    lossy.changed = true;
     lossy
 }
 
@@ -193,9 +202,11 @@ pub(crate) fn receiver_at(receivers: &[Lossy], place: usize) -> &Lossy
 
 /// Keeps a receiver, unless the one without a loss or a kept one holds all that it holds.
 pub(crate) fn keep(whole: &Lossy, kept: &mut Vec<Lossy>, one: Lossy) -> Result<(), AllocError>
-    ensures { OnOk result ((pi m n : ℕ) → All (IsAt (tuned pi m) n) (whole.now ∷ kept.old.items)
+    ensures covers { OnOk result ((pi m n : ℕ) → All (IsAt (tuned pi m) n) (whole.now ∷ kept.old.items)
         → IsAt (tuned pi m) n one
         → Keeps (tuned pi m) n one (whole.now ∷ kept.old.items) (whole.now ∷ kept.new.items)) }
+    ensures checked { OnOk result ((t : Tuning) (log : List (Option Group)) (k : ℕ)
+        → All (IsChecked t log k) kept.old.items → IsChecked t log k one → All (IsChecked t log k) kept.new.items) }
 {
     if is_receiver_part(&one.receiver, &whole.receiver) {
         return Ok(());
@@ -217,9 +228,12 @@ pub(crate) fn keep_after_slot(
     lost: Option<usize>,
     kept: &mut Vec<Lossy>,
 ) -> Result<(), AllocError>
-    ensures { OnOk result ((pi m n : ℕ) → All (IsAt (tuned pi m) n) receivers.now
+    ensures covers { OnOk result ((pi m n : ℕ) → All (IsAt (tuned pi m) n) receivers.now
         → All (IsAt (tuned pi m) (n + 1)) (whole.now ∷ kept.old.items)
         → KeepsNext (tuned pi m) n group.now receivers.now (whole.now ∷ kept.old.items) (whole.now ∷ kept.new.items)) }
+    ensures checked { OnOk result ((pi m n k : ℕ) (log : List (Option Group)) → All (IsAt (tuned pi m) n) receivers.now
+        → ShowOnlySeen (tuned pi m) log k receivers.now → All (IsChecked (tuned pi m) log k) kept.old.items
+        → All (IsChecked (tuned pi m) log k) kept.new.items) }
 {
     for place in 0..receivers.len() {
         let later = after_slot(receiver_at(receivers, place), *group, lost);

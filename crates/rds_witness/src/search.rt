@@ -4,7 +4,7 @@ ghost use Rattle.rds_block.specs.declared.group.Group.{Group};
 ghost use Rattle.rds_log.specs.LogWrites.{tuned};
 ghost use Rattle.rds_receiver.specs.Receipts.{Tuning};
 ghost use Rattle.rds_witness.specs.Covered.{IsAt};
-ghost use Rattle.rds_witness.specs.Search.{AreSeen, IsSure, ShowOnlySeen};
+ghost use Rattle.rds_witness.specs.Search.{AreSeen, IsChecked, IsSure, ShowOnlySeen, StandsAfter};
 
 use crate::burst::{Burst, blocks_of, received};
 use crate::checking::slots_until;
@@ -48,22 +48,35 @@ pub(crate) fn find(
             return Ok(Found::Stopped(slot));
         }
         let slots = slots_until(log, dwell, slot);
-        if let Some(burst) = first_doubt(&all, slots, sweep.hearing.as_slice()) {
+        if let Some(burst) = doubt_of(&all, slots, &sweep) {
             return Ok(Found::Doubt(burst, slot));
         }
     }
     Ok(Found::Nothing)
 }
 
-/// Returns the burst of the first of the receivers that shows a part which a receiver without a loss does not show in
-/// some of the first slots.
+/// Returns the burst of the first receiver that shows a part which a receiver without a loss does not show in some of
+/// the first slots.
+fn doubt_of(all: &AllSeen, slots: usize, sweep: &Sweep) -> Option<Burst>
+    ensures { result ≡ None → (t : Tuning) (n : ℕ) (log : List (Option Group)) → StandsAfter t log n sweep.now
+        → AreSeen t log all.now → All (IsChecked t log slots) sweep.now.losing.items
+        → All (IsChecked t log slots) sweep.now.hearing.items
+        → ShowOnlySeen t log slots sweep.now.losing.items × ShowOnlySeen t log slots sweep.now.hearing.items }
+{
+    if let Some(burst) = first_doubt(all, slots, sweep.hearing.as_slice()) {
+        return Some(burst);
+    }
+    first_doubt(all, slots, sweep.losing.as_slice())
+}
+
+/// Returns the burst of the first of these receivers that does.
 fn first_doubt(all: &AllSeen, slots: usize, receivers: &[Lossy]) -> Option<Burst>
     ensures { result ≡ None → (t : Tuning) (n : ℕ) (log : List (Option Group)) → All (IsAt t n) receivers.now
-        → AreSeen t log all.now → ShowOnlySeen t log slots receivers.now }
+        → AreSeen t log all.now → All (IsChecked t log slots) receivers.now → ShowOnlySeen t log slots receivers.now }
 {
     for place in 0..receivers.len() {
         let one = receiver_at(receivers, place);
-        if !all.has_all(slots, &one.receiver) {
+        if !all.has_all(slots, one) {
             return Some(one.burst);
         }
     }

@@ -17,10 +17,10 @@ ghost use Rattle.rds_witness.specs.Lost.{got};
 ghost use Rattle.rds_witness.specs.Mix as mix;
 ghost use Rattle.rds_witness.specs.declared.seen.AllSeen.{AllSeen};
 ghost use Rattle.rds_witness.specs.declared.seen.Seen.{Seen};
-ghost use Rattle.rds_witness.specs.Search.{AreSeen, IsOfRun, IsSeen, IsSeenBefore, ShowsOnlySeen};
+ghost use Rattle.rds_witness.specs.Search.{AreSeen, IsChecked, IsOfRun, IsSeen, IsSeenBefore, ShowsOnlySeen};
 
 use crate::burst::{blocks_of, received};
-use crate::covering::take_slot;
+use crate::covering::{Lossy, take_slot};
 use crate::thing::{Thing, is_text};
 use rds_block::Group;
 use rds_fields::{Dwell, Tag, TagPair, Which};
@@ -340,12 +340,17 @@ impl AllSeen {
         }
     }
 
-    /// Returns whether a receiver that loses nothing shows all parts of this one in some of the first slots.
-    pub(crate) fn has_all(&self, slots: usize, receiver: &StoredReceiver) -> bool
-        ensures { IsTrue result → IsStored receiver.now → (t : Tuning) (log : List (Option Group))
-            → AreSeen t log self.now → ShowsOnlySeen t log slots (receiver_stored receiver.now) }
+    /// Returns whether a receiver that loses nothing shows all parts of this one in some of the first slots. If the view
+    /// did not change, it does.
+    pub(crate) fn has_all(&self, slots: usize, one: &Lossy) -> bool
+        ensures { IsTrue result → IsStored one.now.receiver → (t : Tuning) (log : List (Option Group))
+            → AreSeen t log self.now → IsChecked t log slots one.now
+            → ShowsOnlySeen t log slots (receiver_stored one.now.receiver) }
     {
-        let receiver = Receiver::restore(receiver);
+        if !one.changed {
+            return true;
+        }
+        let receiver = Receiver::restore(&one.receiver);
         let view = receiver.view();
         if !self.has_text(slots, view.text) {
             return false;

@@ -1,9 +1,9 @@
 //! A search over all bursts at once, by a few receivers that together hold all that any receiver with one burst holds.
-ghost use Rattle.std.specs.Prelude.{◌≡◌, ◌+◌, ℕ, IfOk, List, None, OnOk, Option};
+ghost use Rattle.std.specs.Prelude.{◌≡◌, ◌+◌, [], ℕ, All, List, None, OnOk, Option};
 ghost use Rattle.rds_block.specs.declared.group.Group.{Group};
 ghost use Rattle.rds_log.specs.LogWrites.{tuned};
 ghost use Rattle.rds_witness.specs.Lost.{received};
-ghost use Rattle.rds_witness.specs.Search.{StandsAfter};
+ghost use Rattle.rds_witness.specs.Search.{IsChecked, ShowOnlySeen, StandsAfter};
 
 use crate::burst::Burst;
 use crate::covering::{Lossy, after_first_loss, after_slot, keep, keep_after_slot};
@@ -29,12 +29,14 @@ pub(crate) struct Sweep {
 impl Sweep {
     /// Returns the receivers before the first slot.
     pub(crate) fn new(alloc: Global, pi: u16, dwell: Dwell) -> Sweep
-        ensures { (log : List (Option Group)) → StandsAfter (tuned pi dwell) log 0 result }
+        ensures none { (result.losing.items ≡ []) × (result.hearing.items ≡ []) }
+        ensures stands { (log : List (Option Group)) → StandsAfter (tuned pi dwell) log 0 result }
     {
         Sweep {
             whole: Lossy {
                 receiver: Receiver::new(pi, dwell).store(),
                 burst: Burst { first: 0, last: 0 },
+                changed: true,
             },
             losing: Vec::new(alloc),
             hearing: Vec::new(alloc),
@@ -49,8 +51,12 @@ impl Sweep {
         group: &Option<Blocks>,
         slot: usize,
     ) -> Result<(), AllocError>
-        ensures { OnOk result ((pi m n : ℕ) (log : List (Option Group)) → group.now ≡ received None log n
+        ensures stands { OnOk result ((pi m n : ℕ) (log : List (Option Group)) → group.now ≡ received None log n
             → StandsAfter (tuned pi m) log n self.old → StandsAfter (tuned pi m) log (n + 1) self.new) }
+        ensures checked { OnOk result ((pi m n k : ℕ) (log : List (Option Group)) → StandsAfter (tuned pi m) log n self.old
+            → ShowOnlySeen (tuned pi m) log k self.old.losing.items → ShowOnlySeen (tuned pi m) log k self.old.hearing.items
+            → All (IsChecked (tuned pi m) log k) self.new.losing.items
+            × All (IsChecked (tuned pi m) log k) self.new.hearing.items) }
     {
         let whole = after_slot(&self.whole, *group, None);
         let begins = after_first_loss(&self.whole, slot);

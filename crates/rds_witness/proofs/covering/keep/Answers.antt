@@ -1,20 +1,22 @@
-use Rattle.std.proofs.Common.{◌∷◌, List, arith, refl, subst, suc, sym}
+use Rattle.std.proofs.Common.{◌∷◌, All, List, arith, refl, subst, suc, sym}
 use Rattle.std.specs.List.{Contains}
+use Rattle.std.proofs.lemmas.List.Elements.{All-push}
 use Rattle.rds_log.specs.LogWrites.{tuned}
 use Rattle.rds_witness.specs.Covered.{Keeps}
+use Rattle.rds_witness.specs.Search.{IsChecked}
 use Rattle.rds_witness.specs.declared.covering.Lossy.{Lossy}
 use Rattle.rds_witness.proofs.KeptReceivers.{contains_next, keeps_more, keeps_part}
 use Rattle.rds_witness.proofs.covering.keep.Goals as goal
 
-pub returns-then-is_receiver_part : goal.returns-then-is_receiver_part
-returns-then-is_receiver_part c pi m n at its =
+pub returns-then-is_receiver_part-clause-covers : goal.returns-then-is_receiver_part-clause-covers
+returns-then-is_receiver_part-clause-covers c pi m n at its =
     let whole = c.args.whole.now in
     let kept = c.args.kept.now.items in
     keeps_part (tuned pi m) n (whole ∷ kept) c.args.one whole (0, omega arith, refl)
     (λ input more mine theirs long. c.is_receiver_part.ensures c.if-is_receiver_part.true pi m input more mine theirs long) at
 
-pub returns-then-is_receiver_part-2 : goal.returns-then-is_receiver_part-2
-returns-then-is_receiver_part-2 c pi m n at its =
+pub returns-then-is_receiver_part-2-clause-covers : goal.returns-then-is_receiver_part-2-clause-covers
+returns-then-is_receiver_part-2-clause-covers c pi m n at its =
     let whole = c.args.whole.now in
     let kept = c.args.kept.now.items in
     let slice = c.as_slice.ensures in
@@ -25,8 +27,12 @@ returns-then-is_receiver_part-2 c pi m n at its =
     keeps_part (tuned pi m) n (whole ∷ kept) c.args.one by (contains_next whole kept by (subst (λ (l : List Lossy). Contains l by) slice.value there))
     (λ input more mine theirs long. c.is_receiver_part-in-loop-place.ensures c.if-is_receiver_part-2.true pi m input more mine theirs long) at
 
-pub returns : goal.returns
-returns c pi m n at its =
+pub returns-clause-covers : goal.returns-clause-covers
+returns-clause-covers c pi m n at its =
     let whole = c.args.whole.now in
     let kept = c.args.kept.now.items in
     subst (λ (l : List Lossy). Keeps (tuned pi m) n c.args.one (whole ∷ kept) (whole ∷ l)) (sym c.in_ok-push.ensures.items) (keeps_more (tuned pi m) n (whole ∷ kept) c.args.one at its)
+
+pub returns-clause-checked : goal.returns-clause-checked
+returns-clause-checked c t log k all its =
+    subst (All (IsChecked t log k)) (sym c.in_ok-push.ensures.items) (All-push (IsChecked t log k) c.args.kept.now.items c.args.one all its)

@@ -8,7 +8,7 @@ use Rattle.rds_witness.specs.Search.{IsSeenBefore}
 use Rattle.rds_witness.proofs.seen.AllSeen.has_all.Goals as goal
 
 pub returns-then-has_tag : goal.returns-then-has_tag
-returns-then-has_tag c holds stored t log all input stands = record {
+returns-then-has_tag c holds stored t log all checked input stands = record {
   view = view_of c.view-view.result;
   is = c.view-view.ensures t input (subst (λ (r : ReceiverState). StandsAt t r input) (sym (c.restore-receiver.ensures.same stored)) stands);
   seen = seen;

@@ -7,8 +7,8 @@ use Rattle.rds_witness.specs.Covered.{IsAt}
 use Rattle.rds_witness.specs.Lost.{got, got-none}
 use Rattle.rds_witness.proofs.sweep.Sweep.new.Goals as goal
 
-pub returns : goal.returns
-returns c log =
+pub returns-clause-stands : goal.returns-clause-stands
+returns-clause-stands c log =
     let t = tuned c.args.pi c.args.dwell in
     let begins : StandsAt t c.new.result (got None log 0) = subst (StandsAt t c.new.result) (sym (got-none None log)) (c.new.ensures.stands 0) in
     record {

@@ -7,14 +7,15 @@ use Rattle.rds_receiver.specs.StandsAt.{StandsAt}
 use Rattle.rds_receiver.specs.Stored.{receiver_stored}
 use Rattle.rds_witness.specs.Covered.{Covers, IsAt, IsCovered}
 use Rattle.rds_witness.specs.Lost.{got, got-more}
+use Rattle.rds_witness.specs.Search.{IsChecked, ShowOnlySeen}
 use Rattle.rds_witness.specs.declared.burst.Burst.{Burst}
 use Rattle.rds_witness.specs.declared.covering.Lossy.{Lossy}
 use Rattle.rds_witness.proofs.KeptReceivers.{at_first, at_next, by_first, covered_first, covers_itself, covers_next}
 use Rattle.rds_witness.proofs.Losses.{got_before, got_long, got_together, heard_next, lost_next}
 use Rattle.rds_witness.proofs.sweep.Sweep.next.Goals as goal
 
-pub returns : goal.returns
-returns c pi m n log is old =
+pub returns-clause-stands : goal.returns-clause-stands
+returns-clause-stands c pi m n log is old =
     let t = tuned pi m in
     let group = c.args.group.now in
     let was = c.args.self.now.whole in
@@ -31,10 +32,10 @@ returns c pi m n log is old =
     let were_hearing : c.as_slice.result.now ≡ c.args.self.now.hearing.items = c.as_slice.ensures.value in
     let were_losing : c.as_slice-2.result.now ≡ old_losing = c.as_slice-2.ensures.value in
     let still_losing : c.as_slice-3.result.now ≡ old_losing = c.as_slice-3.ensures.value in
-    let go_on = c.in_ok-keep_after_slot.ensures pi m n (subst (All (IsAt t n)) (sym were_hearing) old.hearing_at) (at_first t (n + 1) whole _ its (none _ c.clear.ensures.items)) in
-    let begin = c.in_ok-keep_after_slot-2.ensures pi m n (subst (All (IsAt t n)) (sym were_losing) old.losing_at) go_on.at in
-    let one_more = c.in_ok-keep.ensures pi m (n + 1) (at_first t (n + 1) whole _ its (none _ c.clear-2.ensures.items)) (at_next pi m n was begins None loses.stands loses.good was_at) in
-    let lose_more = c.in_ok-keep_after_slot-3.ensures pi m n (subst (All (IsAt t n)) (sym still_losing) old.losing_at) one_more.at in
+    let go_on = c.in_ok-keep_after_slot.ensures.covers pi m n (subst (All (IsAt t n)) (sym were_hearing) old.hearing_at) (at_first t (n + 1) whole _ its (none _ c.clear.ensures.items)) in
+    let begin = c.in_ok-keep_after_slot-2.ensures.covers pi m n (subst (All (IsAt t n)) (sym were_losing) old.losing_at) go_on.at in
+    let one_more = c.in_ok-keep.ensures.covers pi m (n + 1) (at_first t (n + 1) whole _ its (none _ c.clear-2.ensures.items)) (at_next pi m n was begins None loses.stands loses.good was_at) in
+    let lose_more = c.in_ok-keep_after_slot-3.ensures.covers pi m n (subst (All (IsAt t n)) (sym still_losing) old.losing_at) one_more.at in
     let hearing = c.keep_after_slot-2.new.kept.items in
     let losing = c.keep_after_slot-3.new.kept.items in
     let end_hearing : c.replace-losing.new.dest.items ≡ hearing = ap (λ v. v.items) c.replace-losing.ensures.after in
@@ -77,3 +78,16 @@ returns c pi m n log is old =
             (λ others. begin.more (got (Some burst) log n) (got_long (Some burst) log n) (subst (λ (l : List Lossy). IsCovered t l (got (Some burst) log n)) (sym were_losing) others))
       ];
     }
+
+pub returns-clause-checked : goal.returns-clause-checked
+returns-clause-checked c pi m n k log old losing hearing =
+    let t = tuned pi m in
+    let none : (items : List Lossy) → items ≡ [] → All (IsChecked t log k) items = λ items nothing. subst (All (IsChecked t log k)) (sym nothing) (All-nil (IsChecked t log k)) in
+    let were_hearing = c.as_slice.ensures.value in
+    let were_losing = c.as_slice-2.ensures.value in
+    let still_losing = c.as_slice-3.ensures.value in
+    let go_on = c.in_ok-keep_after_slot.ensures.checked pi m n k log (subst (All (IsAt t n)) (sym were_hearing) old.hearing_at) (subst (ShowOnlySeen t log k) (sym were_hearing) hearing) (none _ c.clear.ensures.items) in
+    let begin = c.in_ok-keep_after_slot-2.ensures.checked pi m n k log (subst (All (IsAt t n)) (sym were_losing) old.losing_at) (subst (ShowOnlySeen t log k) (sym were_losing) losing) go_on in
+    let one_more = c.in_ok-keep.ensures.checked t log k (none _ c.clear-2.ensures.items) (λ alike. let changed = c.after_first_loss-begins.ensures.changed in absurd (cc)) in
+    let lose_more = c.in_ok-keep_after_slot-3.ensures.checked pi m n k log (subst (All (IsAt t n)) (sym still_losing) old.losing_at) (subst (ShowOnlySeen t log k) (sym still_losing) losing) one_more in
+    (subst (All (IsChecked t log k)) (sym (ap (λ v. v.items) c.replace.ensures.after)) lose_more, subst (All (IsChecked t log k)) (sym (ap (λ v. v.items) c.replace-losing.ensures.after)) begin)

@@ -1,0 +1,75 @@
+-- What a receiver shows wherever it stands, and in later slots.
+use Rattle.std.proofs.Common.{◌≡◌, ◌∙◌, ◌+◌, ◌≤◌, ◌∷◌, ℕ, Bool, false, true, List, Option, ap, arith, length, refl, subst, sym}
+use Rattle.std.specs.Prelude.{nat_le, if◌then◌else◌}
+use Rattle.std.proofs.lemmas.Bool.Decides.{nat_tests}
+use Rattle.rds_block.specs.declared.group.Group.{Group}
+use Rattle.rds_fields.specs.declared.pair.Which.TheVariants.{One, Two}
+use Rattle.rds_assembly.specs.Cells.{Cells}
+use Rattle.rds_assembly.specs.Whole.{IsWholeName, IsWholeText}
+use Rattle.rds_receiver.specs.Receipts.{Tuning, name_fragment, text_fragment}
+use Rattle.rds_receiver.specs.Run.{cells_of, run_at}
+use Rattle.rds_receiver.specs.Shown.{IsShown, IsView, ShownView}
+use Rattle.rds_receiver.specs.StandsAt.{StandsAt}
+use Rattle.rds_receiver.specs.State.{ReceiverState}
+use Rattle.rds_receiver.specs.Tags.{item_of, pair_held, tag_of}
+use Rattle.rds_receiver.proofs.Shows.{name_cells, pair_is, text_cells}
+use Rattle.rds_witness.specs.Mix.{Name, Tag, Text, Thing, until}
+use Rattle.rds_witness.specs.Search.{HasOnlySeen, IsSeenBefore, ShowsOnlySeen}
+
+-- the view of a state at two inputs
+view_at : (t : Tuning) (r : ReceiverState) (one other : List (Option Group)) (v : ShownView) → StandsAt t r one → StandsAt t r other → IsView t one v → IsView t other v
+view_at t r one other v mine theirs (h, are, view) =
+    let k = theirs.heard in
+    let texts = sym (text_cells t r one h mine are) ∙ text_cells t r other k theirs theirs.are in
+    let names = sym (name_cells t r one h mine are) ∙ name_cells t r other k theirs theirs.are in
+    let pairs = sym (pair_is t r one h mine are) ∙ pair_is t r other k theirs theirs.are in (
+      k,
+      theirs.are,
+      record {
+        text = subst (λ (cells : Cells). IsShown IsWholeText cells v.text) texts view.text;
+        name = subst (λ (cells : Cells). IsShown IsWholeName cells v.name) names view.name;
+        item = view.item ∙ ap (item_of v.text) pairs;
+        one = view.one ∙ ap (tag_of One v.text) pairs;
+        two = view.two ∙ ap (tag_of Two v.text) pairs;
+      },
+    )
+
+only_everywhere : (t : Tuning) (log : List (Option Group)) (n : ℕ) (r : ReceiverState) (input : List (Option Group)) → StandsAt t r input → HasOnlySeen t log n input → ShowsOnlySeen t log n r
+only_everywhere t log n r input stands only other there = record { view = only.view; is = view_at t r input other only.view stands there only.is; seen = only.seen }
+
+-- a view that stays
+pub only_stays : (t : Tuning) (log : List (Option Group)) (n : ℕ) (old new : ReceiverState) (group : Option Group) (input : List (Option Group)) → ((view : ShownView) → IsView t input view → IsView t (group ∷ input) view)
+    → StandsAt t old input → StandsAt t new (group ∷ input) → ShowsOnlySeen t log n old → ShowsOnlySeen t log n new
+only_stays t log n old new group input same stands now only =
+    let was = only input stands in
+    only_everywhere t log n new (group ∷ input) now record { view = was.view; is = same was.view was.is; seen = was.seen }
+
+seen_later : (t : Tuning) (log : List (Option Group)) (n k : ℕ) (thing : Thing) → n ≤ k → IsSeenBefore t log n thing → IsSeenBefore t log k thing
+seen_later t log n k (Text x) less seen = record { slot = seen.slot; view = seen.view; before = let before = seen.before in omega (arith, less, before); is = seen.is; shows = seen.shows }
+seen_later t log n k (Name x) less seen = record { slot = seen.slot; view = seen.view; before = let before = seen.before in omega (arith, less, before); is = seen.is; shows = seen.shows }
+seen_later t log n k (Tag which class piece) less seen = record {
+  slot = seen.slot;
+  before = let before = seen.before in omega (arith, less, before);
+  view = seen.view;
+  is = seen.is;
+  text = seen.text;
+  shown = seen.shown;
+  pair = seen.pair;
+  of_run = seen.of_run;
+  which = seen.which;
+  cut = seen.cut;
+}
+
+pub only_later : (t : Tuning) (log : List (Option Group)) (n k : ℕ) (r : ReceiverState) → n ≤ k → ShowsOnlySeen t log n r → ShowsOnlySeen t log k r
+only_later t log n k r less only input stands =
+    let now = only input stands in
+    record { view = now.view; is = now.is; seen = λ thing has. seen_later t log n k thing less (now.seen thing has) }
+
+pub until_later : (m : ℕ) (log : List (Option Group)) (n : ℕ) → until m log n ≤ until m log (n + 1)
+until_later m log n = by_ends (nat_le (n + m) (length log)) (nat_le (n + 1 + m) (length log)) refl refl
+  where
+    by_ends : (one other : Bool) → nat_le (n + m) (length log) ≡ one → nat_le (n + 1 + m) (length log) ≡ other → (if one then n + m else length log) ≤ (if other then n + 1 + m else length log)
+    by_ends true true is now = omega arith
+    by_ends true false is now = (let less : n + m ≤ length log = grind (arith, nat_tests) in less)
+    by_ends false true is now = (let over : n + 1 + m ≤ length log = grind (arith, nat_tests) in let under : length log ≤ n + m = grind (arith, nat_tests) in absurd (omega (arith, over, under)))
+    by_ends false false is now = omega arith
