@@ -42,7 +42,7 @@ abbrev pub NeverShows : Tuning → List (Option Group) → ℕ → Thing → Typ
 NeverShows t log n thing =
     (slot : ℕ) (view : ShownView) → slot < n → IsView t (got None log (slot + 1)) view → Shows view thing → ⊥
 
--- the number of slots up to a dwell after this one, or of all slots if there are fewer
+-- slot + M, or the length of the log if that is less
 abbrev pub until : ℕ → List (Option Group) → ℕ → ℕ
 until dwell log slot = if nat_le (slot + dwell) (length log) then slot + dwell else length log
 

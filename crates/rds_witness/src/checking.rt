@@ -52,7 +52,7 @@ pub(crate) fn is_never_shown(
     true
 }
 
-/// Returns the number of slots up to a dwell after this one.
+/// Returns slot + M, or the length of the log if that is less.
 pub(crate) fn slots_until(log: &[Option<Group>], dwell: Dwell, slot: usize) -> usize
     requires { slot < length log.now }
     ensures value { result ≡ until dwell log.now slot }

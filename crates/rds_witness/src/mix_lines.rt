@@ -150,7 +150,7 @@ fn push_mixes_of(place: &Place<'_>, before: View<'_>, after: View<'_>, lines: &m
     push_two(place, before, after, lines);
 }
 
-/// The text.
+/// Appends the line of the text, if it is a mix.
 fn push_text(place: &Place<'_>, before: View<'_>, after: View<'_>, lines: &mut Lines<ROOM>)
     requires around { AreAround (tuned place.now.pi place.now.dwell) place.now.log.now place.now.burst place.now.slot
         (view_of before) (view_of after) }
@@ -164,7 +164,7 @@ fn push_text(place: &Place<'_>, before: View<'_>, after: View<'_>, lines: &mut L
     }
 }
 
-/// The name.
+/// Appends the line of the name, if it is a mix.
 fn push_name(place: &Place<'_>, before: View<'_>, after: View<'_>, lines: &mut Lines<ROOM>)
     requires around { AreAround (tuned place.now.pi place.now.dwell) place.now.log.now place.now.burst place.now.slot
         (view_of before) (view_of after) }
@@ -178,7 +178,7 @@ fn push_name(place: &Place<'_>, before: View<'_>, after: View<'_>, lines: &mut L
     }
 }
 
-/// The first tag.
+/// Appends the line of the first tag, if it is a mix.
 fn push_one(place: &Place<'_>, before: View<'_>, after: View<'_>, lines: &mut Lines<ROOM>)
     requires around { AreAround (tuned place.now.pi place.now.dwell) place.now.log.now place.now.burst place.now.slot
         (view_of before) (view_of after) }
@@ -198,7 +198,7 @@ fn push_one(place: &Place<'_>, before: View<'_>, after: View<'_>, lines: &mut Li
     }
 }
 
-/// The second tag.
+/// Appends the line of the second tag, if it is a mix.
 fn push_two(place: &Place<'_>, before: View<'_>, after: View<'_>, lines: &mut Lines<ROOM>)
     requires around { AreAround (tuned place.now.pi place.now.dwell) place.now.log.now place.now.burst place.now.slot
         (view_of before) (view_of after) }

@@ -15,7 +15,7 @@ use rds_block::Group;
 use rds_fields::Dwell;
 use std::alloc::{AllocError, Global};
 
-/// The most comparisons of receivers.
+/// The most comparisons of receivers, about.
 const MOST_COMPARISONS: u64 = 500_000_000;
 
 /// The result of a search.
@@ -25,7 +25,7 @@ pub(crate) enum Found {
     Doubt(Burst, usize),
     /// No receiver shows a mix.
     Nothing,
-    /// No receiver shows a mix before this slot, at which the search had made all its comparisons.
+    /// No receiver shows a mix before this slot, at which the search had made its most comparisons.
     Stopped(usize),
 }
 

@@ -16,7 +16,7 @@ use std::mem;
 /// The receivers of a search.
 #[derive(Drop)]
 pub(crate) struct Sweep {
-    /// The receiver that loses nothing. Its burst has no meaning.
+    /// The receiver that loses nothing. Its `burst` and `changed` have no meaning.
     pub(crate) whole: Lossy,
     /// Receivers that lose slots now.
     pub(crate) losing: Vec<Lossy>,
@@ -79,7 +79,7 @@ impl Sweep {
         Ok(())
     }
 
-    /// Returns the most comparisons of receivers in a slot.
+    /// Returns the square of the number of kept receivers: about the comparisons of a slot.
     pub(crate) fn comparisons(&self) -> u64 {
         let receivers = self.losing.len().saturating_add(self.hearing.len()) as u64;
         receivers.saturating_mul(receivers)
