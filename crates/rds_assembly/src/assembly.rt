@@ -15,7 +15,7 @@ pub struct Assembly<S: Service> {
     bytes: [u8; LONGEST_TEXT],
     /// Bit a is 1 if segment a is held.
     mask: u16,
-    /// The length of the whole value, which is at the front of the bytes. None if no value is whole.
+    /// The length of the whole value, which is at the front of the bytes. `None` if no value is whole.
     whole: Option<usize>,
     service: PhantomData<S>,
 }
@@ -115,7 +115,7 @@ impl<S: Service> Assembly<S> {
         self.mask == 0
     }
 
-    /// Returns the value that the held segments make whole, borrowed from the assembly. None if they make none whole.
+    /// Returns the value that the held segments make whole, borrowed from the assembly. `None` if they make none whole.
     pub fn whole(&self) -> Option<&[u8]>
         ensures some { IfSome result (λ x. S.is_whole self.now x.now) }
         ensures only { IfSome result (λ x. (y : List ℕ) → S.is_whole self.now y → y ≡ x.now) }

@@ -3,7 +3,7 @@
 //! A `Text` or a `Name` has valid bytes, and returns the segment at each of its addresses. An `Assembly` holds
 //! segments. Its model is a finite map of cells, from an address to four bytes. `put` and `clear` are those of the map,
 //! and `put` returns false only if nothing changed. `whole` returns the one value that the cells make whole
-//! (`IsWholeText`, `IsWholeName`), and None exactly if there is none. Cells from the segments of one value make that
+//! (`IsWholeText`, `IsWholeName`), and `None` exactly if there is none. Cells from the segments of one value make that
 //! value whole, or none; all of its segments make it whole (`own` and `all` of `Service`). So nothing is shown over a
 //! gap. The crate allocates no memory. It has no flags and no time: a receiver has them.
 //!

@@ -42,8 +42,8 @@ impl Service for RadioText {
 
     ghost all = { all_text };
 
-    /// Returns the number of bytes before the first held carriage return, or 64 if no carriage return is held. None if
-    /// one of these bytes is not held.
+    /// Returns the number of bytes before the first held carriage return, or 64 if no carriage return is held. `None`
+    /// if one of these bytes is not held.
     fn length(bytes: &[u8; LONGEST_TEXT], mask: u16) -> Option<usize> {
         let held = spread(mask);
         // The place of the first held carriage return, or 64, the end of a full text.

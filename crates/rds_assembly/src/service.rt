@@ -23,7 +23,7 @@ pub trait Service {
     /// The body that is sent for a value, four bytes in a segment.
     ghost body_of: { List ℕ → List ℕ };
 
-    /// Returns the length of the value that the held segments make whole. Its bytes are the first of these. None if
+    /// Returns the length of the value that the held segments make whole. Its bytes are the first of these. `None` if
     /// they make none whole. Segment a has the bytes at the places 4 * a to 4 * a + 3, and is held if bit a of the mask
     /// is 1.
     fn length(bytes: &[u8; LONGEST_TEXT], mask: u16) -> Option<usize>

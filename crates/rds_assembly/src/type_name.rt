@@ -41,7 +41,7 @@ impl Service for TypeName {
 
     ghost all = { all_name };
 
-    /// Returns 8 if both segments are held. None otherwise.
+    /// Returns 8 if both segments are held. `None` otherwise.
     fn length(_bytes: &[u8; LONGEST_TEXT], mask: u16) -> Option<usize> {
         if mask & 0b11 == 0b11 {
             Some(NAME_LENGTH)

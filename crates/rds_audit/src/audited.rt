@@ -20,7 +20,7 @@ pub(crate) trait Audited {
     /// The greatest length of a value, in bytes.
     const LONGEST: u8;
 
-    /// Returns the lengths of a value that has the segment. None if no value has it.
+    /// Returns the lengths of a value that has the segment. `None` if no value has it.
     fn lengths(address: u8, bytes: [u8; 4]) -> Option<Lengths>
         requires { address < gauge.segments }
         ensures { result ≡ gauge.allowed address bytes };

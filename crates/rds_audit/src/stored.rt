@@ -87,7 +87,7 @@ impl AuditFault {
         }
     }
 
-    /// Returns the fault with this number. None for 0.
+    /// Returns the fault with this number. `None` for 0.
     pub(crate) fn numbered(number: u8) -> Option<AuditFault>
         ensures { result ≡ fault_stored number }
     {

@@ -41,7 +41,7 @@ impl Blocks {
         Blocks { bits }
     }
 
-    /// Packs the group of a slot. Returns `None` if the slot has no group.
+    /// Packs the group of a slot. `None` if the slot has no group.
     #[inline(always)]
     pub fn of_slot(group: Option<Group>) -> Option<Blocks>
         ensures { result ≡ group }
@@ -118,7 +118,7 @@ impl Blocks {
 }
 
 impl Group {
-    /// Unpacks the group of a slot. Returns `None` if the slot has no group.
+    /// Unpacks the group of a slot. `None` if the slot has no group.
     pub fn of_slot(group: Option<Blocks>) -> Option<Group>
         ensures { result ≡ group }
     {

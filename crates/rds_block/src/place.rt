@@ -20,7 +20,7 @@ impl<const N: u8> Model for Place<N> {
 }
 
 impl<const N: u8> Place<N> {
-    /// Makes the place with this number. Returns `None` if `number` is `N` or more.
+    /// Makes the place with this number. `None` if `number` is `N` or more.
     pub fn new(number: u8) -> Option<Self>
         ensures below { IsSome result ↔ (number < N) }
         ensures value { IfSome result (λ place. place ≡ number) }

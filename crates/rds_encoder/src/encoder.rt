@@ -183,8 +183,8 @@ impl Encoder {
         Ok(())
     }
 
-    /// Ends the slot and returns the group that is sent in it. None if nothing is sent. A slot that is not free belongs
-    /// to other services. The sets of a slot come before its `tick`.
+    /// Ends the slot and returns the group that is sent in it. `None` if nothing is sent. A slot that is not free
+    /// belongs to other services. The sets of a slot come before its `tick`.
     pub fn tick(&mut self, free: bool) -> Option<Group>
         ensures sent { WhereItStands self.old
             (λ station m entries. IsSent station (sent_in m free entries) result) }
@@ -195,7 +195,7 @@ impl Encoder {
         message?.group(self.head)
     }
 
-    /// Returns the text on air, at most 64 bytes, borrowed from the encoder. None if no text is on air.
+    /// Returns the text on air, at most 64 bytes, borrowed from the encoder. `None` if no text is on air.
     pub fn text(&self) -> Option<&[u8]>
         ensures on_air { WhereItStands self.now
             (λ _ m entries. option_copied result
@@ -205,7 +205,8 @@ impl Encoder {
         Some(self.text.on_air.as_ref()?.bytes())
     }
 
-    /// Returns the name on air, eight bytes, padded with spaces, borrowed from the encoder. None if no name is on air.
+    /// Returns the name on air, eight bytes, padded with spaces, borrowed from the encoder. `None` if no name is on
+    /// air.
     pub fn name(&self) -> Option<&[u8]>
         ensures on_air { WhereItStands self.now
             (λ _ m entries. option_copied result
@@ -215,7 +216,7 @@ impl Encoder {
         Some(self.name.on_air.as_ref()?.bytes())
     }
 
-    /// Returns the tags of the text on air, even if they have not been sent yet. None if it has none.
+    /// Returns the tags of the text on air, even if they have not been sent yet. `None` if it has none.
     pub fn tags(&self) -> Option<TagPair>
         ensures { WhereItStands self.now (λ _ m entries. result ≡ pair_on_air m entries) }
     {
@@ -264,7 +265,7 @@ impl Encoder {
         free && self.silence.is_over()
     }
 
-    /// Returns the message that is due in this slot. None if nothing is sent.
+    /// Returns the message that is due in this slot. `None` if nothing is sent.
     fn due(&self, free: bool) -> Option<Message>
         ensures sent { WhereItStands self.now (λ _ m entries. result ≡ sent_in m free entries) }
         ensures said { IfSome result (λ message. message ≢ Message.Other) }
@@ -280,7 +281,7 @@ impl Encoder {
         }
     }
 
-    /// Returns the next segment of the text on air. None if no text is on air.
+    /// Returns the next segment of the text on air. `None` if no text is on air.
     fn text_segment(&self) -> Option<Message>
         ensures sent { WhereItStands self.now
             (λ _ m entries. result
@@ -290,7 +291,7 @@ impl Encoder {
         Some(self.text.on_air.as_ref()?.segment(self.text.hold.flag()))
     }
 
-    /// Returns a segment of the name on air. None if no name is on air.
+    /// Returns a segment of the name on air. `None` if no name is on air.
     fn name_segment(&self, address: u8) -> Option<Message>
         requires { address < 2 }
         ensures sent { WhereItStands self.now
@@ -305,7 +306,7 @@ impl Encoder {
         })
     }
 
-    /// Returns the tags of the text on air. None if it has none, or has been on air for less than M + K slots.
+    /// Returns the tags of the text on air. `None` if it has none, or has been on air for less than M + K slots.
     fn tags_due(&self) -> Option<Message>
         ensures sent { WhereItStands self.now
             (λ _ m entries. result ≡ tags_due m (slot_of (text_moves entries))

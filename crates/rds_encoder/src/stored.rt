@@ -73,7 +73,7 @@ impl StoredName {
         }
     }
 
-    /// Returns the stored name. None if no name is on air, or if the numbers are not valid.
+    /// Returns the stored name. `None` if no name is on air, or if the numbers are not valid.
     pub(crate) fn name(&self) -> Option<Name>
         ensures { (IsTrue (is_set self.now.is_on_air) → IsName self.now.bytes) → result ≡ name_stored self.now }
     {

@@ -42,7 +42,7 @@ impl TextOnAir {
         TextOnAir { text, next: 0 }
     }
 
-    /// Rebuilds a stored text. None if no text is on air, or if the numbers are not valid.
+    /// Rebuilds a stored text. `None` if no text is on air, or if the numbers are not valid.
     pub(crate) fn restore(stored: &StoredText) -> Option<TextOnAir>
         ensures { (IsTrue (is_set stored.now.is_on_air) → IsTextStored stored.now)
             → result ≡ text_stored stored.now }

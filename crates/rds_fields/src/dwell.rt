@@ -21,7 +21,7 @@ impl Model for Dwell {
 }
 
 impl Dwell {
-    /// Makes the dwell of this many slots. None for 0 slots.
+    /// Makes the dwell of this many slots. `None` for 0 slots.
     pub fn new(slots: u16) -> Option<Self>
         ensures none { IsNone result ↔ (slots ≡ 0) }
         ensures value { IfSome result (λ dwell. dwell ≡ slots) }

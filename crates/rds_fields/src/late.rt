@@ -22,7 +22,7 @@ impl Model for Late {
 }
 
 impl Late {
-    /// Makes the lateness of this many slots. None above 1024.
+    /// Makes the lateness of this many slots. `None` above 1024.
     pub fn new(slots: u16) -> Option<Self>
         ensures none { IsNone result ↔ (1024 < slots) }
         ensures value { IfSome result (λ late. late ≡ slots) }

@@ -66,7 +66,7 @@ impl StoredPair {
         }
     }
 
-    /// Returns the stored pair. None if no pair is held, or if the numbers are not valid.
+    /// Returns the stored pair. `None` if no pair is held, or if the numbers are not valid.
     pub fn pair(&self) -> Option<TagPair>
         ensures { IsStoredPair self.now → result ≡ pair_stored self.now }
     {

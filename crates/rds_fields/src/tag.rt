@@ -113,7 +113,7 @@ impl Tag {
         self.class == 0 || usize::from(self.end()) <= length
     }
 
-    /// Returns the piece of the text that the tag marks, borrowed from the text. None for the dummy, and if the tag
+    /// Returns the piece of the text that the tag marks, borrowed from the text. `None` for the dummy, and if the tag
     /// does not end in the text.
     pub fn piece_in(self, text: &[u8]) -> Option<&[u8]>
         ensures piece { option_copied result ≡ piece_in text.now self }

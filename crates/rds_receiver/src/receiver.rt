@@ -21,8 +21,8 @@ use rds_block::{Blocks, Group};
 use rds_fields::{Dwell, Message, RTPLUS_AID, RTPLUS_CODE, StoredPair, TagPair, Which};
 use std::marker::Model;
 
-/// Returns the message that a receiver of this programme hears in a slot. Returns `None` if no group came, or if the
-/// group has another PI.
+/// Returns the message that a receiver of this programme hears in a slot. `None` if no group came, or if the group has
+/// another PI.
 #[inline(always)]
 pub fn heard(pi: u16, group: Option<Group>) -> Option<Message>
     ensures { Hears pi group result }
@@ -154,7 +154,7 @@ impl Receiver {
         }
     }
 
-    /// Returns the text shown, at most 64 bytes, borrowed from the receiver. None if no text is shown; `Some` of no
+    /// Returns the text shown, at most 64 bytes, borrowed from the receiver. `None` if no text is shown; `Some` of no
     /// bytes is the empty text.
     pub fn text(&self) -> Option<&[u8]>
         ensures shown { WhatItHeard self.now
@@ -164,7 +164,7 @@ impl Receiver {
         self.text.whole()
     }
 
-    /// Returns the programme type name shown, eight bytes, borrowed from the receiver. None if no name is shown.
+    /// Returns the programme type name shown, eight bytes, borrowed from the receiver. `None` if no name is shown.
     pub fn name(&self) -> Option<&[u8]>
         ensures shown { WhatItHeard self.now
             (λ m first heard. IsNameShown m first heard (option_copied result)) }
@@ -173,7 +173,7 @@ impl Receiver {
         self.name.whole()
     }
 
-    /// Returns the item toggle bit and the item running bit. None if no text is shown or no pair of tags is held.
+    /// Returns the item toggle bit and the item running bit. `None` if no text is shown or no pair of tags is held.
     pub fn item(&self) -> Option<(bool, bool)>
         ensures { WhatItHeard self.now (λ m first heard. IsItemShown m first heard result) }
     {
@@ -182,8 +182,8 @@ impl Receiver {
         Some((pair.toggle(), pair.running()))
     }
 
-    /// Returns the class of one of the two tags and its piece of the text, borrowed from the receiver. None if no text
-    /// is shown or no pair is held, if the tag is the dummy, and if it does not end in the text.
+    /// Returns the class of one of the two tags and its piece of the text, borrowed from the receiver. `None` if no
+    /// text is shown or no pair is held, if the tag is the dummy, and if it does not end in the text.
     pub fn tag(&self, which: Which) -> Option<(u8, &[u8])>
         ensures shown { WhatItHeard self.now
             (λ m first heard. IsTagShown m first heard which (borrowed_tag result)) }
@@ -197,7 +197,7 @@ impl Receiver {
         Some((tag.class(), piece))
     }
 
-    /// Returns the pair of tags that is held for the text being received. None if no pair is held.
+    /// Returns the pair of tags that is held for the text being received. `None` if no pair is held.
     pub fn pair(&self) -> Option<TagPair>
         ensures { WhatItHeard self.now (λ m first heard. result ≡ pair_held m first heard) }
     {

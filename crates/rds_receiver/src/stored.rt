@@ -201,7 +201,8 @@ impl StoredReceiver {
     }
 }
 
-/// Returns the age one slot later. None if it reaches the dwell then, so that the segments are dropped. Both in slots.
+/// Returns the age one slot later. `None` if it reaches the dwell then, so that the segments are dropped. Both in
+/// slots.
 fn age_after(age: u16, dwell: u16) -> Option<u16>
     ensures gone { dwell ≤ age → result ≡ Some age }
     ensures older { age + 1 < dwell → result ≡ Some (age + 1) }

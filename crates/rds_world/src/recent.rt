@@ -43,9 +43,9 @@ impl Recent {
         self.groups.push_front(group);
     }
 
-    /// Returns the group sent this many slots before the newest one, whose group is `newest`. Returns `None` if nothing
-    /// was sent, or if the ring does not go back so far. Most groups come in their own slot, so the ring is read once
-    /// for all receivers.
+    /// Returns the group sent this many slots before the newest one, whose group is `newest`. `None` if nothing was
+    /// sent, or if the ring does not go back so far. Most groups come in their own slot, so the ring is read once for
+    /// all receivers.
     pub(crate) fn back_from(&self, newest: &Option<Blocks>, slots: u16) -> Option<Blocks>
         requires { newest.now ≡ slice_index_or self.now.items 0 None }
         ensures { result ≡ slice_index_or self.now.items slots None }
@@ -57,8 +57,8 @@ impl Recent {
         }
     }
 
-    /// Returns the group sent this many slots before the newest one. Returns `None` if nothing was sent, or if the ring
-    /// does not go back so far.
+    /// Returns the group sent this many slots before the newest one. `None` if nothing was sent, or if the ring does
+    /// not go back so far.
     pub(crate) fn back(&self, slots: u16) -> Option<Blocks>
         ensures { result ≡ slice_index_or self.now.items slots None }
     {

@@ -20,7 +20,7 @@ pub enum Reply {
 #[derive(Clone, Copy, Debug, PartialEq, Eq)]
 pub struct Answer {
     pub reply: Reply,
-    /// The group that was sent. None if nothing was sent.
+    /// The group that was sent. `None` if nothing was sent.
     pub sent: Option<Group>,
 }
 

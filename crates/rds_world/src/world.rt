@@ -148,8 +148,8 @@ impl World {
         Ok(Answer { reply, sent })
     }
 
-    /// Returns the text on air, at most 64 bytes, and the name on air, eight bytes, borrowed from the encoder. None for
-    /// each that is not on air.
+    /// Returns the text on air, at most 64 bytes, and the name on air, eight bytes, borrowed from the encoder. `None`
+    /// for each that is not on air.
     pub fn on_air(&self) -> (Option<&[u8]>, Option<&[u8]>)
         ensures text { WhereItStands self.now (λ config events. option_copied result.0
             ≡ option_map bytes_of (on_air (distance config) (text_moves (entries events)))) }
@@ -159,7 +159,7 @@ impl World {
         (self.encoder.text(), self.encoder.name())
     }
 
-    /// Returns receiver i, counted from 0, borrowed from the world. None if there are no more than i receivers.
+    /// Returns receiver i, counted from 0, borrowed from the world. `None` if there are no more than i receivers.
     pub fn receiver(&self, i: usize) -> Option<&Receiver>
         ensures there { IsSome result ↔ (i < length self.now.receivers) }
         ensures same { option_copied result ≡ slice_get self.now.receivers i }
