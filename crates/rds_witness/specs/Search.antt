@@ -22,8 +22,8 @@ use Rattle.rds_witness.specs.declared.search.Found.{Found}
 use Rattle.rds_witness.specs.declared.search.Found.TheVariants.{Doubt, Nothing, Stopped}
 use Rattle.rds_witness.specs.declared.sweep.Sweep.{Sweep}
 
--- a receiver that loses nothing held the pair after one of the first n slots, and its run of texts had the same first
--- segment then as after the last of them
+-- a receiver that loses nothing held the pair after one of the first n slots, and its run of texts began in the same
+-- slot then as after the last of them
 pub record IsOfRun (t : Tuning) (log : List (Option Group)) (n : ℕ) (pair : PairFields) : Type 0 where
   pub slot : ℕ
   pub before : slot < n
