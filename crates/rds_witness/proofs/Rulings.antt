@@ -14,7 +14,8 @@ use Rattle.rds_receiver.specs.OneView.{same_text_shown}
 use Rattle.rds_receiver.specs.Receipts.{AreHeard, Tuning}
 use Rattle.rds_receiver.specs.Shown.{IsNameShown, IsShown, IsTextShown, IsView, ShownView, ShowsView}
 use Rattle.rds_receiver.specs.Stored.{receiver_stored}
-use Rattle.rds_receiver.specs.Tags.{cut_by, pair_held, tag_in, tag_of}
+use Rattle.rds_fields.specs.Tag.{tag_in}
+use Rattle.rds_receiver.specs.Tags.{cut_by, pair_held, tag_of}
 use Rattle.rds_witness.specs.Covered.{Covers, IsCovered, IsInputPart}
 use Rattle.rds_witness.specs.Lost.{got}
 use Rattle.rds_witness.specs.Mix.{Has, IsMix, Name, Shows, Tag, Text, Thing, until}
