@@ -9,7 +9,7 @@ ghost use Rattle.rds_log.specs.Reads.{MadeReads};
 use crate::log_line::LogLine;
 use crate::notes::LogNotes;
 use crate::source::Source;
-use rds_block::{Blocks, Group};
+use rds_block::Blocks;
 use rds_io::{LogFault, TellingRead};
 use std::alloc::Global;
 
@@ -25,7 +25,7 @@ pub fn gather<R: TellingRead>(
     pi: u16,
     reads: u64,
     notes: &mut LogNotes,
-) -> Result<Vec<Option<Group>>, LogFault>
+) -> Result<Vec<Option<Blocks>>, LogFault>
     requires { reads ≤ 2 ^ 32 }
     ensures all { IfOk result (λ log. GathersAll (traffic R.remaining R.failures reader.old reader.new) log.items) }
     ensures none { IfErr result (λ fault. GathersNone reads
@@ -56,15 +56,8 @@ pub fn gather<R: TellingRead>(
         let LogLine::Slot(group) = line else {
             continue;
         };
-        if slots.push(by_fields(group)).is_err() {
+        if slots.push(group).is_err() {
             return Err(LogFault::Memory);
         }
     }
-}
-
-/// Returns the group of a slot with its fields.
-fn by_fields(group: Option<Blocks>) -> Option<Group>
-    ensures { result ≡ group }
-{
-    Some(group?.group())
 }

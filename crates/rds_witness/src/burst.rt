@@ -2,7 +2,7 @@
 ghost use Rattle.std.specs.Prelude.{◌≡◌, ◌<◌, Some, length};
 ghost use Rattle.rds_witness.specs.Lost.{is_lost, received};
 
-use rds_block::{Blocks, Group};
+use rds_block::Blocks;
 
 /// Consecutive lost slots of a log: these two and all between them.
 #[derive(Clone, Copy)]
@@ -21,7 +21,7 @@ impl Burst {
 }
 
 /// Returns the group of a slot of the log, or nothing if the slot is lost.
-pub(crate) fn received(log: &[Option<Group>], lost: Option<Burst>, slot: usize) -> Option<Group>
+pub(crate) fn received(log: &[Option<Blocks>], lost: Option<Burst>, slot: usize) -> Option<Blocks>
     requires { slot < length log.now }
     ensures { result ≡ received lost log.now slot }
 {
@@ -31,11 +31,4 @@ pub(crate) fn received(log: &[Option<Group>], lost: Option<Burst>, slot: usize) 
         }
     }
     log[slot]
-}
-
-/// Returns the blocks of a slot's group.
-pub(crate) fn blocks_of(group: Option<Group>) -> Option<Blocks>
-    ensures { result ≡ group }
-{
-    Some(group?.blocks())
 }

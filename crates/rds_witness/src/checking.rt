@@ -9,13 +9,13 @@ ghost use Rattle.rds_witness.specs.Mix.{NeverShows, until};
 
 use crate::burst::{Burst, received};
 use crate::thing::{Thing, shows};
-use rds_block::Group;
+use rds_block::Blocks;
 use rds_fields::Dwell;
 use rds_receiver::Receiver;
 
 /// Returns the receiver before a slot, after all earlier slots except the lost ones.
 pub(crate) fn receiver_before(
-    log: &[Option<Group>],
+    log: &[Option<Blocks>],
     pi: u16,
     dwell: Dwell,
     lost: Option<Burst>,
@@ -26,14 +26,14 @@ pub(crate) fn receiver_before(
 {
     let mut receiver = Receiver::new(pi, dwell);
     for n in 0..slot {
-        receiver.slot(received(log, lost, n));
+        receiver.slot_blocks(received(log, lost, n));
     }
     receiver
 }
 
 /// Returns whether a receiver that loses nothing never shows the thing in the first slots.
 pub(crate) fn is_never_shown(
-    log: &[Option<Group>],
+    log: &[Option<Blocks>],
     pi: u16,
     dwell: Dwell,
     slots: usize,
@@ -44,7 +44,7 @@ pub(crate) fn is_never_shown(
 {
     let mut receiver = Receiver::new(pi, dwell);
     for n in 0..slots {
-        receiver.slot(received(log, None, n));
+        receiver.slot_blocks(received(log, None, n));
         if shows(receiver.view(), thing) {
             return false;
         }
@@ -53,7 +53,7 @@ pub(crate) fn is_never_shown(
 }
 
 /// Returns slot + M, or the length of the log if that is less.
-pub(crate) fn slots_until(log: &[Option<Group>], dwell: Dwell, slot: usize) -> usize
+pub(crate) fn slots_until(log: &[Option<Blocks>], dwell: Dwell, slot: usize) -> usize
     requires { slot < length log.now }
     ensures value { result ≡ until dwell log.now slot }
     ensures within { result ≤ length log.now }

@@ -17,6 +17,7 @@ ghost use Rattle.rds_witness.specs.Part.{HasCells, IsPairPart};
 ghost use Rattle.rds_witness.specs.declared.covering.Lossy.{Lossy};
 
 use crate::burst::Burst;
+use rds_assembly::is_same_segment;
 use rds_block::Blocks;
 use rds_fields::{StoredPair, StoredTag};
 use rds_receiver::{Receiver, StoredReceiver, StoredSegments};
@@ -48,7 +49,7 @@ fn has_segment(one: &StoredSegments, other: &StoredSegments, address: u8) -> boo
     if !is_there {
         return false;
     }
-    is_same(segment_at(one, address), segment_at(other, address))
+    is_same_segment(segment_at(one, address), segment_at(other, address))
 }
 
 /// Returns the bytes at the address.
@@ -59,17 +60,6 @@ fn segment_at(stored: &StoredSegments, address: u8) -> &[u8]
 {
     let first = 4 * usize::from(address);
     &stored.bytes[first..first + 4]
-}
-
-/// Returns whether two segments are equal. Compares them as one word.
-fn is_same(one: &[u8], other: &[u8]) -> bool
-    requires one { length one.now ≡ 4 }
-    requires other { length other.now ≡ 4 }
-    ensures { IsTrue result ↔ (one.now ≡ other.now) }
-{
-    let word = [one[0], one[1], one[2], one[3]];
-    let other_word = [other[0], other[1], other[2], other[3]];
-    u32::from_le_bytes(word) == u32::from_le_bytes(other_word)
 }
 
 /// Returns whether the first receiver holds a part of what the second one holds, and heard its newest segment at the

@@ -15,7 +15,7 @@ ghost use Rattle.rds_witness.specs.Witness.{Answers, Witnesses};
 use crate::mix_lines::{ROOM, push_mixes};
 use crate::place::Place;
 use crate::search::{Found, find};
-use rds_block::Group;
+use rds_block::Blocks;
 use rds_fields::Dwell;
 use rds_io::{Lines, LogFault, TellingRead, TellingWrite, WriteFault, put};
 use rds_log::{LogNotes, MOST_READS, gather};
@@ -72,7 +72,7 @@ pub fn witness_with_notes<R: TellingRead, W: TellingWrite>(
 
 /// Writes the answer to a log.
 fn answer<W: TellingWrite>(
-    log: &[Option<Group>],
+    log: &[Option<Blocks>],
     pi: u16,
     dwell: Dwell,
     found: Found,
@@ -89,7 +89,7 @@ fn answer<W: TellingWrite>(
 
 /// Appends the answer to a log: the mixes of the witness, or that no witness was found.
 fn push_answer(
-    log: &[Option<Group>],
+    log: &[Option<Blocks>],
     pi: u16,
     dwell: Dwell,
     found: Found,

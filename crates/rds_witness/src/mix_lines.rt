@@ -11,7 +11,7 @@ use crate::burst::Burst;
 use crate::checking::{is_never_shown, receiver_before, slots_until};
 use crate::place::Place;
 use crate::thing::{Thing, shows};
-use rds_block::Group;
+use rds_block::Blocks;
 use rds_fields::{Dwell, Which};
 use rds_io::Lines;
 use rds_receiver::View;

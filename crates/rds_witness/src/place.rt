@@ -1,13 +1,13 @@
 //! A place in which a mix is looked for.
 
 use crate::burst::Burst;
-use rds_block::Group;
+use rds_block::Blocks;
 use rds_fields::Dwell;
 
 /// A log, the tuning of its receivers, the lost slots, and the slot in which a receiver may show a mix.
 #[derive(Drop)]
 pub(crate) struct Place<'a> {
-    pub(crate) log: &'a [Option<Group>],
+    pub(crate) log: &'a [Option<Blocks>],
     pub(crate) pi: u16,
     pub(crate) dwell: Dwell,
     pub(crate) burst: Burst,

@@ -6,12 +6,12 @@ ghost use Rattle.rds_receiver.specs.Receipts.{Tuning};
 ghost use Rattle.rds_witness.specs.Covered.{IsAt};
 ghost use Rattle.rds_witness.specs.Search.{AreSeen, IsChecked, IsSure, ShowOnlySeen, StandsAfter};
 
-use crate::burst::{Burst, blocks_of, received};
+use crate::burst::{Burst, received};
 use crate::checking::slots_until;
 use crate::covering::{Lossy, receiver_at};
 use crate::seen::AllSeen;
 use crate::sweep::Sweep;
-use rds_block::Group;
+use rds_block::Blocks;
 use rds_fields::Dwell;
 use std::alloc::{AllocError, Global};
 
@@ -32,7 +32,7 @@ pub(crate) enum Found {
 /// Returns the first slot in which a mix is not ruled out, with the burst that may make it.
 pub(crate) fn find(
     alloc: Global,
-    log: &[Option<Group>],
+    log: &[Option<Blocks>],
     pi: u16,
     dwell: Dwell,
 ) -> Result<Found, AllocError>
@@ -42,7 +42,7 @@ pub(crate) fn find(
     let mut sweep = Sweep::new(alloc, pi, dwell);
     let mut comparisons = 0u64;
     for slot in 0..log.len() {
-        sweep.next(alloc, &blocks_of(received(log, None, slot)), slot)?;
+        sweep.next(alloc, &received(log, None, slot), slot)?;
         comparisons = comparisons.saturating_add(sweep.comparisons());
         if comparisons > MOST_COMPARISONS {
             return Ok(Found::Stopped(slot));

@@ -20,10 +20,10 @@ ghost use Rattle.rds_witness.specs.declared.seen.AllSeen.{AllSeen};
 ghost use Rattle.rds_witness.specs.declared.seen.Seen.{Seen};
 ghost use Rattle.rds_witness.specs.Search.{AreSeen, IsChecked, IsOfRun, IsSeen, IsSeenBefore, ShowsOnlySeen};
 
-use crate::burst::{blocks_of, received};
+use crate::burst::received;
 use crate::covering::{Lossy, take_slot};
 use crate::thing::{Thing, is_text};
-use rds_block::Group;
+use rds_block::Blocks;
 use rds_fields::{Dwell, Tag, TagPair, Which};
 use rds_receiver::{Receiver, StoredReceiver, View};
 use std::alloc::{AllocError, Global};
@@ -140,7 +140,7 @@ impl AllSeen {
     /// Reads all slots of a log.
     pub(crate) fn of(
         alloc: Global,
-        log: &[Option<Group>],
+        log: &[Option<Blocks>],
         pi: u16,
         dwell: Dwell,
     ) -> Result<AllSeen, AllocError>
@@ -154,7 +154,7 @@ impl AllSeen {
         let mut whole = Receiver::new(pi, dwell).store();
         for slot in 0..log.len() {
             let old = whole;
-            let changed = take_slot(&mut whole, blocks_of(received(log, None, slot)));
+            let changed = take_slot(&mut whole, received(log, None, slot));
             all.drop_pairs(&old, &whole);
             if changed {
                 all.note(&whole, slot)?;

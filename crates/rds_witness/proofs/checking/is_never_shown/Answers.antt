@@ -19,8 +19,8 @@ loop-n-init c =
 pub loop-n-preserved : goal.loop-n-preserved
 loop-n-preserved c =
     let t = tuned c.args.pi c.args.dwell in
-    let stands = stands_more t c.slot.new.self None c.args.log.now c.loop-n.n c.received.result c.received.ensures
-    (c.slot.ensures.stands _ _ c.loop-n.invariant.stands) in
+    let stands = stands_more t c.slot_blocks.new.self None c.args.log.now c.loop-n.n c.received.result c.received.ensures
+    (c.slot_blocks.ensures.stands _ _ c.loop-n.invariant.stands) in
     record {
       stands = stands;
       never = never_more t c.args.log.now c.loop-n.n (thing_of c.args.thing) (view_of c.view.result) c.loop-n.invariant.never
@@ -30,8 +30,8 @@ loop-n-preserved c =
 pub returns-then-shows : goal.returns-then-shows
 returns-then-shows c =
     let t = tuned c.args.pi c.args.dwell in
-    let stands = stands_more t c.slot.new.self None c.args.log.now c.loop-n.n c.received.result c.received.ensures
-    (c.slot.ensures.stands _ _ c.loop-n.invariant.stands) in
+    let stands = stands_more t c.slot_blocks.new.self None c.args.log.now c.loop-n.n c.received.result c.received.ensures
+    (c.slot_blocks.ensures.stands _ _ c.loop-n.invariant.stands) in
     (λ holds. absurd (cc), λ never. absurd (never c.loop-n.n (view_of c.view.result) c.loop-n-test.true (c.view.ensures t _ stands) (c.shows.ensures.0 c.if-shows.true)))
 
 pub returns : goal.returns

@@ -11,5 +11,5 @@ loop-n-init c =
 
 pub loop-n-preserved : goal.loop-n-preserved
 loop-n-preserved c =
-    stands_more (tuned c.args.pi c.args.dwell) c.slot.new.self c.args.lost c.args.log.now c.loop-n.n c.received.result c.received.ensures
-    (c.slot.ensures.stands _ _ c.loop-n.invariant)
+    stands_more (tuned c.args.pi c.args.dwell) c.slot_blocks.new.self c.args.lost c.args.log.now c.loop-n.n c.received.result c.received.ensures
+    (c.slot_blocks.ensures.stands _ _ c.loop-n.invariant)

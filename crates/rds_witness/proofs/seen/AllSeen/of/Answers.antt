@@ -32,9 +32,9 @@ loop-slot-preserved c =
     let t = tuned c.args.pi c.args.dwell in
     let log = c.args.log.now in
     let n = c.loop-slot.slot in
-    let group = c.blocks_of.result in
+    let group = c.received.result in
     let before = c.loop-slot.invariant in
-    let is : got None log (n + 1) ≡ group ∷ got None log n = got-more None log n ∙ ap (λ (g : Option Group). g ∷ got None log n) (sym (c.blocks_of.ensures ∙ c.received.ensures)) in
+    let is : got None log (n + 1) ≡ group ∷ got None log n = got-more None log n ∙ ap (λ (g : Option Group). g ∷ got None log n) (sym c.received.ensures) in
     let stands : StandsAt t (receiver_stored c.take_slot-changed.new.stored) (got None log (n + 1)) =
     subst (StandsAt t (receiver_stored c.take_slot-changed.new.stored)) (sym is) (c.take_slot-changed.ensures.stands before.stored t (got None log n) before.stands) in
     let stored = c.take_slot-changed.ensures.good before.stored in
