@@ -1,7 +1,7 @@
 //! Witnesses against a log that breaks a rule: slots that a receiver must lose to show a mix.
 //!
 //! [`witness`] follows all receivers that lost one burst at once, by a few that together hold all that the others hold.
-//! It stops at the first slot in which one of them shows a part that the receiver without a loss does not show. Two new
+//! It stops at the first slot in which one of them shows a part that the receiver without a loss does not show. New
 //! receivers then play the log again, so that each written mix is a mix by the definitions of `decode` (`IsMix`). If
 //! there is no such slot, no burst makes a mix (`NoMixes`).
 #![tactic(auto)]
