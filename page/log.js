@@ -9,8 +9,8 @@ const logTab = (() => {
   const LONG = 100_000;
   /* How many dwells after a no are searched first for a witness: most are there, and a log may be a day. */
   const NEAR = 4;
-  /* How many slots after that are searched too: each takes some 1.3 KB of memory. */
-  const FAR = 200_000;
+  /* How many slots after that are searched too, about a day: each takes some 41 bytes of memory. */
+  const FAR = 1_000_000;
   const PARTS = [["name", "name (PTYN)"], ["tag1", "first tag"], ["tag2", "second tag"]];
   const KINDS = ["nothing", "text", "name", "tags", "other"];
   const CLOCK = /\d\d:\d\d:\d\d/, LONGEST_TIME = 80;

@@ -2,9 +2,9 @@
 /* The answer of the audit in words: what it covers, what the encoder should do, and the answers with other dwells. */
 const verdict = (() => {
   const { $, make } = parts;
-  const NO_WITNESS = ": no burst of lost slots makes a mix of a text or a name. A tag or two bursts may still make one. "
+  const NO_WITNESS = ": no burst of lost slots makes a mix. Two bursts may still make one. "
     + "A no says that a rule was broken.";
-  const STOPPED = ": the search stopped there. There may be a mix. A no says that a rule was broken.";
+  const STOPPED = ": the search stopped there. No burst makes a mix before that slot. A no says that a rule was broken.";
   /* The cure of each fault, as in docs/FORMATS.md. */
   const CURES = {
     EarlyFlag: "Keep each text on air for at least M + K slots, and flip the flag only for a new text.",

@@ -250,8 +250,8 @@ fn witness<'a>(alloc: Global) -> Result<Command<'a>, AllocError>
                  nothing does not show it up to M - 1 slots after that slot.\n\
                  name: the programme type name (PTYN, group 10A); the station name (PS) is not handled.\n\
                  Prints `no witness found with one burst lost`, status 0, if no burst of lost slots\n\
-                 makes a mix of a text or a name. A tag or two bursts may still make one. If the line\n\
-                 ends with ` up to slot N`, the search stopped there.\n\n\
+                 makes a mix. Two bursts may still make one. If the line ends with ` up to slot N`,\n\
+                 the search stopped there, and no burst makes a mix before that slot.\n\n\
                  Example:\n  \
                    $ rdsrt witness --pi C201 --m 8 < examples/flags.log\n  \
                    lose 2-3: 4 text \"POP  FM\"",
