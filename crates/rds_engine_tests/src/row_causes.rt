@@ -7,7 +7,7 @@ use rds_encoder::Refusal;
 use rds_fields::Late;
 use rds_io::{LogFault, Told};
 use rds_script::{
-    BadRow, MOST_RECORDS, RowCause, ScriptNotes, Thing, Wait, encode, play_script, simulate,
+    BadRow, MOST_RECORDS, RowCause, ScriptNotes, Thing, EarlySet, encode, play_script, simulate,
 };
 use std::alloc::Global;
 use std::cell::Cell;
@@ -35,7 +35,7 @@ fn played(alloc: Global, form: Form, script: &[u8]) -> Result<Ended, Fail> {
             line: 77,
             cause: RowCause::Free,
         }),
-        wait: Some(Wait {
+        wait: Some(EarlySet {
             slot: 77,
             thing: Thing::Name,
             refusal: Refusal::Held(77),
@@ -503,13 +503,13 @@ fn two_causes(rt: HostRuntime) -> Result<(), Fail> {
 #[test]
 fn good_rows(rt: HostRuntime) -> Result<(), Fail> {
     let early = |slot, thing, refusal| {
-        Some(Wait {
+        Some(EarlySet {
             slot,
             thing,
             refusal,
         })
     };
-    let cases: [(&[u8], Option<Wait>); 9] = [
+    let cases: [(&[u8], Option<EarlySet>); 9] = [
         (b"", None),
         (SIMULATED, None),
         (ENCODED, early(0, Thing::Text, Refusal::Silent(1))),
@@ -550,7 +550,7 @@ fn good_rows(rt: HostRuntime) -> Result<(), Fail> {
 /// A script that stops has notes too: at a bad row, which is on this line, and at a writer that fails.
 #[test]
 fn notes_at_a_stop(rt: HostRuntime) -> Result<(), Fail> {
-    let wait = Some(Wait {
+    let wait = Some(EarlySet {
         slot: 0,
         thing: Thing::Text,
         refusal: Refusal::Silent(1),

@@ -2,16 +2,16 @@
 //! contract of `run` says which output each input has.
 #![tactic(auto)]
 
+mod note_lines;
 mod notes;
 mod program;
 mod status;
-mod tell;
 mod words;
 
+pub use note_lines::{print_notes, print_refusal};
 pub use notes::{End, Options, RunNotes};
 pub use program::{run, run_with_notes};
 pub use status::{FAULT, REFUSED, no_words, write_no_memory};
-pub use tell::{print_notes, print_refusal};
 pub use words::{texts, words_of};
 
 #[cfg(test)]

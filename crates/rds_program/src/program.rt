@@ -96,13 +96,13 @@ fn run_read<R: TellingRead, W: TellingWrite>(
     match read {
         Ok(Some(request)) => answer(alloc, request, reader, writer, notes),
         Ok(None) => REFUSED,
-        Err(error) => tell_error(&error, writer, notes),
+        Err(error) => write_error(&error, writer, notes),
     }
 }
 
 /// Writes the text of `clap`, help or the reason of a refusal, as far as the writer takes it. Writes the fault line if
 /// the program is out of memory.
-fn tell_error<W: TellingWrite>(error: &Error, writer: &mut W, notes: &mut RunNotes) -> u8
+fn write_error<W: TellingWrite>(error: &Error, writer: &mut W, notes: &mut RunNotes) -> u8
     ensures status { result ≡ status_of (kind_of error.now) }
     ensures memory { kind_of error.now ≡ ErrorKind.OutOfMemory
         → PutsLine (codes "fault memory\n") (traffic W.contents W.failures writer.old writer.new) }
@@ -144,7 +144,7 @@ fn answer<R: TellingRead, W: TellingWrite>(
     let _ = notes.pi.write(request.pi.as_bytes());
     let Some(pi) = identification_of(request.pi) else {
         notes.end = End::BadPi;
-        tell_fault_text(request.task, b"fault pi", writer);
+        write_fault_text(request.task, b"fault pi", writer);
         return REFUSED;
     };
     run_task(
@@ -285,26 +285,26 @@ fn fail_with<W: TellingWrite>(task: Task, fault: LogFault, writer: &mut W, end: 
     ensures told { PutsAfter task fault (traffic W.contents W.failures writer.old writer.new) }
 {
     *end = End::Fault(fault);
-    tell_fault(task, fault, writer);
+    write_fault_line(task, fault, writer);
     FAULT
 }
 
 /// Writes the line of the fault as far as the writer takes it. Writes nothing after a failed write.
-fn tell_fault<W: TellingWrite>(task: Task, fault: LogFault, writer: &mut W)
+fn write_fault_line<W: TellingWrite>(task: Task, fault: LogFault, writer: &mut W)
     ensures { PutsAfter task fault (traffic W.contents W.failures writer.old writer.new) }
 {
     match fault {
-        LogFault::BadLine(number) => tell_numbered(task, b"fault line ", number, writer),
-        LogFault::BadRow(number) => tell_numbered(task, b"fault row ", number, writer),
-        LogFault::Read => tell_fault_text(task, b"fault read", writer),
+        LogFault::BadLine(number) => write_numbered_fault(task, b"fault line ", number, writer),
+        LogFault::BadRow(number) => write_numbered_fault(task, b"fault row ", number, writer),
+        LogFault::Read => write_fault_text(task, b"fault read", writer),
         LogFault::Write => {}
-        LogFault::TooLong => tell_fault_text(task, b"fault too long", writer),
-        LogFault::Memory => tell_fault_text(task, b"fault memory", writer),
+        LogFault::TooLong => write_fault_text(task, b"fault too long", writer),
+        LogFault::Memory => write_fault_text(task, b"fault memory", writer),
     }
 }
 
 /// Writes the line of a fault at a numbered line or row.
-fn tell_numbered<W: TellingWrite>(task: Task, text: &[u8], number: u64, writer: &mut W)
+fn write_numbered_fault<W: TellingWrite>(task: Task, text: &[u8], number: u64, writer: &mut W)
     requires { length text.now ≤ 32 }
     ensures { TellsFault task (text.now ++ decimal number)
         (traffic W.contents W.failures writer.old writer.new) }
@@ -314,11 +314,11 @@ fn tell_numbered<W: TellingWrite>(task: Task, text: &[u8], number: u64, writer: 
     line.push(text);
     line.push_number(number);
     line.push(b"\n");
-    tell(line.bytes(), writer);
+    write_line(line.bytes(), writer);
 }
 
 /// Writes the line of a fault.
-fn tell_fault_text<W: TellingWrite>(task: Task, text: &[u8], writer: &mut W)
+fn write_fault_text<W: TellingWrite>(task: Task, text: &[u8], writer: &mut W)
     requires { length text.now ≤ 32 }
     ensures { TellsFault task text.now (traffic W.contents W.failures writer.old writer.new) }
 {
@@ -326,7 +326,7 @@ fn tell_fault_text<W: TellingWrite>(task: Task, text: &[u8], writer: &mut W)
     line.push(mark(task));
     line.push(text);
     line.push(b"\n");
-    tell(line.bytes(), writer);
+    write_line(line.bytes(), writer);
 }
 
 /// Returns the mark before the line of a fault: in the log that `encode` or `slots` writes, the line is a comment.
@@ -341,7 +341,7 @@ fn mark(task: Task) -> &'static [u8]
 }
 
 /// Writes a line as far as the writer takes it.
-fn tell<W: TellingWrite>(line: &[u8], writer: &mut W)
+fn write_line<W: TellingWrite>(line: &[u8], writer: &mut W)
     ensures { PutsLine line.now (traffic W.contents W.failures writer.old writer.new) }
 {
     let _ = put(line, writer);

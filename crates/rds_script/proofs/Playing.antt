@@ -12,7 +12,7 @@ use Rattle.rds_script.specs.Outcomes.{AreOutcomes, IsOutcome, Outcome, answer_li
 use Rattle.rds_script.specs.Inside.Player.{AppendsRow, HasWatched, IsBegun, IsRowRefused, Played, PlayerStandsAt}
 use Rattle.rds_script.specs.Inside.Watched.{AreKept, WatchedStandsAt, WereShown, views_kept}
 use Rattle.rds_script.specs.Notes.{first_of, wait_of}
-use Rattle.rds_script.specs.declared.notes.Wait.{Wait}
+use Rattle.rds_script.specs.declared.notes.EarlySet.{EarlySet}
 use Rattle.rds_script.specs.declared.player.Player.{Player}
 use Rattle.rds_script.specs.declared.row.RowRefused.TheVariants as refused
 use Rattle.rds_script.specs.declared.watched.Watched.{Watched}
@@ -158,7 +158,7 @@ plays_on (Ok done) before now played s receivers kept w row e old new form confi
       lines = slot_written played.form before.slot kept o s.outcomes played.written _ s.lines s.slot same refl;
       wait =
           let slots : before.slot ≡ length s.events = s.slot ∙ sym (as_many_outcomes played.config s.events s.outcomes s.are) in
-          wait ∙ ap₂ (λ (n : ℕ) (x : Option Wait). first_of (wait_of n e.command (reply_at (distance played.config) e.command (entries s.events))) x) slots s.wait;
+          wait ∙ ap₂ (λ (n : ℕ) (x : Option EarlySet). first_of (wait_of n e.command (reply_at (distance played.config) e.command (entries s.events))) x) slots s.wait;
       watched = subst (λ (x : Option Watched). HasWatched played.config receivers x (e ∷ s.events) (o ∷ s.outcomes)) (sym watched) (omega arith, stands, λ i. ap (λ (views : List ShownView). view_at views i) (sym views));
     },
   ),

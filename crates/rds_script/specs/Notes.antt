@@ -23,16 +23,16 @@ use Rattle.rds_script.specs.declared.notes.BadRow.{BadRow}
 use Rattle.rds_script.specs.declared.notes.ScriptNotes.{ScriptNotes}
 use Rattle.rds_script.specs.declared.notes.Thing.{Thing}
 use Rattle.rds_script.specs.declared.notes.Thing.TheVariants.{Text, Name, Tags}
-use Rattle.rds_script.specs.declared.notes.Wait.{Wait}
+use Rattle.rds_script.specs.declared.notes.EarlySet.{EarlySet}
 
 -- the note of a refusal: only `Silent` and `Held` end after some slots
-abbrev pub wait_for : ℕ → Thing → Refusal → Option Wait
+abbrev pub wait_for : ℕ → Thing → Refusal → Option EarlySet
 wait_for slot thing (Silent n) = Some record { slot = slot; thing = thing; refusal = Silent n }
 wait_for slot thing (Held n) = Some record { slot = slot; thing = thing; refusal = Held n }
 wait_for slot thing NoText = None
 wait_for slot thing (OutOfText which) = None
 
-abbrev pub refused_wait : ℕ → Command → Refusal → Option Wait
+abbrev pub refused_wait : ℕ → Command → Refusal → Option EarlySet
 refused_wait slot Quiet refusal = None
 refused_wait slot Restart refusal = None
 refused_wait slot (SetText x) refusal = wait_for slot Text refusal
@@ -40,20 +40,20 @@ refused_wait slot (SetName x) refusal = wait_for slot Name refusal
 refused_wait slot (SetTags pair) refusal = wait_for slot Tags refusal
 
 -- the note of a reply to the command of a slot
-abbrev pub wait_of : ℕ → Command → Reply → Option Wait
+abbrev pub wait_of : ℕ → Command → Reply → Option EarlySet
 wait_of slot command (reply.Refused refusal) = refused_wait slot command refusal
 wait_of slot command reply.Quiet = None
 wait_of slot command reply.Restarted = None
 wait_of slot command reply.Done = None
 
 -- the earlier wait, or the new one if there is none
-abbrev pub first_of : Option Wait → Option Wait → Option Wait
+abbrev pub first_of : Option EarlySet → Option EarlySet → Option EarlySet
 first_of None before = before
 first_of (Some later) None = Some later
 first_of (Some later) (Some before) = Some before
 
 -- the first wait of these slots
-abbrev pub first_wait : Config → List Event → Option Wait
+abbrev pub first_wait : Config → List Event → Option EarlySet
 first_wait config [] = None
 first_wait config (e ∷ before) =
     first_of (wait_of (length before) e.command (reply_at (distance config) e.command (entries before)))

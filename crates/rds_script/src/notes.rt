@@ -13,7 +13,7 @@ pub struct ScriptNotes {
     /// The malformed record, if the script stopped at one.
     pub bad: Option<BadRow>,
     /// The first text, name or pair of tags that came too early, if one did.
-    pub wait: Option<Wait>,
+    pub wait: Option<EarlySet>,
 }
 
 impl ScriptNotes {
@@ -43,7 +43,7 @@ pub struct BadRow {
 
 /// A text, a name or a pair of tags that came too early.
 #[derive(Clone, Copy, Debug, PartialEq, Eq)]
-pub struct Wait {
+pub struct EarlySet {
     /// The slot of the command, counted from 0.
     pub slot: u64,
     /// The thing that the command sets.
@@ -66,7 +66,7 @@ pub enum Thing {
 
 /// Notes the reply to a command, if it is the first refusal for coming too early.
 #[inline(always)]
-pub(crate) fn note_wait(wait: &mut Option<Wait>, slot: u64, command: &Command, reply: Reply)
+pub(crate) fn note_wait(wait: &mut Option<EarlySet>, slot: u64, command: &Command, reply: Reply)
     ensures { wait.new ≡ first_of (wait_of slot command.now reply) wait.old }
 {
     if let Reply::Refused(refusal) = reply {
@@ -76,7 +76,7 @@ pub(crate) fn note_wait(wait: &mut Option<Wait>, slot: u64, command: &Command, r
 
 /// Notes a refusal, if it is the first for coming too early. Other replies pay nothing for this function.
 #[inline(never)]
-fn note_refused(wait: &mut Option<Wait>, slot: u64, command: &Command, refusal: Refusal)
+fn note_refused(wait: &mut Option<EarlySet>, slot: u64, command: &Command, refusal: Refusal)
     ensures { wait.new ≡ first_of (wait_of slot command.now (replies.Refused refusal)) wait.old }
 {
     if wait.is_none() {
@@ -90,11 +90,11 @@ fn note_refused(wait: &mut Option<Wait>, slot: u64, command: &Command, refusal: 
 }
 
 /// Makes a note of `Silent` or `Held`, which end after some slots.
-fn wait_for(slot: u64, thing: Thing, refusal: Refusal) -> Option<Wait>
+fn wait_for(slot: u64, thing: Thing, refusal: Refusal) -> Option<EarlySet>
     ensures { result ≡ wait_for slot thing refusal }
 {
     match refusal {
-        Refusal::Silent(_) | Refusal::Held(_) => Some(Wait {
+        Refusal::Silent(_) | Refusal::Held(_) => Some(EarlySet {
             slot,
             thing,
             refusal,

@@ -7,7 +7,7 @@ ghost use Rattle.rds_script.specs.declared.watched.TheConstants.{OUTPUT_ROOM, RO
 ghost use Rattle.rds_script.specs.declared.watched.Watched.{Watched};
 
 use crate::form::Form;
-use crate::notes::Wait;
+use crate::notes::EarlySet;
 use crate::row::{RowRefused, read_event};
 use crate::row_cause::RowCause;
 use crate::second_reading::{cause_of, refused_cause};
@@ -27,7 +27,7 @@ pub(crate) struct Player {
     watched: Option<Watched>,
     pub(crate) slot: u64,
     /// The first thing that was set too early. `None` if nothing was.
-    pub(crate) wait: Option<Wait>,
+    pub(crate) wait: Option<EarlySet>,
 }
 
 impl Player {

@@ -104,13 +104,13 @@ fn read_command(word: &[u8], argument: &[u8], command: &mut Command) -> bool
     if word == b"-".as_slice() && argument.is_empty() {
         return true;
     }
-    read_told(word, argument, command)
+    read_any_command(word, argument, command)
 }
 
 /// Reads any command of a word and its argument.
 // Cold path.
 #[inline(never)]
-fn read_told(word: &[u8], argument: &[u8], command: &mut Command) -> bool
+fn read_any_command(word: &[u8], argument: &[u8], command: &mut Command) -> bool
     ensures text { IsTrue result → IsUtf8 argument.now }
     ensures some { IsTrue result → SaysCommand word.now argument.now command.new }
     ensures none { IsFalse result → (other : Command) → IsUtf8 argument.now

@@ -15,7 +15,7 @@ ghost use Rattle.rds_view_lines.specs.declared.change.TheConstants.{SLOT_ROOM};
 
 use crate::answer_lines::{ANSWER_ROOM, push_answer};
 use crate::form::Form;
-use crate::notes::{Wait, note_wait};
+use crate::notes::{EarlySet, note_wait};
 use crate::row::RowRefused;
 use arrayvec::ArrayVec;
 use rds_io::Lines;
@@ -69,7 +69,7 @@ impl Watched {
         slot: u64,
         event: &SlotEvent,
         lines: &mut RowLines,
-        wait: &mut Option<Wait>,
+        wait: &mut Option<EarlySet>,
     ) -> Result<(), StepRefused>
         requires room { length lines.old + ROW_ROOM ≤ OUTPUT_ROOM }
         ensures stands { WhereWatchedStands self.old (λ config receivers events.

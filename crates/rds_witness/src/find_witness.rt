@@ -12,8 +12,8 @@ ghost use Rattle.rds_witness.specs.Lines.{IsAnswer, no_witness_up_to};
 ghost use Rattle.rds_witness.specs.Search.{IsSure};
 ghost use Rattle.rds_witness.specs.Witness.{Answers, Witnesses};
 
+use crate::candidate::Candidate;
 use crate::mix_lines::{ROOM, push_mixes};
-use crate::place::Place;
 use crate::search::{Found, find};
 use rds_block::Blocks;
 use rds_fields::Dwell;
@@ -100,14 +100,14 @@ fn push_answer(
 {
     match found {
         Found::Doubt(burst, slot) => {
-            let place = Place {
+            let candidate = Candidate {
                 log,
                 pi,
                 dwell,
                 burst,
                 slot,
             };
-            push_mixes(&place, lines);
+            push_mixes(&candidate, lines);
             if !lines.bytes().is_empty() {
                 return true;
             }

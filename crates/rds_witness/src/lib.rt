@@ -7,12 +7,12 @@
 #![tactic(auto)]
 
 mod burst;
+mod candidate;
 mod checking;
 mod covering;
 mod find_witness;
 mod laws;
 mod mix_lines;
-mod place;
 mod search;
 mod seen;
 mod sweep;

@@ -8,8 +8,8 @@ ghost use Rattle.rds_witness.specs.Mix.{AreAround, Has, NeverShows, Shows, until
 ghost use Rattle.rds_witness.specs.SomeLines.{AddsKind, AreSomeMixLines, kind_of};
 
 use crate::burst::Burst;
+use crate::candidate::Candidate;
 use crate::checking::{is_never_shown, receiver_before, slots_until};
-use crate::place::Place;
 use crate::thing::{Thing, shows};
 use rds_block::Blocks;
 use rds_fields::{Dwell, Which};
@@ -73,123 +73,137 @@ fn tag_name(which: Which) -> &'static [u8]
 
 /// Returns whether a thing that is shown in a slot is a mix there: the slot before does not show it, and a receiver
 /// that loses nothing shows it in no slot.
-fn is_mix(place: &Place<'_>, before: View<'_>, thing: Thing<'_>) -> bool
-    requires { place.now.slot < length place.now.log.now }
+fn is_mix(candidate: &Candidate<'_>, before: View<'_>, thing: Thing<'_>) -> bool
+    requires { candidate.now.slot < length candidate.now.log.now }
     ensures new { IsTrue result → Shows (view_of before.entry) (thing_of thing.entry) → ⊥ }
-    ensures never { IsTrue result → NeverShows (tuned place.now.pi place.now.dwell) place.now.log.now
-        (until place.now.dwell place.now.log.now place.now.slot) (thing_of thing.entry) }
+    ensures never { IsTrue result → NeverShows (tuned candidate.now.pi candidate.now.dwell) candidate.now.log.now
+        (until candidate.now.dwell candidate.now.log.now candidate.now.slot) (thing_of thing.entry) }
     ensures no { result ≡ false → Shows (view_of before.entry) (thing_of thing.entry)
-        ⊎ (NeverShows (tuned place.now.pi place.now.dwell) place.now.log.now
-        (until place.now.dwell place.now.log.now place.now.slot) (thing_of thing.entry) → ⊥) }
+        ⊎ (NeverShows (tuned candidate.now.pi candidate.now.dwell) candidate.now.log.now
+        (until candidate.now.dwell candidate.now.log.now candidate.now.slot) (thing_of thing.entry) → ⊥) }
 {
     if shows(before, thing) {
         return false;
     }
-    let until = slots_until(place.log, place.dwell, place.slot);
-    is_never_shown(place.log, place.pi, place.dwell, until, thing)
+    let until = slots_until(candidate.log, candidate.dwell, candidate.slot);
+    is_never_shown(candidate.log, candidate.pi, candidate.dwell, until, thing)
 }
 
 /// Appends the line of a thing of the view after the slot, if it is a mix.
 fn push_if_mix(
-    place: &Place<'_>,
+    candidate: &Candidate<'_>,
     before: View<'_>,
     after: View<'_>,
     thing: Thing<'_>,
     lines: &mut Lines<ROOM>,
 )
-    requires around { AreAround (tuned place.now.pi place.now.dwell) place.now.log.now place.now.burst place.now.slot
+    requires around { AreAround (tuned candidate.now.pi candidate.now.dwell) candidate.now.log.now candidate.now.burst candidate.now.slot
         (view_of before) (view_of after) }
     requires has { Has (view_of after) (thing_of thing) }
     requires short { IsShortThing thing }
     requires room { length lines.old + 364 ≤ 2048 }
-    ensures mixes { AddsKind (kind_of (thing_of thing.entry)) (tuned place.now.pi place.now.dwell) place.now.log.now place.now.burst
-        place.now.slot lines.old lines.new }
+    ensures mixes { AddsKind (kind_of (thing_of thing.entry)) (tuned candidate.now.pi candidate.now.dwell) candidate.now.log.now candidate.now.burst
+        candidate.now.slot lines.old lines.new }
     ensures room { length lines.new ≤ length lines.old + 364 }
 {
-    if is_mix(place, before, thing) {
+    if is_mix(candidate, before, thing) {
         lines.push(b"lose ");
-        push_burst(place.burst, lines);
+        push_burst(candidate.burst, lines);
         lines.push(b": ");
-        push_shown(place.slot, thing, lines);
+        push_shown(candidate.slot, thing, lines);
     }
 }
 
 /// Appends the line of each thing that is a mix in the slot.
-pub(crate) fn push_mixes(place: &Place<'_>, lines: &mut Lines<ROOM>)
+pub(crate) fn push_mixes(candidate: &Candidate<'_>, lines: &mut Lines<ROOM>)
     requires { lines.old ≡ [] }
-    ensures { AreMixLines (tuned place.now.pi place.now.dwell) place.now.log.now place.now.burst place.now.slot
+    ensures { AreMixLines (tuned candidate.now.pi candidate.now.dwell) candidate.now.log.now candidate.now.burst candidate.now.slot
         lines.new }
 {
-    let burst = place.burst;
-    if burst.first > burst.last || burst.last >= place.slot || place.slot >= place.log.len() {
+    let burst = candidate.burst;
+    if burst.first > burst.last
+        || burst.last >= candidate.slot
+        || candidate.slot >= candidate.log.len()
+    {
         return;
     }
-    let before = receiver_before(place.log, place.pi, place.dwell, Some(burst), place.slot);
-    let after = receiver_before(
-        place.log,
-        place.pi,
-        place.dwell,
+    let before = receiver_before(
+        candidate.log,
+        candidate.pi,
+        candidate.dwell,
         Some(burst),
-        place.slot + 1,
+        candidate.slot,
     );
-    push_mixes_of(place, before.view(), after.view(), lines);
+    let after = receiver_before(
+        candidate.log,
+        candidate.pi,
+        candidate.dwell,
+        Some(burst),
+        candidate.slot + 1,
+    );
+    push_mixes_of(candidate, before.view(), after.view(), lines);
 }
 
 /// Appends the line of each thing of the view after the slot that is a mix.
-fn push_mixes_of(place: &Place<'_>, before: View<'_>, after: View<'_>, lines: &mut Lines<ROOM>)
-    requires around { AreAround (tuned place.now.pi place.now.dwell) place.now.log.now place.now.burst place.now.slot
+fn push_mixes_of(
+    candidate: &Candidate<'_>,
+    before: View<'_>,
+    after: View<'_>,
+    lines: &mut Lines<ROOM>,
+)
+    requires around { AreAround (tuned candidate.now.pi candidate.now.dwell) candidate.now.log.now candidate.now.burst candidate.now.slot
         (view_of before) (view_of after) }
     requires room { length lines.old + 1456 ≤ 2048 }
-    ensures { AreSomeMixLines 0 (tuned place.now.pi place.now.dwell) place.now.log.now place.now.burst place.now.slot
-        lines.old → AreSomeMixLines 4 (tuned place.now.pi place.now.dwell) place.now.log.now place.now.burst
-        place.now.slot lines.new }
+    ensures { AreSomeMixLines 0 (tuned candidate.now.pi candidate.now.dwell) candidate.now.log.now candidate.now.burst candidate.now.slot
+        lines.old → AreSomeMixLines 4 (tuned candidate.now.pi candidate.now.dwell) candidate.now.log.now candidate.now.burst
+        candidate.now.slot lines.new }
 {
-    push_text(place, before, after, lines);
-    push_name(place, before, after, lines);
-    push_one(place, before, after, lines);
-    push_two(place, before, after, lines);
+    push_text(candidate, before, after, lines);
+    push_name(candidate, before, after, lines);
+    push_one(candidate, before, after, lines);
+    push_two(candidate, before, after, lines);
 }
 
 /// Appends the line of the text, if it is a mix.
-fn push_text(place: &Place<'_>, before: View<'_>, after: View<'_>, lines: &mut Lines<ROOM>)
-    requires around { AreAround (tuned place.now.pi place.now.dwell) place.now.log.now place.now.burst place.now.slot
+fn push_text(candidate: &Candidate<'_>, before: View<'_>, after: View<'_>, lines: &mut Lines<ROOM>)
+    requires around { AreAround (tuned candidate.now.pi candidate.now.dwell) candidate.now.log.now candidate.now.burst candidate.now.slot
         (view_of before) (view_of after) }
     requires room { length lines.old + 364 ≤ 2048 }
-    ensures mixes { AddsKind 0 (tuned place.now.pi place.now.dwell) place.now.log.now place.now.burst
-        place.now.slot lines.old lines.new }
+    ensures mixes { AddsKind 0 (tuned candidate.now.pi candidate.now.dwell) candidate.now.log.now candidate.now.burst
+        candidate.now.slot lines.old lines.new }
     ensures room { length lines.new ≤ length lines.old + 364 }
 {
     if let Some(text) = after.text {
-        push_if_mix(place, before, after, Thing::Text(text), lines);
+        push_if_mix(candidate, before, after, Thing::Text(text), lines);
     }
 }
 
 /// Appends the line of the name, if it is a mix.
-fn push_name(place: &Place<'_>, before: View<'_>, after: View<'_>, lines: &mut Lines<ROOM>)
-    requires around { AreAround (tuned place.now.pi place.now.dwell) place.now.log.now place.now.burst place.now.slot
+fn push_name(candidate: &Candidate<'_>, before: View<'_>, after: View<'_>, lines: &mut Lines<ROOM>)
+    requires around { AreAround (tuned candidate.now.pi candidate.now.dwell) candidate.now.log.now candidate.now.burst candidate.now.slot
         (view_of before) (view_of after) }
     requires room { length lines.old + 364 ≤ 2048 }
-    ensures mixes { AddsKind 1 (tuned place.now.pi place.now.dwell) place.now.log.now place.now.burst
-        place.now.slot lines.old lines.new }
+    ensures mixes { AddsKind 1 (tuned candidate.now.pi candidate.now.dwell) candidate.now.log.now candidate.now.burst
+        candidate.now.slot lines.old lines.new }
     ensures room { length lines.new ≤ length lines.old + 364 }
 {
     if let Some(name) = after.name {
-        push_if_mix(place, before, after, Thing::Name(name), lines);
+        push_if_mix(candidate, before, after, Thing::Name(name), lines);
     }
 }
 
 /// Appends the line of the first tag, if it is a mix.
-fn push_one(place: &Place<'_>, before: View<'_>, after: View<'_>, lines: &mut Lines<ROOM>)
-    requires around { AreAround (tuned place.now.pi place.now.dwell) place.now.log.now place.now.burst place.now.slot
+fn push_one(candidate: &Candidate<'_>, before: View<'_>, after: View<'_>, lines: &mut Lines<ROOM>)
+    requires around { AreAround (tuned candidate.now.pi candidate.now.dwell) candidate.now.log.now candidate.now.burst candidate.now.slot
         (view_of before) (view_of after) }
     requires room { length lines.old + 364 ≤ 2048 }
-    ensures mixes { AddsKind 2 (tuned place.now.pi place.now.dwell) place.now.log.now place.now.burst
-        place.now.slot lines.old lines.new }
+    ensures mixes { AddsKind 2 (tuned candidate.now.pi candidate.now.dwell) candidate.now.log.now candidate.now.burst
+        candidate.now.slot lines.old lines.new }
     ensures room { length lines.new ≤ length lines.old + 364 }
 {
     if let Some((class, piece)) = after.one {
         push_if_mix(
-            place,
+            candidate,
             before,
             after,
             Thing::Tag(Which::One, class, piece),
@@ -199,17 +213,17 @@ fn push_one(place: &Place<'_>, before: View<'_>, after: View<'_>, lines: &mut Li
 }
 
 /// Appends the line of the second tag, if it is a mix.
-fn push_two(place: &Place<'_>, before: View<'_>, after: View<'_>, lines: &mut Lines<ROOM>)
-    requires around { AreAround (tuned place.now.pi place.now.dwell) place.now.log.now place.now.burst place.now.slot
+fn push_two(candidate: &Candidate<'_>, before: View<'_>, after: View<'_>, lines: &mut Lines<ROOM>)
+    requires around { AreAround (tuned candidate.now.pi candidate.now.dwell) candidate.now.log.now candidate.now.burst candidate.now.slot
         (view_of before) (view_of after) }
     requires room { length lines.old + 364 ≤ 2048 }
-    ensures mixes { AddsKind 3 (tuned place.now.pi place.now.dwell) place.now.log.now place.now.burst
-        place.now.slot lines.old lines.new }
+    ensures mixes { AddsKind 3 (tuned candidate.now.pi candidate.now.dwell) candidate.now.log.now candidate.now.burst
+        candidate.now.slot lines.old lines.new }
     ensures room { length lines.new ≤ length lines.old + 364 }
 {
     if let Some((class, piece)) = after.two {
         push_if_mix(
-            place,
+            candidate,
             before,
             after,
             Thing::Tag(Which::Two, class, piece),

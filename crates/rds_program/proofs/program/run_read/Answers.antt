@@ -10,6 +10,6 @@ returns-in-Ok-None g c =
 
 pub returns-in-Err : goal.returns-in-Err
 returns-in-Err g c = rw c.in-Err.is (
-  record { status_is = c.tell_error.ensures.status; no_memory = c.tell_error.ensures.memory },
+  record { status_is = c.write_error.ensures.status; no_memory = c.write_error.ensures.memory },
   record { bytes_are = refl; failures_are = refl; reads_are = refl },
 )

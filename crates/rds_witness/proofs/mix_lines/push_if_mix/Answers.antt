@@ -6,9 +6,9 @@ use Rattle.rds_witness.proofs.mix_lines.push_if_mix.Goals as goal
 
 pub returns-then-is_mix-clause-mixes : goal.returns-then-is_mix-clause-mixes
 returns-then-is_mix-clause-mixes c =
-    let place = c.args.place.now in
+    let candidate = c.args.candidate.now in
     let around = c.requires.around in
-    adds_mix (tuned place.pi place.dwell) place.log.now place.burst place.slot (view_of c.args.before) (view_of c.args.after) around (thing_of c.args.thing)
+    adds_mix (tuned candidate.pi candidate.dwell) candidate.log.now candidate.burst candidate.slot (view_of c.args.before) (view_of c.args.after) around (thing_of c.args.thing)
     c.args.lines.now c.push.new.self c.push_burst.new.lines c.push-then-is_mix.new.self c.push_shown.new.lines
     c.push.ensures c.push_burst.ensures.burst c.push-then-is_mix.ensures c.push_shown.ensures.shown c.requires.has
     record {
@@ -26,6 +26,6 @@ returns-then-is_mix-clause-mixes c =
 
 pub returns-else-is_mix-clause-mixes : goal.returns-else-is_mix-clause-mixes
 returns-else-is_mix-clause-mixes c =
-    let place = c.args.place.now in
-    adds_no_mix (tuned place.pi place.dwell) place.log.now place.burst place.slot (view_of c.args.before) (view_of c.args.after) c.requires.around (thing_of c.args.thing)
+    let candidate = c.args.candidate.now in
+    adds_no_mix (tuned candidate.pi candidate.dwell) candidate.log.now candidate.burst candidate.slot (view_of c.args.before) (view_of c.args.after) c.requires.around (thing_of c.args.thing)
     c.args.lines.now c.requires.has (c.is_mix.ensures.no c.if-is_mix.false)

@@ -8,7 +8,7 @@ use Rattle.rds_world.specs.State.{distance}
 use Rattle.rds_world.specs.declared.reply.Reply.{Reply}
 use Rattle.rds_world.specs.declared.world.Config.{Config}
 use Rattle.rds_script.specs.Notes.{first_of, wait_of}
-use Rattle.rds_script.specs.declared.notes.Wait.{Wait}
+use Rattle.rds_script.specs.declared.notes.EarlySet.{EarlySet}
 use Rattle.rds_script.specs.Inside.Player.{HasWatched}
 use Rattle.rds_script.specs.Inside.Watched.{WatchedStandsAt, views_kept}
 use Rattle.rds_script.specs.Rows.{IsAllowed}
@@ -56,7 +56,7 @@ returns-in-Ok-clause-stands c played s =
     let answered : Reply = reply_at (distance played.config) c.read_event.new.event.command (entries s.events) in
     let noted : c.play.new.wait ≡ first_of (wait_of c.args.self.now.slot c.read_event.new.event.command answered) c.args.self.now.wait = c.in-Ok.ensures.wait played.config r.receivers s.events r.stands
     ∙ ap (λ (n : ℕ). first_of (wait_of n c.read_event.new.event.command answered) c.begin.new.self.wait) slots
-    ∙ ap (λ (x : Option Wait). first_of (wait_of c.args.self.now.slot c.read_event.new.event.command answered) x) before in
+    ∙ ap (λ (x : Option EarlySet). first_of (wait_of c.args.self.now.slot c.read_event.new.event.command answered) x) before in
     let waited : OnOk c.play.result (c.play.new.wait ≡ first_of (wait_of c.args.self.now.slot c.read_event.new.event.command answered) c.args.self.now.wait) = rw c.in-Ok.is noted in
     let all = plays_on c.play.result c.args.self.now _ played s r.receivers (views_kept c.in-Some.watched) c.play.new.self (fields_of c.args.row.now) c.read_event.new.event c.args.lines.now c.play.new.lines form (ap (λ (p : Player). p.config) same) (ap (λ n. n + 1) slot) refl
     r.allowed r.rows (c.read_event.ensures.some c.if-not-read_event.false) r.same (c.play.ensures.taken played.config r.receivers s.events r.stands) (c.play.ensures.stands played.config r.receivers s.events r.stands)

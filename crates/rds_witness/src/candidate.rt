@@ -1,4 +1,4 @@
-//! A place in which a mix is looked for.
+//! A slot in which a receiver that lost a burst may show a mix.
 
 use crate::burst::Burst;
 use rds_block::Blocks;
@@ -6,7 +6,7 @@ use rds_fields::Dwell;
 
 /// A log, the tuning of its receivers, the lost slots, and the slot in which a receiver may show a mix.
 #[derive(Drop)]
-pub(crate) struct Place<'a> {
+pub(crate) struct Candidate<'a> {
     pub(crate) log: &'a [Option<Blocks>],
     pub(crate) pi: u16,
     pub(crate) dwell: Dwell,

@@ -30,20 +30,20 @@ pub fn print_notes<N: TellingWrite>(notes: &RunNotes, reason: Option<&io::Error>
         return;
     };
     if !options.quiet {
-        tell_warnings(options.task, notes, screen);
+        print_warnings(options.task, notes, screen);
     }
     match notes.end {
         End::NotRun | End::Done => {}
-        End::BadPi => tell_pi(notes.pi.as_slice(), screen),
-        End::Fault(fault) => tell_fault(options.task, fault, notes, reason, screen),
+        End::BadPi => print_pi(notes.pi.as_slice(), screen),
+        End::Fault(fault) => print_fault(options.task, fault, notes, reason, screen),
     }
 }
 
 /// Prints the warnings of a run.
-fn tell_warnings<N: TellingWrite>(task: Task, notes: &RunNotes, screen: &mut N) {
-    tell_wait(notes, screen);
-    tell_no(notes, screen);
-    tell_slots(notes, screen);
+fn print_warnings<N: TellingWrite>(task: Task, notes: &RunNotes, screen: &mut N) {
+    print_wait(notes, screen);
+    print_no(notes, screen);
+    print_slots(notes, screen);
     if let Task::Slots(_) = task {
         return;
     }
@@ -53,14 +53,14 @@ fn tell_warnings<N: TellingWrite>(task: Task, notes: &RunNotes, screen: &mut N) 
         return;
     }
     if notes.log.heard.wanted {
-        tell_covered(task, notes, screen);
+        print_covered(task, notes, screen);
     } else {
-        tell_no_group(task, notes, screen);
+        print_no_group(task, notes, screen);
     }
 }
 
 /// Prints what was judged, and which groups of the programme were not read.
-fn tell_covered<N: TellingWrite>(task: Task, notes: &RunNotes, screen: &mut N) {
+fn print_covered<N: TellingWrite>(task: Task, notes: &RunNotes, screen: &mut N) {
     // Prover: a value is copied by a new name before its second use (docs/PROVER.md, "Workarounds").
     let asked = task;
     let judges = is_audit(asked);
@@ -133,7 +133,7 @@ fn nothing_said(task: Task) -> &'static str {
 }
 
 /// Prints that something was set too early, and from when it is accepted.
-fn tell_wait<N: TellingWrite>(notes: &RunNotes, screen: &mut N) {
+fn print_wait<N: TellingWrite>(notes: &RunNotes, screen: &mut N) {
     let Some(wait) = notes.script.wait else {
         return;
     };
@@ -159,7 +159,7 @@ fn tell_wait<N: TellingWrite>(notes: &RunNotes, screen: &mut N) {
 }
 
 /// Prints that the log has no group of the wanted programme, and which programmes it has.
-fn tell_no_group<N: TellingWrite>(task: Task, notes: &RunNotes, screen: &mut N) {
+fn print_no_group<N: TellingWrite>(task: Task, notes: &RunNotes, screen: &mut N) {
     let heard = notes.log.heard;
     if heard.wanted {
         return;
@@ -183,7 +183,7 @@ fn tell_no_group<N: TellingWrite>(task: Task, notes: &RunNotes, screen: &mut N) 
 }
 
 /// Prints how many lines had no time, and how often nobody knows how many slots were lost.
-fn tell_slots<N: TellingWrite>(notes: &RunNotes, screen: &mut N) {
+fn print_slots<N: TellingWrite>(notes: &RunNotes, screen: &mut N) {
     let untimed = notes.slots.untimed;
     if untimed > 0 {
         let mut note = begun();
@@ -205,7 +205,7 @@ fn tell_slots<N: TellingWrite>(notes: &RunNotes, screen: &mut N) {
 }
 
 /// Prints which rule the log breaks first, and what to try next.
-fn tell_no<N: TellingWrite>(notes: &RunNotes, screen: &mut N) {
+fn print_no<N: TellingWrite>(notes: &RunNotes, screen: &mut N) {
     let Some(no) = notes.log.no else {
         return;
     };
@@ -298,7 +298,7 @@ fn push_first(start: u64, no: NoNote, note: &mut Note) {
 }
 
 /// Prints why a PI code was refused.
-fn tell_pi<N: TellingWrite>(given: &[u8], screen: &mut N) {
+fn print_pi<N: TellingWrite>(given: &[u8], screen: &mut N) {
     let mut note = begun();
     let _ = write!(note, "fault pi: --pi ");
     push_shown(given, &mut note);
@@ -311,7 +311,7 @@ fn tell_pi<N: TellingWrite>(given: &[u8], screen: &mut N) {
 
 /// Prints a fault of the log or script, of the input or of the output. Prints nothing if the reader of a pipe has gone,
 /// as in `| head`.
-fn tell_fault<N: TellingWrite>(
+fn print_fault<N: TellingWrite>(
     task: Task,
     fault: LogFault,
     notes: &RunNotes,

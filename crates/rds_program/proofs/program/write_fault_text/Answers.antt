@@ -1,10 +1,10 @@
 use Rattle.std.proofs.Common.{◌≡◌, ◌++◌, refl}
 use Rattle.std.specs.Prelude.{codes}
 use Rattle.rds_program.specs.Run.{mark_of}
-use Rattle.rds_program.proofs.program.tell_fault_text.Goals as goal
+use Rattle.rds_program.proofs.program.write_fault_text.Goals as goal
 
 pub returns : goal.returns
 returns g c =
     let line : c.bytes.result.now ≡ mark_of c.args.task ++ c.args.text.now ++ codes "\n" =
     rw (c.bytes.ensures, c.push-3.ensures, c.push-2.ensures, c.push.ensures, c.new-line.ensures, c.mark.ensures.mark) refl in
-    rw line at c.tell.ensures
+    rw line at c.write_line.ensures
