@@ -15,13 +15,11 @@ pub struct Assembly<S: Service> {
     bytes: [u8; LONGEST_TEXT],
     /// Bit a is 1 if segment a is held.
     mask: u16,
-    /// The length of the whole value, which is at the front of the bytes. `None` if no value is whole.
-    whole: Option<usize>,
     service: PhantomData<S>,
 }
 
 impl<S: Service> Model for Assembly<S> {
-    ghost use Rattle.std.specs.Prelude.{◌≡◌, ℕ, ◌≤◌, List, length, take, MatchOption};
+    ghost use Rattle.std.specs.Prelude.{ℕ, List};
     ghost use Rattle.std.specs.Ordering.{nat_cmp};
     ghost use Rattle.std.specs.FinMap as map;
     ghost use Rattle.std.specs.Coded.{coded_ℕ, coded_list};
@@ -33,10 +31,6 @@ impl<S: Service> Model for Assembly<S> {
     ghost use Rattle.rds_assembly.specs.Held.{held_cells};
 
     ghost view = { λ a. held_cells a.mask a.bytes };
-
-    ghost invariant = { λ a. (length a.bytes ≡ 64) × MatchOption a.whole
-        ((x : List ℕ) → S.is_whole (held_cells a.mask a.bytes) x → ⊥)
-        (λ n. (n ≤ 64) × S.is_whole (held_cells a.mask a.bytes) (take n a.bytes)) };
 }
 
 impl<S: Service> Assembly<S> {
@@ -47,30 +41,8 @@ impl<S: Service> Assembly<S> {
         Assembly {
             bytes: [0; LONGEST_TEXT],
             mask: 0,
-            whole: None,
             service: PhantomData,
         }
-    }
-
-    /// Makes an assembly of these segments. Segment a has the bytes at the places 4 * a to 4 * a + 3, and is held if
-    /// bit a of the mask is 1.
-    pub fn restore(bytes: [u8; LONGEST_TEXT], mask: u16) -> Self
-        ensures { result ≡ held_cells mask bytes }
-    {
-        let whole = S::length(&bytes, mask);
-        Assembly {
-            bytes,
-            mask,
-            whole,
-            service: PhantomData,
-        }
-    }
-
-    /// Returns the held segments, as `restore` takes them.
-    pub fn store(&self) -> ([u8; LONGEST_TEXT], u16)
-        ensures { held_cells result.1 result.0 ≡ self.now }
-    {
-        (self.bytes, self.mask)
     }
 
     /// Drops all segments.
@@ -78,7 +50,6 @@ impl<S: Service> Assembly<S> {
         ensures { self.new ≡ map.empty }
     {
         self.mask = 0;
-        self.whole = None;
     }
 
     /// Holds the segment at its address, in place of the one that was held there. Returns false if that one has the
@@ -88,15 +59,10 @@ impl<S: Service> Assembly<S> {
         ensures put { self.new ≡ map.insert self.old address bytes }
         ensures same { IsFalse result → self.new ≡ self.old }
     {
-        let is_held = self.has(address);
-        let first = 4 * address as usize;
-        let segment = &mut self.bytes[first..first + 4];
-        if is_held && is_same_segment(segment, &bytes) {
+        if is_held(&self.bytes, self.mask, address, bytes) {
             return false;
         }
-        segment.copy_from_slice(&bytes);
-        self.mask |= 1 << address;
-        self.whole = S::length(&self.bytes, self.mask);
+        self.mask = hold(&mut self.bytes, self.mask, address, bytes);
         true
     }
 
@@ -121,9 +87,38 @@ impl<S: Service> Assembly<S> {
         ensures only { IfSome result (λ x. (y : List ℕ) → S.is_whole self.now y → y ≡ x.now) }
         ensures none { IfNone result ((x : List ℕ) → S.is_whole self.now x → ⊥) }
     {
-        let count = self.whole?;
-        Some(&self.bytes[..count])
+        whole::<S>(&self.bytes, self.mask)
     }
+}
+
+/// Returns whether this segment is held: its bit of the mask is 1, and these bytes are at its places.
+pub fn is_held(bytes: &[u8; LONGEST_TEXT], mask: u16, address: u8, segment: [u8; 4]) -> bool
+    requires { address < 16 }
+    ensures { IsTrue result
+        → held_cells mask bytes.now ≡ map.insert (held_cells mask bytes.now) address segment }
+{
+    let first = 4 * address as usize;
+    mask >> address & 1 == 1 && is_same_segment(&bytes[first..first + 4], &segment)
+}
+
+/// Writes the segment to its places. Returns the mask, with its bit set.
+pub fn hold(bytes: &mut [u8; LONGEST_TEXT], mask: u16, address: u8, segment: [u8; 4]) -> u16
+    requires { address < 16 }
+    ensures { held_cells result bytes.new ≡ map.insert (held_cells mask bytes.old) address segment }
+{
+    let first = 4 * address as usize;
+    bytes[first..first + 4].copy_from_slice(&segment);
+    mask | 1 << address
+}
+
+/// Returns the value that the held segments make whole, borrowed from the bytes. `None` if they make none whole.
+pub fn whole<S: Service>(bytes: &[u8; LONGEST_TEXT], mask: u16) -> Option<&[u8]>
+    ensures some { IfSome result (λ x. S.is_whole (held_cells mask bytes.now) x.now) }
+    ensures only { IfSome result (λ x. (y : List ℕ) → S.is_whole (held_cells mask bytes.now) y → y ≡ x.now) }
+    ensures none { IfNone result ((x : List ℕ) → S.is_whole (held_cells mask bytes.now) x → ⊥) }
+{
+    let count = S::length(bytes, mask)?;
+    Some(&bytes[..count])
 }
 
 /// Returns whether two segments are equal. Compares their four bytes as one word.

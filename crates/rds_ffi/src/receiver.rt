@@ -1,5 +1,5 @@
 //! A receiver in the caller's memory.
-ghost use Rattle.std.specs.Prelude.{◌≡◌, ◌≢◌, ◌<◌, ◌≤◌, ◌↔◌, ◌⊎◌, ℕ, IsFalse, IsTrue, List, [], ◌∷◌, Option};
+ghost use Rattle.std.specs.Prelude.{◌≡◌, ◌≢◌, ◌<◌, ◌↔◌, ◌⊎◌, ℕ, List, [], ◌∷◌, Option};
 ghost use Rattle.rds_block.specs.declared.group.Group.{Group};
 ghost use Rattle.rds_fields.specs.declared.message.Message.{Message};
 ghost use Rattle.rds_receiver.specs.Receipts.{AreHeard};
@@ -13,7 +13,6 @@ ghost use Rattle.rds_ffi.specs.Viewed.{AreTagsOf, IsPlainView, viewed};
 use crate::codes;
 use crate::slots::brought;
 use crate::view::{RdsrtView, seen};
-use rds_block::Blocks;
 use rds_fields::Dwell;
 use rds_receiver::{Receiver, StoredReceiver};
 
@@ -56,27 +55,11 @@ pub extern "C" fn rdsrt_receiver_slot(receiver: &mut StoredReceiver, blocks: &[u
     let Ok(slot) = brought(blocks) else {
         return codes::BAD_ARGUMENT;
     };
-    // Prover: a value is copied by a new name before its second use (docs/PROVER.md, "Workarounds").
-    let given = slot;
-    if receiver.rest(given) {
-        return codes::OK;
+    if receiver.slot(slot) {
+        codes::CHANGED
+    } else {
+        codes::OK
     }
-    go_on(receiver, slot)
-}
-
-/// Handles a slot with a receiver that is rebuilt for it.
-// Cold path.
-#[inline(never)]
-fn go_on(receiver: &mut StoredReceiver, slot: Option<Blocks>) -> u32
-    ensures few { (result ≡ RDSRT_OK) ⊎ (result ≡ RDSRT_CHANGED) }
-    ensures stands { WhereItIs receiver.old (λ t input. ReceiverInMemory t receiver.new (slot ∷ input)) }
-    ensures same { result ≡ RDSRT_OK → (view : ShownView) → WhereItIs receiver.old
-        (λ t input. IsView t input view → IsView t (slot ∷ input) view) }
-{
-    let mut inner = Receiver::restore(receiver);
-    let changed = inner.slot_blocks(slot);
-    *receiver = inner.store();
-    told(changed)
 }
 
 /// Writes the view of the receiver.
@@ -88,12 +71,4 @@ pub extern "C" fn rdsrt_receiver_view(receiver: &StoredReceiver, view: &mut Rdsr
     ensures plain { IsPlainView view.new }
 {
     *view = seen(&Receiver::restore(receiver));
-}
-
-/// Returns the code of a slot, by whether the view may have changed.
-fn told(changed: bool) -> u32
-    ensures same { result ≡ RDSRT_OK → IsFalse changed }
-    ensures few { (result ≡ RDSRT_OK) ⊎ (result ≡ RDSRT_CHANGED) }
-{
-    if changed { codes::CHANGED } else { codes::OK }
 }

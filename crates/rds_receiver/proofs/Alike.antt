@@ -16,6 +16,11 @@ use Rattle.rds_receiver.proofs.Shows.{name_cells, name_shown, pair_is, text_cell
 pub makes_itself : (IsWhole : Cells → List ℕ → Type 0) (cells : Cells) → MakeAlike IsWhole cells cells
 makes_itself IsWhole cells shown = (λ h. h, λ h. h)
 
+-- cells that make nothing whole make the same whole
+pub nothing_alike : (IsWhole : Cells → List ℕ → Type 0) (cells after : Cells) → IsShown IsWhole cells None → IsShown IsWhole after None → MakeAlike IsWhole cells after
+nothing_alike IsWhole cells after before now None = (λ _. now, λ _. before)
+nothing_alike IsWhole cells after before now (Some x) = (λ whole. absurd (before x whole), λ whole. absurd (now x whole))
+
 pub alike_by : (a b c : ReceiverState) → ShowsAlike a b → ShowsAlike b c → ShowsAlike a c
 alike_by a b c p q = record {
   text = λ shown. (λ h. (q.text shown).0 ((p.text shown).0 h), λ h. (p.text shown).1 ((q.text shown).1 h));

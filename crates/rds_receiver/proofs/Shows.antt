@@ -1,9 +1,7 @@
 -- Lemmas: what is shown follows from what is held.
-use Rattle.std.proofs.Common.{◌≡◌, ℕ, List, Option, Some, None, refl, sym, ap, ◌∙◌, subst}
+use Rattle.std.proofs.Common.{◌≡◌, ℕ, List, Option, ap, ◌∙◌, subst}
 use Rattle.rds_block.specs.declared.group.Group.{Group}
 use Rattle.rds_fields.specs.declared.message.Message.{Message}
-use Rattle.rds_fields.specs.declared.pair.Which.{Which}
-use Rattle.rds_fields.specs.Tag.{PairFields, tag_in}
 use Rattle.rds_assembly.specs.Cells.{Cells}
 use Rattle.rds_assembly.specs.Whole.{IsWholeName, IsWholeText}
 use Rattle.rds_receiver.specs.Receipts.{AreHeard, Segment, Tuning, name_fragment, text_fragment}
@@ -11,7 +9,7 @@ use Rattle.rds_receiver.specs.Run.{begins_in, cells_of, run_at}
 use Rattle.rds_receiver.specs.Shown.{IsNameShown, IsShown, IsTextShown}
 use Rattle.rds_receiver.specs.StandsAt.{StandsAt}
 use Rattle.rds_receiver.specs.State.{ReceiverState}
-use Rattle.rds_receiver.specs.Tags.{cut_by, item_of, pair_from, pair_held, tag_of}
+use Rattle.rds_receiver.specs.Tags.{pair_from, pair_held}
 use Rattle.rds_receiver.specs.OneView.{same_heard}
 use Rattle.rds_receiver.proofs.Runs.{run_at_newest}
 
@@ -42,18 +40,3 @@ text_shown t r input heard shown s are is = subst (λ (cells : Cells). IsShown I
 pub name_shown : (t : Tuning) (r : ReceiverState) (input : List (Option Group)) (heard : List (Option Message)) (shown : Option (List ℕ)) → StandsAt t r input → AreHeard t.programme input heard
     → IsShown IsWholeName r.name.cells shown → IsNameShown t.dwell t.first heard shown
 name_shown t r input heard shown s are is = subst (λ (cells : Cells). IsShown IsWholeName cells shown) (name_cells t r input heard s are) is
-
-pub item_shown : (x : List ℕ) (text : Option (List ℕ)) (held : Option PairFields) (pair : PairFields) → Some x ≡ text → held ≡ Some pair → Some (pair.toggle, pair.running) ≡ item_of text held
-item_shown x text held pair e h = ap (item_of (Some x)) (sym h) ∙ ap (λ (o : Option (List ℕ)). item_of o held) e
-
-pub tag_shown : (which : Which) (x : List ℕ) (text : Option (List ℕ)) (held : Option PairFields) (pair : PairFields) → Some x ≡ text → held ≡ Some pair → cut_by (tag_in which pair) x ≡ tag_of which text held
-tag_shown which x text held pair e h = ap (tag_of which (Some x)) (sym h) ∙ ap (λ (o : Option (List ℕ)). tag_of which o held) e
-
--- if no pair is held, there are no item bits and no tags
-pub no_item : (text : Option (List ℕ)) (held : Option PairFields) → held ≡ None → None ≡ item_of text held
-no_item None held e = refl
-no_item (Some x) held e = ap (item_of (Some x)) (sym e)
-
-pub no_tag : (which : Which) (text : Option (List ℕ)) (held : Option PairFields) → held ≡ None → None ≡ tag_of which text held
-no_tag which None held e = refl
-no_tag which (Some x) held e = ap (tag_of which (Some x)) (sym e)

@@ -1,17 +1,17 @@
 -- Lemmas: the state of a receiver follows from its input after each slot.
-use Rattle.std.proofs.Common.{◌≡◌, ◌≢◌, ◌⊎◌, ◌+◌, ◌<◌, ℕ, Bool, true, false, List, ◌∷◌, Option, Some, None, length, refl, sym, ap, ◌∙◌, subst, inl, inr, arith}
+use Rattle.std.proofs.Common.{◌≡◌, ◌≢◌, ◌⊎◌, ◌+◌, ◌<◌, ℕ, Bool, true, List, ◌∷◌, Option, Some, None, length, refl, sym, ap, ◌∙◌, subst, inl, inr, arith}
 use Rattle.std.specs.FinMap.{empty, insert}
 use Rattle.rds_block.specs.declared.group.Group.{Group}
 use Rattle.rds_fields.specs.declared.message.Message.{Message}
-use Rattle.rds_fields.specs.declared.message.Message.TheVariants.{Announce, Name, Other, Tags, Text}
+use Rattle.rds_fields.specs.declared.message.Message.TheVariants.{Name, Tags, Text}
 use Rattle.rds_fields.specs.Tag.{PairFields}
 use Rattle.rds_receiver.specs.Receipts.{Hears, Fragment, Segment, Tuning, name_fragment, segments, text_fragment}
 use Rattle.rds_receiver.specs.Run.{begins_in, run, run_before}
-use Rattle.rds_receiver.specs.StandsAt.{HasFlag, HoldsAlready, HoldsAt, HoldsRun, StandsAt}
+use Rattle.rds_receiver.specs.StandsAt.{HasFlag, HoldsAt, HoldsRun, StandsAt}
 use Rattle.rds_receiver.specs.State.{HeldSegments, ReceiverState}
-use Rattle.rds_receiver.specs.Tags.{or_before, pair_from, says_of_rtplus, unless_contrary}
+use Rattle.rds_receiver.specs.Tags.{pair_from}
 use Rattle.rds_receiver.proofs.Runs.{before_other, before_same, equal_or_not, held_taken, run_recent}
-use Rattle.rds_receiver.proofs.Pairs.{none_since, pair_goes_on, pair_of_name, pair_of_none, pair_of_other, tags_taken}
+use Rattle.rds_receiver.proofs.Pairs.{none_since, pair_goes_on, pair_of_name, pair_of_none, tags_taken}
 
 -- a slot in which nothing is heard
 pub nothing_heard : (m first : ℕ) (r : ReceiverState) (heard : List (Option Message)) → HoldsAt m (first + length heard) first r heard → HoldsAt m (first + length heard) first r (None ∷ heard)
@@ -21,17 +21,6 @@ nothing_heard m first r heard st = record {
   text = st.text;
   name = st.name;
   pair = st.pair ∙ pair_of_none first (begins_in (run m (first + length heard) (segments text_fragment first heard))) heard;
-  known = st.known;
-}
-
--- a slot in which the message is neither a text, a name, tags nor an announcement
-pub other_heard : (m first : ℕ) (r : ReceiverState) (heard : List (Option Message)) → HoldsAt m (first + length heard) first r heard → HoldsAt m (first + length heard) first r (Some Other ∷ heard)
-other_heard m first r heard st = record {
-  dwell = st.dwell;
-  lasts = st.lasts;
-  text = st.text;
-  name = st.name;
-  pair = st.pair ∙ pair_of_other first (begins_in (run m (first + length heard) (segments text_fragment first heard))) heard;
   known = st.known;
 }
 
@@ -91,16 +80,6 @@ name_heard m first r after heard f a b dwell known text pair takes st = record {
   known = known ∙ st.known;
 }
 
--- a segment that is held is taken again, also after the age grew
-pub takes_again : (f : Bool) (a : ℕ) (b : List ℕ) (h older after : HeldSegments) → HoldsAlready h f a b → older.flag ≡ h.flag → older.cells ≡ h.cells → after ≡ record older { age = 0 }
-    → Takes record { flag = f; address = a; bytes = b } older after
-takes_again f a b h older after already flag cells is = record {
-  same = λ _. ap (λ (x : HeldSegments). x.cells) is ∙ cells ∙ already.same_cells ∙ sym (ap (λ c. insert c a b) cells);
-  other = λ ne. absurd (ne (already.same_flag ∙ sym flag));
-  flag = ap (λ (x : HeldSegments). x.flag) is ∙ flag ∙ sym already.same_flag;
-  age = ap (λ (x : HeldSegments). x.age) is;
-}
-
 -- a slot with tags that are held
 pub tags_heard : (m first : ℕ) (r : ReceiverState) (heard : List (Option Message)) (pair : PairFields) → r.is_known ≡ true → r.text.age < m
     → HoldsAt m (first + length heard) first r heard → HoldsAt m (first + length heard) first record r { pair = Some pair } (Some (Tags pair) ∷ heard)
@@ -141,30 +120,3 @@ text_heard_by m first r between after heard f a b same other takes is st = by (e
         let took = subst (λ (x : ReceiverState). Takes record { flag = f; address = a; bytes = b } x.text after.text) (other ne) takes in
         text_heard m first r after heard f a b (ap (λ (x : ReceiverState). x.dwell) now) (ap (λ (x : ReceiverState). x.is_known) now) (ap (λ (x : ReceiverState). x.name) now)
         took (λ e. absurd (ne e)) (λ _. ap (λ (x : ReceiverState). x.pair) now) st
-
--- a slot with an announcement that changes nothing: it says what is known, or nothing
-pub announcement_heard : (m first : ℕ) (r : ReceiverState) (heard : List (Option Message)) (code bits aid : ℕ)
-    → (says_of_rtplus code aid ≡ Some false → ⊥) → (says_of_rtplus code aid ≡ Some true → r.is_known ≡ true)
-    → HoldsAt m (first + length heard) first r heard → HoldsAt m (first + length heard) first r (Some (Announce code bits aid) ∷ heard)
-announcement_heard m first r heard code bits aid fits known st = record {
-  dwell = st.dwell;
-  lasts = st.lasts;
-  text = st.text;
-  name = st.name;
-  pair = st.pair ∙ pair_stays (begins_in (run m (first + length heard) (segments text_fragment first heard)));
-  known = known_stays (says_of_rtplus code aid) fits known ∙ ap (or_before (says_of_rtplus code aid)) st.known;
-}
-  where
-    stays : (says : Option Bool) (pair : Option PairFields) → (says ≡ Some false → ⊥) → pair ≡ unless_contrary says pair
-    stays None pair fits = refl
-    stays (Some true) pair fits = refl
-    stays (Some false) pair fits = absurd (fits refl)
-
-    pair_stays : (since : Option ℕ) → pair_from first since heard ≡ pair_from first since (Some (Announce code bits aid) ∷ heard)
-    pair_stays None = refl
-    pair_stays (Some since) = stays (says_of_rtplus code aid) (pair_from first (Some since) heard) fits
-
-    known_stays : (says : Option Bool) → (says ≡ Some false → ⊥) → (says ≡ Some true → r.is_known ≡ true) → r.is_known ≡ or_before says r.is_known
-    known_stays None fits known = refl
-    known_stays (Some true) fits known = known refl
-    known_stays (Some false) fits known = absurd (fits refl)

@@ -1,6 +1,5 @@
 -- The state of a receiver at the end of an input. Lists have the newest first.
 use Rattle.std.specs.Prelude.{◌≡◌, ◌⊎◌, ◌↔◌, ◌+◌, ◌<◌, ℕ, Bool, List, [], ◌∷◌, Option, None, Some, length}
-use Rattle.std.specs.FinMap.{insert}
 use Rattle.rds_block.specs.declared.group.Group.{Group}
 use Rattle.rds_fields.specs.declared.message.Message.{Message}
 use Rattle.rds_assembly.specs.Cells.{Cells}
@@ -84,14 +83,3 @@ pub record ShowsAlike (r after : ReceiverState) : Type 0 where
   pub text : MakeAlike IsWholeText r.text.cells after.text.cells
   pub name : MakeAlike IsWholeName r.name.cells after.name.cells
   pub pair : (after.pair ≡ r.pair) ⊎ IsShown IsWholeText r.text.cells None
-
--- the receiver went on by one slot, in which it heard this
-abbrev pub GoesOn : ReceiverState → ReceiverState → Option Message → Type 0
-GoesOn old new message =
-    (m first : ℕ) (heard : List (Option Message)) → HoldsAt m (newest_slot first heard) first old heard
-    → HoldsAt m (first + length heard) first new (message ∷ heard)
-
--- the segment is held already: it has the flag, and inserting it changes no cell
-pub record HoldsAlready (held : HeldSegments) (flag : Bool) (address : ℕ) (bytes : List ℕ) : Type 0 where
-  pub same_flag : flag ≡ held.flag
-  pub same_cells : held.cells ≡ insert held.cells address bytes

@@ -1,24 +1,22 @@
 //! The receiver: it handles slot after slot and returns what it shows.
-ghost use Rattle.std.specs.Prelude.{◌≡◌, ◌≢◌, ◌+◌, ◌<◌, ◌≤◌, ◌↔◌, [], ◌∷◌};
-ghost use Rattle.std.specs.Prelude.{ℕ, Bool, List, Option, Some, None, IsFalse, IsTrue, IfSome, length, option_map};
+ghost use Rattle.std.specs.Prelude.{◌≡◌, ◌+◌, ◌<◌, ◌≤◌, ◌↔◌, []};
+ghost use Rattle.std.specs.Prelude.{ℕ, List, Option, IsFalse, IsTrue, IfSome, length};
 ghost use Rattle.std.specs.Option.{option_copied};
 ghost use Rattle.rds_block.specs.declared.group.Group.{Group};
 ghost use Rattle.rds_fields.specs.declared.message.Message.{Message};
 ghost use Rattle.rds_receiver.specs.Borrowed.{borrowed_tag, view_of};
 ghost use Rattle.rds_receiver.specs.Receipts.{Hears};
-ghost use Rattle.rds_receiver.specs.Shown.{IsItemShown, IsNameShown, IsTagShown, IsTextShown, IsView, ShownView};
+ghost use Rattle.rds_receiver.specs.Shown.{IsItemShown, IsNameShown, IsShortText, IsTagShown, IsTextShown, IsView};
 ghost use Rattle.rds_receiver.specs.StandsAt.{HearsMore, HoldsAt, KeepsView, ShowsAlike, StandsAt, TakesSlot};
 ghost use Rattle.rds_receiver.specs.StandsAt.{WhatItHeard, WhereItStands, newest_slot};
-ghost use Rattle.rds_receiver.specs.State.{ReceiverState};
 ghost use Rattle.rds_receiver.specs.Stored.{IsStored, receiver_stored};
-ghost use Rattle.rds_receiver.specs.Tags.{or_before, pair_held, says_of_rtplus, unless_contrary};
+ghost use Rattle.rds_receiver.specs.Tags.{item_of, pair_held, tag_of};
 
 use crate::View;
-use crate::held::Held;
-use crate::stored::StoredReceiver;
+use crate::stored::{StoredReceiver, StoredSegments};
 use rds_assembly::{RadioText, TypeName};
 use rds_block::{Blocks, Group};
-use rds_fields::{Dwell, Message, RTPLUS_AID, RTPLUS_CODE, StoredPair, TagPair, Which};
+use rds_fields::{Dwell, Message, StoredPair, TagPair, Which};
 use std::marker::Model;
 
 /// Returns the message that a receiver of this programme hears in a slot. `None` if no group came, or if the group has
@@ -44,31 +42,22 @@ pub fn heard_blocks(pi: u16, group: Option<Blocks>) -> Option<Message>
 /// A receiver of one programme, which shows the text, the name and the tags. It accepts every group, from any encoder.
 #[derive(Drop)]
 pub struct Receiver {
-    pi: u16,
-    dwell: Dwell,
-    text: Held<RadioText>,
-    name: Held<TypeName>,
-    pair: Option<TagPair>,
-    knows_rtplus: bool,
+    state: StoredReceiver,
 }
 
 impl Model for Receiver {
     // Prover: an `impl Model` with own `ghost use` lines does not read those at the top (docs/PROVER.md, "Idioms").
     ghost use Rattle.rds_receiver.specs.Codes.{receiver_code};
     ghost use Rattle.rds_receiver.specs.State.{ReceiverState};
+    ghost use Rattle.rds_receiver.specs.Stored.{IsStored, receiver_stored};
 
     ghost Value = { ReceiverState };
 
     ghost coded = { receiver_code };
 
-    ghost view = { λ r. record {
-      programme = r.pi;
-      dwell = r.dwell;
-      text = r.text;
-      name = r.name;
-      pair = r.pair;
-      is_known = r.knows_rtplus;
-    } };
+    ghost view = { λ r. receiver_stored r.state };
+
+    ghost invariant = { λ r. IsStored r.state };
 }
 
 impl Receiver {
@@ -79,12 +68,14 @@ impl Receiver {
     {
         let slots = dwell.get();
         Receiver {
-            pi,
-            dwell,
-            text: Held::new(slots),
-            name: Held::new(slots),
-            pair: None,
-            knows_rtplus: false,
+            state: StoredReceiver {
+                pi,
+                dwell: slots,
+                text: StoredSegments::none(slots),
+                name: StoredSegments::none(slots),
+                pair: StoredPair::none(),
+                is_known: 0,
+            },
         }
     }
 
@@ -93,14 +84,10 @@ impl Receiver {
         ensures same { IsStored stored.now → result ≡ receiver_stored stored.now }
         ensures programme { result.programme ≡ stored.now.pi }
     {
-        Receiver {
-            pi: stored.pi,
-            dwell: Dwell::at_least_one(stored.dwell),
-            text: Held::restore(&stored.text),
-            name: Held::restore(&stored.name),
-            pair: stored.pair.pair(),
-            knows_rtplus: stored.is_known != 0,
-        }
+        let mut state = *stored;
+        state.dwell = Dwell::at_least_one(stored.dwell).get();
+        state.pair = StoredPair::of(stored.pair.pair());
+        Receiver { state }
     }
 
     /// Stores the receiver as plain numbers.
@@ -108,14 +95,7 @@ impl Receiver {
         ensures same { receiver_stored result ≡ self.now }
         ensures good { IsStored result }
     {
-        StoredReceiver {
-            pi: self.pi,
-            dwell: self.dwell.get(),
-            text: self.text.store(),
-            name: self.name.store(),
-            pair: StoredPair::of(self.pair),
-            is_known: u8::from(self.knows_rtplus),
-        }
+        self.state
     }
 
     /// Handles one slot, with a group or nothing. Call this or `slot_blocks` exactly once for each slot. If it returns
@@ -133,24 +113,21 @@ impl Receiver {
         ensures stands { TakesSlot self.old self.new group }
         ensures same { IsFalse result → KeepsView self.old group }
     {
-        let aged = self.grow_older();
-        let Some(message) = heard_blocks(self.pi, group) else {
-            return aged;
-        };
-        let is_new = self.hear(message);
-        is_new || aged
+        self.state.slot(group)
     }
 
     /// Returns all that is shown, borrowed from the receiver.
     pub fn view(&self) -> View<'_>
         ensures { WhereItStands self.now (λ t input. IsView t input (view_of result)) }
     {
+        let text = self.text();
+        // Prover: the pair is asked for again in place of a copy (docs/PROVER.md, "Workarounds").
         View {
-            text: self.text(),
+            text,
             name: self.name(),
-            item: self.item(),
-            one: self.tag(Which::One),
-            two: self.tag(Which::Two),
+            item: shown_item(text, self.pair()),
+            one: shown_tag(text, self.pair(), Which::One),
+            two: shown_tag(text, self.pair(), Which::Two),
         }
     }
 
@@ -161,7 +138,7 @@ impl Receiver {
             (λ m first heard. IsTextShown m first heard (option_copied result)) }
         ensures short { IfSome result (λ x. length x.now ≤ 64) }
     {
-        self.text.whole()
+        self.state.text.whole::<RadioText>()
     }
 
     /// Returns the programme type name shown, eight bytes, borrowed from the receiver. `None` if no name is shown.
@@ -170,16 +147,14 @@ impl Receiver {
             (λ m first heard. IsNameShown m first heard (option_copied result)) }
         ensures short { IfSome result (λ x. length x.now ≡ 8) }
     {
-        self.name.whole()
+        self.state.name.whole::<TypeName>()
     }
 
     /// Returns the item toggle bit and the item running bit. `None` if no text is shown or no pair of tags is held.
     pub fn item(&self) -> Option<(bool, bool)>
         ensures { WhatItHeard self.now (λ m first heard. IsItemShown m first heard result) }
     {
-        self.text()?;
-        let pair = self.pair?;
-        Some((pair.toggle(), pair.running()))
+        shown_item(self.text(), self.pair())
     }
 
     /// Returns the class of one of the two tags and its piece of the text, borrowed from the receiver. `None` if no
@@ -190,39 +165,35 @@ impl Receiver {
         ensures class { IfSome result (λ tag. tag.0 < 64) }
         ensures short { IfSome result (λ tag. length tag.1.now ≤ 64) }
     {
-        let text = self.text()?;
-        let pair = self.pair?;
-        let tag = pair.tag(which);
-        let piece = tag.piece_in(text)?;
-        Some((tag.class(), piece))
+        shown_tag(self.text(), self.pair(), which)
     }
 
     /// Returns the pair of tags that is held for the text being received. `None` if no pair is held.
     pub fn pair(&self) -> Option<TagPair>
         ensures { WhatItHeard self.now (λ m first heard. result ≡ pair_held m first heard) }
     {
-        self.pair
+        self.state.pair.pair()
     }
 
     /// Returns the programme (PI).
     pub(crate) fn pi(&self) -> u16
         ensures { result ≡ self.now.programme }
     {
-        self.pi
+        self.state.pi
     }
 
     /// Returns whether segments of a text are held.
     pub(crate) fn holds_text(&self) -> bool
         ensures { IsTrue result ↔ (self.now.text.age < self.now.dwell) }
     {
-        self.text.is_held(self.dwell.get())
+        self.state.text.is_held(self.state.dwell)
     }
 
     /// Returns whether the segments of a text have this flag.
     pub(crate) fn has_flag(&self, flag: bool) -> bool
         ensures { IsTrue result ↔ (self.now.text.flag ≡ flag) }
     {
-        self.text.has_flag(flag)
+        self.state.text.has_flag(flag)
     }
 
     /// Ages the segments by one slot. Drops the pair if no segment of a text is held any more. If it returns false, all
@@ -234,14 +205,7 @@ impl Receiver {
             → HoldsAt m (first + length heard) first self.new heard }
         ensures same { IsFalse result → ShowsAlike self.old self.new }
     {
-        let dwell = self.dwell.get();
-        let text = self.text.grow_older(dwell);
-        let name = self.name.grow_older(dwell);
-        if self.text.is_held(dwell) || self.pair.is_none() {
-            return text || name;
-        }
-        self.pair = None;
-        true
+        self.state.grow_older()
     }
 
     /// Handles a message of the programme. If it returns false, all that is shown stays the same.
@@ -251,70 +215,29 @@ impl Receiver {
         ensures holds { HearsMore self.old self.new message }
         ensures same { IsFalse result → ShowsAlike self.old self.new }
     {
-        match message {
-            Message::Text {
-                flag,
-                address,
-                bytes,
-            } => self.hear_text(flag, address.get(), bytes),
-            Message::Name {
-                flag,
-                address,
-                bytes,
-            } => self.name.take(flag, address.get(), bytes),
-            Message::Announce { code, aid, .. } => self.hear_announcement(code.get(), aid),
-            Message::Tags(pair) => self.hear_tags(pair),
-            Message::Other => false,
-        }
+        self.state.hear(message)
     }
+}
 
-    /// Takes a text segment. Drops the pair of tags first if the flag changed.
-    fn hear_text(&mut self, flag: bool, address: u8, bytes: [u8; 4]) -> bool
-        requires { address < 16 }
-        ensures programme { self.new.programme ≡ self.old.programme }
-        ensures holds { HearsMore self.old self.new (Message.Text flag address bytes) }
-        ensures same { IsFalse result → ShowsAlike self.old self.new }
-    {
-        if !self.text.has_flag(flag) {
-            self.pair = None;
-        }
-        self.text.take(flag, address, bytes)
-    }
+/// Returns the item bits of a pair. `None` without a text or a pair.
+fn shown_item(text: Option<&[u8]>, pair: Option<TagPair>) -> Option<(bool, bool)>
+    ensures { result ≡ item_of (option_copied text.entry) pair }
+{
+    text?;
+    let pair = pair?;
+    Some((pair.toggle(), pair.running()))
+}
 
-    /// Takes an announcement. One of RadioText Plus makes it known; a contrary one makes it unknown and drops the pair.
-    fn hear_announcement(&mut self, code: u8, aid: u16) -> bool
-        ensures known { self.new.is_known ≡ or_before (says_of_rtplus code aid) self.old.is_known }
-        ensures pair { self.new.pair ≡ unless_contrary (says_of_rtplus code aid) self.old.pair }
-        ensures rest { self.new ≡ record self.old { pair = self.new.pair; is_known = self.new.is_known } }
-        ensures same { IsFalse result → ShowsAlike self.old self.new }
-    {
-        let fits_code = code == RTPLUS_CODE;
-        let fits_aid = aid == RTPLUS_AID;
-        if fits_code && fits_aid {
-            self.knows_rtplus = true;
-            return false;
-        }
-        if fits_code || fits_aid {
-            self.knows_rtplus = false;
-            self.pair = None;
-            return true;
-        }
-        false
-    }
-
-    /// Takes a pair of tags if RadioText Plus is known and segments of a text are held. Ignores it otherwise.
-    fn hear_tags(&mut self, pair: TagPair) -> bool
-        ensures programme { self.new.programme ≡ self.old.programme }
-        ensures holds { HearsMore self.old self.new (Message.Tags pair) }
-        ensures same { IsFalse result → ShowsAlike self.old self.new }
-    {
-        if self.knows_rtplus && self.text.is_held(self.dwell.get()) {
-            if self.pair == Some(pair) {
-                return false;
-            }
-            self.pair = Some(pair);
-            return true;
-        }
-        false
-    }
+/// Returns the class of a tag of a pair and its piece of the text, borrowed from the text. `None` without a text or a
+/// pair, if the tag is the dummy, and if it does not end in the text.
+fn shown_tag(text: Option<&[u8]>, pair: Option<TagPair>, which: Which) -> Option<(u8, &[u8])>
+    requires { IsShortText text }
+    ensures shown { borrowed_tag result ≡ tag_of which (option_copied text.entry) pair }
+    ensures class { IfSome result (λ tag. tag.0 < 64) }
+    ensures short { IfSome result (λ tag. length tag.1.now ≤ 64) }
+{
+    let text = text?;
+    let tag = pair?.tag(which);
+    let piece = tag.piece_in(text)?;
+    Some((tag.class(), piece))
 }

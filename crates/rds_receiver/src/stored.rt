@@ -1,15 +1,15 @@
-//! A receiver as plain numbers, for a program that stores it.
-ghost use Rattle.std.specs.Prelude.{◌≡◌, ◌≢◌, ◌+◌, ◌<◌, ◌≤◌, ◌∷◌, ◌↔◌, ℕ, IsFalse, IsTrue, List, None, Option, Some, false, length, true};
+//! The state of a receiver, as plain numbers: a program may store it, and a slot changes it in place.
+ghost use Rattle.std.specs.Prelude.{◌≡◌, ◌+◌, ◌<◌, ℕ, IsFalse, List, Option, length};
 ghost use Rattle.rds_fields.specs.declared.message.Message.{Message};
-ghost use Rattle.rds_receiver.specs.StandsAt.{GoesOn, HoldsAlready, HoldsAt, KeepsView, ShowsAlike, TakesSlot, newest_slot};
-ghost use Rattle.rds_fields.specs.Stored.{is_set};
-ghost use Rattle.rds_receiver.specs.Tags.{says_of_rtplus};
-ghost use Rattle.rds_receiver.specs.Stored.{IsStored, receiver_stored, segments_stored};
+ghost use Rattle.rds_fields.specs.Stored.{is_set, pair_stored};
+ghost use Rattle.rds_receiver.specs.StandsAt.{HearsMore, HoldsAt, KeepsView, ShowsAlike, TakesSlot, newest_slot};
+ghost use Rattle.rds_receiver.specs.Tags.{or_before, says_of_rtplus, unless_contrary};
+ghost use Rattle.rds_receiver.specs.Stored.{IsStored, receiver_stored};
 
 use crate::receiver::heard_blocks;
-use rds_assembly::{LONGEST_TEXT, is_same_segment};
+use rds_assembly::{LONGEST_TEXT, RadioText, TypeName};
 use rds_block::Blocks;
-use rds_fields::{Message, RTPLUS_AID, RTPLUS_CODE, StoredPair};
+use rds_fields::{Message, RTPLUS_AID, RTPLUS_CODE, StoredPair, TagPair};
 
 /// The held segments of one service. Segment a has the bytes at the places 4 * a to 4 * a + 3. It is held if bit a of
 /// the mask is 1. The flag is 0 for no and any other number for yes.
@@ -23,26 +23,7 @@ pub struct StoredSegments {
     pub flag: u8,
 }
 
-impl StoredSegments {
-    /// Returns whether this segment is held, with this flag and these bytes.
-    fn holds(&self, flag: bool, address: u8, bytes: [u8; 4]) -> bool
-        requires { address < 16 }
-        ensures { IsTrue result → HoldsAlready (segments_stored self.now) flag address bytes }
-    {
-        let is_held = self.mask >> address & 1 == 1;
-        if !is_held {
-            return false;
-        }
-        let is_set = self.flag != 0;
-        if flag != is_set {
-            return false;
-        }
-        let first = 4 * usize::from(address);
-        is_same_segment(&self.bytes[first..first + 4], &bytes)
-    }
-}
-
-/// All that a receiver holds, as plain numbers. Whether a value is whole is not stored: `restore` finds it out again.
+/// All that a receiver holds, as plain numbers. Whether a value is whole is not stored: each call that asks finds out.
 #[repr(C)]
 #[derive(Clone, Copy)]
 pub struct StoredReceiver {
@@ -57,160 +38,120 @@ pub struct StoredReceiver {
 }
 
 impl StoredReceiver {
-    /// Handles a slot in which only ages change, without rebuilding the receiver. Returns false and changes nothing in
-    /// any other slot.
-    ///
-    /// Only ages change if no segment reaches the dwell and the slot has one of these:
-    ///
-    /// - no group of the programme;
-    /// - a segment that is held;
-    /// - an announcement that changes nothing of what is known;
-    /// - a group that is no text, name, tags or announcement.
-    pub fn rest(&mut self, group: Option<Blocks>) -> bool
-        ensures stands { IsTrue result → TakesSlot (receiver_stored self.old) (receiver_stored self.new) group }
-        ensures same { IsTrue result → KeepsView (receiver_stored self.old) group }
+    /// Handles one slot, with a group as its blocks or nothing. Call this exactly once for each slot. If it returns
+    /// false, the view did not change. Invalid numbers give arbitrary numbers.
+    #[inline(always)]
+    pub fn slot(&mut self, group: Option<Blocks>) -> bool
+        ensures stands { IsStored self.old → TakesSlot (receiver_stored self.old) (receiver_stored self.new) group }
+        ensures same { IsStored self.old → IsFalse result → KeepsView (receiver_stored self.old) group }
         ensures good { IsStored self.old → IsStored self.new }
-        ensures kept { IsFalse result → self.new ≡ self.old }
     {
-        match heard_blocks(self.pi, group) {
-            Some(message) => self.rest_message(message),
-            None => self.grow_older(),
-        }
+        let aged = self.grow_older();
+        let Some(message) = heard_blocks(self.pi, group) else {
+            return aged;
+        };
+        let is_new = self.hear(message);
+        is_new || aged
     }
 
-    /// Does the same as [`rest`](Self::rest) for a message of the programme.
-    #[inline(always)]
-    fn rest_message(&mut self, message: Message) -> bool
+    /// Ages the segments by one slot. Drops the pair if no segment of a text is held any more. If it returns false, all
+    /// that is shown stays the same.
+    pub(crate) fn grow_older(&mut self) -> bool
         ensures programme { self.new.pi ≡ self.old.pi }
-        ensures holds { IsTrue result → GoesOn (receiver_stored self.old) (receiver_stored self.new) (Some message) }
-        ensures same { IsTrue result → ShowsAlike (receiver_stored self.old) (receiver_stored self.new) }
+        ensures holds { (m first : ℕ) (heard : List (Option Message))
+            → HoldsAt m (newest_slot first heard) first (receiver_stored self.old) heard
+            → HoldsAt m (first + length heard) first (receiver_stored self.new) heard }
+        ensures same { IsFalse result → ShowsAlike (receiver_stored self.old) (receiver_stored self.new) }
         ensures good { IsStored self.old → IsStored self.new }
-        ensures kept { IsFalse result → self.new ≡ self.old }
+    {
+        let dwell = self.dwell;
+        let text = self.text.grow_older::<RadioText>(dwell);
+        let name = self.name.grow_older::<TypeName>(dwell);
+        if self.text.is_held(dwell) || self.pair.is_held == 0 {
+            return text || name;
+        }
+        self.pair = StoredPair::none();
+        true
+    }
+
+    /// Handles a message of the programme. If it returns false, all that is shown stays the same.
+    #[inline(always)]
+    pub(crate) fn hear(&mut self, message: Message) -> bool
+        ensures programme { self.new.pi ≡ self.old.pi }
+        ensures holds { IsStored self.old → HearsMore (receiver_stored self.old) (receiver_stored self.new) message }
+        ensures same { IsFalse result → ShowsAlike (receiver_stored self.old) (receiver_stored self.new) }
+        ensures good { IsStored self.old → IsStored self.new }
     {
         match message {
             Message::Text {
                 flag,
                 address,
                 bytes,
-            } => self.rest_text(flag, address.get(), bytes),
+            } => self.hear_text(flag, address.get(), bytes),
             Message::Name {
                 flag,
                 address,
                 bytes,
-            } => self.rest_name(flag, address.get(), bytes),
-            Message::Announce { code, aid, .. } => self.rest_announced(code.get(), aid),
-            Message::Tags(_) => false,
-            Message::Other => self.grow_older(),
+            } => self.name.take::<TypeName>(flag, address.get(), bytes),
+            Message::Announce { code, aid, .. } => self.hear_announcement(code.get(), aid),
+            Message::Tags(pair) => self.hear_tags(pair),
+            Message::Other => false,
         }
     }
 
-    /// Handles a slot with a text segment that is held: ages all segments and makes the text's age 0. Otherwise returns
-    /// false and changes nothing.
-    fn rest_text(&mut self, flag: bool, address: u8, bytes: [u8; 4]) -> bool
+    /// Takes a text segment. Drops the pair of tags first if the flag changed.
+    fn hear_text(&mut self, flag: bool, address: u8, bytes: [u8; 4]) -> bool
         requires { address < 16 }
         ensures programme { self.new.pi ≡ self.old.pi }
-        ensures holds { IsTrue result → GoesOn (receiver_stored self.old) (receiver_stored self.new)
-            (Some (Message.Text flag address bytes)) }
-        ensures same { IsTrue result → ShowsAlike (receiver_stored self.old) (receiver_stored self.new) }
+        ensures holds { HearsMore (receiver_stored self.old) (receiver_stored self.new)
+            (Message.Text flag address bytes) }
+        ensures same { IsFalse result → ShowsAlike (receiver_stored self.old) (receiver_stored self.new) }
         ensures good { IsStored self.old → IsStored self.new }
-        ensures kept { IsFalse result → self.new ≡ self.old }
     {
-        if !self.text.holds(flag, address, bytes) {
-            return false;
+        if !self.text.has_flag(flag) {
+            self.pair = StoredPair::none();
         }
-        if !self.grow_older() {
-            return false;
-        }
-        self.text.age = 0;
-        true
+        self.text.take::<RadioText>(flag, address, bytes)
     }
 
-    /// Handles a slot with a name segment that is held: ages all segments and makes the name's age 0. Otherwise returns
-    /// false and changes nothing.
-    fn rest_name(&mut self, flag: bool, address: u8, bytes: [u8; 4]) -> bool
-        requires { address < 16 }
-        ensures programme { self.new.pi ≡ self.old.pi }
-        ensures holds { IsTrue result → GoesOn (receiver_stored self.old) (receiver_stored self.new)
-            (Some (Message.Name flag address bytes)) }
-        ensures same { IsTrue result → ShowsAlike (receiver_stored self.old) (receiver_stored self.new) }
+    /// Takes an announcement. One of RadioText Plus makes it known; a contrary one makes it unknown and drops the pair.
+    fn hear_announcement(&mut self, code: u8, aid: u16) -> bool
+        ensures known { is_set self.new.is_known ≡ or_before (says_of_rtplus code aid) (is_set self.old.is_known) }
+        ensures pair { pair_stored self.new.pair
+            ≡ unless_contrary (says_of_rtplus code aid) (pair_stored self.old.pair) }
+        ensures rest { self.new ≡ record self.old { pair = self.new.pair; is_known = self.new.is_known } }
+        ensures same { IsFalse result → ShowsAlike (receiver_stored self.old) (receiver_stored self.new) }
         ensures good { IsStored self.old → IsStored self.new }
-        ensures kept { IsFalse result → self.new ≡ self.old }
     {
-        if !self.name.holds(flag, address, bytes) {
-            return false;
-        }
-        if !self.grow_older() {
-            return false;
-        }
-        self.name.age = 0;
-        true
-    }
-
-    /// Handles a slot with an announcement that changes nothing: ages all segments. Otherwise returns false and changes
-    /// nothing.
-    fn rest_announced(&mut self, code: u8, aid: u16) -> bool
-        ensures programme { self.new.pi ≡ self.old.pi }
-        ensures holds { IsTrue result → (bits : ℕ) → GoesOn (receiver_stored self.old) (receiver_stored self.new)
-            (Some (Message.Announce code bits aid)) }
-        ensures same { IsTrue result → ShowsAlike (receiver_stored self.old) (receiver_stored self.new) }
-        ensures good { IsStored self.old → IsStored self.new }
-        ensures kept { IsFalse result → self.new ≡ self.old }
-    {
-        if !self.knows(code, aid) {
-            return false;
-        }
-        self.grow_older()
-    }
-
-    /// Returns whether an announcement changes nothing: RadioText Plus is announced and known, or neither the code nor
-    /// the application is its own.
-    fn knows(&self, code: u8, aid: u16) -> bool
-        ensures contrary { IsTrue result → says_of_rtplus code aid ≢ Some false }
-        ensures known { IsTrue result → says_of_rtplus code aid ≡ Some true → is_set self.now.is_known ≡ true }
-    {
+        let fits_code = code == RTPLUS_CODE;
         let fits_aid = aid == RTPLUS_AID;
-        if code == RTPLUS_CODE {
-            return fits_aid && self.is_known != 0;
+        if fits_code && fits_aid {
+            self.is_known = 1;
+            return false;
         }
-        !fits_aid
+        if fits_code || fits_aid {
+            self.is_known = 0;
+            self.pair = StoredPair::none();
+            return true;
+        }
+        false
     }
 
-    /// Ages all segments by one slot if that drops none. Otherwise returns false and changes nothing.
-    fn grow_older(&mut self) -> bool
+    /// Takes a pair of tags if RadioText Plus is known and segments of a text are held. Ignores it otherwise.
+    fn hear_tags(&mut self, pair: TagPair) -> bool
         ensures programme { self.new.pi ≡ self.old.pi }
-        ensures holds { IsTrue result → (m first : ℕ) (heard : List (Option Message))
-            → HoldsAt m (newest_slot first heard) first (receiver_stored self.old) heard
-            → HoldsAt m (first + length heard) first (receiver_stored self.new) heard }
-        ensures same { IsTrue result → ShowsAlike (receiver_stored self.old) (receiver_stored self.new) }
+        ensures holds { IsStored self.old
+            → HearsMore (receiver_stored self.old) (receiver_stored self.new) (Message.Tags pair) }
+        ensures same { IsFalse result → ShowsAlike (receiver_stored self.old) (receiver_stored self.new) }
         ensures good { IsStored self.old → IsStored self.new }
-        ensures kept { IsFalse result → self.new ≡ self.old }
-        ensures rest { self.new ≡ record self.old {
-          text = record self.old.text { age = self.new.text.age };
-          name = record self.old.name { age = self.new.name.age };
-        } }
     {
-        let Some(text) = age_after(self.text.age, self.dwell) else {
-            return false;
-        };
-        let Some(name) = age_after(self.name.age, self.dwell) else {
-            return false;
-        };
-        self.text.age = text;
-        self.name.age = name;
-        true
+        if self.is_known != 0 && self.text.is_held(self.dwell) {
+            if self.pair.pair() == Some(pair) {
+                return false;
+            }
+            self.pair = StoredPair::of(Some(pair));
+            return true;
+        }
+        false
     }
-}
-
-/// Returns the age one slot later. `None` if it reaches the dwell then, so that the segments are dropped. Both in
-/// slots.
-fn age_after(age: u16, dwell: u16) -> Option<u16>
-    ensures gone { dwell ≤ age → result ≡ Some age }
-    ensures older { age + 1 < dwell → result ≡ Some (age + 1) }
-    ensures over { age + 1 ≡ dwell → result ≡ None }
-{
-    if age >= dwell {
-        return Some(age);
-    }
-    let older = age + 1;
-    if older < dwell { Some(older) } else { None }
 }

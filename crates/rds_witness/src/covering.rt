@@ -20,7 +20,7 @@ use crate::burst::Burst;
 use rds_assembly::is_same_segment;
 use rds_block::Blocks;
 use rds_fields::{StoredPair, StoredTag};
-use rds_receiver::{Receiver, StoredReceiver, StoredSegments};
+use rds_receiver::{StoredReceiver, StoredSegments};
 use std::alloc::AllocError;
 
 /// The most segments that are held.
@@ -138,15 +138,7 @@ pub(crate) fn take_slot(stored: &mut StoredReceiver, group: Option<Blocks>) -> b
         → WhereItStands (receiver_stored stored.old) (λ t input. IsView t input view → IsView t (group ∷ input) view) }
     ensures good { IsStored stored.old → IsStored stored.new }
 {
-    // Prover: a value is copied by a new name before its second use (docs/PROVER.md, "Workarounds").
-    let given = group;
-    if stored.rest(given) {
-        return false;
-    }
-    let mut receiver = Receiver::restore(stored);
-    let changed = receiver.slot_blocks(group);
-    *stored = receiver.store();
-    changed
+    stored.slot(group)
 }
 
 /// Returns the receiver one slot later. `lost` is the number of the slot if the receiver lost it.

@@ -1,5 +1,5 @@
 use Rattle.std.proofs.Common.{rules}
-use Rattle.rds_receiver.proofs.receiver.Receiver.hear_announcement.Goals as goal
+use Rattle.rds_receiver.proofs.stored.StoredReceiver.hear_announcement.Goals as goal
 
 pub returns-clause-known : goal.returns-clause-known
 returns-clause-known c = search rules
