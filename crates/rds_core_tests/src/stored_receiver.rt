@@ -19,24 +19,22 @@ fn goes_on_from_what_is_stored(rt: HostRuntime) -> Result<(), Fail> {
     Ok(())
 }
 
-/// Slots that say nothing, or once more what is held, make what is held older, until one gives it up; another segment
-/// is for a receiver to take.
+/// The stored numbers take slots in place: those that say nothing, or once more what is held, make it older, until it is
+/// given up.
 #[test]
-fn rests_until_something_is_given_up(rt: HostRuntime) -> Result<(), Fail> {
-    let mut receiver = Receiver::new(0xC201, Dwell::new(3).ok_or("dwell")?);
+fn takes_slots_in_place(rt: HostRuntime) -> Result<(), Fail> {
+    let mut stored = Receiver::new(0xC201, Dwell::new(3).ok_or("dwell")?).store();
     let group = Group::from_blocks([0xC201, 0x2140, 0x4849, 0x0D20]);
-    receiver.slot(Some(group));
-    let other_group = Group::from_blocks([0xC201, 0x2140, 0x484F, 0x0D20]);
     let clock = Group::from_blocks([0xC201, 0x4141, 0xD5A2, 0x0000]);
-    let mut stored = receiver.store();
-    let segment = stored.rest(Some(other_group.blocks()));
-    let again = stored.rest(Some(group.blocks()));
-    let nothing = stored.rest(None);
-    let other = stored.rest(Some(clock.blocks()));
-    let given_up = stored.rest(None);
-    let answers = (segment, again, nothing, other, given_up);
-    same(&rt, answers, (false, true, true, true, false));
+    let segment = stored.slot(Some(group.blocks()));
+    let again = stored.slot(Some(group.blocks()));
+    let nothing = stored.slot(None);
+    let other = stored.slot(Some(clock.blocks()));
     same(&rt, stored.text.age, 2);
+    let given_up = stored.slot(None);
+    let answers = (segment, again, nothing, other, given_up);
+    same(&rt, answers, (true, false, false, false, true));
+    same(&rt, stored.text.mask, 0);
     Ok(())
 }
 

@@ -14,7 +14,7 @@ ghost use Rattle.rds_ffi.specs.Slots.{Bring, IsCount};
 ghost use Rattle.rds_safety.specs.Marks.{marks, name_mark, text_mark};
 
 use crate::codes;
-use crate::slots::brought;
+use crate::slots::slot_of;
 use rds_audit::{Audit, AuditFault, LogStart, StoredAudit};
 use rds_fields::{Dwell, Late};
 
@@ -89,13 +89,13 @@ pub extern "C" fn rdsrt_audit_slot(audit: &mut StoredAudit, blocks: &[u16]) -> u
     ensures codes { result ≢ RDSRT_BAD_ARGUMENT → IsAnswer result }
     ensures kept { result ≡ RDSRT_BAD_ARGUMENT → audit.new ≡ audit.old }
 {
-    let Ok(slot) = brought(blocks) else {
+    let Ok(slot) = slot_of(blocks) else {
         return codes::BAD_ARGUMENT;
     };
     let mut inner = Audit::restore(audit);
     let found = inner.slot_blocks(slot);
     *audit = inner.store();
-    told(found)
+    code_of(found)
 }
 
 /// Returns 1 if the log passes so far, and 0 if not.
@@ -135,7 +135,7 @@ pub extern "C" fn rdsrt_audit_names_turn_the_flag(audit: &StoredAudit) -> u32
 }
 
 /// Returns the code of a fault, or of none.
-fn told(found: Result<(), AuditFault>) -> u32
+fn code_of(found: Result<(), AuditFault>) -> u32
     ensures told { result ≡ code_of (fault_in found) }
     ensures answer { result ≢ RDSRT_BAD_ARGUMENT }
 {

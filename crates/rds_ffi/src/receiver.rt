@@ -11,7 +11,7 @@ ghost use Rattle.rds_ffi.specs.Slots.{Bring, IsCount};
 ghost use Rattle.rds_ffi.specs.Viewed.{AreTagsOf, IsPlainView, viewed};
 
 use crate::codes;
-use crate::slots::brought;
+use crate::slots::slot_of;
 use crate::view::{RdsrtView, seen};
 use rds_fields::Dwell;
 use rds_receiver::{Receiver, StoredReceiver};
@@ -52,7 +52,7 @@ pub extern "C" fn rdsrt_receiver_slot(receiver: &mut StoredReceiver, blocks: &[u
         IsView t input view → (slot : Option Group) × Bring blocks.now slot × IsView t (slot ∷ input) view) }
     ensures kept { result ≡ RDSRT_BAD_ARGUMENT → receiver.new ≡ receiver.old }
 {
-    let Ok(slot) = brought(blocks) else {
+    let Ok(slot) = slot_of(blocks) else {
         return codes::BAD_ARGUMENT;
     };
     if receiver.slot(slot) {

@@ -9,7 +9,7 @@ use rds_block::Blocks;
 pub(crate) struct BadCount;
 
 /// Returns the blocks of a slot's group. `None` if the slot has none.
-pub(crate) fn brought(blocks: &[u16]) -> Result<Option<Blocks>, BadCount>
+pub(crate) fn slot_of(blocks: &[u16]) -> Result<Option<Blocks>, BadCount>
     ensures count { IsOk result ↔ IsCount blocks.now }
     ensures value { IfOk result (Bring blocks.now) }
 {

@@ -17,8 +17,8 @@ returns-clause-start c good stored =
 
 pub returns-clause-which : goal.returns-clause-which
 returns-clause-which c good =
-    lying _ _ (Tells c.told.result) (λ _. sym c.store.ensures.same)
-    (λ pi d log s judged is. tells c.told.result d judged c.slot_blocks-found.result c.told.ensures.told (c.slot_blocks-found.ensures.which pi d log s judged is))
+    lying _ _ (Tells c.code_of.result) (λ _. sym c.store.ensures.same)
+    (λ pi d log s judged is. tells c.code_of.result d judged c.slot_blocks-found.result c.code_of.ensures.told (c.slot_blocks-found.ensures.which pi d log s judged is))
 
 pub returns-clause-codes : goal.returns-clause-codes
-returns-clause-codes c good = (fault_in c.slot_blocks-found.result, c.told.ensures.told)
+returns-clause-codes c good = (fault_in c.slot_blocks-found.result, c.code_of.ensures.told)

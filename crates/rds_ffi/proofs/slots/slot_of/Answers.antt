@@ -1,6 +1,6 @@
 use Rattle.std.proofs.Common.{rules, arith}
 use Rattle.std.proofs.lemmas.Grind.{common_steps}
-use Rattle.rds_ffi.proofs.slots.brought.Goals as goal
+use Rattle.rds_ffi.proofs.slots.slot_of.Goals as goal
 
 pub returns-clause-count : goal.returns-clause-count
 returns-clause-count c = search rules
