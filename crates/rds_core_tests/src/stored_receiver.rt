@@ -19,8 +19,8 @@ fn goes_on_from_what_is_stored(rt: HostRuntime) -> Result<(), Fail> {
     Ok(())
 }
 
-/// The stored numbers take slots in place: those that say nothing, or once more what is held, make it older, until it is
-/// given up.
+/// The stored numbers take slots in place: those that say nothing, or once more what is held, change no view, until it
+/// is given up.
 #[test]
 fn takes_slots_in_place(rt: HostRuntime) -> Result<(), Fail> {
     let mut stored = Receiver::new(0xC201, Dwell::new(3).ok_or("dwell")?).store();

@@ -7,7 +7,7 @@ use rds_encoder::Refusal;
 use rds_fields::Late;
 use rds_io::{LogFault, Told};
 use rds_script::{
-    BadRow, MOST_RECORDS, RowCause, ScriptNotes, Thing, EarlySet, encode, play_script, simulate,
+    BadRow, EarlySet, MOST_RECORDS, RowCause, ScriptNotes, Thing, encode, play_script, simulate,
 };
 use std::alloc::Global;
 use std::cell::Cell;
