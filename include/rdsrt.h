@@ -45,8 +45,8 @@
  *
  *     rdsrt_version                      8    0    rdsrt_encoder_on_air             600  672
  *     rdsrt_receiver_init                8    0    rdsrt_encoder_wait               424  480
- *     rdsrt_receiver_slot              168  576    rdsrt_audit_init                 638  656
- *     rdsrt_receiver_view              456  640    rdsrt_audit_init_running         638  656
+ *     rdsrt_receiver_slot              168  176    rdsrt_audit_init                 638  656
+ *     rdsrt_receiver_view              456  448    rdsrt_audit_init_running         638  656
  *     rdsrt_encoder_init                16    0    rdsrt_audit_slot                 916  768
  *     rdsrt_encoder_set_text           696  720    rdsrt_audit_passed               708  736
  *     rdsrt_encoder_set_name           632  656    rdsrt_audit_texts_turn_the_flag  708  736

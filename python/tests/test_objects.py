@@ -341,6 +341,11 @@ class Names(unittest.TestCase):
                     if not member.startswith("_") and (callable(value) or isinstance(value, property)):
                         self.assertTrue(value.__doc__, f"{name}.{member}")
 
+    def test_an_object_without_a_dwell_has_the_default(self):
+        for make in (Receiver, Encoder, Audit):
+            self.assertEqual(make(0xC201), make(0xC201, dwell=rdsrt.DEFAULT_DWELL))
+            self.assertNotEqual(make(0xC201), make(0xC201, dwell=rdsrt.DEFAULT_DWELL + 1))
+
     def test_name_is_ptyn_wherever_it_stands(self):
         for it in (View, Encoder, Encoder.set_name, Encoder.name, Wait, Audit.names_turn_the_flag, View.as_json, rdsrt):
             self.assertIn("PTYN", it.__doc__)
