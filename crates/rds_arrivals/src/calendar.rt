@@ -15,7 +15,7 @@ fn is_leap(year: u64) -> bool
     year % 4 == 0 && (year % 100 != 0 || year % 400 == 0)
 }
 
-/// Returns the number of days from the first day of the year 0 to this day. None if there is no such day.
+/// Returns the number of days from the first day of the year 0 to this day. `None` if there is no such day.
 pub(crate) fn days_to(year: u64, month: u64, day: u64) -> Option<u64>
     requires { year ≤ 9999 }
     ensures value { result ≡ specs.days_to year month day }

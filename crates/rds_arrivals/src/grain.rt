@@ -28,7 +28,7 @@ impl Model for Grain {
 }
 
 impl Grain {
-    /// Makes the grain of this many microseconds. None for a slot or more.
+    /// Makes the grain of this many microseconds. `None` for a slot or more.
     pub fn new(microseconds: u32) -> Option<Self>
         ensures none { IsNone result ↔ (nineteen_slots ≤ 19 * microseconds) }
         ensures value { IfSome result (λ grain. grain ≡ microseconds) }

@@ -15,7 +15,7 @@ pub struct Stamp {
 const SECOND: u64 = 1_000_000;
 
 /// Returns the time that the text begins with: `@YYYY/MM/DD HH:MM:SS.CC`, `YYYY-MM-DDTHH:MM:SS.CC+HH:MM`, or seconds
-/// such as `12.5`. None if it does not begin with one, or if the time does not end with a space or the line.
+/// such as `12.5`. `None` if it does not begin with one, or if the time does not end with a space or the line.
 #[tactic(auto, unfolding(crate::specs::Stamps::stamp_in))]
 pub fn stamp_in(text: &[u8]) -> Option<Stamp>
     requires { length text.now ≤ 64 }

@@ -27,8 +27,11 @@ impl Model for Name {
 }
 
 impl Name {
-    /// Makes the name of these bytes, with spaces up to eight bytes. Error if there are more than eight bytes, or else
-    /// for the first byte that is not allowed.
+    /// Makes the name of these bytes, with spaces up to eight bytes.
+    ///
+    /// # Errors
+    ///
+    /// [`TextRefused`] if there are more than eight bytes, or else for the first byte that is not allowed.
     pub fn new(bytes: &[u8]) -> Result<Name, TextRefused>
         ensures accepted { IsOk result ↔ IsGivenName bytes.now }
         ensures value { IfOk result (λ name. name ≡ name_body bytes.now) }

@@ -48,8 +48,11 @@ impl Model for Text {
 }
 
 impl Text {
-    /// Makes the text of these bytes. Error if there are more than 64 bytes, or else for the first byte that is not
-    /// allowed.
+    /// Makes the text of these bytes.
+    ///
+    /// # Errors
+    ///
+    /// [`TextRefused`] if there are more than 64 bytes, or else for the first byte that is not allowed.
     pub fn new(bytes: &[u8]) -> Result<Text, TextRefused>
         ensures accepted { IsOk result ↔ IsText bytes.now }
         ensures value { IfOk result (λ text. text ≡ bytes.now) }

@@ -145,7 +145,10 @@ impl Audit {
     }
 
     /// Takes the next slot: the group that was sent in it, or nothing. A group of another programme counts as nothing.
-    /// Error if the slot breaks a rule. After a fault, each call returns that fault again and changes nothing.
+    ///
+    /// # Errors
+    ///
+    /// The fault, if the slot breaks a rule. After a fault, each call returns that fault again and changes nothing.
     pub fn slot(&mut self, group: Option<Group>) -> Result<(), AuditFault>
         ensures { TakesSlot self.old self.new group result }
     {
@@ -227,7 +230,11 @@ impl Audit {
         self.passed() && self.name.turns()
     }
 
-    /// Takes the group of this slot, if it is one of the programme. Error if it breaks a rule.
+    /// Takes the group of this slot, if it is one of the programme.
+    ///
+    /// # Errors
+    ///
+    /// The fault, if it breaks a rule.
     #[inline(always)]
     fn take_slot(&mut self, group: Option<Blocks>) -> Result<(), AuditFault>
         ensures rest { KeepsAllElse self.old self.new }
@@ -240,7 +247,11 @@ impl Audit {
         }
     }
 
-    /// Takes a message of the programme that was sent in this slot. Error if it breaks a rule.
+    /// Takes a message of the programme that was sent in this slot.
+    ///
+    /// # Errors
+    ///
+    /// The fault, if it breaks a rule.
     #[inline(always)]
     fn hear(&mut self, message: Message) -> Result<(), AuditFault>
         ensures rest { KeepsAllElse self.old self.new }
@@ -264,7 +275,11 @@ impl Audit {
     }
 
     /// Takes tags that were sent in this slot, except before the first text segment of the log of a running station:
-    /// their text may have been sent before the log. Error if they break a rule.
+    /// their text may have been sent before the log.
+    ///
+    /// # Errors
+    ///
+    /// The fault, if they break a rule.
     fn take_tags(&mut self, pair: TagPair) -> Result<(), AuditFault>
         ensures rest { KeepsAllElse self.old self.new }
         ensures judges { Judges self.old self.new (Some (Tags pair)) result }

@@ -88,7 +88,11 @@ impl<S: Audited> Reigns<S> {
         self.content.store(&self.ages)
     }
 
-    /// Takes a segment that was sent in this slot: it joins the current reign, or opens one. Error if it breaks a rule.
+    /// Takes a segment that was sent in this slot: it joins the current reign, or opens one.
+    ///
+    /// # Errors
+    ///
+    /// The fault, if it breaks a rule.
     pub(crate) fn take(
         &mut self,
         distance: Distance,
@@ -115,7 +119,11 @@ impl<S: Audited> Reigns<S> {
         self.join(address, bytes)
     }
 
-    /// Takes tags that were sent in this slot. Error if they break a rule.
+    /// Takes tags that were sent in this slot.
+    ///
+    /// # Errors
+    ///
+    /// The fault, if they break a rule.
     pub(crate) fn take_tags(&mut self, distance: Distance, pair: TagPair) -> Result<(), AuditFault>
         requires { 0 < distance }
         ensures holds { (sent : List Mark) → HoldsMarks S.gauge distance sent self.old
@@ -162,7 +170,11 @@ impl<S: Audited> Reigns<S> {
         self.ages.grow_older(distance);
     }
 
-    /// Takes a segment into the current reign. Error if no value has all of it.
+    /// Takes a segment into the current reign.
+    ///
+    /// # Errors
+    ///
+    /// The fault, if no value has all of the reign.
     fn join(&mut self, address: u8, bytes: [u8; 4]) -> Result<(), AuditFault>
         requires { address < S.gauge.segments }
         ensures can { IfOk result

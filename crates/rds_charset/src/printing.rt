@@ -65,7 +65,7 @@ fn push_byte<const N: usize>(byte: u8, line: &mut Lines<N>)
     }
 }
 
-/// Returns the character as which a byte is printed. None if the byte is escaped.
+/// Returns the character as which a byte is printed. `None` if the byte is escaped.
 fn shown_character(byte: u8) -> Option<char>
     ensures { result ≡ shown_character byte }
 {

@@ -97,7 +97,11 @@ fn count_characters(text: &str) -> usize
     text.chars().count()
 }
 
-/// Counts the bytes as which a text is read. Error if it cannot be read.
+/// Counts the bytes as which a text is read.
+///
+/// # Errors
+///
+/// The first fault of the text, if it cannot be read.
 fn count_bytes(text: &str) -> Result<usize, TextFault>
     ensures ok { IfOk result
         (λ count. (bytes : List ℕ) × IsReadAs text.now bytes × (length bytes ≡ count)) }
@@ -145,7 +149,7 @@ fn fill(text: &str, into: &mut [u8]) -> usize
     count
 }
 
-/// Returns the byte of the symbol that begins the text, and the rest after the symbol. None if no symbol begins it.
+/// Returns the byte of the symbol that begins the text, and the rest after the symbol. `None` if no symbol begins it.
 fn first_symbol(text: &str) -> Option<(u8, &str)>
     ensures some { IfSome result (λ found. Begins text.now found.0 found.1.now) }
     ensures none { IfNone result (BeginsNoSymbol text.now) }
@@ -157,7 +161,8 @@ fn first_symbol(text: &str) -> Option<(u8, &str)>
     Some((byte_of(first)?, rest))
 }
 
-/// Returns the byte of an escape whose backslash was read, and the rest after the escape. None if it is not an escape.
+/// Returns the byte of an escape whose backslash was read, and the rest after the escape. `None` if it is not an
+/// escape.
 fn escaped_byte(text: &str) -> Option<(u8, &str)>
     ensures some { IfSome result (λ found. Begins (0x5C ∷ text.now) found.0 found.1.now) }
     ensures none { IfNone result (BeginsNoSymbol (0x5C ∷ text.now)) }
@@ -171,7 +176,7 @@ fn escaped_byte(text: &str) -> Option<(u8, &str)>
     Some((16 * high + low, rest))
 }
 
-/// Returns the first character of a text and the rest after it. None if the text is empty.
+/// Returns the first character of a text and the rest after it. `None` if the text is empty.
 fn first_character(text: &str) -> Option<(char, &str)>
     ensures some { IfSome result (λ found. text.now ≡ encode_utf8 found.0 ++ found.1.now) }
     ensures none { IfNone result (text.now ≡ []) }
@@ -181,7 +186,8 @@ fn first_character(text: &str) -> Option<(char, &str)>
     Some((first, characters.as_str()))
 }
 
-/// Returns the value of the hexadecimal digit that begins the text, and the rest after it. None if no digit begins it.
+/// Returns the value of the hexadecimal digit that begins the text, and the rest after it. `None` if no digit begins
+/// it.
 fn hex_digit(text: &str) -> Option<(u8, &str)>
     ensures some { IfSome result (λ found. BeginsDigit text.now found.0 found.1.now) }
     ensures none { IfNone result (BeginsNoDigit text.now) }

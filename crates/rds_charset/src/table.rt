@@ -14,7 +14,7 @@ struct Stretch {
 }
 
 impl Stretch {
-    /// Returns the character of the byte. None if the byte is not in this stretch.
+    /// Returns the character of the byte. `None` if the byte is not in this stretch.
     fn character_of(&self, byte: u8) -> Option<char>
         ensures { result ≡ character_at (stretch_of self.now) byte }
     {
@@ -22,7 +22,7 @@ impl Stretch {
         self.characters.get(usize::from(place)).copied()
     }
 
-    /// Returns the byte of the character. None if the character is not in this stretch.
+    /// Returns the byte of the character. `None` if the character is not in this stretch.
     fn byte_of(&self, character: char) -> Option<u8>
         requires { FitsInBytes (stretch_of self.now) }
         ensures { result ≡ byte_at (stretch_of self.now) character }
@@ -174,7 +174,7 @@ fn more() -> &'static [Stretch]
     &MORE
 }
 
-/// Returns the character of the byte. None if it has none.
+/// Returns the character of the byte. `None` if it has none.
 pub(crate) fn character_of(byte: u8) -> Option<char>
     ensures { result ≡ character_of byte }
 {
@@ -202,7 +202,7 @@ fn character_in(stretches: &[Stretch], byte: u8) -> Option<char>
     None
 }
 
-/// Returns the byte of the character. None if it is not in the table.
+/// Returns the byte of the character. `None` if it is not in the table.
 pub(crate) fn byte_of(character: char) -> Option<u8>
     ensures { result ≡ byte_of character }
 {

@@ -132,8 +132,10 @@ impl Encoder {
     /// Puts the text on air from this slot on, in place of the text before and its tags. It has the other flag, even if
     /// its bytes are the same.
     ///
-    /// Error `Silent` for M + K slots from a restart on. Otherwise error `Held` for 2 (M + K) slots from the text
-    /// before on (this project's own rule). Both have the number of slots left. After an error nothing has changed.
+    /// # Errors
+    ///
+    /// `Silent` for M + K slots from a restart on. Otherwise `Held` for 2 (M + K) slots from the text before on (this
+    /// project's own rule). Both have the number of slots left. After an error nothing has changed.
     pub fn set_text(&mut self, text: Text) -> Result<(), Refusal>
         ensures reply { WhereItStands self.old
             (λ _ m entries. result ≡ reply_to m (text_moves entries)) }
@@ -151,8 +153,10 @@ impl Encoder {
     /// Puts the name on air from this slot on, in place of the name before. It has the other flag, even if its bytes
     /// are the same.
     ///
-    /// Error `Silent` for M + K slots from a restart on. Otherwise error `Held` for 2 (M + K) slots from the name
-    /// before on (this project's own rule). Both have the number of slots left. After an error nothing has changed.
+    /// # Errors
+    ///
+    /// `Silent` for M + K slots from a restart on. Otherwise `Held` for 2 (M + K) slots from the name before on (this
+    /// project's own rule). Both have the number of slots left. After an error nothing has changed.
     pub fn set_name(&mut self, name: Name) -> Result<(), Refusal>
         ensures reply { WhereItStands self.old
             (λ _ m entries. result ≡ reply_to m (name_moves entries)) }
@@ -168,7 +172,9 @@ impl Encoder {
     /// Gives the text on air these tags, in place of those before. They go off air with it. They are first sent when it
     /// has been on air for M + K slots (this project's own rule).
     ///
-    /// Error `Silent` for M + K slots from a restart on, with the slots left. Otherwise `NoText` if no text is on air,
+    /// # Errors
+    ///
+    /// `Silent` for M + K slots from a restart on, with the slots left. Otherwise `NoText` if no text is on air,
     /// and otherwise `OutOfText` for the first tag that does not end in the text. The dummy, of class 0, ends in each
     /// text. After an error nothing has changed.
     pub fn set_tags(&mut self, pair: TagPair) -> Result<(), Refusal>

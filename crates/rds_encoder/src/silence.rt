@@ -39,7 +39,11 @@ impl Silence {
         Silence { left }
     }
 
-    /// Refuses each set in the silence. Error `Silent` with the number of slots left.
+    /// Refuses each set in the silence.
+    ///
+    /// # Errors
+    ///
+    /// `Silent`, with the number of slots left.
     pub(crate) fn check(&self) -> Result<(), Refusal>
         ensures of_a_set { IsSetReply result }
         ensures of_tags { IsTagsReply result }

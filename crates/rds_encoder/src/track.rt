@@ -41,7 +41,11 @@ impl<V: Drop> Track<V> {
         }
     }
 
-    /// Puts the value on air in place of the one before. Error if that one holds it back.
+    /// Puts the value on air in place of the one before.
+    ///
+    /// # Errors
+    ///
+    /// `Held`, if that one holds it back.
     pub(crate) fn set(&mut self, value: V, distance: Distance) -> Result<(), Refusal>
         ensures reply { (moves : List Move) → HoldsBack distance self.old.hold moves
             → result ≡ held_reply distance (slot_of moves) (last_accepted distance moves) }

@@ -50,7 +50,9 @@ impl Tag {
     /// Makes the tag of this class. `start` is the place of its first character, from 0, and `extra` the number of its
     /// characters less one.
     ///
-    /// Error if a field is out of range. The checks have the order of the variants of `TagRefused`.
+    /// # Errors
+    ///
+    /// [`TagRefused`] if a field is out of range. The checks have the order of the variants of `TagRefused`.
     pub fn new(class: u8, start: u8, extra: u8) -> Result<Tag, TagRefused>
         ensures class_over { (result ≡ Err TagRefused.Class) ↔ (63 < class) }
         ensures start_over { (result ≡ Err TagRefused.Start) ↔ ((class ≤ 63) × (63 < start)) }

@@ -13,7 +13,7 @@ const HIGH: [u8; 16] = [16, 1, 0, 0, 16, 1, 0, 0, 16, 1, 0, 0, 16, 1, 0, 0];
 /// The weights of the last two digits of each word, for its low byte.
 const LOW: [u8; 16] = [0, 0, 16, 1, 0, 0, 16, 1, 0, 0, 16, 1, 0, 0, 16, 1];
 
-/// Returns the word of the four hexadecimal digits from `place` on, of either case. None if one of the four bytes is
+/// Returns the word of the four hexadecimal digits from `place` on, of either case. `None` if one of the four bytes is
 /// not a digit.
 #[inline(always)]
 pub fn word_at(text: &[u8], place: usize) -> Option<u16>
@@ -25,7 +25,7 @@ pub fn word_at(text: &[u8], place: usize) -> Option<u16>
     if word < NONE { Some(word as u16) } else { None }
 }
 
-/// Returns the words of the four blocks of a line, at the places 0, 5, 10 and 15. None if a byte is not a digit. All
+/// Returns the words of the four blocks of a line, at the places 0, 5, 10 and 15. `None` if a byte is not a digit. All
 /// sixteen digits are tested and read at once, each in a lane.
 #[inline(always)]
 pub fn four_words(text: &[u8]) -> Option<[u16; 4]>

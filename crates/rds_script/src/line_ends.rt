@@ -83,7 +83,7 @@ impl ReadSoFar {
         }
     }
 
-    /// Takes the bytes of one read. None is the end.
+    /// Takes the bytes of one read. An empty piece is the end.
     #[inline(never)]
     pub(crate) fn take(&mut self, piece: &[u8]) {
         self.before.take(self.last.as_slice());

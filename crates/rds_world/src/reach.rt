@@ -56,8 +56,11 @@ impl Reach {
     }
 }
 
-/// Returns the reach of each receiver in the slot after this event. Error if a reception is not due: the number of the
-/// first such receiver.
+/// Returns the reach of each receiver in the slot after this event.
+///
+/// # Errors
+///
+/// The number of the first receiver whose reception is not due.
 pub(crate) fn reaches_after(
     reaches: &[Reach],
     late: Late,

@@ -25,7 +25,11 @@ impl Model for Recent {
 }
 
 impl Recent {
-    /// Makes an empty ring of K + 1 places. Error if out of memory.
+    /// Makes an empty ring of K + 1 places.
+    ///
+    /// # Errors
+    ///
+    /// [`AllocError`] if out of memory.
     pub(crate) fn new(alloc: Global, late: Late) -> Result<Recent, AllocError>
         ensures { IfOk result (λ r. r ≡ buffer [] (late + 1)) }
     {

@@ -27,8 +27,11 @@ pub enum PlayRefused {
     Late(usize, usize),
 }
 
-/// Makes a world and plays these slots, the oldest first. Error if there are more than 8 receivers, if a slot is
-/// refused, or if out of memory.
+/// Makes a world and plays these slots, the oldest first.
+///
+/// # Errors
+///
+/// If there are more than 8 receivers, if a slot is refused, or if out of memory.
 pub fn play(
     alloc: Global,
     config: Config,

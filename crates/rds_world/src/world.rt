@@ -105,7 +105,11 @@ impl World {
     }
 
     /// Plays one slot: the command, then the encoder's part, then the receivers' part. If the encoder refuses the
-    /// command, the answer says so and the slot goes on. Error if the slot is refused; the world is then unchanged.
+    /// command, the answer says so and the slot goes on.
+    ///
+    /// # Errors
+    ///
+    /// [`StepRefused`] if the slot is refused; the world is then unchanged.
     pub fn step(&mut self, event: &SlotEvent) -> Result<Answer, StepRefused>
         ensures counted { IsErrOf result StepRefused.ReceiverCount
             ↔ (length event.now.receptions ≢ length self.old.receivers) }
