@@ -19,8 +19,7 @@ fn goes_on_from_what_is_stored(rt: HostRuntime) -> Result<(), Fail> {
     Ok(())
 }
 
-/// The stored numbers take slots in place: those that say nothing, or once more what is held, change no view, until it
-/// is given up.
+/// A slot that says nothing, or repeats what is held, changes no view. The held text is dropped after M slots.
 #[test]
 fn takes_slots_in_place(rt: HostRuntime) -> Result<(), Fail> {
     let mut stored = Receiver::new(0xC201, Dwell::new(3).ok_or("dwell")?).store();
@@ -31,8 +30,8 @@ fn takes_slots_in_place(rt: HostRuntime) -> Result<(), Fail> {
     let nothing = stored.slot(None);
     let other = stored.slot(Some(clock.blocks()));
     same(&rt, stored.text.age, 2);
-    let given_up = stored.slot(None);
-    let answers = (segment, again, nothing, other, given_up);
+    let dropped = stored.slot(None);
+    let answers = (segment, again, nothing, other, dropped);
     same(&rt, answers, (true, false, false, false, true));
     same(&rt, stored.text.mask, 0);
     Ok(())

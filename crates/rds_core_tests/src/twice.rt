@@ -3,13 +3,13 @@
 use crate::same::same;
 use rds_block::Group;
 use rds_fields::Dwell;
-use rds_receiver::{Receiver, TwiceReceiver};
+use rds_receiver::{Receiver, TwiceReceiver, Window};
 use std::test::Fail;
 
 /// The programme that the receivers are of.
 const PI: u16 = 0xC201;
 
-/// A wrong group makes a mix of a receiver that shows what it heard once. It delays the other one by one round.
+/// After a wrong group, a receiver that shows what it heard once shows a mix. The other one shows the text a round later.
 #[test]
 fn wrong_group(rt: HostRuntime) -> Result<(), Fail> {
     let first = [PI, 0x2140, 0x4141, 0x4141];
@@ -29,7 +29,7 @@ fn wrong_group(rt: HostRuntime) -> Result<(), Fail> {
     let mut twice = TwiceReceiver::new(
         PI,
         Dwell::new(8).ok_or("dwell")?,
-        Dwell::new(5).ok_or("window")?,
+        Window::new(5).ok_or("window")?,
     );
     let mut shown = None;
     for (words, by_once, by_twice) in rows {
@@ -41,5 +41,54 @@ fn wrong_group(rt: HostRuntime) -> Result<(), Fail> {
         assert!(rt; may_differ || shown == by_twice);
         shown = by_twice;
     }
+    Ok(())
+}
+
+/// A stored receiver goes on where it was: the second receipt of a text counts, and so does that of its tags.
+#[test]
+fn goes_on_from_what_is_stored(rt: HostRuntime) -> Result<(), Fail> {
+    let text = [PI, 0x2140, 0x4849, 0x0D20];
+    let announcement = [PI, 0x3156, 0x0000, 0x4BD7];
+    let tags = [PI, 0xB158, 0x8002, 0x0000];
+    let shown = Some(b"HI".as_slice());
+    let rows = [
+        (text, None, None),
+        (text, shown, None),
+        (announcement, shown, None),
+        (tags, shown, None),
+        (tags, shown, Some((4, b"HI".as_slice()))),
+    ];
+    let mut twice = TwiceReceiver::new(
+        PI,
+        Dwell::new(8).ok_or("dwell")?,
+        Window::new(2).ok_or("window")?,
+    );
+    for (words, text, tag) in rows {
+        twice = TwiceReceiver::restore(&twice.store());
+        twice.slot(Some(Group::from_blocks(words)));
+        same(&rt, twice.view().text, text);
+        same(&rt, twice.view().one, tag);
+    }
+    Ok(())
+}
+
+/// Numbers that no receiver has are restored too, and go on.
+#[test]
+fn restores_any_numbers(rt: HostRuntime) -> Result<(), Fail> {
+    let dwell = Dwell::new(8).ok_or("dwell")?;
+    let window = Window::new(2).ok_or("window")?;
+    let mut stored = TwiceReceiver::new(PI, dwell, window).store();
+    stored.window = 0;
+    stored.pair.is_held = 9;
+    stored.pair.two.extra = 255;
+    stored.pair_left = 255;
+    stored.segments.flags = 0xFFFF_FFFF;
+    stored.segments.left[17] = 255;
+    let mut twice = TwiceReceiver::restore(&stored);
+    let group = Some(Group::from_blocks([PI, 0x2140, 0x4849, 0x0D20]));
+    twice.slot(group);
+    twice.slot(group);
+    same(&rt, twice.view().text, Some(b"HI".as_slice()));
+    assert!(rt; Window::new(1).is_none() && Window::new(256).is_none());
     Ok(())
 }

@@ -6,10 +6,11 @@ use Rattle.rds_fields.specs.Tag.{PairFields}
 use Rattle.rds_assembly.specs.Cells.{Cells}
 use Rattle.rds_assembly.specs.Whole.{IsWholeName, IsWholeText}
 use Rattle.rds_receiver.specs.Receipts.{Tuning}
-use Rattle.rds_receiver.specs.Shown.{IsShown, IsView, ShownView}
+use Rattle.rds_receiver.specs.Shown.{IsShown, IsView, ShownView, ShowsView}
 use Rattle.rds_receiver.specs.StandsAt.{MakeAlike, ShowsAlike, StandsAt}
 use Rattle.rds_receiver.specs.State.{ReceiverState}
 use Rattle.rds_receiver.specs.Tags.{item_of, tag_of}
+use Rattle.rds_receiver.specs.TwiceLemmas.{shows_all, view_of_all}
 use Rattle.rds_receiver.proofs.Shows.{name_cells, name_shown, pair_is, text_cells, text_shown}
 
 -- cells make the same whole as themselves
@@ -40,19 +41,18 @@ nothing_beside (Some x) cells p q shown (inr none) = absurd (none x shown)
 
 pub view_stays : (t : Tuning) (r after : ReceiverState) (input more : List (Option Group)) (view : ShownView) → StandsAt t r input → StandsAt t after more
     → ShowsAlike r after → IsView t input view → IsView t more view
-view_stays t r after input more view s u alike (heard, are, shown) =
+view_stays t r after input more view s u alike v =
+    let (heard, are, counts) = v in
+    let shown : ShowsView t.dwell t.first heard view = shows_all t input view s.windowless v in
     let text : IsShown IsWholeText r.text.cells view.text = subst (λ (c : Cells). IsShown IsWholeText c view.text) (sym (text_cells t r input heard s are)) shown.text in
     let name : IsShown IsWholeName r.name.cells view.name = subst (λ (c : Cells). IsShown IsWholeName c view.name) (sym (name_cells t r input heard s are)) shown.name in
     let beside = nothing_beside view.text r.text.cells r.pair after.pair text alike.pair in
     let before = pair_is t r input heard s are in
-    let now = pair_is t after more u.heard u u.are in (
-      u.heard,
-      u.are,
-      record {
-        text = text_shown t after more u.heard view.text u u.are ((alike.text view.text).0 text);
-        name = name_shown t after more u.heard view.name u u.are ((alike.name view.name).0 name);
-        item = shown.item ∙ ap (item_of view.text) (sym before) ∙ beside.0 ∙ ap (item_of view.text) now;
-        one = shown.one ∙ ap (tag_of One view.text) (sym before) ∙ beside.1 ∙ ap (tag_of One view.text) now;
-        two = shown.two ∙ ap (tag_of Two view.text) (sym before) ∙ beside.2 ∙ ap (tag_of Two view.text) now;
-      },
-    )
+    let now = pair_is t after more u.heard u u.are in
+    view_of_all t more u.heard view u.windowless u.are record {
+      text = text_shown t after more u.heard view.text u u.are ((alike.text view.text).0 text);
+      name = name_shown t after more u.heard view.name u u.are ((alike.name view.name).0 name);
+      item = shown.item ∙ ap (item_of view.text) (sym before) ∙ beside.0 ∙ ap (item_of view.text) now;
+      one = shown.one ∙ ap (tag_of One view.text) (sym before) ∙ beside.1 ∙ ap (tag_of One view.text) now;
+      two = shown.two ∙ ap (tag_of Two view.text) (sym before) ∙ beside.2 ∙ ap (tag_of Two view.text) now;
+    }

@@ -1,6 +1,9 @@
 -- Lemmas: how the pair held changes from slot to slot.
-use Rattle.std.proofs.Common.{◌≡◌, ◌+◌, ◌<◌, ◌≤◌, ◌&&◌, ℕ, Bool, true, false, nat_lt, List, [], ◌∷◌, Option, Some, None, length, refl, sym, ap, ◌∙◌, arith}
+use Rattle.std.proofs.Common.{◌≡◌, ◌+◌, ◌<◌, ◌≤◌, ◌&&◌, ℕ, Bool, true, false, nat_lt, List, [], ◌∷◌, Option, Some, None, length, refl, sym, ap, subst, ◌∙◌, arith}
+use Rattle.std.specs.Option.{option_eq}
 use Rattle.std.specs.Prelude.{if◌then◌else◌}
+use Rattle.std.proofs.lemmas.Bool.Decides.{nat_tests}
+use Rattle.rds_fields.specs.contracts.pair.TagPairPartialEq.TheImpl.{eq-value}
 use Rattle.rds_fields.specs.declared.message.Message.{Message}
 use Rattle.rds_fields.specs.declared.message.Message.TheVariants.{Text, Name, Announce, Tags, Other}
 use Rattle.rds_fields.specs.Tag.{PairFields}
@@ -97,3 +100,12 @@ pub tags_taken : (m n first : ℕ) (pick : Message → Option Fragment) (heard :
     → Some pair ≡ pair_from first (begins_in (run m n (segments pick first heard))) (Some (Tags pair) ∷ heard)
 tags_taken m n first pick heard pair held st young h =
     tags_taken_by m n first (run m n (segments pick first heard)) heard pair held (run_below m (first + length heard) n (segments pick first heard) (segments_below pick first heard)) st young h
+
+-- the test of a held pair decides whether it is this one
+pub is_held_pair : (held : Option PairFields) (pair : PairFields) → option_eq eq-value.it held (Some pair) ≡ true → held ≡ Some pair
+is_held_pair None pair e = absurd (grind (arith, e))
+is_held_pair (Some held) pair e = ap Some (grind (arith, e, nat_tests))
+
+pub held_pair_is : (held : Option PairFields) (pair : PairFields) → held ≡ Some pair → option_eq eq-value.it held (Some pair) ≡ true
+held_pair_is None pair e = absurd (cc)
+held_pair_is (Some held) pair e = (let same : held ≡ pair = cc in subst (λ (p : PairFields). option_eq eq-value.it (Some p) (Some pair) ≡ true) (sym same) (grind (arith, nat_tests)))

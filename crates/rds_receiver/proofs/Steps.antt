@@ -97,6 +97,7 @@ pub slot_stands : (t : Tuning) (r after : ReceiverState) (input : List (Option G
     → Hears t.programme slot message → after.programme ≡ r.programme → HoldsAt t.dwell (t.first + length st.heard) t.first after (message ∷ st.heard) → StandsAt t after (slot ∷ input)
 slot_stands t r after input slot message st hears programme holds = record {
   tuned = programme ∙ st.tuned;
+  windowless = st.windowless;
   heard = message ∷ st.heard;
   are = (hears, st.are);
   holds = holds;

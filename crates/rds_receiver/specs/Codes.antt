@@ -8,8 +8,7 @@ use Rattle.rds_fields.specs.Tag.{PairFields}
 use Rattle.rds_assembly.specs.Cells.{Cells}
 use Rattle.rds_receiver.specs.State.{HeldSegments, ReceiverState}
 use Rattle.rds_receiver.specs.TwiceState.{TwiceState}
-use Rattle.rds_receiver.specs.declared.last.LastPair.{LastPair}
-use Rattle.rds_receiver.specs.declared.last.LastSegment.{LastSegment}
+use Rattle.rds_receiver.specs.declared.last.StoredLastSegments.{StoredLastSegments}
 
 abbrev pub held_code : Coded HeldSegments
 held_code =
@@ -31,20 +30,16 @@ receiver_code =
     })
     (λ _. refl)
 
-abbrev pub last_segment_code : Coded LastSegment
-last_segment_code =
-    code_by (Bool × (List ℕ × ℕ)) (coded× coded_bool (coded× (coded_list coded_ℕ) coded_ℕ))
-    (λ s. (s.flag, (s.bytes, s.age))) (λ p. record { flag = p.0; bytes = p.1.0; age = p.1.1 }) (λ _. refl)
-
-abbrev pub last_pair_code : Coded LastPair
-last_pair_code =
-    code_by (PairFields × ℕ) (coded× pair_code coded_ℕ) (λ s. (s.pair, s.age)) (λ p. record { pair = p.0; age = p.1 }) (λ _. refl)
+abbrev pub last_segments_code : Coded StoredLastSegments
+last_segments_code =
+    code_by (ℕ × (List (List ℕ) × List ℕ))
+    (coded× coded_ℕ (coded× (coded_list (coded_list coded_ℕ)) (coded_list coded_ℕ)))
+    (λ s. (s.flags, (s.bytes, s.left))) (λ p. record { flags = p.0; bytes = p.1.0; left = p.1.1 }) (λ _. refl)
 
 abbrev pub twice_code : Coded TwiceState
 twice_code =
-    code_by ((ℕ × ReceiverState) × ((List (Option LastSegment) × List (Option LastSegment)) × Option LastPair))
-    (coded× (coded× coded_ℕ receiver_code)
-    (coded× (coded× (coded_list (coded_option last_segment_code)) (coded_list (coded_option last_segment_code))) (coded_option last_pair_code)))
-    (λ s. ((s.window, s.receiver), ((s.texts, s.names), s.pair)))
-    (λ p. record { window = p.0.0; receiver = p.0.1; texts = p.1.0.0; names = p.1.0.1; pair = p.1.1 })
+    code_by ((ℕ × ReceiverState) × (StoredLastSegments × (Option PairFields × ℕ)))
+    (coded× (coded× coded_ℕ receiver_code) (coded× last_segments_code (coded× (coded_option pair_code) coded_ℕ)))
+    (λ s. ((s.window, s.receiver), (s.segments, (s.pair, s.pair_left))))
+    (λ p. record { window = p.0.0; receiver = p.0.1; segments = p.1.0; pair = p.1.1.0; pair_left = p.1.1.1 })
     (λ _. refl)

@@ -2,12 +2,15 @@ pub mod Receipts
 pub mod Run
 pub mod Chained
 pub mod Tags
+pub mod Twice
 pub mod Shown
+pub mod Receive
 pub mod State
 pub mod Stored
 pub mod Codes
 pub mod Borrowed
 pub mod StandsAt
 pub mod OneView
-pub mod Twice
+pub mod TwiceLemmas
 pub mod TwiceState
+pub mod StoredTwice

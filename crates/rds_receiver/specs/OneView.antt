@@ -10,6 +10,7 @@ use Rattle.rds_receiver.specs.Receipts.{AreHeard, Hears, Tuning, name_fragment, 
 use Rattle.rds_receiver.specs.Run.{cells_of, run_at}
 use Rattle.rds_receiver.specs.Shown.{IsNameShown, IsShown, IsTextShown, IsView, ShowsView, ShownView}
 use Rattle.rds_receiver.specs.Tags.{item_of, pair_held, tag_of}
+use Rattle.rds_receiver.specs.Twice.{counted}
 
 -- two messages heard in one slot are equal
 pub same_heard_in : (pi : ℕ) (slot : Option Group) (m n : Option Message) → Hears pi slot m → Hears pi slot n → m ≡ n
@@ -70,4 +71,4 @@ pub same_view : (t : Tuning) (input : List (Option Group)) (v w : ShownView) →
     → v ≡ w
 same_view t input v w (heard, p, shown) (heard', q, shown') =
     let same : heard ≡ heard' = same_heard t.programme input heard heard' p q in
-    same_view_of t.dwell t.first heard' v w (rw same at shown) shown'
+    same_view_of t.dwell t.first (counted t heard') v w (rw same at shown) shown'

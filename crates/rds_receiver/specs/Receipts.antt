@@ -8,10 +8,12 @@ use Rattle.rds_fields.specs.declared.message.Message.{Message}
 use Rattle.rds_fields.specs.declared.message.Message.TheVariants.{Text, Name, Announce, Tags, Other}
 use Rattle.rds_fields.specs.Spells.{Spells}
 
--- the tuning of a receiver: its programme (PI), its dwell in slots, and the slot in which its input begins
+-- the tuning of a receiver: its programme (PI), its dwell in slots, its window in slots if it shows only what it heard
+-- twice, and the slot in which its input begins
 pub record Tuning : Type 0 where
   pub programme : ℕ
   pub dwell : ℕ
+  pub window : Option ℕ
   pub first : ℕ
 
 -- a receiver with this PI hears the message of a group with this PI; without a group, or with another PI, it hears

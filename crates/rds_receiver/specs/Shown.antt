@@ -11,6 +11,7 @@ use Rattle.rds_assembly.specs.Whole.{IsWholeName, IsWholeText}
 use Rattle.rds_receiver.specs.Receipts.{AreHeard, Tuning, name_fragment, text_fragment}
 use Rattle.rds_receiver.specs.Run.{cells_of, run_at}
 use Rattle.rds_receiver.specs.Tags.{item_of, pair_held, tag_of}
+use Rattle.rds_receiver.specs.Twice.{counted}
 
 -- the value that the cells make whole is shown; if they make none whole, nothing is shown
 abbrev pub IsShown : (Cells → List ℕ → Type 0) → Cells → Option (List ℕ) → Type 0
@@ -65,7 +66,8 @@ pub record ShowsView (m first : ℕ) (heard : List (Option Message)) (view : Sho
   pub one : view.one ≡ tag_of One view.text (pair_held m first heard)
   pub two : view.two ≡ tag_of Two view.text (pair_held m first heard)
 
--- the view at the end of an input
+-- the view at the end of an input, of what counts for this tuning
 abbrev pub IsView : Tuning → List (Option Group) → ShownView → Type 0
 IsView t input view =
-    (heard : List (Option Message)) × AreHeard t.programme input heard × ShowsView t.dwell t.first heard view
+    (heard : List (Option Message)) × AreHeard t.programme input heard
+    × ShowsView t.dwell t.first (counted t heard) view

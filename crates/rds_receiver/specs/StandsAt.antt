@@ -6,7 +6,8 @@ use Rattle.rds_assembly.specs.Cells.{Cells}
 use Rattle.rds_assembly.specs.Whole.{IsWholeName, IsWholeText}
 use Rattle.rds_receiver.specs.Receipts.{AreHeard, Segment, Tuning, name_fragment, segments, text_fragment}
 use Rattle.rds_receiver.specs.Run.{begins_in, cells_of, run}
-use Rattle.rds_receiver.specs.Shown.{IsShown, IsView, ShownView}
+use Rattle.rds_receiver.specs.Receive.{GoesOn, KeepsViews, WhereStands}
+use Rattle.rds_receiver.specs.Shown.{IsShown}
 use Rattle.rds_receiver.specs.State.{HeldSegments, ReceiverState}
 use Rattle.rds_receiver.specs.Tags.{is_known, pair_from}
 
@@ -41,25 +42,25 @@ pub record HoldsAt (m t first : ℕ) (r : ReceiverState) (heard : List (Option M
   pub pair : r.pair ≡ pair_from first (begins_in (run m t (segments text_fragment first heard))) heard
   pub known : r.is_known ≡ is_known heard
 
--- the receiver has this tuning, and its state follows from what it heard of the input
+-- the receiver has this tuning, which has no window, and its state follows from what it heard of the input
 pub record StandsAt (t : Tuning) (r : ReceiverState) (input : List (Option Group)) : Type 0 where
   pub tuned : r.programme ≡ t.programme
+  pub windowless : t.window ≡ None
   pub heard : List (Option Message)
   pub are : AreHeard t.programme input heard
   pub holds : HoldsAt t.dwell (newest_slot t.first heard) t.first r heard
 
 -- this holds of each tuning and input that the receiver stands at
 abbrev pub WhereItStands : ReceiverState → (Tuning → List (Option Group) → Type 0) → Type 0
-WhereItStands r Holds = (t : Tuning) (input : List (Option Group)) → StandsAt t r input → Holds t input
+WhereItStands = WhereStands StandsAt
 
--- the receiver took one more slot with this group, or with none: wherever it stood, it stands with that slot now
+-- the receiver took one more slot with this group, or with none
 abbrev pub TakesSlot : ReceiverState → ReceiverState → Option Group → Type 0
-TakesSlot r after group = WhereItStands r (λ t input. StandsAt t after (group ∷ input))
+TakesSlot = GoesOn StandsAt
 
--- one more slot with this group, or with none, changes no view: wherever the receiver stands, each view stays the view
+-- one more slot with this group, or with none, changes no view
 abbrev pub KeepsView : ReceiverState → Option Group → Type 0
-KeepsView r group =
-    (view : ShownView) → WhereItStands r (λ t input. IsView t input view → IsView t (group ∷ input) view)
+KeepsView = KeepsViews StandsAt
 
 -- this holds of the dwell, the first slot and what was heard, for each tuning and input that the receiver stands at
 abbrev pub WhatItHeard : ReceiverState → (ℕ → ℕ → List (Option Message) → Type 0) → Type 0

@@ -1,16 +1,17 @@
--- Receivers that may get wrong groups and show only what they heard twice (this project's own rule). A segment is
--- confirmed if the last segment heard at its address was the same, and came less than the window of w slots before. A
--- pair of tags is confirmed if the last pair heard was the same, came less than w slots before, and came later than the
--- first segment of the run of texts. Announcements need no confirmation. Lists have the newest first.
+-- Receivers that may get wrong groups and show only what they heard twice (this project's own rule). The window has w
+-- slots. A segment is confirmed if the last segment heard at its address was the same, and came less than w slots
+-- before. A pair of tags is confirmed if the last pair heard was the same, came less than w slots before, and came later
+-- than the first segment of the run of confirmed text segments. Announcements need no confirmation. Lists have the
+-- newest first.
 use Rattle.std.specs.Prelude.{◌+◌, ◌==◌, ◌&&◌, [], ◌∷◌}
 use Rattle.std.specs.Prelude.{ℕ, Bool, true, false, List, Option, Some, None, bytes_eq, length, nat_lt, if◌then◌else◌}
 use Rattle.rds_fields.specs.declared.message.Message.{Message}
 use Rattle.rds_fields.specs.declared.message.Message.TheVariants.{Text, Name, Announce, Tags, Other}
 use Rattle.rds_fields.specs.Tag.{PairFields, TagFields}
-use Rattle.rds_receiver.specs.Receipts.{Segment, name_fragment, segments, text_fragment}
+use Rattle.rds_receiver.specs.Receipts.{Segment, Tuning, name_fragment, segments, text_fragment}
 use Rattle.rds_receiver.specs.Run.{begins_in, is_same, run}
 
--- the message is a segment or a pair of tags, which count only if they are confirmed
+-- the message needs confirmation: it is a segment or a pair of tags
 abbrev pub needs_two : Message → Bool
 needs_two (Text f a b) = true
 needs_two (Name f a b) = true
@@ -53,7 +54,7 @@ pair_again w n pair (Some since) None = None
 pair_again w n pair (Some since) (Some (u, before)) =
     if same_pair pair before && (nat_lt since u && nat_lt n (u + w)) then Some u else None
 
--- the slot of the receipt that confirms what was heard in the next slot, given what was heard before and what of it
+-- the slot of the receipt that confirms what was heard in the next slot, given what was heard before and which of it
 -- was confirmed; a message that needs no confirmation has its own slot
 abbrev pub receipt_before : ℕ → ℕ → ℕ → List (Option Message) → List (Option Message) → Option Message → Option ℕ
 receipt_before w m first before confirmed None = None
@@ -67,14 +68,23 @@ receipt_before w m first before confirmed (Some (Tags pair)) =
 receipt_before w m first before confirmed (Some (Announce code bits aid)) = Some (first + length before)
 receipt_before w m first before confirmed (Some Other) = Some (first + length before)
 
--- the entry if it is confirmed
+-- the entry, if it is confirmed
 abbrev pub if_confirmed : Option ℕ → Option Message → Option Message
 if_confirmed None entry = None
 if_confirmed (Some slot) entry = entry
 
--- what of what was heard is confirmed, for a window of w slots and a dwell of m
+-- what was heard, without the entries that are not confirmed, for a window of w slots and a dwell of m
 abbrev pub confirmed : ℕ → ℕ → ℕ → List (Option Message) → List (Option Message)
 confirmed w m first [] = []
 confirmed w m first (heard ∷ before) =
     if_confirmed (receipt_before w m first before (confirmed w m first before) heard) heard
     ∷ confirmed w m first before
+
+-- what counts of what was heard: without a window all of it, with a window the confirmed part
+abbrev pub counted_in : Option ℕ → ℕ → ℕ → List (Option Message) → List (Option Message)
+counted_in None m first heard = heard
+counted_in (Some w) m first heard = confirmed w m first heard
+
+-- what counts for a receiver of this tuning
+abbrev pub counted : Tuning → List (Option Message) → List (Option Message)
+counted t heard = counted_in t.window t.dwell t.first heard

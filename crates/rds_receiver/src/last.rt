@@ -1,139 +1,94 @@
-//! The last segment heard at each address, and the last pair of tags.
-ghost use Rattle.std.specs.Prelude.{◌≡◌, ◌<◌, ◌↔◌, IsTrue, None, Some, map, replicate};
-ghost use Rattle.std.specs.Prelude.{slice_index_or, slice_set};
-ghost use Rattle.rds_receiver.specs.TwiceState as state;
+//! The last segment heard at each address.
+ghost use Rattle.std.specs.Prelude.{◌≡◌, ◌≢◌, ◌-◌, ◌<◌, ◌==◌, ◌↔◌, ℕ, IsTrue, map};
+ghost use Rattle.std.specs.Int.{bit_at};
+ghost use Rattle.rds_receiver.specs.TwiceState.{RepeatsSegment, cell_in, one_slot_older};
 
-use rds_fields::TagPair;
-use std::marker::Model;
+use rds_assembly::is_same_segment;
 
-/// The number of addresses of text segments. Names have two of them.
-const ADDRESSES: usize = 16;
+/// The number of cells of text segments, one for each address.
+pub(crate) const TEXT_CELLS: u8 = 16;
 
-/// The last segment heard at an address.
+/// The number of all cells. Name segments have the last two.
+const CELLS: usize = 18;
+
+/// The last segment heard at each address, as plain numbers. Text address a has cell a, and name address a cell 16 + a.
+#[repr(C)]
 #[derive(Clone, Copy)]
-pub(crate) struct LastSegment {
-    flag: bool,
-    bytes: [u8; 4],
-    age: u16,
+pub struct StoredLastSegments {
+    /// Bit c is the flag of the segment in cell c.
+    pub flags: u32,
+    /// The bytes of the segment in each cell.
+    pub bytes: [[u8; 4]; CELLS],
+    /// For how many more slots, the current one included, the segment in each cell confirms the same one.
+    pub left: [u8; CELLS],
 }
 
-/// The last pair of tags heard.
-#[derive(Clone, Copy)]
-pub(crate) struct LastPair {
-    pair: TagPair,
-    age: u16,
-}
-
-impl LastPair {
-    /// Makes the last pair in the slot in which it came.
-    pub(crate) fn new(pair: TagPair) -> LastPair
-        ensures { result ≡ record { pair = pair; age = 0 } }
+impl StoredLastSegments {
+    /// Makes it without a segment.
+    pub(crate) fn none() -> StoredLastSegments
+        ensures { (c : ℕ) → c < 18 → (cell_in result c).left ≡ 0 }
     {
-        LastPair { pair, age: 0 }
-    }
-
-    /// Returns whether it is this pair.
-    pub(crate) fn is(&self, pair: TagPair) -> bool
-        ensures { IsTrue result ↔ (self.now.pair ≡ pair) }
-    {
-        self.pair == pair
-    }
-}
-
-/// Returns the last pair one slot later. It is forgotten at the window, in slots.
-pub(crate) fn older_pair(last: Option<LastPair>, window: u16) -> Option<LastPair>
-    ensures { result ≡ state.pair_older window last }
-{
-    let last = last?;
-    if u32::from(last.age) + 1 < u32::from(window) {
-        return Some(LastPair {
-            pair: last.pair,
-            age: last.age + 1,
-        });
-    }
-    None
-}
-
-/// Returns the last segment one slot later. It is forgotten at the window, in slots.
-fn older_segment(last: Option<LastSegment>, window: u16) -> Option<LastSegment>
-    ensures { result ≡ state.segment_older window last }
-{
-    let last = last?;
-    let bytes = last.bytes;
-    if u32::from(last.age) + 1 < u32::from(window) {
-        return Some(LastSegment {
-            flag: last.flag,
-            bytes,
-            age: last.age + 1,
-        });
-    }
-    None
-}
-
-/// Returns the last segments one slot later.
-fn older_segments(
-    last: &[Option<LastSegment>; ADDRESSES],
-    window: u16,
-) -> [Option<LastSegment>; ADDRESSES]
-    ensures { result ≡ map (state.segment_older window) last.now }
-{
-    let mut older = [None; ADDRESSES];
-    for i in 0..ADDRESSES {
-        older[i] = older_segment(last[i], window);
-    }
-    older
-}
-
-/// The last segments heard, one at each address.
-#[derive(Drop)]
-pub(crate) struct LastSegments {
-    at: [Option<LastSegment>; ADDRESSES],
-}
-
-impl Model for LastSegments {
-    ghost use Rattle.std.specs.Prelude.{◌≡◌, List, Option, length};
-    ghost use Rattle.rds_receiver.specs.declared.last.LastSegment.{LastSegment};
-
-    ghost Value = { List (Option LastSegment) };
-
-    ghost view = { λ s. s.at };
-
-    ghost invariant = { λ s. length s.at ≡ 16 };
-}
-
-impl LastSegments {
-    /// Makes it with no segment at any address.
-    pub(crate) fn new() -> LastSegments
-        ensures { result ≡ replicate 16 None }
-    {
-        LastSegments {
-            at: [None; ADDRESSES],
+        StoredLastSegments {
+            flags: 0,
+            bytes: [[0; 4]; CELLS],
+            left: [0; CELLS],
         }
     }
 
-    /// Ages all segments by one slot. Each is forgotten at the window, in slots.
-    pub(crate) fn grow_older(&mut self, window: u16)
-        ensures { self.new ≡ map (state.segment_older window) self.old }
+    /// Ages all segments by one slot.
+    pub(crate) fn grow_older(&mut self)
+        ensures { (c : ℕ) → c < 18 → cell_in self.new c ≡ one_slot_older (cell_in self.old c) }
     {
-        let older = older_segments(&self.at, window);
-        self.at = older;
+        self.left = less_one(&self.left);
     }
 
-    /// Takes a segment. Returns whether the last one at its address was the same.
-    pub(crate) fn take(&mut self, flag: bool, address: u8, bytes: [u8; 4]) -> bool
-        requires { address < 16 }
-        ensures again { IsTrue result ↔ state.IsSegmentOf flag bytes (slice_index_or self.old address None) }
-        ensures taken { self.new ≡ slice_set self.old address (Some record { flag = flag; bytes = bytes; age = 0 }) }
+    /// Takes a segment into its cell. It confirms the same one within the window, in slots. Returns whether the last
+    /// segment of the cell confirms this one.
+    pub(crate) fn take(&mut self, cell: u8, flag: bool, bytes: [u8; 4], window: u8) -> bool
+        requires { cell < 18 }
+        ensures again { IsTrue result ↔ RepeatsSegment flag bytes (cell_in self.old cell) }
+        ensures taken { cell_in self.new cell ≡ record { flag = flag; bytes = bytes; left = window } }
+        ensures others { (c : ℕ) → c < 18 → c ≢ cell → cell_in self.new c ≡ cell_in self.old c }
     {
-        let last = self.at[address as usize];
-        self.at[address as usize] = Some(LastSegment {
-            flag,
-            bytes,
-            age: 0,
-        });
-        match last {
-            Some(last) => last.flag == flag && last.bytes == bytes,
-            None => false,
-        }
+        let again = self.confirms(cell, flag, bytes);
+        self.flags = with_bit(self.flags, cell, flag);
+        self.bytes[cell as usize] = bytes;
+        self.left[cell as usize] = window;
+        again
+    }
+
+    /// Returns whether the segment in the cell confirms this one.
+    fn confirms(&self, cell: u8, flag: bool, bytes: [u8; 4]) -> bool
+        requires { cell < 18 }
+        ensures { IsTrue result ↔ RepeatsSegment flag bytes (cell_in self.now cell) }
+    {
+        let has_flag = (self.flags >> cell & 1 == 1) == flag;
+        self.left[cell as usize] > 0
+            && has_flag
+            && is_same_segment(&self.bytes[cell as usize], &bytes)
+    }
+}
+
+/// Returns each number less one, and 0 for 0.
+fn less_one(left: &[u8; CELLS]) -> [u8; CELLS]
+    ensures { result ≡ map (λ n. n - 1) left.now }
+{
+    let mut less = [0; CELLS];
+    for i in 0..CELLS {
+        less[i] = left[i].saturating_sub(1);
+    }
+    less
+}
+
+/// Returns the flags, with this one for the cell.
+fn with_bit(flags: u32, cell: u8, flag: bool) -> u32
+    requires { cell < 18 }
+    ensures taken { (bit_at result cell == 1) ≡ flag }
+    ensures others { (c : ℕ) → c < 18 → c ≢ cell → bit_at result c ≡ bit_at flags c }
+{
+    if flag {
+        flags | 1 << cell
+    } else {
+        flags & !(1 << cell)
     }
 }

@@ -15,13 +15,21 @@
 mod held;
 mod last;
 mod laws;
+mod receive;
 mod receiver;
+mod shown;
 mod stored;
+mod stored_twice;
 mod twice;
 mod view;
+mod window;
 
-pub use laws::{one_view, run_is_the_longest};
+pub use last::StoredLastSegments;
+pub use laws::{confirmed_messages_have_a_receiver, one_view, run_is_the_longest};
+pub use receive::Receive;
 pub use receiver::{Receiver, heard, heard_blocks};
 pub use stored::{StoredReceiver, StoredSegments};
+pub use stored_twice::StoredTwice;
 pub use twice::TwiceReceiver;
 pub use view::View;
+pub use window::Window;

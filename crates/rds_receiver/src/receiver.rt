@@ -1,20 +1,18 @@
 //! The receiver: it handles slot after slot and returns what it shows.
-ghost use Rattle.std.specs.Prelude.{◌≡◌, ◌+◌, ◌<◌, ◌≤◌, ◌↔◌, []};
-ghost use Rattle.std.specs.Prelude.{ℕ, List, Option, IsFalse, IsTrue, IfSome, length};
+ghost use Rattle.std.specs.Prelude.{◌≡◌, ◌<◌, ◌≤◌, [], ℕ, Option, None, IsFalse, IfSome, length};
 ghost use Rattle.std.specs.Option.{option_copied};
 ghost use Rattle.rds_block.specs.declared.group.Group.{Group};
 ghost use Rattle.rds_fields.specs.declared.message.Message.{Message};
 ghost use Rattle.rds_receiver.specs.Borrowed.{borrowed_tag, view_of};
 ghost use Rattle.rds_receiver.specs.Receipts.{Hears};
-ghost use Rattle.rds_receiver.specs.Shown.{IsItemShown, IsNameShown, IsShortText, IsTagShown, IsTextShown, IsView};
-ghost use Rattle.rds_receiver.specs.StandsAt.{HearsMore, HoldsAt, KeepsView, ShowsAlike, StandsAt, TakesSlot};
-ghost use Rattle.rds_receiver.specs.StandsAt.{WhatItHeard, WhereItStands, newest_slot};
+ghost use Rattle.rds_receiver.specs.Shown.{IsItemShown, IsNameShown, IsTagShown, IsTextShown, IsView};
+ghost use Rattle.rds_receiver.specs.StandsAt.{KeepsView, StandsAt, TakesSlot, WhatItHeard, WhereItStands};
 ghost use Rattle.rds_receiver.specs.Stored.{IsStored, receiver_stored};
-ghost use Rattle.rds_receiver.specs.Tags.{item_of, pair_held, tag_of};
+ghost use Rattle.rds_receiver.specs.Tags.{pair_held};
 
 use crate::View;
+use crate::shown::{shown_item, shown_tag};
 use crate::stored::{StoredReceiver, StoredSegments};
-use rds_assembly::{RadioText, TypeName};
 use rds_block::{Blocks, Group};
 use rds_fields::{Dwell, Message, StoredPair, TagPair, Which};
 use std::marker::Model;
@@ -64,7 +62,7 @@ impl Receiver {
     /// Makes a receiver of this programme that has heard nothing yet.
     pub fn new(pi: u16, dwell: Dwell) -> Receiver
         ensures stands { (first : ℕ)
-            → StandsAt record { programme = pi; dwell = dwell; first = first } result [] }
+            → StandsAt record { programme = pi; dwell = dwell; window = None; first = first } result [] }
     {
         let slots = dwell.get();
         Receiver {
@@ -120,15 +118,7 @@ impl Receiver {
     pub fn view(&self) -> View<'_>
         ensures { WhereItStands self.now (λ t input. IsView t input (view_of result)) }
     {
-        let text = self.text();
-        // Prover: the pair is asked for again in place of a copy (docs/PROVER.md, "Workarounds").
-        View {
-            text,
-            name: self.name(),
-            item: shown_item(text, self.pair()),
-            one: shown_tag(text, self.pair(), Which::One),
-            two: shown_tag(text, self.pair(), Which::Two),
-        }
+        self.state.view()
     }
 
     /// Returns the text shown, at most 64 bytes, borrowed from the receiver. `None` if no text is shown; `Some` of no
@@ -138,7 +128,7 @@ impl Receiver {
             (λ m first heard. IsTextShown m first heard (option_copied result)) }
         ensures short { IfSome result (λ x. length x.now ≤ 64) }
     {
-        self.state.text.whole::<RadioText>()
+        self.state.shown_text()
     }
 
     /// Returns the programme type name shown, eight bytes, borrowed from the receiver. `None` if no name is shown.
@@ -147,7 +137,7 @@ impl Receiver {
             (λ m first heard. IsNameShown m first heard (option_copied result)) }
         ensures short { IfSome result (λ x. length x.now ≡ 8) }
     {
-        self.state.name.whole::<TypeName>()
+        self.state.shown_name()
     }
 
     /// Returns the item toggle bit and the item running bit. `None` if no text is shown or no pair of tags is held.
@@ -174,70 +164,4 @@ impl Receiver {
     {
         self.state.pair.pair()
     }
-
-    /// Returns the programme (PI).
-    pub(crate) fn pi(&self) -> u16
-        ensures { result ≡ self.now.programme }
-    {
-        self.state.pi
-    }
-
-    /// Returns whether segments of a text are held.
-    pub(crate) fn holds_text(&self) -> bool
-        ensures { IsTrue result ↔ (self.now.text.age < self.now.dwell) }
-    {
-        self.state.text.is_held(self.state.dwell)
-    }
-
-    /// Returns whether the segments of a text have this flag.
-    pub(crate) fn has_flag(&self, flag: bool) -> bool
-        ensures { IsTrue result ↔ (self.now.text.flag ≡ flag) }
-    {
-        self.state.text.has_flag(flag)
-    }
-
-    /// Ages the segments by one slot. Drops the pair if no segment of a text is held any more. If it returns false, all
-    /// that is shown stays the same.
-    pub(crate) fn grow_older(&mut self) -> bool
-        ensures programme { self.new.programme ≡ self.old.programme }
-        ensures holds { (m first : ℕ) (heard : List (Option Message))
-            → HoldsAt m (newest_slot first heard) first self.old heard
-            → HoldsAt m (first + length heard) first self.new heard }
-        ensures same { IsFalse result → ShowsAlike self.old self.new }
-    {
-        self.state.grow_older()
-    }
-
-    /// Handles a message of the programme. If it returns false, all that is shown stays the same.
-    #[inline(always)]
-    pub(crate) fn hear(&mut self, message: Message) -> bool
-        ensures programme { self.new.programme ≡ self.old.programme }
-        ensures holds { HearsMore self.old self.new message }
-        ensures same { IsFalse result → ShowsAlike self.old self.new }
-    {
-        self.state.hear(message)
-    }
-}
-
-/// Returns the item bits of a pair. `None` without a text or a pair.
-fn shown_item(text: Option<&[u8]>, pair: Option<TagPair>) -> Option<(bool, bool)>
-    ensures { result ≡ item_of (option_copied text.entry) pair }
-{
-    text?;
-    let pair = pair?;
-    Some((pair.toggle(), pair.running()))
-}
-
-/// Returns the class of a tag of a pair and its piece of the text, borrowed from the text. `None` without a text or a
-/// pair, if the tag is the dummy, and if it does not end in the text.
-fn shown_tag(text: Option<&[u8]>, pair: Option<TagPair>, which: Which) -> Option<(u8, &[u8])>
-    requires { IsShortText text }
-    ensures shown { borrowed_tag result ≡ tag_of which (option_copied text.entry) pair }
-    ensures class { IfSome result (λ tag. tag.0 < 64) }
-    ensures short { IfSome result (λ tag. length tag.1.now ≤ 64) }
-{
-    let text = text?;
-    let tag = pair?.tag(which);
-    let piece = tag.piece_in(text)?;
-    Some((tag.class(), piece))
 }

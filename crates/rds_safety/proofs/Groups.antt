@@ -85,7 +85,7 @@ sent_heard station (Some m ∷ log) (Some g ∷ sent) h = (inl (h.0.head.pi, h.0
 
 pub groups_listen : OneMessage → (station : Head) (k m t : ℕ) (log : List (Option Message)) (sent : List (Option Group)) (input : InputOf Group) (view : ShownView)
     → AllZip (IsSent station) log sent → IsHeardLate k sent input → input.first + length input.heard ≡ t + 1
-    → (v : IsView record { programme = station.pi; dwell = m; first = input.first } input.heard view)
+    → (v : IsView record { programme = station.pi; dwell = m; window = None; first = input.first } input.heard view)
     → ListensTo k m t log record { input = record { first = input.first; heard = v.0; origins = input.origins }; view = view }
 groups_listen one station k m t log sent input view zip late now v = record {
   late = late_as_messages one station.pi k input.first sent input.heard input.origins log v.0 (sent_heard station log sent zip) v.1 late;
@@ -95,7 +95,7 @@ groups_listen one station k m t log sent input view zip late now v = record {
 
 pub groups_listen_by_own_clock : OneMessage → (station : Head) (d m now : ℕ) (log : List (Option Message)) (sent : List (Option Group)) (input : InputOf Group) (view : ShownView)
     → AllZip (IsSent station) log sent → IsHeardByOwnClock d m now sent input
-    → (v : IsView record { programme = station.pi; dwell = m; first = input.first } input.heard view)
+    → (v : IsView record { programme = station.pi; dwell = m; window = None; first = input.first } input.heard view)
     → ListensByOwnClock d m now log record { input = record { first = input.first; heard = v.0; origins = input.origins }; view = view }
 groups_listen_by_own_clock one station d m now log sent input view zip hears v = record {
   heard = record {

@@ -1,5 +1,5 @@
--- Lemmas: no spacing below the dwell and the lateness of two receipts is enough, and none for receivers that show what
--- they heard once. The plan and the log are those of proofs/Least: `AAAACCC` is on air in slot 0 alone, and `BBBBDDD`
+-- Lemmas: no spacing below the dwell and the lateness of two receipts is enough. For receivers that show what they heard
+-- once, none is enough. The plan and the log are those of proofs/Least: `AAAACCC` is on air in slot 0 alone, and `BBBBDDD`
 -- in slot j + 1 alone. The receiver gets the first segment of `AAAACCC` k slots late, and a wrong copy of it w - 1 slots
 -- after that. It gets the second segment of `BBBBDDD` in slot j + 1, and a wrong copy of it in the slot before. So both
 -- are confirmed less than a dwell apart, and it shows `AAAADDD`.
@@ -24,37 +24,37 @@ use Rattle.rds_safety.proofs.Least.{first_fragment, first_message, first_sent, f
 use Rattle.rds_safety.proofs.OnTime.{input_of}
 
 -- nothing in n slots
-abbrev gap : {X : Type 0} → ℕ → List (Option X) → List (Option X)
+abbrev pub gap : {X : Type 0} → ℕ → List (Option X) → List (Option X)
 gap zero xs = xs
 gap (suc n) xs = None ∷ gap n xs
 
-gap_long : {X : Type 0} (n : ℕ) (xs : List (Option X)) → length (gap n xs) ≡ n + length xs
+pub gap_long : {X : Type 0} (n : ℕ) (xs : List (Option X)) → length (gap n xs) ≡ n + length xs
 gap_long zero xs = omega arith
 gap_long (suc n) xs = (let e = gap_long n xs in omega arith)
 
-gap_has : {X : Type 0} (first n : ℕ) (xs : List (Option X)) (t : ℕ) (x : X) → HasEntry first (gap n xs) t (Some x) → HasEntry first xs t (Some x)
+pub gap_has : {X : Type 0} (first n : ℕ) (xs : List (Option X)) (t : ℕ) (x : X) → HasEntry first (gap n xs) t (Some x) → HasEntry first xs t (Some x)
 gap_has first zero xs t x a = a
 gap_has first (suc n) xs t x (inl a) = (let bad = a.1 in absurd (cc))
 gap_has first (suc n) xs t x (inr a) = gap_has first n xs t x a
 
-has_gap : {X : Type 0} (first n : ℕ) (xs : List (Option X)) (t : ℕ) (x : Option X) → HasEntry first xs t x → HasEntry first (gap n xs) t x
+pub has_gap : {X : Type 0} (first n : ℕ) (xs : List (Option X)) (t : ℕ) (x : Option X) → HasEntry first xs t x → HasEntry first (gap n xs) t x
 has_gap first zero xs t x a = a
 has_gap first (suc n) xs t x a = inr (has_gap first n xs t x a)
 
-gap_texts : (first n : ℕ) (xs : List (Option Message)) → segments text_fragment first (gap n xs) ≡ segments text_fragment first xs
+pub gap_texts : (first n : ℕ) (xs : List (Option Message)) → segments text_fragment first (gap n xs) ≡ segments text_fragment first xs
 gap_texts first zero xs = refl
 gap_texts first (suc n) xs = gap_texts first n xs
 
-gap_names : (first n : ℕ) (xs : List (Option Message)) → segments name_fragment first (gap n xs) ≡ segments name_fragment first xs
+pub gap_names : (first n : ℕ) (xs : List (Option Message)) → segments name_fragment first (gap n xs) ≡ segments name_fragment first xs
 gap_names first zero xs = refl
 gap_names first (suc n) xs = gap_names first n xs
 
-gap_confirmed : (w m first n : ℕ) (xs : List (Option Message)) → confirmed w m first (gap n xs) ≡ gap n (confirmed w m first xs)
+pub gap_confirmed : (w m first n : ℕ) (xs : List (Option Message)) → confirmed w m first (gap n xs) ≡ gap n (confirmed w m first xs)
 gap_confirmed w m first zero xs = refl
 gap_confirmed w m first (suc n) xs = ap (λ (ys : List (Option Message)). None ∷ ys) (gap_confirmed w m first n xs)
 
 -- what the receiver got from slot k on: the first segment and its wrong copy, the wrong copy of the last segment and it
-abbrev one : List (Option Message)
+abbrev pub one : List (Option Message)
 one = first_message ∷ []
 
 abbrev two : ℕ → List (Option Message)
@@ -79,7 +79,7 @@ three_long : (a b : ℕ) → length (three a b) ≡ a + b + 3
 three_long a b = (let e = gap_long b (two a) in let f = two_long a in omega arith)
 
 -- of it the second and the fourth are confirmed
-abbrev nothing : List (Option Message)
+abbrev pub nothing : List (Option Message)
 nothing = None ∷ []
 
 abbrev two_left : ℕ → List (Option Message)
@@ -167,10 +167,10 @@ shows_mix k a b = record {
 }
 
 -- where each message came from
-abbrev first_text : Message
+abbrev pub first_text : Message
 first_text = Text false 0 (four 65)
 
-abbrev last_text : Message
+abbrev pub last_text : Message
 last_text = Text false 1 (three_and_end 68)
 
 origin_is : (k a b j t s : ℕ) → CameFrom (raw k a b j) t s → ((t ≡ k + (a + b + 3)) × (s ≡ j + 1)) ⊎ ((t ≡ k) × (s ≡ 0))
@@ -255,7 +255,7 @@ with_wrong k a b = record {
       | inr o ↦ elim (origin_is k a b (k + a + b + 2) u s q) [ inl v ↦ omega (arith, o.1, v.1) | inr v ↦ absurd (omega (arith, o.0, v.0, l)) ]
     ]
 
-texts_differ : first_text ≡ last_text → ⊥
+pub texts_differ : first_text ≡ last_text → ⊥
 texts_differ e = cc
 
 once_each : (k a b j : ℕ) → NoneWrongTwice (a + 2) (raw k a b j)
@@ -276,7 +276,7 @@ once_each k a b j t u message needs l soon p q = elim (heard_is k a b t message 
   ]
 ]
 
--- it shows the view of what is confirmed
+-- it shows the view of the confirmed messages
 abbrev receiver : ℕ → ℕ → ℕ → ℕ → Listener
 receiver k a b j = record { input = confirmed_input (a + 2) (b + 3) (raw k a b j); view = mixed_view k a b }
 

@@ -3,6 +3,7 @@ pub mod Hearing
 pub mod Told
 pub mod OneBroadcast
 pub mod Bytes
+pub mod Counts
 pub mod Sources
 pub mod Pairs
 pub mod Twice
@@ -12,6 +13,7 @@ pub mod OwnClocks
 pub mod Groups
 pub mod Least
 pub mod LeastTwice
+pub mod LeastTwiceAtTwo
 pub mod LooserClocks
 pub mod HeldWhole
 pub mod TwiceDelivery

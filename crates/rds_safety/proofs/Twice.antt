@@ -1,5 +1,5 @@
--- Lemmas: what is confirmed is near the log, although it may come out of order, since one of the two receipts of each
--- segment and each pair of tags was sent.
+-- Lemmas: the confirmed messages are near the log, although they may come out of order, since of the two receipts of a
+-- segment or a pair of tags one was sent.
 use Rattle.std.proofs.Common.{◌≡◌, ◌+◌, ◌-◌, ◌<◌, ◌≤◌, ◌&&◌, ◌==◌, ℕ, suc, Bool, true, false, List, [], ◌∷◌, length, Option, Some, None, refl, sym, ap, ◌∙◌, subst, inl, inr, arith}
 use Rattle.std.specs.Prelude.{bytes_eq, nat_eq, nat_lt}
 use Rattle.std.specs.List.{AllByRecursion}
@@ -7,10 +7,11 @@ use Rattle.std.proofs.lemmas.Bool.{and_parts, cond_both, cond-false, cond-true, 
 use Rattle.std.proofs.lemmas.Slice.Eq.{bytes_eq-Decides}
 use Rattle.rds_fields.specs.declared.message.Message.{Message}
 use Rattle.rds_fields.specs.declared.message.Message.TheVariants.{Text, Name, Announce, Tags, Other}
-use Rattle.rds_fields.specs.Tag.{PairFields, TagFields}
+use Rattle.rds_fields.specs.Tag.{PairFields}
 use Rattle.rds_receiver.specs.Receipts.{Fragment, Segment, name_fragment, picked, segments, text_fragment, with_segment}
 use Rattle.rds_receiver.specs.Run.{begins_in, is_same, run, run_at, run_before}
-use Rattle.rds_receiver.specs.Twice.{confirmed, if_confirmed, last_at, last_pair, needs_two, pair_again, receipt_before, same_pair, same_tag, segment_again}
+use Rattle.rds_receiver.specs.Twice.{confirmed, if_confirmed, last_at, last_pair, needs_two, pair_again, receipt_before, same_pair, segment_again}
+use Rattle.rds_receiver.specs.TwiceLemmas.{confirmed_long, one_pair}
 use Rattle.rds_safety.specs.Flags.{same_flag}
 use Rattle.rds_safety.specs.Late.{CameFrom, HasEntry, Input, SentIn}
 use Rattle.rds_safety.specs.Near.{IsHeard, IsHeardNear, IsOfItsOriginIfMarked, IsUnmarked, ListensNear}
@@ -19,27 +20,6 @@ use Rattle.rds_safety.specs.Safe.{Listener}
 use Rattle.rds_safety.specs.Twice.{IsHeardWithWrong, NoneWrongTwice, ListensTwice, confirmed_input, lateness_of_two, origin_in, origin_of_two, origins_of_two}
 use Rattle.rds_safety.proofs.Entries.{before_end, entry_beside, one_entry}
 use Rattle.rds_safety.proofs.Hearing.{IsPicked, all_picked}
-
--- the tests decide equality
-one_tag : (x y : TagFields) → same_tag x y ≡ true → x ≡ y
-one_tag x y t =
-    let parts = and_parts (x.class == y.class) (x.start == y.start && x.extra == y.extra) t in
-    let rest = and_parts (x.start == y.start) (x.extra == y.extra) parts.1 in
-    let class : x.class ≡ y.class = eqb-true x.class y.class parts.0 in
-    let start : x.start ≡ y.start = eqb-true x.start y.start rest.0 in
-    let extra : x.extra ≡ y.extra = eqb-true x.extra y.extra rest.1 in
-    λ i. record { class = class i; start = start i; extra = extra i }
-
-one_pair : (p q : PairFields) → same_pair p q ≡ true → p ≡ q
-one_pair p q t =
-    let parts = and_parts (is_same p.toggle q.toggle && is_same p.running q.running) (same_tag p.one q.one && same_tag p.two q.two) t in
-    let bits = and_parts (is_same p.toggle q.toggle) (is_same p.running q.running) parts.0 in
-    let tags = and_parts (same_tag p.one q.one) (same_tag p.two q.two) parts.1 in
-    let toggle : p.toggle ≡ q.toggle = same_flag p.toggle q.toggle bits.0 in
-    let running : p.running ≡ q.running = same_flag p.running q.running bits.1 in
-    let one : p.one ≡ q.one = one_tag p.one q.one tags.0 in
-    let two : p.two ≡ q.two = one_tag p.two q.two tags.1 in
-    λ i. record { toggle = toggle i; running = running i; one = one i; two = two i }
 
 -- the last segment at an address is one of the segments, and has the address
 record IsLast (P : Segment → Type 0) (a : ℕ) (g : Segment) : Type 0 where
@@ -135,50 +115,40 @@ pub record IsRepeated (w n first : ℕ) (before : List (Option Message)) (messag
   pub came : HasEntry first before u (Some message)
   pub soon : n < u + w
 
--- the message of a text fragment
-pub text_message : (message : Message) (p : Fragment) → text_fragment message ≡ Some p → message ≡ Text p.flag p.address p.bytes
+-- the message of a fragment
+text_message : (message : Message) (p : Fragment) → text_fragment message ≡ Some p → message ≡ Text p.flag p.address p.bytes
 text_message (Text f a b) p e = (let same : record { flag = f; address = a; bytes = b } ≡ p = cc in ap (λ (q : Fragment). Text q.flag q.address q.bytes) same)
 text_message (Name f a b) p e = absurd (cc)
 text_message (Announce code bits aid) p e = absurd (cc)
 text_message (Tags pair) p e = absurd (cc)
 text_message Other p e = absurd (cc)
 
-text_repeated : (w n first : ℕ) (before : List (Option Message)) (f : Bool) (a : ℕ) (b : List ℕ) (u : ℕ) → segment_again w n f b (last_at a (segments text_fragment first before)) ≡ Some u
-    → IsRepeated w n first before (Text f a b) u
-text_repeated w n first before f a b u e = by (segment_is_again w n f b (last_at a (segments text_fragment first before)) u e)
+name_message : (message : Message) (p : Fragment) → name_fragment message ≡ Some p → message ≡ Name p.flag p.address p.bytes
+name_message (Text f a b) p e = absurd (cc)
+name_message (Name f a b) p e = (let same : record { flag = f; address = a; bytes = b } ≡ p = cc in ap (λ (q : Fragment). Name q.flag q.address q.bytes) same)
+name_message (Announce code bits aid) p e = absurd (cc)
+name_message (Tags pair) p e = absurd (cc)
+name_message Other p e = absurd (cc)
+
+-- a segment that the last one at its address confirms was repeated
+segment_repeated : (pick : Message → Option Fragment) (make : Bool → ℕ → List ℕ → Message) → ((message : Message) (p : Fragment) → pick message ≡ Some p → message ≡ make p.flag p.address p.bytes)
+    → (w n first : ℕ) (before : List (Option Message)) (f : Bool) (a : ℕ) (b : List ℕ) (u : ℕ) → segment_again w n f b (last_at a (segments pick first before)) ≡ Some u
+    → IsRepeated w n first before (make f a b) u
+segment_repeated pick make message_is w n first before f a b u e = by (segment_is_again w n f b (last_at a (segments pick first before)) u e)
   where
-    by : (g : Segment) × (last_at a (segments text_fragment first before) ≡ Some g) × IsAgain w n f b g u → IsRepeated w n first before (Text f a b) u
+    by : (g : Segment) × (last_at a (segments pick first before) ≡ Some g) × IsAgain w n f b g u → IsRepeated w n first before (make f a b) u
     by (g, is_last, again) =
-        let l = last_is text_fragment first before a (segments text_fragment first before) g (all_picked text_fragment first before) is_last in
+        let l = last_is pick first before a (segments pick first before) g (all_picked pick first before) is_last in
         let flag : g.fragment.flag ≡ f = sym again.flag in
         let bytes : g.fragment.bytes ≡ b = sym again.bytes in
-        let same : l.holds.message ≡ Text f a b = text_message l.holds.message g.fragment l.holds.fragment ∙ (λ i. Text (flag i) (l.address i) (bytes i)) in
-        record { came = subst (λ (v : ℕ). HasEntry first before v (Some (Text f a b))) (sym again.slot) (subst (λ (x : Message). HasEntry first before g.slot (Some x)) same l.holds.came); soon = again.soon }
-
-name_repeated : (w n first : ℕ) (before : List (Option Message)) (f : Bool) (a : ℕ) (b : List ℕ) (u : ℕ) → segment_again w n f b (last_at a (segments name_fragment first before)) ≡ Some u
-    → IsRepeated w n first before (Name f a b) u
-name_repeated w n first before f a b u e = by (segment_is_again w n f b (last_at a (segments name_fragment first before)) u e)
-  where
-    message_is : (message : Message) (p : Fragment) → name_fragment message ≡ Some p → message ≡ Name p.flag p.address p.bytes
-    message_is (Text f' a' b') p e = absurd (cc)
-    message_is (Name f' a' b') p e = (let same : record { flag = f'; address = a'; bytes = b' } ≡ p = cc in ap (λ (q : Fragment). Name q.flag q.address q.bytes) same)
-    message_is (Announce code bits aid) p e = absurd (cc)
-    message_is (Tags pair) p e = absurd (cc)
-    message_is Other p e = absurd (cc)
-
-    by : (g : Segment) × (last_at a (segments name_fragment first before) ≡ Some g) × IsAgain w n f b g u → IsRepeated w n first before (Name f a b) u
-    by (g, is_last, again) =
-        let l = last_is name_fragment first before a (segments name_fragment first before) g (all_picked name_fragment first before) is_last in
-        let flag : g.fragment.flag ≡ f = sym again.flag in
-        let bytes : g.fragment.bytes ≡ b = sym again.bytes in
-        let same : l.holds.message ≡ Name f a b = message_is l.holds.message g.fragment l.holds.fragment ∙ (λ i. Name (flag i) (l.address i) (bytes i)) in
-        record { came = subst (λ (v : ℕ). HasEntry first before v (Some (Name f a b))) (sym again.slot) (subst (λ (x : Message). HasEntry first before g.slot (Some x)) same l.holds.came); soon = again.soon }
+        let same : l.holds.message ≡ make f a b = message_is l.holds.message g.fragment l.holds.fragment ∙ (λ i. make (flag i) (l.address i) (bytes i)) in
+        record { came = subst (λ (v : ℕ). HasEntry first before v (Some (make f a b))) (sym again.slot) (subst (λ (x : Message). HasEntry first before g.slot (Some x)) same l.holds.came); soon = again.soon }
 
 -- a message that needs two receipts and has a receipt before was repeated
 repeated : (w m first : ℕ) (before : List (Option Message)) (message : Message) (u : ℕ) → receipt_before w m first before (confirmed w m first before) (Some message) ≡ Some u
     → needs_two message ≡ true → IsRepeated w (first + length before) first before message u
-repeated w m first before (Text f a b) u e needs = text_repeated w (first + length before) first before f a b u e
-repeated w m first before (Name f a b) u e needs = name_repeated w (first + length before) first before f a b u e
+repeated w m first before (Text f a b) u e needs = segment_repeated text_fragment (λ f a b. Text f a b) text_message w (first + length before) first before f a b u e
+repeated w m first before (Name f a b) u e needs = segment_repeated name_fragment (λ f a b. Name f a b) name_message w (first + length before) first before f a b u e
 repeated w m first before (Tags pair) u e needs =
     let again = pair_is_again w (first + length before) pair _ _ u e in
     record { came = last_pair_came first before u pair again.is_last; soon = again.soon }
@@ -194,11 +164,7 @@ own_receipt w m first before (Tags pair) u e needs = absurd (cc)
 own_receipt w m first before (Announce code bits aid) u e needs = (let here : first + length before ≡ u = cc in sym here)
 own_receipt w m first before Other u e needs = (let here : first + length before ≡ u = cc in sym here)
 
--- as many entries are confirmed or not as were heard, and have an origin or not
-pub confirmed_long : (w m first : ℕ) (heard : List (Option Message)) → length (confirmed w m first heard) ≡ length heard
-confirmed_long w m first [] = refl
-confirmed_long w m first (x ∷ before) = ap suc (confirmed_long w m first before)
-
+-- as many entries have an origin or not as were heard
 origins_long : (w m first : ℕ) (heard : List (Option Message)) (origins : List (Option ℕ)) → length origins ≡ length heard → length (origins_of_two w m first heard origins) ≡ length heard
 origins_long w m first [] origins e = refl
 origins_long w m first (x ∷ before) [] e = absurd (omega arith)
@@ -464,7 +430,7 @@ tags_from w m first (x ∷ before) (own ∷ origins) t s since pair e begins lat
         let some : beside_it.0 ≡ Some s = sym (origin_in_is first origins u beside_it.0 beside_it.1) ∙ origin in
         record { slot = u; from = inr (subst (HasEntry first origins u) some beside_it.1); later = omega (arith, one_slot again.since since same, again.later) }
 
--- what is confirmed is near the log
+-- the confirmed messages are near the log
 pub confirmed_is_near : (w m k now : ℕ) (log : List (Option Message)) (raw : Input) → IsHeardWithWrong k log raw → NoneWrongTwice w raw → next_slot raw ≡ now + 1
     → IsHeardNear (m + lateness_of_two w k) m now log (confirmed_input w m raw)
 confirmed_is_near w m k now log raw heard once next = record {
@@ -514,27 +480,43 @@ own_kept w m first (x ∷ before) (own ∷ origins) u v r e (inl p) (inl q) = by
     by None is = absurd (cc)
     by (Some u) is = sym (one_slot v r is)
 
--- a text segment is confirmed if, among what was heard before, the last one at its address is the same and recent
-pub text_is_confirmed : (w m first : ℕ) (heard : List (Option Message)) (f : Bool) (a : ℕ) (b : List ℕ) (t : ℕ) → HasEntry first heard t (Some (Text f a b))
+-- the receipt of a segment is that of the last one at its address
+abbrev pub HasReceipts : (Message → Option Fragment) → Type 0
+HasReceipts pick =
+    (w m first : ℕ) (before confirms : List (Option Message)) (message : Message) (p : Fragment) → pick message ≡ Some p
+    → receipt_before w m first before confirms (Some message) ≡ segment_again w (first + length before) p.flag p.bytes (last_at p.address (segments pick first before))
+
+pub text_receipts : HasReceipts text_fragment
+text_receipts w m first before confirms message p picks =
+    ap (λ (x : Message). receipt_before w m first before confirms (Some x)) (text_message message p picks)
+
+pub name_receipts : HasReceipts name_fragment
+name_receipts w m first before confirms message p picks =
+    ap (λ (x : Message). receipt_before w m first before confirms (Some x)) (name_message message p picks)
+
+-- a segment is confirmed if, among what was heard before, the last one at its address is the same and recent
+pub segment_is_confirmed : (pick : Message → Option Fragment) → HasReceipts pick → (w m first : ℕ) (heard : List (Option Message)) (message : Message) (p : Fragment) (t : ℕ) → pick message ≡ Some p
+    → HasEntry first heard t (Some message)
     → ((before : List (Option Message)) → ((u : ℕ) (x : Option Message) → HasEntry first before u x → HasEntry first heard u x)
     → ((u : ℕ) (x : Option Message) → u < t → HasEntry first heard u x → HasEntry first before u x)
-    → (u : ℕ) × (segment_again w t f b (last_at a (segments text_fragment first before)) ≡ Some u))
-    → HasEntry first (confirmed w m first heard) t (Some (Text f a b))
-text_is_confirmed w m first [] f a b t came again = absurd came
-text_is_confirmed w m first (x ∷ before) f a b t (inr came) again =
-    inr (text_is_confirmed w m first before f a b t came (λ older still back. again older (λ u y has. inr (still u y has)) (λ u y less has. back u y less (earlier u y less has))))
+    → (u : ℕ) × (segment_again w t p.flag p.bytes (last_at p.address (segments pick first before)) ≡ Some u))
+    → HasEntry first (confirmed w m first heard) t (Some message)
+segment_is_confirmed pick receipts w m first [] message p t picks came again = absurd came
+segment_is_confirmed pick receipts w m first (x ∷ before) message p t picks (inr came) again =
+    inr (segment_is_confirmed pick receipts w m first before message p t picks came (λ older still back. again older (λ u y has. inr (still u y has)) (λ u y less has. back u y less (earlier u y less has))))
   where
     earlier : (u : ℕ) (y : Option Message) → u < t → HasEntry first (x ∷ before) u y → HasEntry first before u y
-    earlier u y less (inl here) = absurd (omega (arith, less, here.0, before_end first before t (Some (Text f a b)) came))
+    earlier u y less (inl here) = absurd (omega (arith, less, here.0, before_end first before t (Some message) came))
     earlier u y less (inr has) = has
-text_is_confirmed w m first (x ∷ before) f a b t (inl came) again =
+segment_is_confirmed pick receipts w m first (x ∷ before) message p t picks (inl came) again =
     let some = again before (λ u y has. inr has) earlier in
     let here : t ≡ first + length before = came.0 in
-    let receipt : receipt_before w m first before (confirmed w m first before) (Some (Text f a b)) ≡ Some some.0 =
-    ap (λ (n : ℕ). segment_again w n f b (last_at a (segments text_fragment first before))) (sym here) ∙ some.1 in
+    let receipt : receipt_before w m first before (confirmed w m first before) (Some message) ≡ Some some.0 =
+    receipts w m first before (confirmed w m first before) message p picks
+    ∙ ap (λ (n : ℕ). segment_again w n p.flag p.bytes (last_at p.address (segments pick first before))) (sym here) ∙ some.1 in
     inl (
       omega (arith, here, confirmed_long w m first before),
-      sym (ap (λ (y : Option Message). if_confirmed (receipt_before w m first before (confirmed w m first before) y) y) (sym came.1) ∙ ap (λ (o : Option ℕ). if_confirmed o (Some (Text f a b))) receipt),
+      sym (ap (λ (y : Option Message). if_confirmed (receipt_before w m first before (confirmed w m first before) y) y) (sym came.1) ∙ ap (λ (o : Option ℕ). if_confirmed o (Some message)) receipt),
     )
   where
     earlier : (u : ℕ) (y : Option Message) → u < t → HasEntry first (x ∷ before) u y → HasEntry first before u y

@@ -2,7 +2,7 @@
 use Rattle.std.proofs.Common.{◌≡◌, ◌+◌, ◌<◌, ◌≤◌, ℕ, true, false, List, [], ◌∷◌, ◌++◌, take, drop, slice_index, Option, Some, None, refl, sym, ap, ◌∙◌, inl, inr, arith, replicate}
 use Rattle.rds_fields.specs.declared.message.Message.{Message}
 use Rattle.rds_fields.specs.declared.message.Message.TheVariants.{Text}
-use Rattle.rds_encoder.specs.Entries.{Entry, Restart, SetText, SetName, SetTags, Tick, text_moves}
+use Rattle.rds_encoder.specs.Entries.{Entry, SetText, Tick, text_moves}
 use Rattle.rds_encoder.specs.Plan.{Broadcast, Covers, HasNumber, plan_of}
 use Rattle.rds_encoder.specs.Sent.{sent_log}
 use Rattle.rds_receiver.specs.Receipts.{Segment, text_fragment}

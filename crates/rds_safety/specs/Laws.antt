@@ -1,5 +1,5 @@
 -- The laws about all plans, logs and inputs. Lists have the newest first.
-use Rattle.std.specs.Prelude.{◌≡◌, ◌+◌, ◌-◌, ◌<◌, ◌↔◌, ℕ, List, [], ◌∷◌, Option, Some, length}
+use Rattle.std.specs.Prelude.{◌≡◌, ◌+◌, ◌-◌, ◌<◌, ◌↔◌, ℕ, List, [], ◌∷◌, Option, None, Some, length}
 use Rattle.std.specs.List.{All, AllZip}
 use Rattle.rds_block.specs.declared.group.Group.{Group}
 use Rattle.rds_fields.specs.declared.head.Head.{Head}
@@ -114,7 +114,7 @@ WhoIsHandedGroupsListens =
     (station : Head) (k m t : ℕ) (log : List (Option Message)) (sent : List (Option Group)) (input : InputOf Group)
     (view : ShownView)
     → AllZip (IsSent station) log sent → IsHeardLate k sent input → input.first + length input.heard ≡ t + 1
-    → (v : IsView record { programme = station.pi; dwell = m; first = input.first } input.heard view)
+    → (v : IsView record { programme = station.pi; dwell = m; window = None; first = input.first } input.heard view)
     → ListensTo k m t log record {
       input = record { first = input.first; heard = v.0; origins = input.origins };
       view = view;
@@ -126,7 +126,7 @@ WhoIsHandedGroupsListensByOwnClock =
     (station : Head) (d m now : ℕ) (log : List (Option Message)) (sent : List (Option Group)) (input : InputOf Group)
     (view : ShownView)
     → AllZip (IsSent station) log sent → IsHeardByOwnClock d m now sent input
-    → (v : IsView record { programme = station.pi; dwell = m; first = input.first } input.heard view)
+    → (v : IsView record { programme = station.pi; dwell = m; window = None; first = input.first } input.heard view)
     → ListensByOwnClock d m now log record {
       input = record {
         first = input.first;

@@ -35,9 +35,9 @@ TagsFollowTheirText m input =
     (t u r s : ℕ) (pair : PairFields) → begins_in (text_run m input) ≡ Some t → t < u
     → HasEntry input.first input.heard u (Some (Tags pair)) → CameFrom input t r → CameFrom input u s → r < s
 
--- the input is near the log for a dwell of m when the station has reached slot `now`: entries that came less than m
--- slots apart, in either order, were sent less than d apart; one that came less than m slots ago was sent less than d
--- ago; no entry was sent later than `now`
+-- the input is near the log for a dwell of m when the station has reached slot `now`: an entry that came before another
+-- one, or less than m slots after it, was sent less than d slots after it; one that came less than m slots ago was sent
+-- less than d slots ago; no entry was sent later than `now`
 pub record IsHeardNear (d m now : ℕ) (log : List (Option Message)) (input : Input) : Type 0 where
   pub heard : IsHeard log input
   pub between : (t u r s : ℕ) → CameFrom input t r → CameFrom input u s → u < t + m → s < r + d

@@ -1,7 +1,7 @@
--- Inputs with wrong groups (this project's own rule). In each slot a receiver gets nothing, or an entry of the log that
--- was sent at most k slots before, in the order of sending, or a wrong message. A wrong message has no origin and may be
--- any message. The premise is that no segment and no pair of tags was wrong twice within w slots. Lists have the newest
--- first.
+-- Inputs with wrong groups (this project's own rule). In each slot a receiver gets one of three: nothing; an entry of
+-- the log that was sent at most k slots before, in the order of sending; or a wrong message. A wrong message has no
+-- origin, and may be any message. The premise is that no segment and no pair of tags is wrong twice within w slots.
+-- Lists have the newest first.
 use Rattle.std.specs.Prelude.{◌≡◌, ◌⊎◌, ◌+◌, ◌-◌, ◌<◌, ◌≤◌, ◌==◌, [], ◌∷◌}
 use Rattle.std.specs.Prelude.{ℕ, true, List, Option, Some, None, length, if◌then◌else◌}
 use Rattle.rds_fields.specs.declared.message.Message.{Message}
@@ -11,7 +11,8 @@ use Rattle.rds_safety.specs.Late.{CameFrom, HasEntry, Input, SentIn}
 use Rattle.rds_safety.specs.OwnClock.{next_slot}
 use Rattle.rds_safety.specs.Safe.{Listener}
 
--- each entry with an origin is that of the log in its origin, at most k slots late and in order; others may be wrong
+-- each entry with an origin is that of the log in its origin, at most k slots late and in order; an entry without an
+-- origin may be wrong
 pub record IsHeardWithWrong (k : ℕ) (log : List (Option Message)) (input : Input) : Type 0 where
   pub beside : length input.origins ≡ length input.heard
   pub each : (t s : ℕ) (entry : Option Message) → CameFrom input t s → HasEntry input.first input.heard t entry
@@ -25,7 +26,7 @@ pub record WasSent (input : Input) (t : ℕ) : Type 0 where
   pub slot : ℕ
   pub from : CameFrom input t slot
 
--- of two receipts of one segment, or one pair of tags, less than w slots apart, at least one is not wrong
+-- if one segment or one pair of tags came twice, less than w slots apart, at least one of the two is not wrong
 abbrev pub NoneWrongTwice : ℕ → Input → Type 0
 NoneWrongTwice w input =
     (t u : ℕ) (message : Message) → needs_two message ≡ true → t < u → u < t + w
@@ -37,7 +38,7 @@ abbrev pub origin_in : ℕ → List (Option ℕ) → ℕ → Option ℕ
 origin_in first [] u = None
 origin_in first (newest ∷ before) u = if u == first + length before then newest else origin_in first before u
 
--- the origin of a confirmed entry: its own, or else that of the receipt that confirms it
+-- the origin of a confirmed entry: its own; without one, that of the entry that confirms it
 abbrev pub origin_of_two : ℕ → List (Option ℕ) → Option ℕ → Option ℕ → Option ℕ
 origin_of_two first before own None = None
 origin_of_two first before (Some s) (Some u) = Some s
@@ -50,7 +51,7 @@ origins_of_two w m first (heard ∷ before) (own ∷ origins) =
     origin_of_two first origins own (receipt_before w m first before (confirmed w m first before) heard)
     ∷ origins_of_two w m first before origins
 
--- what of an input is confirmed, for a window of w slots and a dwell of m
+-- the input of the confirmed messages, for a window of w slots and a dwell of m
 abbrev pub confirmed_input : ℕ → ℕ → Input → Input
 confirmed_input w m input = record {
   first = input.first;
@@ -58,12 +59,12 @@ confirmed_input w m input = record {
   origins = origins_of_two w m input.first input.heard input.origins;
 }
 
--- how late what is confirmed may be: k slots, and the window less one
+-- how late a confirmed message may be: k slots, and the window less one
 abbrev pub lateness_of_two : ℕ → ℕ → ℕ
 lateness_of_two w k = k + (w - 1)
 
--- up to slot t the receiver of dwell m heard the log at most k slots late, with wrong messages, none of them twice
--- within w slots; it shows the view of what is confirmed
+-- up to slot t the receiver of dwell m heard the log at most k slots late and with wrong messages, none of them twice
+-- within w slots; it shows the view of the confirmed messages
 pub record ListensTwice (w k m t : ℕ) (log : List (Option Message)) (r : Listener) : Type 0 where
   pub raw : Input
   pub heard : IsHeardWithWrong k log raw
@@ -72,8 +73,8 @@ pub record ListensTwice (w k m t : ℕ) (log : List (Option Message)) (r : Liste
   pub confirmed : r.input ≡ confirmed_input w m raw
   pub shows : ShowsView m r.input.first r.input.heard r.view
 
--- up to slot t the receiver of dwell m heard the log at most k slots late, with at most one wrong message; it shows the
--- view of all that it heard
+-- up to slot t the receiver of dwell m heard the log at most k slots late and with at most one wrong message; it shows
+-- the view of all that it heard
 pub record ListensOnce (k m t : ℕ) (log : List (Option Message)) (r : Listener) : Type 0 where
   pub heard : IsHeardWithWrong k log r.input
   pub one : (u v : ℕ) (x y : Message) → HasEntry r.input.first r.input.heard u (Some x)

@@ -16,7 +16,9 @@ ghost use Rattle.rds_safety.specs.Laws.{NoSlotLateIsOnTime, OnTimeIsNoSlotLate, 
 ghost use Rattle.rds_safety.specs.Laws.{OneSlotLessMixesByOwnClock, OneSlotLessMixesForSlowClocks};
 ghost use Rattle.rds_safety.specs.Laws.{OneSlotLessMixesOnTime, PlanLaws, TheTrueClockIsNoSlotLate};
 ghost use Rattle.rds_safety.specs.TwiceLaws.{LawfulPlansAreSafeTwice, OneSlotLessMixesTwice};
+ghost use Rattle.rds_safety.specs.TwiceLaws.{OneSlotLessMixesTwiceAtTwo};
 ghost use Rattle.rds_safety.specs.TwiceLaws.{OneWrongMessageMixes, WhoHearsTwiceListensNear};
+ghost use Rattle.rds_safety.specs.TwiceLaws.{WhoHearsBothSegmentsTwiceShowsTheName};
 ghost use Rattle.rds_safety.specs.TwiceLaws.{WhoHearsEachSegmentTwiceShowsTheText, WhoIsHandedWrongGroupsListens};
 ghost use Rattle.rds_safety.specs.Laws.{WhoIsHandedGroupsListens, WhoIsHandedGroupsListensByOwnClock};
 
@@ -93,15 +95,23 @@ pub fn the_dwell_is_the_least()
     ensures slow_clock { OneSlotLessMixesForSlowClocks }
 {}
 
-/// States that receivers that get wrong groups are safe if they show only what they heard twice within w slots, and if
-/// nothing was wrong twice within w. Plans lawful for M + K + w - 1 are needed; one slot less is not enough. For
-/// receivers that show what they heard once, nothing is enough. A text is shown if each of its segments came twice.
+/// States what holds for receivers that get wrong groups and show only what they heard twice within W slots, if no
+/// segment and no pair of tags is wrong twice within W slots:
+///
+/// - plans lawful for M + K + W - 1 make each slot safe, and one slot less is not enough, if W > 1 and M > 2, or if W > 2
+///   and M = 2;
+/// - a text or name is shown if each of its segments came twice, less than W slots apart, within M slots of a broadcast
+///   in which the receiver heard nothing wrong and nothing late.
+///
+/// For a receiver that shows what it heard once, no spacing is enough (if M > 1).
 pub fn safe_if_heard_twice()
     ensures listens { WhoIsHandedWrongGroupsListens }
     ensures near { WhoHearsTwiceListensNear }
     ensures safe { LawfulPlansAreSafeTwice }
-    ensures shows { WhoHearsEachSegmentTwiceShowsTheText }
+    ensures text { WhoHearsEachSegmentTwiceShowsTheText }
+    ensures name { WhoHearsBothSegmentsTwiceShowsTheName }
     ensures least { OneSlotLessMixesTwice }
+    ensures least_at_two { OneSlotLessMixesTwiceAtTwo }
     ensures once { OneWrongMessageMixes }
 {
     plan_laws();

@@ -52,8 +52,10 @@ impl<R: TellingRead> Records<R> {
         }
     }
 
-    /// Returns whether the next record is complete without another read. It may say no although it is, and yes although
-    /// a line end between quotation marks is missing.
+    /// Returns whether the bytes that were read hold one more complete line that is not empty. If not, the next record
+    /// needs a read. If so, it needs one only if it has a line end between quotation marks.
+    ///
+    /// No clause says so; tests compare it with a plain count.
     pub(crate) fn has_next(&self) -> bool {
         let read = self.reader.get_ref().read_so_far();
         self.reader.position().byte() < read.complete()

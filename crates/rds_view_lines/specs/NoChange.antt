@@ -4,7 +4,8 @@ use Rattle.std.proofs.lemmas.Bool.{eq-eqb}
 use Rattle.std.proofs.lemmas.Slice.Eq.{bytes_eq-Decides}
 use Rattle.rds_assembly.specs.ServiceLaws.{no_name_of_none, no_text_of_none}
 use Rattle.rds_receiver.specs.Receipts.{Tuning}
-use Rattle.rds_receiver.specs.Shown.{IsView, ShownView}
+use Rattle.rds_receiver.specs.Shown.{IsView, ShownView, ShowsView}
+use Rattle.rds_receiver.specs.Twice.{counted_in}
 use Rattle.rds_view_lines.specs.Output.{change, is_same_item, is_same_tag, is_same_text, nothing_shown}
 
 -- an unchanged part has no line
@@ -28,5 +29,8 @@ no_change stamp v = rw (same_text v.text, same_text v.name, same_item v.item, sa
 
 -- before the first slot nothing is shown
 pub view_of_none : (t : Tuning) → IsView t [] nothing_shown
-view_of_none t =
-    ([], tt, record { text = no_text_of_none; name = no_name_of_none; item = refl; one = refl; two = refl })
+view_of_none t = ([], tt, by t.window)
+  where
+    by : (window : Option ℕ) → ShowsView t.dwell t.first (counted_in window t.dwell t.first []) nothing_shown
+    by None = record { text = no_text_of_none; name = no_name_of_none; item = refl; one = refl; two = refl }
+    by (Some w) = record { text = no_text_of_none; name = no_name_of_none; item = refl; one = refl; two = refl }

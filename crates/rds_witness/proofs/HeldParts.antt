@@ -1,5 +1,5 @@
 -- When what a stored receiver holds is a part of what another one holds, its runs are parts of the other's.
-use Rattle.std.proofs.Common.{◌≡◌, ◌⊎◌, ◌≤◌, ◌∷◌, [], ◌∙◌, ℕ, true, List, None, Option, Some, ap, arith, cond, inl, inr, length, nat_eq, refl, subst, sym}
+use Rattle.std.proofs.Common.{◌≡◌, ◌⊎◌, ◌≤◌, ◌∷◌, [], ◌∙◌, ℕ, true, List, Option, Some, ap, arith, cond, inl, inr, length, nat_eq, refl, subst, sym}
 use Rattle.std.specs.FinMap.{empty, get, get-empty, get-insert}
 use Rattle.std.specs.Cmp.{unsigned_tied}
 use Rattle.std.specs.Ordering.{nat_cmp}
@@ -13,11 +13,10 @@ use Rattle.rds_fields.specs.declared.message.Message.{Message}
 use Rattle.rds_log.specs.LogWrites.{tuned}
 use Rattle.rds_receiver.specs.OneView.{same_heard}
 use Rattle.rds_receiver.specs.Receipts.{AreHeard, Fragment, Segment, name_fragment, segments, text_fragment}
-use Rattle.rds_receiver.specs.Run.{begins_in, cells_of, run, run_at}
+use Rattle.rds_receiver.specs.Run.{cells_of, run, run_at}
 use Rattle.rds_receiver.specs.StandsAt.{HoldsRun, StandsAt, newest_slot}
-use Rattle.rds_receiver.specs.State.{ReceiverState}
 use Rattle.rds_receiver.specs.Stored.{receiver_stored, segments_stored}
-use Rattle.rds_receiver.specs.Tags.{is_known, pair_from, pair_held}
+use Rattle.rds_receiver.specs.Tags.{pair_held}
 use Rattle.rds_receiver.specs.declared.stored.StoredReceiver.{StoredReceiver}
 use Rattle.rds_receiver.specs.declared.stored.StoredSegments.{StoredSegments}
 use Rattle.rds_receiver.proofs.Runs.{run_at_newest}

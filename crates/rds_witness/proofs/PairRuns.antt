@@ -6,7 +6,7 @@ use Rattle.rds_fields.specs.declared.message.Message.{Message}
 use Rattle.rds_fields.specs.declared.message.Message.TheVariants.{Text}
 use Rattle.rds_log.specs.LogWrites.{tuned}
 use Rattle.rds_receiver.specs.OneView.{same_heard}
-use Rattle.rds_receiver.specs.Receipts.{AreHeard, Segment, Tuning, segments, text_fragment}
+use Rattle.rds_receiver.specs.Receipts.{AreHeard, Segment, segments, text_fragment}
 use Rattle.rds_receiver.specs.Run.{begins_in, run, run_at, run_before}
 use Rattle.rds_receiver.specs.StandsAt.{HasAge, HasFlag, HoldsRun, StandsAt, newest_slot}
 use Rattle.rds_receiver.specs.State.{HeldSegments, ReceiverState}

@@ -1,9 +1,8 @@
 -- Why a slot has no mix if receivers that hold all that others hold show nothing else than one that loses nothing.
-use Rattle.std.proofs.Common.{◌≡◌, ◌∙◌, ◌⊎◌, ◌+◌, ◌<◌, ◌≤◌, ◌∷◌, ℕ, Bool, false, true, List, None, Option, Some, ap, arith, inl, inr, length, refl, subst, sym}
+use Rattle.std.proofs.Common.{◌≡◌, ◌∙◌, ◌+◌, ◌<◌, ◌≤◌, ◌∷◌, ℕ, Bool, false, true, List, None, Option, Some, ap, arith, inl, inr, length, refl, subst, sym}
 use Rattle.std.specs.Prelude.{nat_le, if◌then◌else◌}
 use Rattle.std.proofs.lemmas.List.Elements.{All-contains}
 use Rattle.rds_block.specs.declared.group.Group.{Group}
-use Rattle.rds_fields.specs.declared.message.Message.{Message}
 use Rattle.rds_fields.specs.declared.pair.Which.{Which}
 use Rattle.rds_fields.specs.declared.pair.Which.TheVariants.{One, Two}
 use Rattle.rds_fields.specs.Tag.{PairFields}
@@ -11,16 +10,17 @@ use Rattle.rds_assembly.specs.Cells.{Cells}
 use Rattle.rds_assembly.specs.ServiceLaws.{one_name}
 use Rattle.rds_assembly.specs.Whole.{IsWholeName}
 use Rattle.rds_receiver.specs.OneView.{same_text_shown}
-use Rattle.rds_receiver.specs.Receipts.{AreHeard, Tuning}
+use Rattle.rds_receiver.specs.Receipts.{Tuning}
 use Rattle.rds_receiver.specs.Shown.{IsNameShown, IsShown, IsTextShown, IsView, ShownView, ShowsView}
 use Rattle.rds_receiver.specs.Stored.{receiver_stored}
 use Rattle.rds_fields.specs.Tag.{tag_in}
 use Rattle.rds_receiver.specs.Tags.{cut_by, pair_held, tag_of}
+use Rattle.rds_receiver.specs.TwiceLemmas.{shows_all}
 use Rattle.rds_witness.specs.Covered.{Covers, IsCovered, IsInputPart}
 use Rattle.rds_witness.specs.Lost.{got}
-use Rattle.rds_witness.specs.Mix.{Has, IsMix, Name, Shows, Tag, Text, Thing, until}
+use Rattle.rds_witness.specs.Mix.{Has, IsMix, Name, Tag, Text, Thing, until}
 use Rattle.rds_witness.specs.Part.{IsPairPart}
-use Rattle.rds_witness.specs.Search.{HasOnlySeen, HasViews, IsOfRun, IsReplaced, IsSeenBefore, IsTagOfRun, ShowOnlySeen, ShowsOnlySeen}
+use Rattle.rds_witness.specs.Search.{HasViews, IsReplaced, IsSeenBefore, IsTagOfRun, ShowOnlySeen, ShowsOnlySeen}
 use Rattle.rds_witness.specs.declared.burst.Burst.{Burst}
 use Rattle.rds_witness.specs.declared.covering.Lossy.{Lossy}
 use Rattle.rds_witness.proofs.KeptReceivers.{by_first}
@@ -57,32 +57,38 @@ shown_name : (cells : Cells) (shown : Option (List ℕ)) (x : List ℕ) → IsSh
 shown_name cells None x p q = absurd (p x q)
 shown_name cells (Some y) x p q = ap Some (one_name cells y x p q)
 
-module _ (t : Tuning) (one other : List (Option Group)) (part : IsInputPart t one other) (v w : ShownView) (is : IsView t one v) (is_other : IsView t other w) where
+module _ (t : Tuning) (one other : List (Option Group)) (part : IsInputPart t one other) (v w : ShownView) (alone : t.window ≡ None) (is : IsView t one v) (is_other : IsView t other w) where
+  view_of_one : ShowsView t.dwell t.first is.0 v
+  view_of_one = shows_all t one v alone is
+
+  view_of_other : ShowsView t.dwell t.first is_other.0 w
+  view_of_other = shows_all t other w alone is_other
+
   text_part : (x : List ℕ) → v.text ≡ Some x → w.text ≡ Some x
   text_part x has =
-      let (h, are, view) = is in
-      let (k, k_are, k_view) = is_other in
-      let shown : IsTextShown t.dwell t.first h (Some x) = subst (IsTextShown t.dwell t.first h) has view.text in
-      same_text_shown t.dwell t.first k w.text (Some x) k_view.text (whole_text _ _ x (part_cells _ _ (part.texts h k are k_are)) shown)
+      let (h, are, counts) = is in
+      let (k, k_are, k_counts) = is_other in
+      let shown : IsTextShown t.dwell t.first h (Some x) = subst (IsTextShown t.dwell t.first h) has view_of_one.text in
+      same_text_shown t.dwell t.first k w.text (Some x) view_of_other.text (whole_text _ _ x (part_cells _ _ (part.texts h k are k_are)) shown)
 
   name_part : (x : List ℕ) → v.name ≡ Some x → w.name ≡ Some x
   name_part x has =
-      let (h, are, view) = is in
-      let (k, k_are, k_view) = is_other in
-      let shown : IsNameShown t.dwell t.first h (Some x) = subst (IsNameShown t.dwell t.first h) has view.name in
-      shown_name _ w.name x k_view.name (whole_name _ _ x (part_cells _ _ (part.names h k are k_are)) shown)
+      let (h, are, counts) = is in
+      let (k, k_are, k_counts) = is_other in
+      let shown : IsNameShown t.dwell t.first h (Some x) = subst (IsNameShown t.dwell t.first h) has view_of_one.name in
+      shown_name _ w.name x view_of_other.name (whole_name _ _ x (part_cells _ _ (part.names h k are k_are)) shown)
 
   pub view_part : (thing : Thing) → Has v thing → Has w thing
   view_part (Text x) has = text_part x has
   view_part (Name x) has = name_part x has
   view_part (Tag One class piece) has =
-      let (h, are, view) = is in
-      let (k, k_are, k_view) = is_other in
-      k_view.one ∙ cuts_again One v.text w.text (pair_held t.dwell t.first h) (pair_held t.dwell t.first k) class piece text_part (part.tags h k are k_are).0 (sym view.one ∙ has)
+      let (h, are, counts) = is in
+      let (k, k_are, k_counts) = is_other in
+      view_of_other.one ∙ cuts_again One v.text w.text (pair_held t.dwell t.first h) (pair_held t.dwell t.first k) class piece text_part (part.tags h k are k_are).0 (sym view_of_one.one ∙ has)
   view_part (Tag Two class piece) has =
-      let (h, are, view) = is in
-      let (k, k_are, k_view) = is_other in
-      k_view.two ∙ cuts_again Two v.text w.text (pair_held t.dwell t.first h) (pair_held t.dwell t.first k) class piece text_part (part.tags h k are k_are).0 (sym view.two ∙ has)
+      let (h, are, counts) = is in
+      let (k, k_are, k_counts) = is_other in
+      view_of_other.two ∙ cuts_again Two v.text w.text (pair_held t.dwell t.first h) (pair_held t.dwell t.first k) class piece text_part (part.tags h k are k_are).0 (sym view_of_one.two ∙ has)
 
 -- ---- the receiver that loses nothing
 
@@ -104,11 +110,13 @@ own_tag t log n slots which class piece view less is has =
       cut = c.cut;
     }
 
-pub own_things : (t : Tuning) (log : List (Option Group)) (n slots : ℕ) (view : ShownView) (thing : Thing) → n < slots → IsView t (got None log (n + 1)) view → Has view thing → IsSeenBefore t log slots thing
-own_things t log n slots view (Text x) less is has = record { slot = n; view = view; before = less; is = is; shows = has }
-own_things t log n slots view (Name x) less is has = record { slot = n; view = view; before = less; is = is; shows = has }
-own_things t log n slots view (Tag One class piece) less is has = own_tag t log n slots One class piece view less is (sym is.2.one ∙ has)
-own_things t log n slots view (Tag Two class piece) less is has = own_tag t log n slots Two class piece view less is (sym is.2.two ∙ has)
+pub own_things : (t : Tuning) (log : List (Option Group)) (n slots : ℕ) (view : ShownView) (thing : Thing) → t.window ≡ None → n < slots → IsView t (got None log (n + 1)) view → Has view thing → IsSeenBefore t log slots thing
+own_things t log n slots view (Text x) alone less is has = record { slot = n; view = view; before = less; is = is; shows = has }
+own_things t log n slots view (Name x) alone less is has = record { slot = n; view = view; before = less; is = is; shows = has }
+own_things t log n slots view (Tag One class piece) alone less is has =
+    own_tag t log n slots One class piece view less is (sym (shows_all t (got None log (n + 1)) view alone is).one ∙ has)
+own_things t log n slots view (Tag Two class piece) alone less is has =
+    own_tag t log n slots Two class piece view less is (sym (shows_all t (got None log (n + 1)) view alone is).two ∙ has)
 
 -- ---- a slot without a mix
 
@@ -129,13 +137,13 @@ no_mix t log n slots is soon views whole receivers same_whole hold show burst th
     by_whole : Covers t (got (Some burst) log (n + 1)) whole → IsSeenBefore t log slots thing
     by_whole covers =
         let (view, here) = views n mix.place.inside in
-        own_things t log n slots view thing soon here (view_part t (got (Some burst) log (n + 1)) (got None log (n + 1)) (same_whole (got (Some burst) log (n + 1)) (got_long (Some burst) log (n + 1)) covers) mix.new.after view mix.new.is here thing mix.new.has)
+        own_things t log n slots view thing covers.stands.windowless soon here (view_part t (got (Some burst) log (n + 1)) (got None log (n + 1)) (same_whole (got (Some burst) log (n + 1)) (got_long (Some burst) log (n + 1)) covers) mix.new.after view covers.stands.windowless mix.new.is here thing mix.new.has)
 
     by_other : IsCovered t receivers (got (Some burst) log (n + 1)) → IsSeenBefore t log slots thing
     by_other covered =
         let shows : ShowsOnlySeen t log slots (receiver_stored covered.by.receiver) = All-contains (λ s. ShowsOnlySeen t log slots (receiver_stored s.receiver)) receivers covered.by show covered.is_there in
         let only = shows covered.covers.other covered.covers.stands in
-        only.seen thing (view_part t (got (Some burst) log (n + 1)) covered.covers.other covered.covers.part mix.new.after only.view mix.new.is only.is thing mix.new.has)
+        only.seen thing (view_part t (got (Some burst) log (n + 1)) covered.covers.other covered.covers.part mix.new.after only.view covered.covers.stands.windowless mix.new.is only.is thing mix.new.has)
 
 pub now_before_until : (dwell : ℕ) (log : List (Option Group)) (n : ℕ) → 0 < dwell → n < length log → n < until dwell log n
 now_before_until dwell log n some inside = by_end (nat_le (n + dwell) (length log))

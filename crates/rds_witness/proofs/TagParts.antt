@@ -7,7 +7,7 @@ use Rattle.rds_fields.specs.Tag.{PairFields}
 use Rattle.rds_receiver.specs.Receipts.{Segment, segments, text_fragment}
 use Rattle.rds_receiver.specs.Run.{begins_in, run, run_at, run_before}
 use Rattle.rds_receiver.specs.Tags.{is_known, or_before, pair_from, pair_held, pair_since, says_of_rtplus, unless_contrary}
-use Rattle.rds_receiver.proofs.Pairs.{AllBelow, none_since, pair_goes_on, pair_of_name, pair_of_none, pair_of_other, run_below, segments_below}
+use Rattle.rds_receiver.proofs.Pairs.{AllBelow, pair_goes_on, pair_of_name, pair_of_none, pair_of_other, run_below, segments_below}
 use Rattle.rds_receiver.proofs.Runs.{before_other, before_same, equal_or_not, run_over, run_recent, test_true}
 use Rattle.rds_witness.specs.Part.{IsPairPart, IsPart, IsTagPart}
 use Rattle.rds_witness.proofs.PartSteps.{part_aged}

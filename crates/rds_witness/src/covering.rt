@@ -130,17 +130,6 @@ pub(crate) fn is_receiver_part(one: &StoredReceiver, other: &StoredReceiver) -> 
     is_part(&one.text, &other.text) && is_part(&one.name, &other.name)
 }
 
-/// Handles the next slot. If it returns false, the view did not change.
-pub(crate) fn take_slot(stored: &mut StoredReceiver, group: Option<Blocks>) -> bool
-    ensures stands { IsStored stored.old → WhereItStands (receiver_stored stored.old)
-        (λ t input. StandsAt t (receiver_stored stored.new) (group ∷ input)) }
-    ensures same { IsStored stored.old → IsFalse result → (view : ShownView)
-        → WhereItStands (receiver_stored stored.old) (λ t input. IsView t input view → IsView t (group ∷ input) view) }
-    ensures good { IsStored stored.old → IsStored stored.new }
-{
-    stored.slot(group)
-}
-
 /// Returns the receiver one slot later. `lost` is the number of the slot if the receiver lost it.
 pub(crate) fn after_slot(one: &Lossy, group: Option<Blocks>, lost: Option<usize>) -> Lossy
     ensures stands { IsStored one.now.receiver → WhereItStands (receiver_stored one.now.receiver)
@@ -151,7 +140,7 @@ pub(crate) fn after_slot(one: &Lossy, group: Option<Blocks>, lost: Option<usize>
         → ShowsOnlySeen t log k (receiver_stored one.now.receiver) → IsChecked t log k result }
 {
     let mut lossy = *one;
-    lossy.changed = take_slot(&mut lossy.receiver, group);
+    lossy.changed = lossy.receiver.slot(group);
     if let Some(last) = lost {
         lossy.burst.last = last;
     }

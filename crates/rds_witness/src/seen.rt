@@ -21,7 +21,7 @@ ghost use Rattle.rds_witness.specs.declared.seen.Seen.{Seen};
 ghost use Rattle.rds_witness.specs.Search.{AreSeen, IsChecked, IsOfRun, IsSeen, IsSeenBefore, ShowsOnlySeen};
 
 use crate::burst::received;
-use crate::covering::{Lossy, take_slot};
+use crate::covering::Lossy;
 use crate::thing::{Thing, is_text};
 use rds_block::Blocks;
 use rds_fields::{Dwell, Tag, TagPair, Which};
@@ -154,7 +154,7 @@ impl AllSeen {
         let mut whole = Receiver::new(pi, dwell).store();
         for slot in 0..log.len() {
             let old = whole;
-            let changed = take_slot(&mut whole, received(log, None, slot));
+            let changed = whole.slot(received(log, None, slot));
             all.drop_pairs(&old, &whole);
             if changed {
                 all.note(&whole, slot)?;

@@ -11,6 +11,7 @@ use Rattle.rds_receiver.specs.Shown.{ShownView}
 use Rattle.rds_safety.specs.Late.{CameFrom, Input}
 use Rattle.rds_safety.specs.Plans.{Plans}
 use Rattle.rds_safety.specs.Safe.{Listener, ListensTo}
+use Rattle.rds_safety.proofs.Counts.{one_segment}
 use Rattle.rds_world.specs.declared.event.Command.{Command}
 use Rattle.rds_world.specs.declared.event.Command.TheVariants as command
 use Rattle.rds_world.specs.declared.event.Reception.{Reception}
@@ -25,7 +26,6 @@ use Rattle.rds_world.specs.Station.{AreSlots, IsFreeIn, slots_in, station_plans}
 use Rattle.rds_world.specs.declared.world.Config.{Config}
 use Rattle.rds_world.proofs.LawfulStation.{free_before}
 use Rattle.rds_world.proofs.SafeWorld.{listens}
-use Rattle.rds_world.proofs.StationDelivered.{one_segment}
 use Rattle.rds_world.proofs.WorldSlots.{reaches, slots_of_a_world, text_service}
 
 -- ---- the entries of recent slots and of those before

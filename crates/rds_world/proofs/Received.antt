@@ -31,7 +31,7 @@ pub hears_more : (config : Config) (input : Input) (old new : ReceiverState) (gr
 hears_more config input old new group heard origin hears goes_on has = record {
   groups = group ∷ has.groups;
   spelled = (hears, has.spelled);
-  stands = goes_on record { programme = config.head.pi; dwell = config.dwell; first = input.first } has.groups has.stands;
+  stands = goes_on record { programme = config.head.pi; dwell = config.dwell; window = None; first = input.first } has.groups has.stands;
 }
 
 -- one more group was handled, and the view did not change

@@ -1,9 +1,7 @@
 -- Lemmas: a receiver that got on time each free one of enough slots of a broadcast shows it, whatever the station sets in
 -- a slot.
-use Rattle.std.proofs.Common.{◌≡◌, ◌+◌, ◌-◌, ◌*◌, ◌<◌, ◌≤◌, ℕ, zero, suc, inl, inr, Bool, true, false, List, [], ◌∷◌, ◌++◌, Option, length-append, Some, None, nat_eq, replicate, ◌%◌, refl, sym, ap, ◌∙◌, subst, arith, length}
-use Rattle.std.proofs.lemmas.Bool.Decides.{nat_tests}
+use Rattle.std.proofs.Common.{◌≡◌, ◌+◌, ◌-◌, ◌*◌, ◌<◌, ◌≤◌, ℕ, zero, suc, inl, inr, Bool, true, false, List, [], ◌∷◌, ◌++◌, Option, Some, None, refl, sym, ap, ◌∙◌, subst, arith}
 use Rattle.std.proofs.lemmas.Bool.{cases_order}
-use Rattle.std.proofs.lemmas.List.{length-replicate}
 use Rattle.rds_fields.specs.declared.message.Message.{Message}
 use Rattle.rds_fields.specs.declared.message.Message.TheVariants.{Text, Name}
 use Rattle.rds_assembly.specs.Body.{name_body, segment_count, segment_of, text_body}
@@ -23,6 +21,7 @@ use Rattle.rds_safety.specs.Marks.{name_mark, text_mark}
 use Rattle.rds_safety.specs.Plans.{AreLawful}
 use Rattle.rds_safety.specs.Safe.{Listener, ListensTo}
 use Rattle.rds_safety.proofs.Bytes.{name_service, text_service}
+use Rattle.rds_safety.proofs.Counts.{few_segments, one_segment, two_segments}
 use Rattle.rds_safety.proofs.Entries.{one_origin}
 use Rattle.rds_safety.proofs.FlagSlots.{came_as_sent}
 use Rattle.rds_safety.proofs.HeldWhole.{CameSince, came_in, in_segments, shown_whole}
@@ -39,34 +38,6 @@ pub record DeliveryLaws : Type 0 where
   pub text : ATextIsSentWhole
   pub name : ANameIsSentWhole
   pub lawful : TheEncoderIsLawful
-
--- a text has from one to sixteen segments, and a name two
-pub one_segment : (x : List ℕ) → 0 < segment_count (text_body x)
-one_segment x = by (nat_eq (length x) 64) refl
-  where
-    by : (full : Bool) → nat_eq (length x) 64 ≡ full → 0 < segment_count (text_body x)
-    by true e = (let full : length x ≡ 64 = grind (arith, nat_tests) in rw e (omega (arith, full)))
-    by false e = (
-        let long = length-append x (13 ∷ replicate (3 - length x % 4) 32) in
-        let spaces = length-replicate {A = ℕ} (3 - length x % 4) 32 in
-        rw e (omega (arith, long, spaces))
-        )
-
-few_segments : (x : List ℕ) → IsText x → segment_count (text_body x) ≤ 16
-few_segments x t = by (nat_eq (length x) 64) refl
-  where
-    by : (full : Bool) → nat_eq (length x) 64 ≡ full → segment_count (text_body x) ≤ 16
-    by true e = (let full : length x ≡ 64 = grind (arith, nat_tests) in rw e (omega (arith, full)))
-    by false e = (
-        let long = length-append x (13 ∷ replicate (3 - length x % 4) 32) in
-        let spaces = length-replicate {A = ℕ} (3 - length x % 4) 32 in
-        let short : length x ≤ 64 = t.at_most in
-        let other : length x < 64 = grind (arith, nat_tests) in
-        rw e (omega (arith, long, spaces, other))
-        )
-
-two_segments : (x : List ℕ) → IsName x → segment_count (name_body x) ≡ 2
-two_segments x n = omega (arith, n.0, length-append x (replicate (8 - length x) 32), length-replicate {A = ℕ} (8 - length x) 32)
 
 -- nothing is sent in a slot that is not free
 others_slot : (m : ℕ) (free : Bool) (es : List Entry) → free ≡ false → sent_in m free es ≡ None

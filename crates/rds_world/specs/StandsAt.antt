@@ -19,7 +19,7 @@ use Rattle.rds_world.specs.declared.world.Config.{Config}
 
 -- the tuning to the station: its PI, its receivers' dwell, and the slot in which the input begins
 abbrev pub tuned_to : Config → Input → Tuning
-tuned_to config input = record { programme = config.head.pi; dwell = config.dwell; first = input.first }
+tuned_to config input = record { programme = config.head.pi; dwell = config.dwell; window = None; first = input.first }
 
 -- the receiver stands at groups whose messages are the input
 pub record HasHeard (config : Config) (input : Input) (r : ReceiverState) : Type 0 where
@@ -30,7 +30,8 @@ pub record HasHeard (config : Config) (input : Input) (r : ReceiverState) : Type
 -- the receiver has heard nothing yet, in whichever slot its input begins
 abbrev pub IsNew : Config → ReceiverState → Type 0
 IsNew config r =
-    (first : ℕ) → receiver.StandsAt record { programme = config.head.pi; dwell = config.dwell; first = first } r []
+    (first : ℕ)
+    → receiver.StandsAt record { programme = config.head.pi; dwell = config.dwell; window = None; first = first } r []
 
 -- each receiver has heard the input with its number
 pub record AllHaveHeard (config : Config) (inputs : ℕ → Input) (receivers : List ReceiverState) : Type 0 where

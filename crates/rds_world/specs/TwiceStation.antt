@@ -7,8 +7,9 @@ use Rattle.rds_safety.specs.Safe.{AreSafe, Listener}
 use Rattle.rds_safety.specs.Twice.{ListensTwice, lateness_of_two}
 use Rattle.rds_world.specs.Station.{AreSlots, station_plans}
 
--- whatever a station with a spacing of d slots sends, and whatever wrong messages its receivers get, none of them twice
--- within w slots: if d is the dwell and the lateness of two receipts, the views of any number of receivers are safe
+-- if a station spaces its texts by the dwell and the lateness of two receipts, the views of any number of receivers
+-- that show only what they heard twice are safe, whatever the station sets, and whatever wrong messages they get, none
+-- of them twice within w slots
 abbrev pub WhoHearsAStationTwiceIsSafe : Type 0
 WhoHearsAStationTwiceIsSafe =
     (w k m t : ℕ) (told : List Entry) (receivers : List Listener) → 0 < m → AreSlots told

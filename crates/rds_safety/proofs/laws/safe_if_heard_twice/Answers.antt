@@ -1,14 +1,13 @@
-use Rattle.std.proofs.Common.{refl, subst}
-use Rattle.rds_receiver.specs.Shown.{ShowsView}
-use Rattle.rds_safety.specs.Late.{Input}
+use Rattle.std.proofs.Common.{refl}
 use Rattle.rds_safety.proofs.LeastTwice.{one_slot_less_twice, one_wrong_mixes}
+use Rattle.rds_safety.proofs.LeastTwiceAtTwo.{one_slot_less_at_two}
 use Rattle.rds_safety.proofs.Safety.{are_safe_twice}
 use Rattle.rds_safety.proofs.Twice.{twice_listens}
-use Rattle.rds_safety.proofs.TwiceDelivery.{shown_twice}
+use Rattle.rds_safety.proofs.TwiceDelivery.{name_shown_twice, text_shown_twice}
 use Rattle.rds_safety.proofs.laws.safe_if_heard_twice.Goals as goal
 
 pub returns-clause-listens : goal.returns-clause-listens
-returns-clause-listens c w k t tuning log handed origins view v heard once now =
+returns-clause-listens c pi w k m first t log handed origins view v heard once now =
     record { raw = _; heard = heard; once = once; now = now; confirmed = refl; shows = v.2 }
 
 pub returns-clause-near : goal.returns-clause-near
@@ -20,10 +19,14 @@ returns-clause-safe c = are_safe_twice c.plan_laws.ensures
 pub returns-clause-least : goal.returns-clause-least
 returns-clause-least c = one_slot_less_twice
 
+pub returns-clause-least_at_two : goal.returns-clause-least_at_two
+returns-clause-least_at_two c = one_slot_less_at_two
+
 pub returns-clause-once : goal.returns-clause-once
 returns-clause-once c = one_wrong_mixes
 
-pub returns-clause-shows : goal.returns-clause-shows
-returns-clause-shows c w k m t s plans log raw r number b law heard once now input shows planned from to soon right twice =
-    shown_twice c.plan_laws.ensures w k m t s plans log raw number b law heard once now planned from to soon right twice r.view
-    (subst (λ (x : Input). ShowsView m x.first x.heard r.view) input shows)
+pub returns-clause-text : goal.returns-clause-text
+returns-clause-text c = text_shown_twice c.plan_laws.ensures
+
+pub returns-clause-name : goal.returns-clause-name
+returns-clause-name c = name_shown_twice c.plan_laws.ensures

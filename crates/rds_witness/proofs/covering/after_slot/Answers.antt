@@ -4,8 +4,8 @@ use Rattle.rds_witness.proofs.covering.after_slot.Goals as goal
 
 pub returns-in_default-clause-same : goal.returns-in_default-clause-same
 returns-in_default-clause-same c stored t log k input stands only alike =
-    only_stays t log k (receiver_stored c.args.one.now.receiver) _ c.args.group input (λ view is. c.take_slot.ensures.same stored alike view t input stands is) stands (c.take_slot.ensures.stands stored t input stands) only
+    only_stays t log k (receiver_stored c.args.one.now.receiver) _ c.args.group input (λ view is. c.slot.ensures.same stored alike view t input stands is) stands (c.slot.ensures.stands stored t input stands) only
 
 pub returns-in-Some-clause-same : goal.returns-in-Some-clause-same
 returns-in-Some-clause-same c stored t log k input stands only alike =
-    only_stays t log k (receiver_stored c.args.one.now.receiver) _ c.args.group input (λ view is. c.take_slot.ensures.same stored alike view t input stands is) stands (c.take_slot.ensures.stands stored t input stands) only
+    only_stays t log k (receiver_stored c.args.one.now.receiver) _ c.args.group input (λ view is. c.slot.ensures.same stored alike view t input stands is) stands (c.slot.ensures.stands stored t input stands) only

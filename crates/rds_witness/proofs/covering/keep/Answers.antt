@@ -1,4 +1,4 @@
-use Rattle.std.proofs.Common.{◌∷◌, All, List, arith, refl, subst, suc, sym}
+use Rattle.std.proofs.Common.{◌∷◌, All, List, arith, refl, subst, sym}
 use Rattle.std.specs.List.{Contains}
 use Rattle.std.proofs.lemmas.List.Elements.{All-push}
 use Rattle.rds_log.specs.LogWrites.{tuned}

@@ -1,12 +1,12 @@
-use Rattle.std.proofs.Common.{◌≡◌, ◌+◌, ◌<◌, ◌∙◌, [], ℕ, All, List, None, Option, arith, inl, inr, length, subst, sym}
+use Rattle.std.proofs.Common.{◌≡◌, ◌+◌, ◌<◌, ◌∙◌, [], ℕ, List, None, Option, arith, inl, inr, length, subst, sym}
 use Rattle.std.proofs.lemmas.Bool.{cases_lt}
 use Rattle.rds_block.specs.declared.group.Group.{Group}
 use Rattle.rds_log.specs.LogWrites.{tuned}
 use Rattle.rds_receiver.specs.Stored.{receiver_stored}
-use Rattle.rds_witness.specs.Covered.{Covers, IsAt, IsInputPart}
+use Rattle.rds_witness.specs.Covered.{Covers, IsInputPart}
 use Rattle.rds_witness.specs.Lost.{got}
 use Rattle.rds_witness.specs.Mix.{IsMix, until}
-use Rattle.rds_witness.specs.Search.{IsReplaced, NoMixesIn, ShowOnlySeen, ShowsOnlySeen}
+use Rattle.rds_witness.specs.Search.{IsReplaced, ShowOnlySeen, ShowsOnlySeen}
 use Rattle.rds_witness.specs.declared.covering.Lossy.{Lossy}
 use Rattle.rds_witness.proofs.HeldParts.{same_part}
 use Rattle.rds_witness.proofs.KeptReceivers.{input_through}

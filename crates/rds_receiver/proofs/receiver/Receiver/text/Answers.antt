@@ -1,11 +1,11 @@
 use Rattle.std.proofs.Common.{subst}
 use Rattle.std.specs.Option.{option_copied}
-use Rattle.rds_assembly.specs.Whole.{IsWholeText}
-use Rattle.rds_receiver.specs.Shown.{IsShown}
-use Rattle.rds_receiver.proofs.Shows.{text_shown}
+use Rattle.rds_receiver.specs.Shown.{IsTextShown}
+use Rattle.rds_receiver.specs.StandsAt.{WhatItHeard}
 use Rattle.rds_receiver.specs.State.{ReceiverState}
 use Rattle.rds_receiver.proofs.receiver.Receiver.text.Goals as goal
 
 pub returns-clause-shown : goal.returns-clause-shown
-returns-clause-shown c t input s heard are = text_shown t c.args.self.now input heard _ s are
-    (subst (λ (r : ReceiverState). IsShown IsWholeText r.text.cells (option_copied c.whole.result)) c.self.view_is c.whole.ensures)
+returns-clause-shown c =
+    subst (λ (r : ReceiverState). WhatItHeard r (λ m first heard. IsTextShown m first heard (option_copied c.shown_text.result))) c.self.view_is
+    c.shown_text.ensures.shown

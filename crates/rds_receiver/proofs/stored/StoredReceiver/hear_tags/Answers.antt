@@ -1,17 +1,12 @@
-use Rattle.std.proofs.Common.{◌≡◌, ◌<◌, ◌+◌, ◌∷◌, Option, Some, None, ap, true, ◌∙◌, length, sym, subst, arith}
+use Rattle.std.proofs.Common.{◌≡◌, ◌<◌, ◌+◌, ◌∷◌, Option, Some, true, ◌∙◌, length, sym, subst, arith}
 use Rattle.rds_fields.specs.declared.message.Message.TheVariants.{Tags}
 use Rattle.rds_fields.specs.Tag.{PairFields}
-use Rattle.std.specs.Option.{option_eq}
-use Rattle.rds_fields.specs.contracts.pair.TagPairPartialEq.TheImpl.{eq-value}
 use Rattle.std.proofs.lemmas.Bool.Decides.{nat_tests}
 use Rattle.rds_receiver.specs.StandsAt.{HoldsAt}
 use Rattle.rds_receiver.specs.Stored.{receiver_stored}
+use Rattle.rds_receiver.proofs.Pairs.{is_held_pair}
 use Rattle.rds_receiver.proofs.Steps.{tags_heard}
 use Rattle.rds_receiver.proofs.stored.StoredReceiver.hear_tags.Goals as goal
-
-is_held_pair : (held : Option PairFields) (pair : PairFields) → option_eq eq-value.it held (Some pair) ≡ true → held ≡ Some pair
-is_held_pair None pair e = absurd (grind (arith, e))
-is_held_pair (Some held) pair e = ap Some (grind (arith, e, nat_tests))
 
 pub returns-then-eq-clause-holds : goal.returns-then-eq-clause-holds
 returns-then-eq-clause-holds c stored m first heard st =

@@ -1,14 +1,20 @@
-use Rattle.std.proofs.Common.{◌<◌, [], ℕ, refl, subst}
+use Rattle.std.proofs.Common.{◌<◌, [], ℕ, None, refl, subst, sym}
+use Rattle.rds_receiver.specs.StandsAt.{StandsAt}
+use Rattle.rds_receiver.specs.State.{ReceiverState}
 use Rattle.rds_receiver.proofs.TwiceSteps.{holds_nothing, starts}
 use Rattle.rds_receiver.proofs.twice.TwiceReceiver.new.Goals as goal
 
 pub returns : goal.returns
 returns c = record {
-  stands = λ first. record {
-    tuned = (c.new.ensures.stands first).tuned;
-    heard = [];
-    are = tt;
-    holds = starts c.args.window c.args.dwell first _ c.get-slots.ensures.value (subst (λ (n : ℕ). 0 < n) c.get-slots.ensures.value c.get-slots.ensures.some)
-        (holds_nothing record { programme = c.args.pi; dwell = c.args.dwell; first = first } _ (c.new.ensures.stands first)) c.new-2.ensures c.new-3.ensures refl;
-  };
+  stands = λ first.
+      let stands = subst (λ (r : ReceiverState). StandsAt record { programme = c.args.pi; dwell = c.args.dwell; window = None; first = first } r []) (sym c.store.ensures.same) (c.new.ensures.stands first) in
+      record {
+        tuned = stands.tuned;
+        window = c.args.window;
+        windowed = refl;
+        heard = [];
+        are = tt;
+        holds = starts c.args.window c.args.dwell first _ c.get.ensures.value (subst (λ (n : ℕ). 1 < n) c.get.ensures.value c.get.ensures.two)
+            (holds_nothing record { programme = c.args.pi; dwell = c.args.dwell; window = None; first = first } _ stands) c.none.ensures refl;
+      };
 }

@@ -4,4 +4,5 @@ use Rattle.rds_receiver.proofs.TwiceSteps.{view_of_twice}
 use Rattle.rds_receiver.proofs.twice.TwiceReceiver.view.Goals as goal
 
 pub returns : goal.returns
-returns c w t input st = view_of_twice w t _ input _ (subst (λ (s : TwiceState). StandsTwice w t s input) (sym c.self.view_is) st) c.view.ensures
+returns c t input st =
+    view_of_twice t _ input _ (subst (λ (s : TwiceState). StandsTwice t s input) (sym c.self.view_is) st) (c.view.ensures c.self.invariant.receiver)

@@ -1,5 +1,4 @@
-use Rattle.std.proofs.Common.{◌∙◌, ap, arith}
-use Rattle.rds_log.specs.LogWrites.{tuned}
+use Rattle.std.proofs.Common.{◌∙◌, arith}
 use Rattle.rds_receiver.specs.Stored.{receiver_stored}
 use Rattle.rds_witness.proofs.PairRuns.{same_run_of_log}
 use Rattle.rds_witness.proofs.seen.AllSeen.drop_pairs.Goals as goal

@@ -1,7 +1,6 @@
-use Rattle.std.proofs.Common.{◌≡◌, ◌∙◌, ◌+◌, All, None, arith, refl, subst, sym}
+use Rattle.std.proofs.Common.{◌∙◌, ◌+◌, All, None, arith, refl, subst, sym}
 use Rattle.rds_receiver.specs.StandsAt.{StandsAt}
 use Rattle.rds_receiver.specs.State.{ReceiverState}
-use Rattle.rds_receiver.specs.Stored.{receiver_stored}
 use Rattle.rds_witness.specs.Lost.{got}
 use Rattle.rds_witness.specs.Search.{IsOfRun, IsSeen}
 use Rattle.rds_witness.proofs.seen.AllSeen.note.Goals as goal

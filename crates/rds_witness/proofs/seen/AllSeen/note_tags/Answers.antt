@@ -1,6 +1,6 @@
-use Rattle.std.proofs.Common.{◌≡◌, ◌∙◌, ◌+◌, All, List, Some, ap, arith, length, subst, sym}
+use Rattle.std.proofs.Common.{◌≡◌, ◌∙◌, ◌+◌, All, Some, ap, arith, length, subst, sym}
 use Rattle.rds_fields.specs.Tag.{PairFields}
-use Rattle.rds_witness.specs.Search.{IsOfRun, IsSeen}
+use Rattle.rds_witness.specs.Search.{IsOfRun}
 use Rattle.rds_witness.proofs.seen.AllSeen.note_tags.Goals as goal
 
 pub loop-place-preserved : goal.loop-place-preserved

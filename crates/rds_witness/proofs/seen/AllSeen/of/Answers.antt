@@ -1,4 +1,4 @@
-use Rattle.std.proofs.Common.{◌≡◌, ◌∙◌, ◌+◌, ◌∷◌, ℕ, All, List, None, Option, ap, arith, inl, inr, refl, subst, sym}
+use Rattle.std.proofs.Common.{◌≡◌, ◌∙◌, ◌+◌, ◌∷◌, ℕ, All, List, None, Option, ap, arith, inl, inr, subst, sym}
 use Rattle.std.proofs.lemmas.Bool.{cases_lt}
 use Rattle.std.proofs.lemmas.List.Elements.{All-nil}
 use Rattle.rds_block.specs.declared.group.Group.{Group}
@@ -35,9 +35,9 @@ loop-slot-preserved c =
     let group = c.received.result in
     let before = c.loop-slot.invariant in
     let is : got None log (n + 1) ≡ group ∷ got None log n = got-more None log n ∙ ap (λ (g : Option Group). g ∷ got None log n) (sym c.received.ensures) in
-    let stands : StandsAt t (receiver_stored c.take_slot-changed.new.stored) (got None log (n + 1)) =
-    subst (StandsAt t (receiver_stored c.take_slot-changed.new.stored)) (sym is) (c.take_slot-changed.ensures.stands before.stored t (got None log n) before.stands) in
-    let stored = c.take_slot-changed.ensures.good before.stored in
+    let stands : StandsAt t (receiver_stored c.slot-changed.new.self) (got None log (n + 1)) =
+    subst (StandsAt t (receiver_stored c.slot-changed.new.self)) (sym is) (c.slot-changed.ensures.stands before.stored t (got None log n) before.stands) in
+    let stored = c.slot-changed.ensures.good before.stored in
     let pairs = c.drop_pairs.ensures.pairs c.args.pi c.args.dwell n log before.stands stands before.pairs in
     let seen = subst (λ v. All (IsSeen t log) v.items) (sym c.drop_pairs.ensures.seen) before.seen in
     let views : (view : ShownView) × IsView t (got None log (n + 1)) view → HasViews t log (n + 1) = λ view slot less. elim (cases_lt slot n) [
@@ -51,11 +51,11 @@ loop-slot-preserved c =
       stored = stored;
       view = elim c.if-changed.branch [
         | then-changed+in_ok-note w ↦ (w.in_ok-note.ensures t log c.loop-slot-test.true stored stands seen pairs).2
-        | else-changed w ↦ (before.view.0, subst (λ (l : List (Option Group)). IsView t l before.view.0) (sym is) (c.take_slot-changed.ensures.same before.stored w.if-changed.false before.view.0 t (got None log n) before.stands before.view.1))
+        | else-changed w ↦ (before.view.0, subst (λ (l : List (Option Group)). IsView t l before.view.0) (sym is) (c.slot-changed.ensures.same before.stored w.if-changed.false before.view.0 t (got None log n) before.stands before.view.1))
       ];
       views = elim c.if-changed.branch [
         | then-changed+in_ok-note w ↦ views (w.in_ok-note.ensures t log c.loop-slot-test.true stored stands seen pairs).2
-        | else-changed w ↦ views (before.view.0, subst (λ (l : List (Option Group)). IsView t l before.view.0) (sym is) (c.take_slot-changed.ensures.same before.stored w.if-changed.false before.view.0 t (got None log n) before.stands before.view.1))
+        | else-changed w ↦ views (before.view.0, subst (λ (l : List (Option Group)). IsView t l before.view.0) (sym is) (c.slot-changed.ensures.same before.stored w.if-changed.false before.view.0 t (got None log n) before.stands before.view.1))
       ];
       seen = elim c.if-changed.branch [
         | then-changed+in_ok-note w ↦ subst (λ v. All (IsSeen t log) v.seen.items) (sym w.all-is) (w.in_ok-note.ensures t log c.loop-slot-test.true stored stands seen pairs).0

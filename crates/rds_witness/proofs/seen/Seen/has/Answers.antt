@@ -1,4 +1,4 @@
-use Rattle.std.proofs.Common.{◌≡◌, ◌+◌, List, None, ap, subst, sym}
+use Rattle.std.proofs.Common.{◌+◌, None, subst, sym}
 use Rattle.rds_receiver.specs.StandsAt.{StandsAt}
 use Rattle.rds_receiver.specs.State.{ReceiverState}
 use Rattle.rds_witness.specs.Borrowed.{thing_of}

@@ -1,0 +1,76 @@
+//! What is shown, from the numbers that a receiver holds.
+ghost use Rattle.std.specs.Prelude.{◌≡◌, ◌<◌, ◌≤◌, IfSome, length};
+ghost use Rattle.std.specs.Option.{option_copied};
+ghost use Rattle.rds_receiver.specs.Borrowed.{borrowed_tag, view_of};
+ghost use Rattle.rds_receiver.specs.Shown.{IsNameShown, IsShortText, IsTextShown, IsView};
+ghost use Rattle.rds_receiver.specs.StandsAt.{WhatItHeard, WhereItStands};
+ghost use Rattle.rds_receiver.specs.Stored.{IsStored, receiver_stored};
+ghost use Rattle.rds_receiver.specs.Tags.{item_of, tag_of};
+
+use crate::View;
+use crate::stored::StoredReceiver;
+use rds_assembly::{RadioText, TypeName};
+use rds_fields::{TagPair, Which};
+
+impl StoredReceiver {
+    /// Returns all that is shown, borrowed from the numbers.
+    pub(crate) fn view(&self) -> View<'_>
+        ensures { IsStored self.now → WhereItStands (receiver_stored self.now)
+            (λ t input. IsView t input (view_of result)) }
+    {
+        let text = self.shown_text();
+        // Prover: the pair is asked for again in place of a copy (docs/PROVER.md, "Workarounds").
+        View {
+            text,
+            name: self.shown_name(),
+            item: shown_item(text, self.pair.pair()),
+            one: shown_tag(text, self.pair.pair(), Which::One),
+            two: shown_tag(text, self.pair.pair(), Which::Two),
+        }
+    }
+
+    /// Returns the text shown, borrowed from the numbers. `None` if no text is shown.
+    pub(crate) fn shown_text(&self) -> Option<&[u8]>
+        ensures shown { WhatItHeard (receiver_stored self.now)
+            (λ m first heard. IsTextShown m first heard (option_copied result)) }
+        ensures short { IfSome result (λ x. length x.now ≤ 64) }
+    {
+        self.text.whole::<RadioText>()
+    }
+
+    /// Returns the programme type name shown, borrowed from the numbers. `None` if no name is shown.
+    pub(crate) fn shown_name(&self) -> Option<&[u8]>
+        ensures shown { WhatItHeard (receiver_stored self.now)
+            (λ m first heard. IsNameShown m first heard (option_copied result)) }
+        ensures short { IfSome result (λ x. length x.now ≡ 8) }
+    {
+        self.name.whole::<TypeName>()
+    }
+}
+
+/// Returns the item bits of a pair. `None` without a text or a pair.
+pub(crate) fn shown_item(text: Option<&[u8]>, pair: Option<TagPair>) -> Option<(bool, bool)>
+    ensures { result ≡ item_of (option_copied text.entry) pair }
+{
+    text?;
+    let pair = pair?;
+    Some((pair.toggle(), pair.running()))
+}
+
+/// Returns the class of a tag of a pair and its piece of the text, borrowed from the text. `None` without a text or a
+/// pair, if the tag is the dummy, and if it does not end in the text.
+pub(crate) fn shown_tag(
+    text: Option<&[u8]>,
+    pair: Option<TagPair>,
+    which: Which,
+) -> Option<(u8, &[u8])>
+    requires { IsShortText text }
+    ensures shown { borrowed_tag result ≡ tag_of which (option_copied text.entry) pair }
+    ensures class { IfSome result (λ tag. tag.0 < 64) }
+    ensures short { IfSome result (λ tag. length tag.1.now ≤ 64) }
+{
+    let text = text?;
+    let tag = pair?.tag(which);
+    let piece = tag.piece_in(text)?;
+    Some((tag.class(), piece))
+}
