@@ -1,5 +1,5 @@
 -- Lemmas about digits at the beginning of a text, and about their number.
-use Rattle.std.proofs.Common.{◌≡◌, ◌+◌, ◌<◌, ◌≤◌, ◌^◌, ℕ, zero, suc, Bool, true, false, List, [], ◌∷◌, IsTrue, slice_index, refl, arith, cond}
+use Rattle.std.proofs.Common.{◌≡◌, ◌<◌, ◌≤◌, ◌^◌, ℕ, zero, suc, Bool, true, false, List, [], ◌∷◌, IsTrue, slice_index, refl, arith, cond}
 use Rattle.std.proofs.Math.Nat.{pow-le-pow_right}
 use Rattle.rds_arrivals.specs.Stamps.{is_digit, leading_digits}
 

@@ -3,4 +3,5 @@ pub mod Counting
 pub mod Digits
 pub mod Filling
 pub mod SafeViews
+pub mod Short
 pub mod WorkedRows

@@ -1,5 +1,5 @@
 -- Worked examples of the definitions, calculated by hand. A slot is 87,578 and 18/19 µs. Lists have the newest first.
-use Rattle.std.proofs.Common.{◌≡◌, ℕ, List, [], ◌∷◌, ◌++◌, Option, Some, None, codes, refl}
+use Rattle.std.proofs.Common.{◌≡◌, ℕ, [], ◌∷◌, Some, None, codes, refl}
 use Rattle.rds_arrivals.specs.Arrivals.{Arrival, filled, lost_between, lost_within}
 use Rattle.rds_arrivals.specs.Stamps.{days_to, stamp_in}
 
@@ -44,11 +44,15 @@ back : lost_between 20000 128 9000000 8999999 ≡ 128
 back = refl
 
 abbrev at : ℕ → ℕ → Arrival ℕ
-at x time = record { entry = Some x; time = time }
+at x time = record { entry = x; time = time; told = 0 }
 
 -- three groups, each 0.15 s after the one before it, of a receiver of dwell 2; then the time goes back
 three : filled 20000 2 (at 4 1000 ∷ at 3 300000 ∷ at 2 150000 ∷ at 1 0 ∷ []) ≡ Some 4 ∷ None ∷ None ∷ Some 3 ∷ None ∷ Some 2 ∷ None ∷ Some 1 ∷ []
 three = refl
+
+-- three lost slots were known before the second group came; by its own time it is one
+known_before : filled 20000 2 (record { entry = 2; time = 150000; told = 3 } ∷ at 1 0 ∷ []) ≡ Some 2 ∷ None ∷ None ∷ None ∷ Some 1 ∷ []
+known_before = refl
 
 -- ---- times
 

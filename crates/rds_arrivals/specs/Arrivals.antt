@@ -1,6 +1,6 @@
 -- The slots that a log lacks, by the times of its groups (this project's own rule; the time of a slot is the standard's).
 -- Times are in microseconds. Lists have the newest first.
-use Rattle.std.specs.Prelude.{◌≡◌, ◌+◌, ◌-◌, ◌*◌, ◌/◌, ◌<◌, ◌≤◌, ◌⊎◌, ◌||◌, ℕ, zero, suc, Bool, List, [], ◌∷◌, Option, None, nat_lt, if◌then◌else◌}
+use Rattle.std.specs.Prelude.{◌≡◌, ◌+◌, ◌-◌, ◌*◌, ◌/◌, ◌<◌, ◌≤◌, ◌⊎◌, ◌||◌, ℕ, zero, suc, Bool, List, [], ◌∷◌, Option, Some, None, max, nat_lt, if◌then◌else◌}
 
 -- 19 slots: a slot has 104 bits at 1187.5 bit/s
 abbrev pub nineteen_slots : ℕ
@@ -9,10 +9,12 @@ nineteen_slots = 1664000
 abbrev pub day : ℕ
 day = 86400000000
 
--- a line with a time: its group, or nothing if a block is missing
+-- a group with its time. `told` lost slots before it were known before it came: by then a later time had been given, or
+-- more than one, at which no group had come
 pub record Arrival (X : Type 0) : Type 0 where
-  pub entry : Option X
+  pub entry : X
   pub time : ℕ
+  pub told : ℕ
 
 -- n slots are lost between two groups whose times are so far apart and off by at most the grain: n whole slots and more
 -- passed, and no more than n + 1
@@ -35,10 +37,14 @@ is_break earlier later = nat_lt later earlier || nat_lt (earlier + day) later
 abbrev pub lost_between : ℕ → ℕ → ℕ → ℕ → ℕ
 lost_between grain m earlier later = if is_break earlier later then m else lost_within grain (later - earlier)
 
--- the lost slots before the arrival that follows these
-abbrev pub lost_before : {X : Type 0} → ℕ → ℕ → List (Arrival X) → ℕ → ℕ
-lost_before grain m [] time = 0
-lost_before grain m (last ∷ before) time = lost_between grain m last.time time
+-- the lost slots from the newest of these arrivals up to this time
+abbrev pub lost_until : {X : Type 0} → ℕ → ℕ → List (Arrival X) → ℕ → ℕ
+lost_until grain m [] time = 0
+lost_until grain m (last ∷ before) time = lost_between grain m last.time time
+
+-- the lost slots before the arrival that follows these: those by its time, and no fewer than were known before
+abbrev pub lost_before : {X Y : Type 0} → ℕ → ℕ → List (Arrival X) → Arrival Y → ℕ
+lost_before grain m before a = max a.told (lost_until grain m before a.time)
 
 -- n lost slots come after these slots
 abbrev pub and_lost : {X : Type 0} → ℕ → List (Option X) → List (Option X)
@@ -48,4 +54,4 @@ and_lost (suc n) before = None ∷ and_lost n before
 -- the slots of a log: each arrival, and the lost slots before it
 abbrev pub filled : {X : Type 0} → ℕ → ℕ → List (Arrival X) → List (Option X)
 filled grain m [] = []
-filled grain m (a ∷ before) = a.entry ∷ and_lost (lost_before grain m before a.time) (filled grain m before)
+filled grain m (a ∷ before) = Some a.entry ∷ and_lost (lost_before grain m before a) (filled grain m before)

@@ -1,18 +1,13 @@
--- How the groups of a station are delivered: which slot each line is from, and when it came (this project's own rule).
+-- How the groups of a station are delivered: which slot each group is from, and when it came (this project's own rule).
 -- Lists have the newest first.
-use Rattle.std.specs.Prelude.{◌≡◌, ◌+◌, ◌*◌, ◌<◌, ◌≤◌, ◌⊎◌, ℕ, List, [], ◌∷◌, Option, Some, None}
-use Rattle.rds_safety.specs.Late.{InputOf, IsOfItsOrigin, SentIn}
-use Rattle.rds_arrivals.specs.Arrivals.{Arrival, IsBreak, filled, nineteen_slots}
+use Rattle.std.specs.Prelude.{◌+◌, ◌*◌, ◌<◌, ◌≤◌, ◌⊎◌, ℕ, List, [], ◌∷◌, Option, Some}
+use Rattle.rds_safety.specs.Late.{InputOf, IsOfItsOrigin}
+use Rattle.rds_arrivals.specs.Arrivals.{Arrival, IsBreak, and_lost, filled, lost_until, nineteen_slots}
 
 -- an arrival, and the station's slot in which it was sent
 pub record Delivery (X : Type 0) : Type 0 where
   pub arrival : Arrival X
   pub slot : ℕ
-
--- the origin of an entry: none if nothing was received
-abbrev pub origin_of : {X : Type 0} → Option X → ℕ → Option ℕ
-origin_of None slot = None
-origin_of (Some x) slot = Some slot
 
 abbrev pub arrivals : {X : Type 0} → List (Delivery X) → List (Arrival X)
 arrivals [] = []
@@ -20,14 +15,14 @@ arrivals (d ∷ before) = d.arrival ∷ arrivals before
 
 abbrev pub origins : {X : Type 0} → List (Delivery X) → List (Arrival ℕ)
 origins [] = []
-origins (d ∷ before) = record { entry = origin_of d.arrival.entry d.slot; time = d.arrival.time } ∷ origins before
+origins (d ∷ before) = record { entry = d.slot; time = d.arrival.time; told = d.arrival.told } ∷ origins before
 
--- the filled log as a receiver hears it, and the slot of each entry
-abbrev pub input_of : {X : Type 0} → ℕ → ℕ → ℕ → List (Delivery X) → InputOf X
-input_of grain m first given = record {
+-- the filled log as a receiver hears it, and the slot of each entry; `lost` slots without a group follow
+abbrev pub input_of : {X : Type 0} → ℕ → ℕ → ℕ → ℕ → List (Delivery X) → InputOf X
+input_of grain m first lost given = record {
   first = first;
-  heard = filled grain m (arrivals given);
-  origins = filled grain m (origins given);
+  heard = and_lost lost (filled grain m (arrivals given));
+  origins = and_lost lost (filled grain m (origins given));
 }
 
 -- this holds for each delivery and the one before it
@@ -39,7 +34,7 @@ EachTwo Holds (newer ∷ older ∷ before) = Holds newer older × EachTwo Holds 
 -- each group was sent in its slot
 abbrev pub AreOf : {X : Type 0} → List (Option X) → List (Delivery X) → Type 0
 AreOf log [] = Unit {0}
-AreOf log (d ∷ before) = IsOfItsOrigin log (origin_of d.arrival.entry d.slot) d.arrival.entry × AreOf log before
+AreOf log (d ∷ before) = IsOfItsOrigin log (Some d.slot) (Some d.arrival.entry) × AreOf log before
 
 -- it was sent later
 abbrev pub IsLater : {X : Type 0} → Delivery X → Delivery X → Type 0
@@ -51,6 +46,12 @@ KeepsPace spread newer older =
     IsBreak older.arrival.time newer.arrival.time
     ⊎ (nineteen_slots * newer.slot + 19 * older.arrival.time
     ≤ nineteen_slots * older.slot + 19 * (newer.arrival.time + spread))
+
+-- what was known before each group is no more than its own time says
+abbrev pub AreToldInTime : {X : Type 0} → ℕ → ℕ → List (Delivery X) → Type 0
+AreToldInTime grain m [] = Unit {0}
+AreToldInTime grain m (d ∷ before) =
+    (d.arrival.told ≤ lost_until grain m (arrivals before) d.arrival.time) × AreToldInTime grain m before
 
 -- there is no break
 abbrev pub IsUnbroken : {X : Type 0} → Delivery X → Delivery X → Type 0

@@ -1,5 +1,5 @@
 -- The laws of filled logs. Lists have the newest first.
-use Rattle.std.specs.Prelude.{◌≡◌, ◌+◌, ◌*◌, ◌<◌, ◌≤◌, ℕ, List, [], ◌∷◌, Option, length}
+use Rattle.std.specs.Prelude.{◌≡◌, ◌+◌, ◌*◌, ◌<◌, ◌≤◌, ℕ, List, [], ◌∷◌, Option, None, length}
 use Rattle.std.specs.List.{All, AllZip}
 use Rattle.rds_block.specs.declared.group.Group.{Group}
 use Rattle.rds_fields.specs.declared.head.Head.{Head}
@@ -10,8 +10,8 @@ use Rattle.rds_safety.specs.Late.{IsHeardLate}
 use Rattle.rds_safety.specs.OwnClock.{IsHeardByOwnClock}
 use Rattle.rds_safety.specs.Plans.{AreLawful, Plans}
 use Rattle.rds_safety.specs.Safe.{AreSafe}
-use Rattle.rds_arrivals.specs.Arrivals.{AreLost, filled, lost_between, lost_within, nineteen_slots}
-use Rattle.rds_arrivals.specs.Delivered.{AreBelowASlot, AreOf, Delivery, EachTwo, IsLater, IsOnItsWay, IsUnbroken, KeepsPace, arrivals, input_of, oldest_slot, origins}
+use Rattle.rds_arrivals.specs.Arrivals.{AreLost, and_lost, filled, lost_between, lost_within, nineteen_slots}
+use Rattle.rds_arrivals.specs.Delivered.{AreBelowASlot, AreOf, AreToldInTime, Delivery, EachTwo, IsLater, IsOnItsWay, IsUnbroken, KeepsPace, arrivals, input_of, oldest_slot, origins}
 
 -- the number of lost slots is the one of the definition
 abbrev pub LostSlotsAreCounted : Type 0
@@ -32,27 +32,28 @@ EvenDelaysKeepPace X =
     (least ahead spread : ℕ) (given : List (Delivery X)) → All (IsOnItsWay least ahead spread) given
     → EachTwo (KeepsPace spread) given
 
--- a receiver of the filled log hears by an own clock that counts no slot too few
+-- a receiver of the filled log hears by an own clock that counts no slot too few, also in the lost slots that follow
 abbrev pub FilledLogsAreOwnClocks : Type 0 → Type 0
 FilledLogsAreOwnClocks X =
-    (grain spread m first : ℕ) (log : List (Option X)) (newest : Delivery X) (before : List (Delivery X))
+    (grain spread m first lost : ℕ) (log : List (Option X)) (newest : Delivery X) (before : List (Delivery X))
     → AreBelowASlot grain spread → 0 < m → AreDelivered spread log (newest ∷ before)
-    → IsHeardByOwnClock m m newest.slot log (input_of grain m first (newest ∷ before))
+    → IsHeardByOwnClock m m (newest.slot + lost) log (input_of grain m first lost (newest ∷ before))
 
 -- if the plans of a station are lawful for m slots, the view of a receiver of dwell m of the filled log is safe in the
--- slot of the newest group
+-- slot of the newest group, and in the lost slots that follow
 abbrev pub FilledLogsAreSafe : Type 0
 FilledLogsAreSafe =
-    (station : Head) (grain spread m first : ℕ) (plans : Plans) (log : List (Option Message)) (sent : List (Option Group))
+    (station : Head) (grain spread m first lost : ℕ) (plans : Plans) (log : List (Option Message)) (sent : List (Option Group))
     (newest : Delivery Group) (before : List (Delivery Group)) (view : ShownView)
     → AreBelowASlot grain spread → 0 < m
     → AreLawful m plans log → AllZip (IsSent station) log sent → AreDelivered spread sent (newest ∷ before)
-    → (v : IsView record { programme = station.pi; dwell = m; first = first } (filled grain m (arrivals (newest ∷ before))) view)
-    → AreSafe m m newest.slot plans log (record {
+    → (v : IsView record { programme = station.pi; dwell = m; window = None; first = first }
+    (and_lost lost (filled grain m (arrivals (newest ∷ before)))) view)
+    → AreSafe m m (newest.slot + lost) plans log (record {
       input = record {
         first = first;
         heard = v.0;
-        origins = filled grain m (origins (newest ∷ before));
+        origins = and_lost lost (filled grain m (origins (newest ∷ before)));
       };
       view = view;
     } ∷ [])
@@ -64,8 +65,8 @@ EvenLogsAreOnTime X =
     (grain spread m least ahead : ℕ) (log : List (Option X)) (newest : Delivery X) (before : List (Delivery X))
     → AreBelowASlot grain spread → spread ≤ grain
     → AreOf log (newest ∷ before) → EachTwo IsLater (newest ∷ before) → EachTwo IsUnbroken (newest ∷ before)
-    → All (IsOnItsWay least ahead spread) (newest ∷ before)
-    → IsHeardLate 0 log (input_of grain m (oldest_slot (newest ∷ before)) (newest ∷ before))
+    → All (IsOnItsWay least ahead spread) (newest ∷ before) → AreToldInTime grain m (newest ∷ before)
+    → IsHeardLate 0 log (input_of grain m (oldest_slot (newest ∷ before)) 0 (newest ∷ before))
     × (oldest_slot (newest ∷ before) + length (filled grain m (arrivals (newest ∷ before))) ≡ newest.slot + 1)
 
 -- two deliveries with such delays, and fewer slots of the log than of the station from one to the other
@@ -80,4 +81,5 @@ pub record CountsTooFew (grain spread m : ℕ) : Type 0 where
 -- if the grain and the spread together are a slot or more, the log can have too few slots
 abbrev pub ASlotIsTooMuch : Type 0
 ASlotIsTooMuch =
-    (grain spread m : ℕ) → nineteen_slots ≤ 19 * (grain + spread) → spread ≤ nineteen_slots → CountsTooFew grain spread m
+    (group : Group) (grain spread m : ℕ)
+    → nineteen_slots ≤ 19 * (grain + spread) → spread ≤ nineteen_slots → CountsTooFew grain spread m

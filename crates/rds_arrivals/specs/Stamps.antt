@@ -1,6 +1,6 @@
 -- The time that a text begins with (this project's own rule): `@YYYY/MM/DD HH:MM:SS.CC`, `YYYY-MM-DDTHH:MM:SS.CC+HH:MM`,
 -- or seconds such as `12.5`. Times are in microseconds. Byte i of the text is at place i.
-use Rattle.std.specs.Prelude.{◌≡◌, ◌+◌, ◌-◌, ◌*◌, ◌/◌, ◌%◌, ◌<◌, ◌≤◌, ◌^◌, ◌==◌, ◌&&◌, ◌||◌, ℕ, zero, suc, Bool, List, [], ◌∷◌, Option, Some, None, drop, is_some, length, nat_le, nat_lt, not, option_and_then, option_map, slice_index, if◌then◌else◌}
+use Rattle.std.specs.Prelude.{◌+◌, ◌-◌, ◌*◌, ◌/◌, ◌%◌, ◌==◌, ◌&&◌, ◌||◌, ℕ, zero, suc, Bool, List, [], ◌∷◌, Option, Some, None, drop, is_some, length, nat_le, nat_lt, not, option_and_then, option_map, slice_index, if◌then◌else◌}
 use Rattle.std.specs.Option.{option_map_or}
 use Rattle.rds_arrivals.specs.declared.stamp.Stamp.{Stamp}
 

@@ -1,6 +1,7 @@
 //! Laws about filled logs: a receiver of one counts no slot too few, and what it shows is safe.
 ghost use Rattle.rds_block.specs.declared.group.Group.{Group};
 ghost use Rattle.rds_fields.specs.declared.message.Message.{Message};
+ghost use Rattle.rds_arrivals.specs.Coarse.{EvenLogsAreNotCoarse};
 ghost use Rattle.rds_arrivals.specs.Laws.{ASlotIsTooMuch, EvenDelaysKeepPace, EvenLogsAreOnTime};
 ghost use Rattle.rds_arrivals.specs.Laws.{FilledLogsAreOwnClocks, FilledLogsAreSafe, LostSlotsAreCounted, OneCount};
 
@@ -25,10 +26,12 @@ pub fn filled_logs_are_safe()
     safe_by_plans();
 }
 
-/// States that a receiver of a filled log is on time if the delays vary by no more than the grain, and no time breaks.
+/// States that a receiver of a filled log is on time if the delays vary by no more than the grain, and no time breaks. With
+/// such delays the times are not coarse, whether or not a time breaks.
 pub fn filled_logs_are_on_time()
     ensures groups { EvenLogsAreOnTime Group }
     ensures messages { EvenLogsAreOnTime Message }
+    ensures fine { EvenLogsAreNotCoarse Group }
 {}
 
 /// States that the log may have too few slots if the delays vary by a slot less the grain, or more.

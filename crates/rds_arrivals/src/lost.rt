@@ -1,12 +1,12 @@
 //! The slots that are lost between two times.
-ghost use Rattle.std.specs.Prelude.{◌≡◌, ◌-◌, MatchResult};
-ghost use Rattle.rds_arrivals.specs.Arrivals.{IsBreak, lost_within};
+ghost use Rattle.std.specs.Prelude.{◌≡◌, ◌<◌, ◌-◌, ◌*◌, ◌/◌, ◌^◌, MatchResult};
+ghost use Rattle.rds_arrivals.specs.Arrivals.{IsBreak, lost_within, nineteen_slots};
 ghost use Rattle.rds_arrivals.specs.Breaks.{IsBreakOf};
 
 use crate::grain::Grain;
 
 /// The microseconds of 19 slots.
-const NINETEEN_SLOTS: u64 = 1_664_000;
+pub(crate) const NINETEEN_SLOTS: u64 = 1_664_000;
 
 /// The microseconds of a day.
 const DAY: u64 = 86_400_000_000;
@@ -18,6 +18,21 @@ pub enum Break {
     Back,
     /// The time went on by more than a day.
     Day,
+}
+
+/// Returns how many whole slots this many microseconds have. More than 30,000 years count as fewer.
+pub fn slots_in(apart: u64) -> u64
+    ensures { 19 * apart < 2 ^ 64 → result ≡ (19 * apart) / nineteen_slots }
+{
+    apart.saturating_mul(19) / NINETEEN_SLOTS
+}
+
+/// Returns how long so many slots take, in microseconds, rounded down. A slot has 104 bits at 1187.5 bit/s
+/// (IEC 62106).
+pub fn time_of(slots: u32) -> u64
+    ensures { result ≡ (nineteen_slots * slots) / 19 }
+{
+    NINETEEN_SLOTS * u64::from(slots) / 19
 }
 
 /// Returns how many slots were lost between groups that arrived at these times, in microseconds.

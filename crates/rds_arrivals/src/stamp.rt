@@ -97,6 +97,9 @@ fn dated(text: &[u8]) -> Option<Stamp>
     ensures { result ≡ specs.dated text.now }
 {
     let at = usize::from(has(text, 0, b'@'));
+    if text.len() < at + 19 {
+        return None;
+    }
     let days = date_at(text, at)?;
     if !has_either(text, at + 10, b' ', b'T') {
         return None;
@@ -156,6 +159,12 @@ fn fraction_at(text: &[u8], place: usize) -> Stamp
     let thousands = 100 * digit_before(text, first, end)
         + 10 * digit_before(text, first + 1, end)
         + digit_before(text, first + 2, end);
+    if end <= first + 3 {
+        return Stamp {
+            time: 1000 * thousands,
+            end,
+        };
+    }
     let ones = 100 * digit_before(text, first + 3, end)
         + 10 * digit_before(text, first + 4, end)
         + digit_before(text, first + 5, end);

@@ -1,4 +1,4 @@
-use Rattle.std.proofs.Common.{◌≡◌, ◌<◌, ℕ, length, arith}
+use Rattle.std.proofs.Common.{arith}
 use Rattle.rds_arrivals.proofs.Digits.{all_lead}
 use Rattle.rds_arrivals.proofs.stamp.in_seconds.Goals as goal
 

@@ -1,4 +1,4 @@
-use Rattle.std.proofs.Common.{◌≡◌, ◌<◌, ◌≤◌, ◌+◌, ◌*◌, ◌^◌, ℕ, Fits, w64, arith}
+use Rattle.std.proofs.Common.{arith}
 use Rattle.rds_arrivals.proofs.Digits.{twelve}
 use Rattle.rds_arrivals.proofs.stamp.number_of.Goals as goal
 
