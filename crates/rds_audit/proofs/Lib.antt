@@ -15,6 +15,7 @@ pub mod LengthSteps
 pub mod AgeSteps
 pub mod ContentSteps
 pub mod ReignSteps
+pub mod HeldAgain
 pub mod Faults
 pub mod Recordings
 pub mod FirstTexts

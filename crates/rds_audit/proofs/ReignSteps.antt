@@ -122,7 +122,7 @@ module _ (g : Gauge) (exact : IsExact g) (few : g.segments ≤ 16) (d : ℕ) (po
     tagged_none g exact now pair r.fragments r.tags st.content h.content past,
   )
 
-  held : (st : ReignsState) → HoldsMarks g d sent st → Holds g d now (reigns d sent) st
+  pub held : (st : ReignsState) → HoldsMarks g d sent st → Holds g d now (reigns d sent) st
   held st h = record { ages = h.ages; content = h.content; all = h.passes.reigns }
 
   kept : Keeps d sent (reigns d sent)

@@ -33,20 +33,20 @@ content_stored s = record {
 abbrev pub reigns_stored : StoredReigns → ReignsState
 reigns_stored s = record { ages = ages_stored s; content = content_stored s }
 
--- the number of a fault, 0 if there is none
-abbrev pub number_of_fault : Option AuditFault → ℕ
-number_of_fault None = 0
-number_of_fault (Some Changed) = 1
-number_of_fault (Some NotOneText) = 2
-number_of_fault (Some EarlyFlag) = 3
-number_of_fault (Some EarlyTag) = 4
-number_of_fault (Some TagOutside) = 5
+-- the code of a fault, 0 if there is none
+abbrev pub code_of_fault : Option AuditFault → ℕ
+code_of_fault None = 0
+code_of_fault (Some Changed) = 17
+code_of_fault (Some NotOneText) = 18
+code_of_fault (Some EarlyFlag) = 19
+code_of_fault (Some EarlyTag) = 20
+code_of_fault (Some TagOutside) = 21
 
--- the fault with this number; each number above 5 is the last one too
+-- the fault with this code; each other number but 0 is the last one too
 abbrev pub fault_stored : ℕ → Option AuditFault
 fault_stored n =
-    if n == 0 then None else if n == 1 then Some Changed else if n == 2 then Some NotOneText
-    else if n == 3 then Some EarlyFlag else if n == 4 then Some EarlyTag else Some TagOutside
+    if n == 0 then None else if n == 17 then Some Changed else if n == 18 then Some NotOneText
+    else if n == 19 then Some EarlyFlag else if n == 20 then Some EarlyTag else Some TagOutside
 
 abbrev pub audit_stored : StoredAudit → AuditState
 audit_stored a = record {

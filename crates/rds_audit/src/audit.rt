@@ -125,7 +125,7 @@ impl Audit {
             start: LogStart::restored(stored.is_running),
             text: Reigns::restore(&stored.text),
             name: Reigns::restore(&stored.name),
-            fault: AuditFault::numbered(stored.fault),
+            fault: AuditFault::of_code(stored.fault),
         }
     }
 
@@ -139,7 +139,7 @@ impl Audit {
             text: self.text.store(),
             name: self.name.store(),
             pi: self.pi,
-            fault: AuditFault::number(self.fault),
+            fault: AuditFault::code(self.fault),
             is_running: self.start.stored(),
         }
     }

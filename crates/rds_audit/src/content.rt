@@ -1,6 +1,6 @@
 //! The content of a reign: its segments and tags.
-ghost use Rattle.std.specs.Prelude.{◌≡◌, ◌+◌, ◌<◌, ◌≤◌, ◌↔◌, ℕ, IsOk, IsErr, IfOk, IfErr};
-ghost use Rattle.rds_audit.specs.AuditState.{CanTake, CannotTake, HasRoom, HoldsNoOther, no_content, tagged, taken};
+ghost use Rattle.std.specs.Prelude.{◌≡◌, ◌+◌, ◌<◌, ◌≤◌, ◌↔◌, ℕ, IsOk, IsErr, IsTrue, IfOk, IfErr, Some};
+ghost use Rattle.rds_audit.specs.AuditState.{CanTake, CannotTake, HasRoom, HoldsNoOther, cell_at, no_content, tagged, taken};
 ghost use Rattle.rds_audit.specs.Lengths.{narrowed, pair_end, tag_end};
 ghost use Rattle.rds_audit.specs.Stored.{ages_stored, content_stored};
 
@@ -86,6 +86,14 @@ impl<S: Audited> Content<S> {
             tags_end: self.tags_end,
             turns: u8::from(ages.turns),
         }
+    }
+
+    /// Returns whether the segment of this address has these bytes.
+    pub(crate) fn has(&self, address: u8, bytes: [u8; 4]) -> bool
+        requires { address < S.gauge.segments }
+        ensures { IsTrue result ↔ (cell_at address self.now ≡ Some bytes) }
+    {
+        self.cells[address as usize] == Some(bytes)
     }
 
     /// Takes a segment if some value has it together with the segments and tags before. Otherwise error `Changed`,

@@ -113,6 +113,11 @@ impl<S: Audited> Reigns<S> {
         // "Idioms").
         S::exact();
         if self.ages.joins(distance, flag) {
+            if self.content.has(address, bytes) {
+                // what the reign has already changes nothing but its last slot
+                self.ages.renew();
+                return Ok(());
+            }
             return self.join(address, bytes);
         }
         self.open(distance, flag)?;

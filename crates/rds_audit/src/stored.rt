@@ -2,7 +2,7 @@
 ghost use Rattle.std.specs.Prelude.{◌≡◌, map};
 ghost use Rattle.rds_audit.specs.AuditState.{start_if};
 ghost use Rattle.rds_fields.specs.Stored.{is_set};
-ghost use Rattle.rds_audit.specs.Stored.{cell_stored, fault_stored, number_of_fault};
+ghost use Rattle.rds_audit.specs.Stored.{cell_stored, code_of_fault, fault_stored};
 
 use crate::{AuditFault, LogStart};
 
@@ -72,31 +72,31 @@ impl LogStart {
 }
 
 impl AuditFault {
-    /// Returns the number of the fault, 0 if there is none.
-    pub(crate) fn number(fault: Option<AuditFault>) -> u8
-        ensures value { result ≡ number_of_fault fault }
+    /// Returns the code of the fault, the same as in the C library. 0 if there is none.
+    pub fn code(fault: Option<AuditFault>) -> u8
+        ensures value { result ≡ code_of_fault fault }
         ensures back { fault_stored result ≡ fault }
     {
         match fault {
             None => 0,
-            Some(AuditFault::Changed) => 1,
-            Some(AuditFault::NotOneText) => 2,
-            Some(AuditFault::EarlyFlag) => 3,
-            Some(AuditFault::EarlyTag) => 4,
-            Some(AuditFault::TagOutside) => 5,
+            Some(AuditFault::Changed) => 17,
+            Some(AuditFault::NotOneText) => 18,
+            Some(AuditFault::EarlyFlag) => 19,
+            Some(AuditFault::EarlyTag) => 20,
+            Some(AuditFault::TagOutside) => 21,
         }
     }
 
-    /// Returns the fault with this number. `None` for 0.
-    pub(crate) fn numbered(number: u8) -> Option<AuditFault>
-        ensures { result ≡ fault_stored number }
+    /// Returns the fault with this code. `None` for 0.
+    pub(crate) fn of_code(code: u8) -> Option<AuditFault>
+        ensures { result ≡ fault_stored code }
     {
-        match number {
+        match code {
             0 => None,
-            1 => Some(AuditFault::Changed),
-            2 => Some(AuditFault::NotOneText),
-            3 => Some(AuditFault::EarlyFlag),
-            4 => Some(AuditFault::EarlyTag),
+            17 => Some(AuditFault::Changed),
+            18 => Some(AuditFault::NotOneText),
+            19 => Some(AuditFault::EarlyFlag),
+            20 => Some(AuditFault::EarlyTag),
             _ => Some(AuditFault::TagOutside),
         }
     }

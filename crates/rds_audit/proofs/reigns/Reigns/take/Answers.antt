@@ -1,13 +1,25 @@
-use Rattle.std.proofs.Common.{◌≡◌, true, sym, ap, ◌∙◌, subst, rules}
+use Rattle.std.proofs.Common.{◌≡◌, true, Some, sym, ap, ◌∙◌, subst, rules}
 use Rattle.std.proofs.lemmas.Result.{IfErr-weaker}
 use Rattle.rds_receiver.specs.Receipts.{Fragment}
 use Rattle.rds_audit.specs.Ages.{Joins}
 use Rattle.rds_audit.specs.AuditStandsAt.{HoldsNewest}
-use Rattle.rds_audit.specs.AuditState.{CanTake, CannotTake, ReignsState, joined_state, opened_state}
+use Rattle.rds_audit.specs.AuditState.{CanTake, CannotTake, ReignsState, cell_at, joined_state, opened_state}
 use Rattle.rds_audit.specs.Lengths.{IsFormed}
 use Rattle.rds_safety.specs.Marks.{Sends}
-use Rattle.rds_audit.proofs.ReignSteps.{ok_by_both, sent_joining, sent_joining_broken, sent_opening, sent_opening_broken}
+use Rattle.rds_audit.proofs.HeldAgain.{sent_again}
+use Rattle.rds_audit.proofs.ReignSteps.{ok_by_both, state_is, sent_joining, sent_joining_broken, sent_opening, sent_opening_broken}
 use Rattle.rds_audit.proofs.reigns.Reigns.take.Goals as goal
+
+pub returns-then-has-clause-holds : goal.returns-then-has-clause-holds
+returns-then-has-clause-holds g c sent st =
+    let gauge = g.S.Audited.gauge in
+    let p : Fragment = record { flag = c.args.flag; address = c.args.address; bytes = c.args.bytes } in
+    let on : Joins c.args.distance c.args.flag c.args.self.now.ages = subst (λ (s : ReignsState). Joins c.args.distance c.args.flag s.ages) c.self.view_is (c.joins.ensures.0 c.if-joins.true) in
+    let formed : IsFormed gauge.segments p = record { address = c.requires.address; four = search rules; fits = search rules } in
+    let is : cell_at c.args.address c.args.self.now.content ≡ Some c.args.bytes = subst (λ (s : ReignsState). cell_at c.args.address s.content ≡ Some c.args.bytes) c.self.view_is (c.has.ensures.0 c.if-has.true) in
+    subst (λ (s : ReignsState). HoldsNewest gauge c.args.distance (Sends p) sent s)
+    (sym (state_is _ _ _ (c.renew.ensures ∙ ap (λ (s : ReignsState). record s.ages { since_last = 0 }) c.self.view_is) (ap (λ (s : ReignsState). s.content) c.self.view_is)))
+    (sent_again gauge c.exact.ensures g.met.S.Audited.few c.args.distance c.requires.some sent p c.args.self.now formed st on is)
 
 pub returns-then-joins-clause-holds : goal.returns-then-joins-clause-holds
 returns-then-joins-clause-holds g c sent st =

@@ -1,5 +1,5 @@
 use Rattle.std.proofs.Common.{rules}
-use Rattle.rds_audit.proofs.audit.AuditFault.number.Goals as goal
+use Rattle.rds_audit.proofs.audit.AuditFault.code.Goals as goal
 
 pub returns-in-Some-EarlyTag-clause-value : goal.returns-in-Some-EarlyTag-clause-value
 returns-in-Some-EarlyTag-clause-value c = search rules
