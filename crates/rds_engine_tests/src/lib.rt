@@ -19,6 +19,8 @@ mod same;
 #[cfg(test)]
 mod scripts;
 #[cfg(test)]
+mod slots_engine;
+#[cfg(test)]
 mod stops;
 #[cfg(test)]
 mod witnesses;

@@ -43,6 +43,7 @@ fn causes_of_lines(rt: HostRuntime) -> Result<(), Fail> {
             &mut Told::new(&mut output),
             0xC201,
             dwell(128)?,
+            None,
             MOST_READS,
             &mut notes,
         );
@@ -98,6 +99,7 @@ fn programmes(rt: HostRuntime) -> Result<(), Fail> {
             &mut Told::new(&mut output),
             pi,
             dwell(128)?,
+            None,
             MOST_READS,
             &mut notes,
         );

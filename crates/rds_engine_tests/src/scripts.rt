@@ -162,10 +162,11 @@ fn reader_fails(rt: HostRuntime) -> Result<(), Fail> {
 }
 
 /// Rows of a quiet slot with each kind of line end. Some lines are empty, and the last row has no line end.
-const QUIET: [&[u8]; 3] = [
+const QUIET: [&[u8]; 4] = [
     b"-,,0,\n\n-,,0,\n-,,0,\n\n\n-,,0,",
     b"\r\n-,,0,\r\n-,,0,\r\n\r\n-,,0,\r\n-,,0,",
     b"-,,0,\r-,,0,\r\r-,,0,\r\n-,,0,",
+    b"\xEF\xBB\xBF-,,0,\n-,,0,\r\n-,,0,\n-,,0,",
 ];
 
 /// The output of a row of a quiet slot.

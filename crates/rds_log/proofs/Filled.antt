@@ -1,22 +1,30 @@
 -- How the output of a filler goes on: it waits, it is written, or the writer fails at it.
-use Rattle.std.proofs.Common.{◌≡◌, ◌⊎◌, ◌+◌, ◌<◌, ◌≤◌, ℕ, zero, suc, List, [], ◌∷◌, ◌++◌, Option, Some, None, append_assoc, add-one, ap, sym, subst, ◌∙◌, refl, inl, inr, arith, codes, take}
-use Rattle.std.specs.Prelude.{Err, MatchResult, Ok, OnOk, Result, length, nat_lt}
+use Rattle.std.proofs.Common.{◌≡◌, ◌⊎◌, ◌+◌, ◌-◌, ◌<◌, ◌≤◌, ℕ, zero, suc, List, [], ◌∷◌, ◌++◌, Option, Some, None, append_assoc, add-one, ap, sym, subst, ◌∙◌, refl, inl, inr, arith, codes, false, is_some, max, take, true}
+use Rattle.std.specs.Prelude.{Err, MatchResult, Ok, OnOk, Result}
 use Rattle.rds_io.specs.declared.told.WriteFault.{WriteFault}
 use Rattle.std.proofs.lemmas.Bool.{cases_lt}
+use Rattle.std.proofs.lemmas.Bool.Decides.{nat_tests}
 use Rattle.std.proofs.lemmas.List.{append-nil}
+use Rattle.std.proofs.Math.Nat.{max-eq_left, max-eq_right, max-zero}
 use Rattle.std.proofs.KnownBytes.{Appends-trans}
 use Rattle.std.specs.Io.KnownBytes.{Appends}
 use Rattle.rds_block.specs.declared.group.Group.{Group}
 use Rattle.rds_io.specs.Told.{AppendsPrefix, Failed, Traffic}
 use Rattle.rds_io.specs.Puts.{AppendsPrefix-append, AppendsPrefix-longer, Puts}
-use Rattle.rds_arrivals.specs.Arrivals.{Arrival, lost_before}
+use Rattle.rds_arrivals.specs.Arrivals.{Arrival, IsBreak, lost_between, lost_until, lost_within}
+use Rattle.rds_arrivals.specs.Breaks.{IsBreakOf, break_of}
+use Rattle.rds_arrivals.specs.declared.lost.Break.{Break}
+use Rattle.rds_arrivals.specs.declared.lost.Break.TheVariants.{Back, Day}
 use Rattle.rds_arrivals.specs.declared.stamp.Stamp.{Stamp}
 use Rattle.rds_log.specs.LogLines.{Line}
 use Rattle.rds_log.specs.LineSays.{LineSays, deciding}
-use Rattle.rds_log.specs.Fill.{AddsSlot, AreFilled, WroteFilledPart, lost_lines, shown, time_of}
-use Rattle.rds_log.specs.Inside.Filler.{HasFilled, HasOutput, LostOutput, lost_after, newest_time}
+use Rattle.rds_log.specs.Fill.{AddsNothing, AreFilled, IsOfAnother, SoFar, WroteFilled, WroteFilledPart, break_line, gap_lines, lost_lines, more_lines, newest_time, shown, time_of}
+use Rattle.rds_log.specs.Inside.Filler.{HasFilled, HasOutput, KeepsPace, KeepsTime, LostOutput, last_time, told_after}
+use Rattle.rds_log.specs.Inside.Pace.{PaceStandsAt}
+use Rattle.rds_log.specs.declared.pace.Pace.{Pace}
+use Rattle.rds_log.specs.declared.filler.Filling.{Filling}
 use Rattle.rds_log.specs.declared.filler.Filler.{Filler}
-use Rattle.rds_log.specs.declared.log_line.LogLine.TheVariants.{Skip, Slot}
+use Rattle.rds_log.specs.declared.log_line.LogLine.TheVariants.{Slot}
 
 -- the output of some lost slots begins that of more
 pub lost_split : (i n : ℕ) → i ≤ n → (rest : List ℕ) × (lost_lines n ≡ lost_lines i ++ rest)
@@ -80,82 +88,206 @@ same_output s after w total has same = record { written = has.written; all = ap 
 pub lost_longer : (w : Traffic) (total more : List ℕ) → LostOutput w total → LostOutput w (total ++ more)
 lost_longer w total more lost = record { wrote = AppendsPrefix-longer w.before w.after total more lost.wrote; failed = lost.failed }
 
+-- ---- the output before a group
+
+-- no break
+pub gap_within : (f : Filling) (last told time lost : ℕ) → (IsBreak last time → ⊥) → lost ≡ lost_within f.grain (time - last)
+    → (gap_lines f (Some last) told time ≡ more_lines None told lost) × (lost_between f.grain f.dwell last time ≡ lost)
+gap_within f last told time lost whole count =
+    let (none, some) = no_break last time f.grain f.dwell whole in
+    let is : lost_between f.grain f.dwell last time ≡ lost = some ∙ sym count in
+    (rw (none, is) refl, is)
+  where
+    no_break : (last time grain m : ℕ) → (IsBreak last time → ⊥) → (break_of last time ≡ None) × (lost_between grain m last time ≡ lost_within grain (time - last))
+    no_break last time grain m whole = grind (arith, nat_tests)
+
+-- a break
+pub gap_across : (f : Filling) (last told time : ℕ) (why : Break) → IsBreakOf last time why
+    → (gap_lines f (Some last) told time ≡ more_lines (Some why) told f.dwell) × (lost_between f.grain f.dwell last time ≡ f.dwell)
+gap_across f last told time why is = (let (some, m) = a_break last time f.grain f.dwell why is in (rw (some, m) refl, m))
+  where
+    a_break : (last time grain m : ℕ) (why : Break) → IsBreakOf last time why → (break_of last time ≡ Some why) × (lost_between grain m last time ≡ m)
+    a_break last time grain m Back is = grind (arith, nat_tests)
+    a_break last time grain m Day is = grind (arith, nat_tests)
+
+-- nothing more is lost than was written, or something is
+pub nothing_more : (why : Option Break) (told lost : ℕ) → lost ≤ told → (more_lines why told lost ≡ []) × (max told lost ≡ told)
+nothing_more why told lost few = (none why, max-eq_left few)
+  where
+    none : (why : Option Break) → more_lines why told lost ≡ []
+    none why = grind (arith, few, nat_tests)
+
+pub something_more : (why : Option Break) (told lost : ℕ) → told < lost → (more_lines why told lost ≡ break_line why ++ lost_lines (lost - told)) × (max told lost ≡ lost)
+something_more why told lost more = (some why, max-eq_right (omega (arith, more)))
+  where
+    some : (why : Option Break) → more_lines why told lost ≡ break_line why ++ lost_lines (lost - told)
+    some why = grind (arith, more, nat_tests)
+
+-- the lost slots are those from the newest group
+pub told_is : (f : Filling) (came : List (Arrival Group)) (told time : ℕ) → told_after f (newest_time came) told time ≡ max told (lost_until f.grain f.dwell came time)
+told_is f [] told time = sym (max-zero told)
+told_is f (a ∷ before) told time = refl
+
+-- the same result for the same bytes
+pub same_pushed : (d : Filler) (w : Traffic) (r : Result (Unit {0}) WriteFault) (total other : List ℕ) → total ≡ other
+    → MatchResult r (λ _. HasOutput w d total) (λ _. LostOutput w total) → MatchResult r (λ _. HasOutput w d other) (λ _. LostOutput w other)
+same_pushed d w r total other same out = subst (λ (l : List ℕ). MatchResult r (λ _. HasOutput w d l) (λ _. LostOutput w l)) same out
+
 -- ---- lines
 
--- the lost slots follow from the newest time
-pub same_lost : (grain m time : ℕ) (arrivals : List (Arrival Group)) (last : Option ℕ) → last ≡ newest_time arrivals → lost_after grain m last time ≡ lost_before grain m arrivals time
-same_lost grain m time [] last e = ap (λ (o : Option ℕ). lost_after grain m o time) e
-same_lost grain m time (a ∷ before) last e = ap (λ (o : Option ℕ). lost_after grain m o time) e
-
 -- a line that adds nothing
-pub adds_none : (grain m : ℕ) (s after : Filler) (w : Traffic) (lines : List Line) (line : Line)
-    → LineSays line Skip ⊎ ((slot : Option Group) × LineSays line (Slot slot) × (time_of (take deciding line) ≡ None))
-    → after.grain ≡ s.grain → after.dwell ≡ s.dwell → after.last ≡ s.last → after.output ≡ s.output → HasFilled s w lines → HasFilled after w (line ∷ lines)
-adds_none grain m s after w lines line none g d l o has = record {
-  arrivals = has.arrivals;
-  total = has.total;
-  fill = inl (
-    none,
-    subst (λ (n : ℕ). AreFilled n after.dwell lines has.arrivals has.total) (sym g)
-        (subst (λ (n : ℕ). AreFilled s.grain n lines has.arrivals has.total) (sym d) has.fill),
-  );
-  last = l ∙ has.last;
-  output = same_output s after w has.total has.output o;
+pub adds_none : (s after : Filler) (w : Traffic) (lines : List Line) (line : Line) → AddsNothing s.filling line
+    → after.filling ≡ s.filling → after.pace ≡ s.pace → after.told ≡ s.told → after.output ≡ s.output → HasFilled s w lines → HasFilled after w (line ∷ lines)
+adds_none s after w lines line none f p d o has = record {
+  so_far = has.so_far;
+  fill = subst (λ (g : Filling). AreFilled g (line ∷ lines) has.so_far) (sym f) (inl (none, has.fill));
+  pace = rw p has.pace;
+  grain = ap (λ (x : Pace). x.grain) p ∙ has.grain ∙ ap (λ (g : Filling). g.grain) (sym f);
+  told = d ∙ has.told;
+  output = same_output s after w has.so_far.written has.output o;
 }
 
--- a line that adds a slot, and all its output
-pub adds_slot : (s : Filler) (w : Traffic) (lines : List Line) (line : Line) (slot : Option Group) (stamp : Stamp) (lost : ℕ) (first : List ℕ)
-    → LineSays line (Slot slot) → first ≡ take deciding line → time_of first ≡ Some stamp → lost ≡ lost_after s.grain s.dwell s.last stamp.time → (has : HasFilled s w lines)
-    → AreFilled s.grain s.dwell (line ∷ lines) (record { entry = slot; time = stamp.time } ∷ has.arrivals) (has.total ++ lost_lines lost ++ shown first stamp)
-adds_slot s w lines line slot stamp lost first says is timed count has =
-    let slots : lost ≡ lost_before s.grain s.dwell has.arrivals stamp.time = count ∙ same_lost s.grain s.dwell stamp.time has.arrivals s.last has.last in
-    inr (
-      has.arrivals,
-      has.total,
-      has.fill,
-      record {
-        slot = slot;
-        stamp = stamp;
-        says = says;
-        timed = rw is at timed;
-        adds = refl;
-        writes = ap (λ (n : ℕ). has.total ++ lost_lines n ++ shown first stamp) slots ∙ ap (λ (l : List ℕ). has.total ++ lost_lines (lost_before s.grain s.dwell has.arrivals stamp.time) ++ shown l stamp) is;
-      },
-    )
+same_gap : (s : Filler) (w : Traffic) (lines : List Line) (has : HasFilled s w lines) (time : ℕ)
+    → gap_lines s.filling (last_time s) s.told time ≡ gap_lines s.filling (newest_time has.so_far.came) has.so_far.told time
+same_gap s w lines has time =
+    ap (λ (o : Option ℕ). gap_lines s.filling o s.told time) has.pace.last ∙ ap (λ (n : ℕ). gap_lines s.filling (newest_time has.so_far.came) n time) has.told
 
--- the writer failed at a first part of it
-pub fails_at_slot : (s : Filler) (w v : Traffic) (lines : List Line) (line : Line) (slot : Option Group) (stamp : Stamp) (lost : ℕ) (first : List ℕ)
-    → LineSays line (Slot slot) → first ≡ take deciding line → time_of first ≡ Some stamp → lost ≡ lost_after s.grain s.dwell s.last stamp.time → (has : HasFilled s w lines)
-    → LostOutput v (has.total ++ lost_lines lost) → WroteFilledPart s.grain s.dwell v (line ∷ lines)
-fails_at_slot s w v lines line slot stamp lost first says is timed count has lose =
-    let more = lost_longer v (has.total ++ lost_lines lost) (shown first stamp) lose in
+-- what is so far after a line with a whole group, and after one without
+abbrev pub after_group : SoFar → Group → ℕ → List ℕ → SoFar
+after_group s group time written = record { came = record { entry = group; time = time; told = s.told } ∷ s.came; told = 0; written = written }
+
+abbrev pub after_time : Filling → SoFar → ℕ → List ℕ → SoFar
+after_time f s time written = record { came = s.came; told = max s.told (lost_until f.grain f.dwell s.came time); written = written }
+
+-- a line that adds a group, and all its output
+pub adds_group : (s : Filler) (w : Traffic) (lines : List Line) (line : Line) (group : Group) (stamp : Stamp) (first : List ℕ)
+    → LineSays line (Slot (Some group)) → first ≡ take deciding line → time_of first ≡ Some stamp → (IsOfAnother s.filling.pi first → ⊥) → (has : HasFilled s w lines)
+    → AreFilled s.filling (line ∷ lines) (after_group has.so_far group stamp.time (has.so_far.written ++ gap_lines s.filling (last_time s) s.told stamp.time ++ shown first stamp))
+adds_group s w lines line group stamp first says is timed own has = inr (
+  has.so_far,
+  has.fill,
+  inl record {
+    group = group;
+    stamp = stamp;
+    says = says;
+    timed = rw is at timed;
+    own = rw is at own;
+    came = refl;
+    told = refl;
+    writes = ap (λ (l : List ℕ). has.so_far.written ++ l ++ shown first stamp) (same_gap s w lines has stamp.time)
+        ∙ ap (λ (l : List ℕ). has.so_far.written ++ gap_lines s.filling (newest_time has.so_far.came) has.so_far.told stamp.time ++ shown l stamp) is;
+  },
+)
+
+-- a line that tells a time
+pub adds_time : (s : Filler) (w : Traffic) (lines : List Line) (line : Line) (stamp : Stamp) (first : List ℕ)
+    → LineSays line (Slot None) → first ≡ take deciding line → time_of first ≡ Some stamp → (IsOfAnother s.filling.pi first → ⊥) → (has : HasFilled s w lines)
+    → AreFilled s.filling (line ∷ lines) (after_time s.filling has.so_far stamp.time (has.so_far.written ++ gap_lines s.filling (last_time s) s.told stamp.time))
+adds_time s w lines line stamp first says is timed own has = inr (
+  has.so_far,
+  has.fill,
+  inr record {
+    stamp = stamp;
+    says = says;
+    timed = rw is at timed;
+    own = rw is at own;
+    came = refl;
+    told = refl;
+    writes = ap (λ (l : List ℕ). has.so_far.written ++ l) (same_gap s w lines has stamp.time);
+  },
+)
+
+-- the writer failed at a first part of the output of a line
+pub fails_at_group : (s : Filler) (w v : Traffic) (lines : List Line) (line : Line) (group : Group) (stamp : Stamp) (first : List ℕ)
+    → LineSays line (Slot (Some group)) → first ≡ take deciding line → time_of first ≡ Some stamp → (IsOfAnother s.filling.pi first → ⊥) → (has : HasFilled s w lines)
+    → LostOutput v (has.so_far.written ++ gap_lines s.filling (last_time s) s.told stamp.time) → WroteFilledPart s.filling v (line ∷ lines)
+fails_at_group s w v lines line group stamp first says is timed own has lose =
+    let more = lost_longer v (has.so_far.written ++ gap_lines s.filling (last_time s) s.told stamp.time) (shown first stamp) lose in
     record {
-      arrivals = record { entry = slot; time = stamp.time } ∷ has.arrivals;
-      written = has.total ++ lost_lines lost ++ shown first stamp;
-      fill = adds_slot s w lines line slot stamp lost first says is timed count has;
+      so_far = after_group has.so_far group stamp.time (has.so_far.written ++ gap_lines s.filling (last_time s) s.told stamp.time ++ shown first stamp);
+      fill = adds_group s w lines line group stamp first says is timed own has;
       wrote = more.wrote;
       failed = more.failed;
     }
 
--- the output was added, or the writer failed at it
-pub slot_done : (s after : Filler) (w v : Traffic) (lines : List Line) (line : Line) (slot : Option Group) (stamp : Stamp) (lost : ℕ) (first : List ℕ) (r : Result (Unit {0}) WriteFault)
-    → LineSays line (Slot slot) → first ≡ take deciding line → time_of first ≡ Some stamp → lost ≡ lost_after s.grain s.dwell s.last stamp.time → (has : HasFilled s w lines)
-    → after.grain ≡ s.grain → after.dwell ≡ s.dwell → after.last ≡ Some stamp.time
-    → MatchResult r (λ _. HasOutput v after (has.total ++ lost_lines lost ++ shown first stamp)) (λ _. LostOutput v (has.total ++ lost_lines lost ++ shown first stamp))
-    → MatchResult r (λ _. HasFilled after v (line ∷ lines)) (λ _. WroteFilledPart s.grain s.dwell v (line ∷ lines))
-slot_done s after w v lines line slot stamp lost first (Ok done) says is timed count has g d l out = record {
-  arrivals = record { entry = slot; time = stamp.time } ∷ has.arrivals;
-  total = has.total ++ lost_lines lost ++ shown first stamp;
-  fill = subst (λ (n : ℕ). AreFilled n after.dwell (line ∷ lines) (record { entry = slot; time = stamp.time } ∷ has.arrivals) (has.total ++ lost_lines lost ++ shown first stamp)) (sym g)
-      (subst (λ (n : ℕ). AreFilled s.grain n (line ∷ lines) (record { entry = slot; time = stamp.time } ∷ has.arrivals) (has.total ++ lost_lines lost ++ shown first stamp)) (sym d)
-      (adds_slot s w lines line slot stamp lost first says is timed count has));
-  last = l;
-  output = out;
+pub fails_at_slot : (s : Filler) (w v : Traffic) (lines : List Line) (line : Line) (slot : Option Group) (stamp : Stamp) (first : List ℕ)
+    → LineSays line (Slot slot) → first ≡ take deciding line → time_of first ≡ Some stamp → (IsOfAnother s.filling.pi first → ⊥) → (has : HasFilled s w lines)
+    → LostOutput v (has.so_far.written ++ gap_lines s.filling (last_time s) s.told stamp.time) → WroteFilledPart s.filling v (line ∷ lines)
+fails_at_slot s w v lines line (Some group) stamp first says is timed own has lose = fails_at_group s w v lines line group stamp first says is timed own has lose
+fails_at_slot s w v lines line None stamp first says is timed own has lose = record {
+  so_far = after_time s.filling has.so_far stamp.time (has.so_far.written ++ gap_lines s.filling (last_time s) s.told stamp.time);
+  fill = adds_time s w lines line stamp first says is timed own has;
+  wrote = lose.wrote;
+  failed = lose.failed;
 }
-slot_done s after w v lines line slot stamp lost first (Err fault) says is timed count has g d l out = record {
-  arrivals = record { entry = slot; time = stamp.time } ∷ has.arrivals;
-  written = has.total ++ lost_lines lost ++ shown first stamp;
-  fill = adds_slot s w lines line slot stamp lost first says is timed count has;
+
+-- the output of a line without a whole group was added
+pub time_done : (s after : Filler) (w v : Traffic) (lines : List Line) (line : Line) (slot : Option Group) (stamp : Stamp) (first : List ℕ)
+    → LineSays line (Slot slot) → is_some slot ≡ false → first ≡ take deciding line → time_of first ≡ Some stamp → (IsOfAnother s.filling.pi first → ⊥) → (has : HasFilled s w lines)
+    → KeepsPace s after → after.told ≡ told_after s.filling (last_time s) s.told stamp.time
+    → HasOutput v after (has.so_far.written ++ gap_lines s.filling (last_time s) s.told stamp.time) → HasFilled after v (line ∷ lines)
+time_done s after w v lines line (Some group) stamp first says none is timed own has keeps told out = absurd (cc)
+time_done s after w v lines line None stamp first says none is timed own has keeps told out =
+    let written = has.so_far.written ++ gap_lines s.filling (last_time s) s.told stamp.time in
+    record {
+      so_far = after_time s.filling has.so_far stamp.time written;
+      fill = subst (λ (g : Filling). AreFilled g (line ∷ lines) (after_time s.filling has.so_far stamp.time written)) (sym keeps.filling)
+          (adds_time s w lines line stamp first says is timed own has);
+      pace = rw keeps.pace has.pace;
+      grain = ap (λ (x : Pace). x.grain) keeps.pace ∙ has.grain ∙ ap (λ (g : Filling). g.grain) (sym keeps.filling);
+      told = told ∙ ap (λ (o : Option ℕ). told_after s.filling o s.told stamp.time) has.pace.last ∙ ap (λ (n : ℕ). told_after s.filling (newest_time has.so_far.came) n stamp.time) has.told
+          ∙ told_is s.filling has.so_far.came has.so_far.told stamp.time;
+      output = out;
+    }
+
+-- the output of a line with a group was added, or the writer failed at it
+pub group_done : (s after : Filler) (w v : Traffic) (lines : List Line) (line : Line) (slot : Option Group) (stamp : Stamp) (first : List ℕ) (r : Result (Unit {0}) WriteFault)
+    → LineSays line (Slot slot) → is_some slot ≡ true → first ≡ take deciding line → time_of first ≡ Some stamp → (IsOfAnother s.filling.pi first → ⊥) → (has : HasFilled s w lines)
+    → after.filling ≡ s.filling → ((a : Arrival Group) → a.time ≡ stamp.time → PaceStandsAt after.pace (a ∷ has.so_far.came)) → after.pace.grain ≡ s.pace.grain → after.told ≡ 0
+    → MatchResult r (λ _. HasOutput v after (has.so_far.written ++ gap_lines s.filling (last_time s) s.told stamp.time ++ shown first stamp))
+    (λ _. LostOutput v (has.so_far.written ++ gap_lines s.filling (last_time s) s.told stamp.time ++ shown first stamp))
+    → MatchResult r (λ _. HasFilled after v (line ∷ lines)) (λ _. WroteFilledPart s.filling v (line ∷ lines))
+group_done s after w v lines line None stamp first r says some is timed own has f p k d out = absurd (cc)
+group_done s after w v lines line (Some group) stamp first (Ok done) says some is timed own has f p k d out =
+    let so_far = after_group has.so_far group stamp.time (has.so_far.written ++ gap_lines s.filling (last_time s) s.told stamp.time ++ shown first stamp) in
+    record {
+      so_far = so_far;
+      fill = subst (λ (g : Filling). AreFilled g (line ∷ lines) so_far) (sym f) (adds_group s w lines line group stamp first says is timed own has);
+      pace = p _ refl;
+      grain = k ∙ has.grain ∙ ap (λ (g : Filling). g.grain) (sym f);
+      told = d;
+      output = out;
+    }
+group_done s after w v lines line (Some group) stamp first (Err fault) says some is timed own has f p k d out = record {
+  so_far = after_group has.so_far group stamp.time (has.so_far.written ++ gap_lines s.filling (last_time s) s.told stamp.time ++ shown first stamp);
+  fill = adds_group s w lines line group stamp first says is timed own has;
   wrote = out.wrote;
   failed = out.failed;
 }
+
+-- ---- writes between lines
+
+-- the output of the lines so far was written, or the writer failed at it
+pub flushed : (s after : Filler) (w v : Traffic) (lines : List Line) (r : Result (Unit {0}) WriteFault) (has : HasFilled s w lines) → KeepsTime s after
+    → MatchResult r (λ _. HasOutput v after has.so_far.written) (λ _. LostOutput v has.so_far.written)
+    → MatchResult r (λ _. HasFilled after v lines) (λ _. WroteFilledPart s.filling v lines)
+flushed s after w v lines (Ok done) has keeps out = record {
+  so_far = has.so_far;
+  fill = subst (λ (g : Filling). AreFilled g lines has.so_far) (sym keeps.filling) has.fill;
+  pace = rw keeps.pace has.pace;
+  grain = ap (λ (x : Pace). x.grain) keeps.pace ∙ has.grain ∙ ap (λ (g : Filling). g.grain) (sym keeps.filling);
+  told = keeps.told ∙ has.told;
+  output = out;
+}
+flushed s after w v lines (Err fault) has keeps out = record { so_far = has.so_far; fill = has.fill; wrote = out.wrote; failed = out.failed }
+
+-- nothing waits: all output was written
+unfoldable pub wrote_filled : (f : Filling) (s : Filler) (w : Traffic) (lines : List Line) → s.filling ≡ f → HasFilled s w lines → s.output ≡ [] → WroteFilled f w lines
+wrote_filled f s w lines same has none =
+    let all : has.output.written ≡ has.so_far.written = sym (ap (λ (l : List ℕ). has.output.written ++ l) none ∙ append-nil has.output.written) ∙ has.output.all in
+    record {
+      so_far = has.so_far;
+      fill = rw same at has.fill;
+      wrote = rw all at has.output.wrote;
+      calm = has.output.calm;
+    }

@@ -11,18 +11,22 @@ use Rattle.rds_log.specs.declared.log_line.Block.TheVariants.{Word, Missing}
 use Rattle.rds_log.specs.declared.log_line.LogLine.{LogLine}
 use Rattle.rds_log.specs.declared.log_line.LogLine.TheVariants.{Skip, Slot}
 
+-- the first bytes are the same
+abbrev pub SameBytes : Line → Line → Type 0
+SameBytes p q = (i : ℕ) → i < 20 → get_or p i 0 ≡ get_or q i 0
+
 -- both lines go on after the blocks, and their first bytes are the same
 record SameStart (p q : Line) : Type 0 where
   pub from : 20 ≤ content_length p
   pub to : 20 ≤ content_length q
-  pub bytes : (i : ℕ) → i < 20 → get_or p i 0 ≡ get_or q i 0
+  pub bytes : SameBytes p q
 
-same_word : (p q : Line) (at w : ℕ) → SameStart p q → at + 4 ≤ 20 → HasWord p at w → HasWord q at w
+same_word : (p q : Line) (at w : ℕ) → SameBytes p q → at + 4 ≤ 20 → HasWord p at w → HasWord q at w
 same_word p q at w s h word =
-    let a = sym (s.bytes at (omega arith)) in
-    let b = sym (s.bytes (at + 1) (omega arith)) in
-    let c = sym (s.bytes (at + 2) (omega arith)) in
-    let d = sym (s.bytes (at + 3) (omega arith)) in
+    let a = sym (s at (omega arith)) in
+    let b = sym (s (at + 1) (omega arith)) in
+    let c = sym (s (at + 2) (omega arith)) in
+    let d = sym (s (at + 3) (omega arith)) in
     record {
       first = rw a word.first;
       second = rw b word.second;
@@ -31,19 +35,19 @@ same_word p q at w s h word =
       word = rw (a, b, c, d) word.word;
     }
 
-same_dashes : (p q : Line) (at : ℕ) → SameStart p q → at + 4 ≤ 20 → HasDashes p at → HasDashes q at
+same_dashes : (p q : Line) (at : ℕ) → SameBytes p q → at + 4 ≤ 20 → HasDashes p at → HasDashes q at
 same_dashes p q at s h dashes = record {
-  first = sym (s.bytes at (omega arith)) ∙ dashes.first;
-  second = sym (s.bytes (at + 1) (omega arith)) ∙ dashes.second;
-  third = sym (s.bytes (at + 2) (omega arith)) ∙ dashes.third;
-  fourth = sym (s.bytes (at + 3) (omega arith)) ∙ dashes.fourth;
+  first = sym (s at (omega arith)) ∙ dashes.first;
+  second = sym (s (at + 1) (omega arith)) ∙ dashes.second;
+  third = sym (s (at + 2) (omega arith)) ∙ dashes.third;
+  fourth = sym (s (at + 3) (omega arith)) ∙ dashes.fourth;
 }
 
-same_block : (p q : Line) (at : ℕ) (block : Block) → SameStart p q → at + 4 ≤ 20 → IsBlock p at block → IsBlock q at block
+same_block : (p q : Line) (at : ℕ) (block : Block) → SameBytes p q → at + 4 ≤ 20 → IsBlock p at block → IsBlock q at block
 same_block p q at (Word w) s h block = same_word p q at w s h block
 same_block p q at Missing s h block = same_dashes p q at s h block
 
-same_slot : (p q : Line) (slot : Option Group) → SameStart p q → SaysSlot p slot → SaysSlot q slot
+same_slot : (p q : Line) (slot : Option Group) → SameBytes p q → SaysSlot p slot → SaysSlot q slot
 same_slot p q slot s says = record {
   a = says.a;
   b = says.b;
@@ -56,25 +60,29 @@ same_slot p q slot s says = record {
   carried = says.carried;
 }
 
-same_layout : (p q : Line) → SameStart p q → IsLaidOut p → IsLaidOut q
-same_layout p q s laid = record {
-  at_least = omega (arith, s.to);
-  first_space = sym (s.bytes 4 (omega arith)) ∙ laid.first_space;
-  second_space = sym (s.bytes 9 (omega arith)) ∙ laid.second_space;
-  third_space = sym (s.bytes 14 (omega arith)) ∙ laid.third_space;
+same_layout : (p q : Line) → 20 ≤ content_length p → 19 ≤ content_length q → SameBytes p q → IsLaidOut p → IsLaidOut q
+same_layout p q from to s laid = record {
+  at_least = to;
+  first_space = sym (s 4 (omega arith)) ∙ laid.first_space;
+  second_space = sym (s 9 (omega arith)) ∙ laid.second_space;
+  third_space = sym (s 14 (omega arith)) ∙ laid.third_space;
   ends = elim laid.ends [
-    | inl e ↦ absurd (omega (arith, e, s.from))
-    | inr space ↦ inr (sym (s.bytes 19 (omega arith)) ∙ space)
+    | inl e ↦ absurd (omega (arith, e, from))
+    | inr space ↦ inr (sym (s 19 (omega arith)) ∙ space)
   ];
 }
+
+-- a line that begins with the same blocks and a space is the same slot
+pub same_slot_line : (p q : Line) (slot : Option Group) → 20 ≤ content_length p → 19 ≤ content_length q → SameBytes p q → LineSays p (Slot slot) → LineSays q (Slot slot)
+same_slot_line p q slot from to s says = (same_layout p q from to s says.0, same_slot p q slot s says.1)
 
 same_said : (p q : Line) (said : LogLine) → SameStart p q → LineSays p said → LineSays q said
 same_said p q Skip s (inl empty) = absurd (omega (arith, empty, s.from))
 same_said p q Skip s (inr mark) = rw (sym (s.bytes 0 (omega arith))) (inr mark)
-same_said p q (Slot slot) s says = (same_layout p q s says.0, same_slot p q slot s says.1)
+same_said p q (Slot slot) s says = same_slot_line p q slot s.from (omega (arith, s.to)) s.bytes says
 
 -- a line has at most one byte more than its content
-content_near : (line : Line) → length line ≤ content_length line + 1
+pub content_near : (line : Line) → length line ≤ content_length line + 1
 content_near line = by_end (ends_with_return line)
   where
     by_end : (b : Bool) → length line ≤ cond b (length line - 1) (length line) + 1

@@ -15,3 +15,6 @@ pub mod OneOutput
 pub mod Meaning
 pub mod OneVerdict
 pub mod Filled
+pub mod Fills
+pub mod FilledText
+pub mod Pacing

@@ -11,13 +11,13 @@ use Rattle.rds_log.specs.LogLines.{EndsAt, IsLine, Line, line_feed, text_of}
 use Rattle.rds_log.specs.LineSays.{LineSays}
 use Rattle.rds_log.specs.Inside.Cutter.{Closes, CutterStandsAt, IsBadLine}
 use Rattle.rds_log.specs.Reads.{MadeReads, ReadsUpTo}
-use Rattle.rds_log.specs.Inside.Source.{GivesNext, HasLine, HasNoNext, HasMade, IsAtLast, IsInside, IsThrough, ReaderState, SourceStandsAt, since, waiting}
+use Rattle.rds_log.specs.Inside.Source.{GivesNext, GivesStart, HasLine, HasNoNext, HasMade, IsAtLast, IsInside, IsThrough, ReaderState, SourceStandsAt, since, start_with, waiting}
 use Rattle.rds_io.specs.declared.fault.BadLine as fault
 use Rattle.rds_io.specs.declared.fault.LogFault.{LogFault}
 use Rattle.rds_io.specs.declared.fault.LogFault.TheVariants.{BadLine, TooLong}
 use Rattle.rds_log.specs.declared.log_line.LogLine.{LogLine}
 use Rattle.rds_log.specs.declared.source.Source.{Source}
-use Rattle.rds_log.proofs.Cutting.{text_of-more}
+use Rattle.rds_log.proofs.Cutting.{kept_of_more, text_of-more}
 
 -- where the next line ends in the bytes, or that it does not
 pub line_told : (bytes : List ℕ) (o : Option ℕ) → IfNone o (IsLine bytes) → IfSome o (EndsAt bytes) → MatchOption o (IsLine bytes) (EndsAt bytes)
@@ -93,11 +93,15 @@ line_of chunk at count n less =
     let size : n ≡ at + n - at = omega arith in
     take-take n (count - at) (drop at chunk) (omega (arith, less)) ∙ ap (λ (m : ℕ). take m (drop at chunk)) size
 
+-- the first bytes of the line that these bytes end
+start_is : (s : Source) (lines : List Line) (begun last : Line) → CutterStandsAt s.cutter lines begun → start_with s last ≡ take 60 (begun ++ last)
+start_is s lines begun last cutter = ap (λ (l : Line). take 60 (l ++ last)) cutter.kept ∙ kept_of_more begun last
+
 -- the next line was closed, and says this
 gives_line : (s after : Source) (most n : ℕ) (start now : ReaderState) (lines : List Line) (said : LogLine) → SourceStandsAt s most start now lines → s.line ≡ Some n
     → s.at + n < s.count → ((begun : Line) → CutterStandsAt s.cutter lines begun → IsLine (take n (waiting s)) → Closes after.cutter lines (begun ++ take n (waiting s)) said)
     → after.chunk ≡ s.chunk → after.at ≡ s.at + n + 1 → after.count ≡ s.count → after.left ≡ s.left → after.ended ≡ s.ended
-    → MatchOption after.line (IsLine (waiting after)) (EndsAt (waiting after)) → GivesNext after most start now lines (Some said)
+    → MatchOption after.line (IsLine (waiting after)) (EndsAt (waiting after)) → GivesStart after most start now lines (start_with s (take n (waiting s))) (Some said)
 gives_line s after most n start now lines said stands line less closes chunk at count left ended next =
     let not_ended = goes_on s most n start now lines line stands in
     let is = inside s most start now lines not_ended stands in
@@ -126,6 +130,7 @@ gives_line s after most n start now lines said stands line less closes chunk at 
           };
         };
       },
+      start_is s lines is.holds.begun (take n (waiting s)) is.holds.cutter,
     )
 
 -- the next line is bad
@@ -158,7 +163,7 @@ pub gives_either : (s after : Source) (most n : ℕ) (start now : ReaderState) (
     → ((begun : Line) → CutterStandsAt s.cutter lines begun → IfErr result (λ _. after.cutter.kept.items ≡ take 60 (begun ++ take n (waiting s))))
     → after.chunk ≡ s.chunk → after.at ≡ s.at + n + 1 → after.count ≡ s.count → after.left ≡ s.left → after.ended ≡ s.ended
     → MatchOption after.line (IsLine (waiting after)) (EndsAt (waiting after))
-    → MatchResult result (λ said. GivesNext after most start now lines (Some said)) (λ bad. HasNoNext most start now lines after.cutter.kept.items (BadLine bad.number))
+    → MatchResult result (λ said. GivesStart after most start now lines (start_with s (take n (waiting s))) (Some said)) (λ bad. HasNoNext most start now lines after.cutter.kept.items (BadLine bad.number))
 gives_either s after most n start now lines (Ok said) stands line less closes first chunk at count left ended next =
     gives_line s after most n start now lines said stands line less closes chunk at count left ended next
 gives_either s after most n start now lines (Err bad) stands line less closes first chunk at count left ended next =
@@ -274,7 +279,7 @@ ends_between s after most start now lines last empty left ended none =
 
 -- the end, which closes a line
 pub ends_line : (s after : Source) (most : ℕ) (start now : ReaderState) (lines : List Line) (said : LogLine) (last : IsAtLast s most start now lines) → last.begun ≢ []
-    → Closes after.cutter lines (last.begun ++ []) said → after.left ≡ s.left → after.ended ≡ true → after.line ≡ None → GivesNext after most start now lines (Some said)
+    → Closes after.cutter lines (last.begun ++ []) said → after.left ≡ s.left → after.ended ≡ true → after.line ≡ None → GivesStart after most start now lines (start_with s []) (Some said)
 ends_line s after most start now lines said last some closed left ended none =
     let says : LineSays last.begun said = rw (append-nil last.begun) at closed.says in
     let through : IsThrough start now (last.begun ∷ lines) = record {
@@ -290,6 +295,7 @@ ends_line s after most start now lines said last some closed left ended none =
         reads = made_so_far s after most start now left reads;
         where_it_is = from_through after most start now (last.begun ∷ lines) after.ended ended through none;
       },
+      start_is s lines last.begun [] last.cutter ∙ ap (take 60) (append-nil last.begun),
     )
 
 -- the end closes a bad line

@@ -1,85 +1,147 @@
 -- What `slots` writes: each group with its time, and before it a line for each slot that the log lacks. Lists of lines and
 -- of arrivals have the newest first. r is the traffic with the reader, w the traffic with the writer.
-use Rattle.std.specs.Prelude.{◌≡◌, ◌⊎◌, ◌+◌, ◌^◌, ◌++◌, [], ◌∷◌, ℕ, zero, suc, List, Ok, Err, Result, Option, Some, None, codes, drop, length, nat_lt, take, if◌then◌else◌}
+use Rattle.std.specs.Prelude.{◌≡◌, ◌≢◌, ◌⊎◌, ◌+◌, ◌-◌, ◌^◌, ◌++◌, ◌↔◌, [], ◌∷◌, ℕ, zero, suc, Bool, IsTrue, List, Ok, Err, Result, Option, Some, None, codes, drop, length, max, nat_lt, take, if◌then◌else◌}
 use Rattle.std.specs.Io.KnownBytes.{Appends, Consumes, IsAtEnd}
 use Rattle.rds_block.specs.declared.group.Group.{Group}
+use Rattle.rds_io.specs.Digits.{HasWord}
 use Rattle.rds_io.specs.Told.{AppendsPrefix, HasFailed, IsCalm, Traffic}
-use Rattle.rds_arrivals.specs.Arrivals.{Arrival, lost_before}
+use Rattle.rds_arrivals.specs.Arrivals.{Arrival, lost_between, lost_until}
+use Rattle.rds_arrivals.specs.Breaks.{break_of}
+use Rattle.rds_arrivals.specs.Coarse.{AreCoarse}
 use Rattle.rds_arrivals.specs.Stamps.{stamp_in}
+use Rattle.rds_arrivals.specs.declared.lost.Break.{Break}
+use Rattle.rds_arrivals.specs.declared.lost.Break.TheVariants.{Back, Day}
 use Rattle.rds_arrivals.specs.declared.stamp.Stamp.{Stamp}
 use Rattle.rds_log.specs.LogLines.{AreLines, Line}
 use Rattle.rds_log.specs.LineSays.{LineSays, deciding}
 use Rattle.rds_log.specs.Reads.{BeginsWith, NextIsBad, ReadsUpTo}
 use Rattle.rds_io.specs.declared.fault.LogFault.{LogFault}
 use Rattle.rds_io.specs.declared.fault.LogFault.TheVariants.{BadLine, BadRow, Read, Write, TooLong, Memory}
+use Rattle.rds_log.specs.declared.filler.Filling.{Filling}
 use Rattle.rds_log.specs.declared.log_line.LogLine.TheVariants.{Skip, Slot}
+
+-- ---- a line, by its first bytes
 
 -- the time of a slot's line: that of its text after the blocks and a space, in the bytes that are kept of a line
 abbrev pub time_of : List ℕ → Option Stamp
 time_of first = if nat_lt (length first) 20 then None else stamp_in (drop 20 first)
 
--- its output: the line as far as the time
+-- the first block is a word other than the wanted PI; if no PI is wanted, each programme is
+abbrev pub IsOfAnother : Option ℕ → List ℕ → Type 0
+IsOfAnother None first = ⊥
+IsOfAnother (Some pi) first = (word : ℕ) × HasWord first 0 word × (word ≢ pi)
+
+-- the output of a group: its line as far as the time
 abbrev pub shown : List ℕ → Stamp → List ℕ
 shown first stamp = take (20 + stamp.end) first ++ codes "\n"
+
+-- ---- the output before a group
 
 -- the output of n lost slots
 abbrev pub lost_lines : ℕ → List ℕ
 lost_lines zero = []
 lost_lines (suc n) = lost_lines n ++ codes "---- ---- ---- ----\n"
 
--- the line is a slot with a time: it adds an arrival, and its output
-pub record AddsSlot (grain m : ℕ) (line : Line) (older : List (Arrival Group)) (before : List ℕ)
-    (newer : List (Arrival Group)) (written : List ℕ) : Type 0 where
-  pub slot : Option Group
+-- the comment at a break
+abbrev pub break_line : Option Break → List ℕ
+break_line None = []
+break_line (Some Back) = codes "# time went back\n"
+break_line (Some Day) = codes "# more than a day passed\n"
+
+-- the output when `lost` slots are lost since the last group and `told` of them are written: the comment, if there is a
+-- break, and the lost slots that are not written
+abbrev pub more_lines : Option Break → ℕ → ℕ → List ℕ
+more_lines why told lost = if nat_lt told lost then break_line why ++ lost_lines (lost - told) else []
+
+-- the output from the time of the last group to this one, if `told` lost slots are written since
+abbrev pub gap_lines : Filling → Option ℕ → ℕ → ℕ → List ℕ
+gap_lines f None told time = []
+gap_lines f (Some last) told time = more_lines (break_of last time) told (lost_between f.grain f.dwell last time)
+
+abbrev pub newest_time : List (Arrival Group) → Option ℕ
+newest_time [] = None
+newest_time (a ∷ before) = Some a.time
+
+-- ---- lines
+
+-- the groups so far, the lost slots that are written since the newest of them, and the output
+pub record SoFar : Type 0 where
+  pub came : List (Arrival Group)
+  pub told : ℕ
+  pub written : List ℕ
+
+-- the line is a group with a time, and not of another programme: it adds an arrival, and its output
+pub record AddsGroup (f : Filling) (line : Line) (old new : SoFar) : Type 0 where
+  pub group : Group
   pub stamp : Stamp
-  pub says : LineSays line (Slot slot)
+  pub says : LineSays line (Slot (Some group))
   pub timed : time_of (take deciding line) ≡ Some stamp
-  pub adds : newer ≡ record { entry = slot; time = stamp.time } ∷ older
-  pub writes : written ≡ before ++ lost_lines (lost_before grain m older stamp.time) ++ shown (take deciding line) stamp
+  pub own : IsOfAnother f.pi (take deciding line) → ⊥
+  pub came : new.came ≡ record { entry = group; time = stamp.time; told = old.told } ∷ old.came
+  pub told : new.told ≡ 0
+  pub writes : new.written
+      ≡ old.written ++ gap_lines f (newest_time old.came) old.told stamp.time ++ shown (take deciding line) stamp
 
--- the line adds nothing: it is no slot, or it has no time
-abbrev pub AddsNothing : Line → Type 0
-AddsNothing line = LineSays line Skip
-    ⊎ ((slot : Option Group) × LineSays line (Slot slot) × (time_of (take deciding line) ≡ None))
+-- the line has a time and no whole group: no group came up to this time. It adds the lost slots that are not written
+pub record AddsTime (f : Filling) (line : Line) (old new : SoFar) : Type 0 where
+  pub stamp : Stamp
+  pub says : LineSays line (Slot None)
+  pub timed : time_of (take deciding line) ≡ Some stamp
+  pub own : IsOfAnother f.pi (take deciding line) → ⊥
+  pub came : new.came ≡ old.came
+  pub told : new.told ≡ max old.told (lost_until f.grain f.dwell old.came stamp.time)
+  pub writes : new.written ≡ old.written ++ gap_lines f (newest_time old.came) old.told stamp.time
 
--- the lines have these arrivals and this output
-abbrev pub AreFilled : ℕ → ℕ → List Line → List (Arrival Group) → List ℕ → Type 0
-AreFilled grain m [] arrivals written = (arrivals ≡ []) × (written ≡ [])
-AreFilled grain m (line ∷ before) arrivals written =
-    (AddsNothing line × AreFilled grain m before arrivals written)
-    ⊎ ((older : List (Arrival Group)) × (output : List ℕ) × AreFilled grain m before older output
-    × AddsSlot grain m line older output arrivals written)
+-- the line adds nothing: it is no slot, or it has no time, or it is of another programme
+abbrev pub AddsNothing : Filling → Line → Type 0
+AddsNothing f line = LineSays line Skip
+    ⊎ ((slot : Option Group) × LineSays line (Slot slot)
+    × ((time_of (take deciding line) ≡ None) ⊎ IsOfAnother f.pi (take deciding line)))
+
+-- the lines have these groups and this output
+abbrev pub AreFilled : Filling → List Line → SoFar → Type 0
+AreFilled f [] s = (s.came ≡ []) × (s.told ≡ 0) × (s.written ≡ [])
+AreFilled f (line ∷ before) s =
+    (AddsNothing f line × AreFilled f before s)
+    ⊎ ((old : SoFar) × AreFilled f before old × (AddsGroup f line old s ⊎ AddsTime f line old s))
 
 -- the output of these lines was written
-pub record WroteFilled (grain m : ℕ) (w : Traffic) (lines : List Line) : Type 0 where
-  pub arrivals : List (Arrival Group)
-  pub written : List ℕ
-  pub fill : AreFilled grain m lines arrivals written
-  pub wrote : Appends w.before w.after written
+pub record WroteFilled (f : Filling) (w : Traffic) (lines : List Line) : Type 0 where
+  pub so_far : SoFar
+  pub fill : AreFilled f lines so_far
+  pub wrote : Appends w.before w.after so_far.written
   pub calm : IsCalm w
 
 -- the writer failed: some first part of it was written
-pub record WroteFilledPart (grain m : ℕ) (w : Traffic) (lines : List Line) : Type 0 where
-  pub arrivals : List (Arrival Group)
-  pub written : List ℕ
-  pub fill : AreFilled grain m lines arrivals written
-  pub wrote : AppendsPrefix w.before w.after written
+pub record WroteFilledPart (f : Filling) (w : Traffic) (lines : List Line) : Type 0 where
+  pub so_far : SoFar
+  pub fill : AreFilled f lines so_far
+  pub wrote : AppendsPrefix w.before w.after so_far.written
   pub failed : HasFailed w
 
+-- the output of a whole log was written, and the answer says whether its times are coarse
+pub record FillsAll (f : Filling) (r w : Traffic) (coarse : Bool) : Type 0 where
+  pub text : List ℕ
+  pub lines : List Line
+  pub read : Consumes r.before r.after text
+  pub end : IsAtEnd r.after
+  pub are : AreLines text lines
+  pub wrote : WroteFilled f w lines
+  pub answer : IsTrue coarse ↔ AreCoarse f.grain wrote.so_far.came
+  pub calm : IsCalm r
+
 -- the result of `slots`: each fault has its cause
-abbrev pub Fills : ℕ → ℕ → Traffic → Traffic → Result (Unit {0}) LogFault → Type 0
-Fills grain m r w (Ok done) =
-    (text : List ℕ) × (lines : List Line) × Consumes r.before r.after text × IsAtEnd r.after × AreLines text lines
-    × WroteFilled grain m w lines × IsCalm r
-Fills grain m r w (Err (BadLine n)) =
+abbrev pub Fills : Filling → Traffic → Traffic → Result Bool LogFault → Type 0
+Fills f r w (Ok coarse) = FillsAll f r w coarse
+Fills f r w (Err (BadLine n)) =
     (text : List ℕ) × (lines : List Line) × Consumes r.before r.after text × NextIsBad n lines text r.after
-    × WroteFilled grain m w lines × IsCalm r
-Fills grain m r w (Err Write) =
+    × WroteFilled f w lines × IsCalm r
+Fills f r w (Err Write) =
     (text : List ℕ) × (lines : List Line) × Consumes r.before r.after text × BeginsWith text r.after lines
-    × WroteFilledPart grain m w lines × IsCalm r
-Fills grain m r w (Err Read) =
-    (lines : List Line) × ReadsUpTo r 0 lines × WroteFilled grain m w lines × HasFailed r
-Fills grain m r w (Err TooLong) =
-    (lines : List Line) × ReadsUpTo r (2 ^ 32) lines × WroteFilled grain m w lines × IsCalm r
-Fills grain m r w (Err (BadRow n)) = ⊥
-Fills grain m r w (Err Memory) = ⊥
+    × WroteFilledPart f w lines × IsCalm r
+Fills f r w (Err Read) =
+    (lines : List Line) × ReadsUpTo r 0 lines × WroteFilled f w lines × HasFailed r
+Fills f r w (Err TooLong) =
+    (lines : List Line) × ReadsUpTo r (2 ^ 32) lines × WroteFilled f w lines × IsCalm r
+Fills f r w (Err (BadRow n)) = ⊥
+Fills f r w (Err Memory) = ⊥

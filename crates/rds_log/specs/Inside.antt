@@ -4,4 +4,5 @@ pub mod Cutter
 pub mod Source
 pub mod ViewLines
 pub mod Decoder
+pub mod Pace
 pub mod Filler

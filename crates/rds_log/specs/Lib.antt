@@ -9,6 +9,7 @@ pub mod Reads
 pub mod Decode
 pub mod Audit
 pub mod Fill
+pub mod FilledLog
 pub mod Gather
 pub mod Notes
 -- The state of the crate's objects, a file for each. Callers do not need them.

@@ -1,5 +1,5 @@
 -- The output of the lines of a log: the changes of the views of their slots. All lists have the newest first.
-use Rattle.std.specs.Prelude.{◌≡◌, ◌⊎◌, ℕ, List, [], ◌∷◌, Option}
+use Rattle.std.specs.Prelude.{◌≡◌, ◌⊎◌, ℕ, List, [], ◌∷◌, None, Option}
 use Rattle.rds_block.specs.declared.group.Group.{Group}
 use Rattle.rds_receiver.specs.Receipts.{Tuning}
 use Rattle.rds_receiver.specs.Shown.{IsView, ShownView}
@@ -8,9 +8,13 @@ use Rattle.rds_log.specs.LineSays.{LineSays}
 use Rattle.rds_view_lines.specs.Output.{changes_of}
 use Rattle.rds_log.specs.declared.log_line.LogLine.TheVariants.{Skip, Slot}
 
--- a receiver of this programme and this dwell that hears a log from its first slot on
+-- a receiver of this programme, this dwell and this window, if it has one, that hears a log from its first slot on
+abbrev pub tuned_with : ℕ → ℕ → Option ℕ → Tuning
+tuned_with pi m window = record { programme = pi; dwell = m; window = window; first = 0 }
+
+-- the same without a window
 abbrev pub tuned : ℕ → ℕ → Tuning
-tuned pi m = record { programme = pi; dwell = m; first = 0 }
+tuned pi m = tuned_with pi m None
 
 -- the lines are good, and these are their slots
 abbrev pub AreSlots : List Line → List (Option Group) → Type 0

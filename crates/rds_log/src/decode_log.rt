@@ -1,9 +1,10 @@
 //! The engine of `decode`: the view of a receiver of a log.
-ghost use Rattle.std.specs.Prelude.{◌≤◌, ◌^◌, IfErr, OnOk};
+ghost use Rattle.std.specs.Prelude.{◌≤◌, ◌^◌, [], IfErr, OnOk};
 ghost use Rattle.rds_io.specs.Told.{traffic};
+ghost use Rattle.rds_receiver.specs.Receipts.{Tuning};
 ghost use Rattle.rds_log.specs.Decode.{Decodes};
 ghost use Rattle.rds_log.specs.Heard.{HeardLog};
-ghost use Rattle.rds_log.specs.LogWrites.{tuned};
+ghost use Rattle.rds_log.specs.LogWrites.{tuned, tuned_with};
 ghost use Rattle.rds_log.specs.Notes.{NotesFault};
 ghost use Rattle.rds_log.specs.Reads.{MadeReads};
 
@@ -13,6 +14,7 @@ use crate::notes::LogNotes;
 use crate::source::Source;
 use rds_fields::Dwell;
 use rds_io::{LogFault, TellingRead, TellingWrite};
+use rds_receiver::{Receive, Receiver, TwiceReceiver, Window};
 
 /// The most reads of a log. A longer log is too long.
 pub const MOST_READS: u64 = 1 << 32;
@@ -52,20 +54,62 @@ pub fn decode_within<R: TellingRead, W: TellingWrite>(
         (traffic W.contents W.failures writer.old writer.new) result }
     ensures reads { MadeReads reads (R.reads reader.old) (R.reads reader.new) result }
 {
-    decode_with_notes(reader, writer, pi, dwell, reads, &mut LogNotes::new(pi))
+    decode_with_notes(
+        reader,
+        writer,
+        pi,
+        dwell,
+        None,
+        reads,
+        &mut LogNotes::new(pi),
+    )
 }
 
-/// Does what [`decode_within`] does, and takes notes for a person. The new notes replace the old content of `notes`.
+/// Does what [`decode_within`] does, and takes notes for a person. The new notes replace the old content of `notes`. With
+/// a window the receiver shows only what it heard twice within it.
 pub fn decode_with_notes<R: TellingRead, W: TellingWrite>(
     reader: &mut R,
     writer: &mut W,
     pi: u16,
     dwell: Dwell,
+    window: Option<Window>,
     reads: u64,
     notes: &mut LogNotes,
 ) -> Result<(), LogFault>
     requires { reads ≤ 2 ^ 32 }
-    ensures decodes { Decodes (tuned pi dwell) reads
+    ensures decodes { Decodes (tuned_with pi dwell window) reads
+        (traffic R.remaining R.failures reader.old reader.new)
+        (traffic W.contents W.failures writer.old writer.new) result }
+    ensures reads { MadeReads reads (R.reads reader.old) (R.reads reader.new) result }
+    ensures heard { OnOk result
+        (HeardLog pi (traffic R.remaining R.failures reader.old reader.new) notes.new.heard) }
+    ensures fault { IfErr result (λ fault.
+        NotesFault (traffic R.remaining R.failures reader.old reader.new) fault notes.new.bad) }
+{
+    match window {
+        None => decode_by(Receiver::new(pi, dwell), reader, writer, pi, reads, notes),
+        Some(window) => decode_by(
+            TwiceReceiver::new(pi, dwell, window),
+            reader,
+            writer,
+            pi,
+            reads,
+            notes,
+        ),
+    }
+}
+
+/// Does what [`decode_with_notes`] does with this receiver, which has heard nothing yet.
+fn decode_by<T: Receive + Drop, R: TellingRead, W: TellingWrite>(
+    receiver: T,
+    reader: &mut R,
+    writer: &mut W,
+    pi: u16,
+    reads: u64,
+    notes: &mut LogNotes,
+) -> Result<(), LogFault>
+    requires { reads ≤ 2 ^ 32 }
+    ensures decodes { (t : Tuning) → T.stands t receiver [] → Decodes t reads
         (traffic R.remaining R.failures reader.old reader.new)
         (traffic W.contents W.failures writer.old writer.new) result }
     ensures reads { MadeReads reads (R.reads reader.old) (R.reads reader.new) result }
@@ -76,7 +120,7 @@ pub fn decode_with_notes<R: TellingRead, W: TellingWrite>(
 {
     *notes = LogNotes::new(pi);
     let mut source = Source::new(reads);
-    let mut decoder = Decoder::new(pi, dwell);
+    let mut decoder = Decoder::new(receiver);
     let mut said = LogLine::Skip;
     loop {
         match source.next(reader, &mut said) {

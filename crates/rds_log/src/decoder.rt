@@ -11,30 +11,28 @@ ghost use Rattle.rds_log.specs.declared.decoder.TheConstants.{OUTPUT_ROOM};
 
 use crate::log_line::LogLine;
 use rds_block::Blocks;
-use rds_fields::Dwell;
 use rds_io::{Lines, TellingWrite, WriteFault};
-use rds_receiver::Receiver;
+use rds_receiver::Receive;
 use rds_view_lines::{KeptView, SLOT_ROOM, Stamp, show};
 
 /// Feeds a receiver slot by slot, and appends a line for each part of its view that changed.
 #[derive(Drop)]
-pub(crate) struct ViewLines {
-    receiver: Receiver,
+pub(crate) struct ViewLines<T> {
+    receiver: T,
     pub(crate) slot: u64,
     shown: KeptView,
 }
 
-impl ViewLines {
-    ghost use Rattle.rds_log.specs.LogWrites.{tuned};
+impl<T: Receive> ViewLines<T> {
     ghost use Rattle.rds_log.specs.Inside.ViewLines.{GivesChange, ViewsStandAt};
 
     /// Starts before the first slot, with nothing shown.
-    pub(crate) fn new(pi: u16, dwell: Dwell) -> ViewLines
+    pub(crate) fn new(receiver: T) -> ViewLines<T>
         ensures count { result.slot ≡ 0 }
-        ensures stands { ViewsStandAt (tuned pi dwell) result [] [] }
+        ensures stands { (t : Tuning) → T.stands t receiver [] → ViewsStandAt T.stands t result [] [] }
     {
         ViewLines {
-            receiver: Receiver::new(pi, dwell),
+            receiver,
             slot: 0,
             shown: KeptView::new(),
         }
@@ -47,7 +45,7 @@ impl ViewLines {
         requires room { length lines.old + SLOT_ROOM ≤ N }
         ensures count { self.new.slot ≡ self.old.slot + 1 }
         ensures room { length lines.new ≤ length lines.old + SLOT_ROOM }
-        ensures change { GivesChange self.old self.new group lines.old lines.new }
+        ensures change { GivesChange T.stands self.old self.new group lines.old lines.new }
     {
         if !self.receiver.slot_blocks(group) {
             self.slot += 1;
@@ -68,24 +66,24 @@ const OUTPUT_ROOM: usize = 8192;
 
 /// Takes the lines of a log, and keeps their output until it is written.
 #[derive(Drop)]
-pub(crate) struct Decoder {
-    pub(crate) views: ViewLines,
+pub(crate) struct Decoder<T> {
+    pub(crate) views: ViewLines<T>,
     output: Lines<OUTPUT_ROOM>,
 }
 
-impl Decoder {
+impl<T: Receive> Decoder<T> {
     ghost use Rattle.rds_log.specs.Decode.{WrotePart};
     ghost use Rattle.rds_log.specs.Inside.Decoder.{HasDecoded};
-    ghost use Rattle.rds_log.specs.LogWrites.{tuned};
 
-    /// Starts a log.
-    pub(crate) fn new(pi: u16, dwell: Dwell) -> Decoder
+    /// Starts a log with a receiver that has heard nothing yet.
+    pub(crate) fn new(receiver: T) -> Decoder<T>
         ensures slots { result.views.slot ≡ 0 }
         ensures empty { result.output ≡ [] }
-        ensures decoded { (w : Traffic) → w.after ≡ w.before → IsCalm w → HasDecoded (tuned pi dwell) result w [] }
+        ensures decoded { (t : Tuning) (w : Traffic) → T.stands t receiver [] → w.after ≡ w.before → IsCalm w
+            → HasDecoded T.stands t result w [] }
     {
         Decoder {
-            views: ViewLines::new(pi, dwell),
+            views: ViewLines::new(receiver),
             output: Lines::new(),
         }
     }
@@ -104,7 +102,7 @@ impl Decoder {
         requires room { length self.old.output + SLOT_ROOM ≤ OUTPUT_ROOM }
         ensures slots { self.new.views.slot ≤ self.old.views.slot + 1 }
         ensures decoded { (t : Tuning) (w : Traffic) (lines : List Line) (line : Line) → LineSays line said
-            → HasDecoded t self.old w lines → HasDecoded t self.new w (line ∷ lines) }
+            → HasDecoded T.stands t self.old w lines → HasDecoded T.stands t self.new w (line ∷ lines) }
     {
         match said {
             LogLine::Skip => {}
@@ -118,8 +116,9 @@ impl Decoder {
         ensures slots { self.new.views ≡ self.old.views }
         ensures nothing { self.old.output ≡ [] → IsOk result }
         ensures wrote { (t : Tuning) (start : W) (lines : List Line)
-            → HasDecoded t self.old (traffic W.contents W.failures start writer.old) lines
-            → MatchResult result (λ _. HasDecoded t self.new (traffic W.contents W.failures start writer.new) lines)
+            → HasDecoded T.stands t self.old (traffic W.contents W.failures start writer.old) lines
+            → MatchResult result
+            (λ _. HasDecoded T.stands t self.new (traffic W.contents W.failures start writer.new) lines)
             (λ _. WrotePart t (traffic W.contents W.failures start writer.new) lines) }
     {
         self.output.write(writer)

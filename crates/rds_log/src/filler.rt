@@ -1,16 +1,18 @@
 //! The lines of a filled log: each group with its time, and a line for each slot that was lost before it.
-ghost use Rattle.std.specs.Prelude.{◌≡◌, ◌≤◌, ◌+◌, ◌++◌, ◌∷◌, [], ℕ, List, Option, IfSome, MatchResult, None, OnOk, codes, length, take};
+ghost use Rattle.std.specs.Prelude.{◌≡◌, ◌≤◌, ◌+◌, ◌++◌, ◌∷◌, ◌↔◌, [], ℕ, List, Option};
+ghost use Rattle.std.specs.Prelude.{IfSome, IsOk, IsTrue, MatchResult, None, OnOk, Some, codes, is_some, length, max, take};
 ghost use Rattle.rds_block.specs.declared.group.Group.{Group};
 ghost use Rattle.rds_io.specs.Told.{IsCalm, Traffic, traffic};
-ghost use Rattle.rds_log.specs.Fill.{AreFilled, WroteFilledPart, lost_lines, time_of};
+ghost use Rattle.rds_log.specs.Fill.{AreFilled, IsOfAnother, WroteFilledPart, break_line, gap_lines, lost_lines, more_lines, time_of};
 ghost use Rattle.rds_log.specs.LineSays.{LineSays, deciding};
 ghost use Rattle.rds_log.specs.LogLines.{Line};
 ghost use Rattle.rds_log.specs.declared.filler.TheConstants.{FILLED_ROOM, LINE_ROOM};
 
 use crate::log_line::LogLine;
+use crate::pace::Pace;
 use rds_arrivals::{Break, Grain, Stamp, lost_between, stamp_in};
 use rds_fields::Dwell;
-use rds_io::{Lines, TellingWrite, WriteFault};
+use rds_io::{Lines, TellingWrite, WriteFault, word_at};
 
 /// The most bytes of output that wait to be written.
 const FILLED_ROOM: usize = 8192;
@@ -23,35 +25,48 @@ const TIME: usize = 20;
 
 const LOST: &[u8] = b"---- ---- ---- ----\n";
 
+/// How `slots` fills a log.
+#[derive(Clone, Copy)]
+pub struct Filling {
+    /// The programme (PI) of the lines that count. `None` if all lines count.
+    pub pi: Option<u16>,
+    /// By how much the times may be off.
+    pub grain: Grain,
+    /// How many slots are lost at a break: the dwell of the receivers of the log.
+    pub dwell: Dwell,
+}
+
 /// Takes the lines of a log with times, and keeps their output until it is written.
 #[derive(Drop)]
 pub(crate) struct Filler {
-    grain: Grain,
-    dwell: Dwell,
-    /// The time of the last group.
-    last: Option<u64>,
+    filling: Filling,
+    pub(crate) pace: Pace,
+    /// How many lost slots are written since the last group.
+    told: u32,
     /// The number of slot lines without a time.
     pub(crate) untimed: u64,
+    /// The number of lines of other programmes with a time.
+    pub(crate) others: u64,
     /// The number of breaks.
     pub(crate) breaks: u64,
     output: Lines<FILLED_ROOM>,
 }
 
 impl Filler {
-    ghost use Rattle.rds_log.specs.Inside.Filler.{HasFilled, HasOutput, HasSettings, KeepsTime, LostOutput, lost_after};
+    ghost use Rattle.rds_log.specs.Inside.Filler.{HasFilled, HasOutput, KeepsPace, KeepsTime, LostOutput, last_time, told_after};
 
     /// Starts a log.
-    pub(crate) fn new(grain: Grain, dwell: Dwell) -> Filler
+    pub(crate) fn new(filling: Filling) -> Filler
         ensures empty { result.output ≡ [] }
-        ensures grain { result.grain ≡ grain }
-        ensures dwell { result.dwell ≡ dwell }
+        ensures filling { result.filling ≡ filling }
         ensures filled { (w : Traffic) → w.after ≡ w.before → IsCalm w → HasFilled result w [] }
     {
         Filler {
-            grain,
-            dwell,
-            last: None,
+            filling,
+            pace: Pace::new(filling.grain),
+            told: 0,
             untimed: 0,
+            others: 0,
             breaks: 0,
             output: Lines::new(),
         }
@@ -65,59 +80,121 @@ impl Filler {
         writer: &mut W,
     ) -> Result<(), WriteFault>
         requires { length first.now ≤ 60 }
-        ensures settings { HasSettings self.old self.new }
+        ensures filling { self.new.filling ≡ self.old.filling }
         ensures filled { (start : W) (lines : List Line) (line : Line) → LineSays line said
             → first.now ≡ take deciding line
             → HasFilled self.old (traffic W.contents W.failures start writer.old) lines
             → MatchResult result
             (λ _. HasFilled self.new (traffic W.contents W.failures start writer.new) (line ∷ lines))
-            (λ _. WroteFilledPart self.old.grain self.old.dwell
+            (λ _. WroteFilledPart self.old.filling
             (traffic W.contents W.failures start writer.new) (line ∷ lines)) }
     {
         match said {
             LogLine::Skip => Ok(()),
-            LogLine::Slot(_) => self.slot(first, writer),
+            LogLine::Slot(group) => self.slot(group.is_some(), first, writer),
         }
     }
 
-    /// Takes a line of a slot. One without a time is left out.
-    fn slot<W: TellingWrite>(&mut self, first: &[u8], writer: &mut W) -> Result<(), WriteFault>
+    /// Takes a line of a slot, with a whole group or without. One without a time, or of another programme, is left out.
+    /// A line without a whole group only tells the time.
+    fn slot<W: TellingWrite>(
+        &mut self,
+        is_group: bool,
+        first: &[u8],
+        writer: &mut W,
+    ) -> Result<(), WriteFault>
         requires { length first.now ≤ 60 }
-        ensures settings { HasSettings self.old self.new }
+        ensures filling { self.new.filling ≡ self.old.filling }
         ensures filled { (start : W) (lines : List Line) (line : Line) (slot : Option Group)
-            → LineSays line (LogLine.Slot slot) → first.now ≡ take deciding line
+            → LineSays line (LogLine.Slot slot) → is_group ≡ is_some slot → first.now ≡ take deciding line
             → HasFilled self.old (traffic W.contents W.failures start writer.old) lines
             → MatchResult result
             (λ _. HasFilled self.new (traffic W.contents W.failures start writer.new) (line ∷ lines))
-            (λ _. WroteFilledPart self.old.grain self.old.dwell
+            (λ _. WroteFilledPart self.old.filling
             (traffic W.contents W.failures start writer.new) (line ∷ lines)) }
     {
         let Some(stamp) = stamp_of(first) else {
             self.untimed = self.untimed.saturating_add(1);
             return Ok(());
         };
-        let lost = self.lost_before(stamp.time);
-        self.last = Some(stamp.time);
-        self.push_lost(lost, writer)?;
-        self.push_shown(&first[..TIME + stamp.end], writer)
+        if is_of_another(self.filling.pi, first) {
+            self.others = self.others.saturating_add(1);
+            return Ok(());
+        }
+        self.push_gap(stamp.time, writer)?;
+        if !is_group {
+            return Ok(());
+        }
+        self.pace.add(stamp.time);
+        self.told = 0;
+        self.push_line(&first[..TIME + stamp.end], writer)
     }
 
-    /// Returns how many slots were lost before a group of this time: as many as the dwell has after a break.
-    fn lost_before(&mut self, time: u64) -> u32
-        ensures value { result ≡ lost_after self.old.grain self.old.dwell self.old.last time }
-        ensures keeps { KeepsTime self.old self.new }
-        ensures output { self.new.output ≡ self.old.output }
+    /// Appends what is lost from the last group to this time, and is not written yet.
+    fn push_gap<W: TellingWrite>(&mut self, time: u64, writer: &mut W) -> Result<(), WriteFault>
+        ensures keeps { KeepsPace self.old self.new }
+        ensures told { self.new.told ≡ told_after self.old.filling (last_time self.old) self.old.told time }
+        ensures pushed { (start : W) (total : List ℕ)
+            → HasOutput (traffic W.contents W.failures start writer.old) self.old total
+            → MatchResult result
+            (λ _. HasOutput (traffic W.contents W.failures start writer.new) self.new
+            (total ++ gap_lines self.old.filling (last_time self.old) self.old.told time))
+            (λ _. LostOutput (traffic W.contents W.failures start writer.new)
+            (total ++ gap_lines self.old.filling (last_time self.old) self.old.told time)) }
     {
-        let Some(last) = self.last else {
-            return 0;
+        let Some(stretch) = self.pace.stretch else {
+            return Ok(());
         };
-        match lost_between(last, time, self.grain) {
-            Ok(lost) => lost,
-            Err(Break::Back | Break::Day) => {
-                self.breaks = self.breaks.saturating_add(1);
-                u32::from(self.dwell.get())
-            }
+        match lost_between(stretch.last, time, self.filling.grain) {
+            Ok(lost) => self.push_more(None, lost, writer),
+            Err(why) => self.push_more(Some(why), u32::from(self.filling.dwell.get()), writer),
         }
+    }
+
+    /// Appends the lost slots of these that are not written yet, and before them the comment of a break.
+    fn push_more<W: TellingWrite>(
+        &mut self,
+        why: Option<Break>,
+        lost: u32,
+        writer: &mut W,
+    ) -> Result<(), WriteFault>
+        ensures keeps { KeepsPace self.old self.new }
+        ensures told { self.new.told ≡ max self.old.told lost }
+        ensures pushed { (start : W) (total : List ℕ)
+            → HasOutput (traffic W.contents W.failures start writer.old) self.old total
+            → MatchResult result
+            (λ _. HasOutput (traffic W.contents W.failures start writer.new) self.new
+            (total ++ more_lines why self.old.told lost))
+            (λ _. LostOutput (traffic W.contents W.failures start writer.new)
+            (total ++ more_lines why self.old.told lost)) }
+    {
+        if lost <= self.told {
+            return Ok(());
+        }
+        let more = lost - self.told;
+        self.told = lost;
+        self.push_comment(why, writer)?;
+        self.push_lost(more, writer)
+    }
+
+    /// Appends the comment of a break.
+    fn push_comment<W: TellingWrite>(
+        &mut self,
+        why: Option<Break>,
+        writer: &mut W,
+    ) -> Result<(), WriteFault>
+        ensures keeps { KeepsTime self.old self.new }
+        ensures pushed { (start : W) (total : List ℕ)
+            → HasOutput (traffic W.contents W.failures start writer.old) self.old total
+            → MatchResult result
+            (λ _. HasOutput (traffic W.contents W.failures start writer.new) self.new (total ++ break_line why))
+            (λ _. LostOutput (traffic W.contents W.failures start writer.new) (total ++ break_line why)) }
+    {
+        let Some(why) = why else {
+            return Ok(());
+        };
+        self.breaks = self.breaks.saturating_add(1);
+        self.push_line(comment_of(why), writer)
     }
 
     /// Appends lines of lost slots, and writes the waiting output as often as there is no room.
@@ -136,24 +213,20 @@ impl Filler {
         Ok(())
     }
 
-    /// Appends the line of a group.
-    fn push_shown<W: TellingWrite>(
-        &mut self,
-        shown: &[u8],
-        writer: &mut W,
-    ) -> Result<(), WriteFault>
-        requires { length shown.now ≤ 60 }
+    /// Appends a line.
+    fn push_line<W: TellingWrite>(&mut self, line: &[u8], writer: &mut W) -> Result<(), WriteFault>
+        requires { length line.now ≤ 60 }
         ensures keeps { KeepsTime self.old self.new }
         ensures pushed { (start : W) (total : List ℕ)
             → HasOutput (traffic W.contents W.failures start writer.old) self.old total
             → MatchResult result
             (λ _. HasOutput (traffic W.contents W.failures start writer.new) self.new
-            (total ++ (shown.now ++ codes "\n")))
+            (total ++ (line.now ++ codes "\n")))
             (λ _. LostOutput (traffic W.contents W.failures start writer.new)
-            (total ++ (shown.now ++ codes "\n"))) }
+            (total ++ (line.now ++ codes "\n"))) }
     {
         self.make_room(writer)?;
-        self.output.push(shown);
+        self.output.push(line);
         self.output.push(b"\n");
         Ok(())
     }
@@ -177,12 +250,18 @@ impl Filler {
     /// Writes the waiting output.
     pub(crate) fn write<W: TellingWrite>(&mut self, writer: &mut W) -> Result<(), WriteFault>
         ensures empty { OnOk result (self.new.output ≡ []) }
+        ensures nothing { self.old.output ≡ [] → IsOk result }
         ensures keeps { KeepsTime self.old self.new }
         ensures wrote { (start : W) (total : List ℕ)
             → HasOutput (traffic W.contents W.failures start writer.old) self.old total
             → MatchResult result
             (λ _. HasOutput (traffic W.contents W.failures start writer.new) self.new total)
             (λ _. LostOutput (traffic W.contents W.failures start writer.new) total) }
+        ensures filled { (start : W) (lines : List Line)
+            → HasFilled self.old (traffic W.contents W.failures start writer.old) lines
+            → MatchResult result
+            (λ _. HasFilled self.new (traffic W.contents W.failures start writer.new) lines)
+            (λ _. WroteFilledPart self.old.filling (traffic W.contents W.failures start writer.new) lines) }
     {
         self.output.write(writer)
     }
@@ -198,4 +277,29 @@ fn stamp_of(start: &[u8]) -> Option<Stamp>
         return None;
     }
     stamp_in(&start[TIME..])
+}
+
+/// Returns whether the first block is a word other than this PI.
+fn is_of_another(pi: Option<u16>, first: &[u8]) -> bool
+    requires { 20 ≤ length first.now }
+    ensures { IsTrue result ↔ IsOfAnother pi first.now }
+{
+    let Some(pi) = pi else {
+        return false;
+    };
+    match word_at(first, 0) {
+        Some(word) => word != pi,
+        None => false,
+    }
+}
+
+/// Returns the comment of a break, without its line feed.
+fn comment_of(why: Break) -> &'static [u8]
+    ensures line { result.now ++ codes "\n" ≡ break_line (Some why) }
+    ensures short { length result.now ≤ 60 }
+{
+    match why {
+        Break::Back => b"# time went back",
+        Break::Day => b"# more than a day passed",
+    }
 }

@@ -6,6 +6,7 @@ ghost use Rattle.rds_receiver.specs.Receipts.{Tuning};
 ghost use Rattle.rds_io.specs.Alike.{WriteAlike};
 ghost use Rattle.rds_log.specs.Audit.{AnswersVerdictOf, Audits, IsVerdictOf, SlotsAreSafe};
 ghost use Rattle.rds_log.specs.Audit.{SlotsFail, SlotsHaveNoPlans, SlotsPass};
+ghost use Rattle.rds_log.specs.FilledLog.{FilledTextsAreLogs, FilledTextsAreSafe};
 ghost use Rattle.rds_log.specs.LineCauses.{IsLineCause};
 ghost use Rattle.rds_log.specs.LogLines.{Line};
 ghost use Rattle.rds_log.specs.LineSays.{LineSays};
@@ -17,6 +18,7 @@ ghost use Rattle.rds_log.specs.declared.verdict.Verdict.{Verdict};
 ghost use Rattle.rds_audit.specs.declared.audit.AuditFault.{AuditFault};
 ghost use Rattle.rds_audit.specs.declared.log_start.LogStart.{LogStart};
 
+use rds_arrivals::filled_logs_are_safe;
 use rds_audit::{
     one_fault, passes_by_plans, what_passes_as_a_recording_is_safe, what_passes_is_safe,
 };
@@ -68,3 +70,12 @@ pub fn a_line_has_one_cause()
     ensures { (line : Line) (one other : LineCause) → IsLineCause line one
         → IsLineCause line other → one ≡ other }
 {}
+
+/// Shows that the output of `slots` is a log with the lost slots put back. So the headline holds for what `decode` shows
+/// of it, with the same dwell, if the delays of the groups vary by less than a slot less the grain.
+pub fn filled_texts_are_logs()
+    ensures log { FilledTextsAreLogs }
+    ensures safe { FilledTextsAreSafe }
+{
+    filled_logs_are_safe();
+}

@@ -22,16 +22,19 @@ mod laws;
 mod line_cause;
 mod log_line;
 mod notes;
+mod pace;
 mod slots_log;
 mod source;
 mod verdict;
 
 pub use audit_log::{audit, audit_with_notes, audit_within};
 pub use decode_log::{MOST_READS, decode, decode_with_notes, decode_within};
+pub use filler::Filling;
 pub use gather_log::gather;
 pub use heard::{GroupCounts, Heard};
 pub use laws::{
-    a_line_has_one_cause, bytes_have_one_verdict, bytes_write_one_output, what_an_answer_means,
+    a_line_has_one_cause, bytes_have_one_verdict, bytes_write_one_output, filled_texts_are_logs,
+    what_an_answer_means,
 };
 pub use line_cause::LineCause;
 pub use notes::{BadStart, LogNotes, NoNote, Pause};

@@ -1,13 +1,17 @@
 //! The engine of `slots`: the log with a line for each slot.
+ghost use Rattle.std.specs.Prelude.{◌≡◌, ◌^◌, IfErr, None};
+ghost use Rattle.rds_io.specs.Told.{traffic};
+ghost use Rattle.rds_log.specs.Fill.{Fills};
+ghost use Rattle.rds_log.specs.Notes.{NotesFault};
+ghost use Rattle.rds_log.specs.Reads.{MadeReads};
 
 use crate::decode_log::MOST_READS;
-use crate::filler::Filler;
+use crate::filler::{Filler, Filling};
 use crate::log_line::{LineStart, LogLine};
 use crate::notes::BadStart;
 use crate::source::Source;
 use arrayvec::ArrayVec;
-use rds_arrivals::Grain;
-use rds_fields::Dwell;
+use rds_arrivals::Stretch;
 use rds_io::{LogFault, TellingRead, TellingWrite};
 
 /// Notes of `slots` for a person.
@@ -15,26 +19,36 @@ use rds_io::{LogFault, TellingRead, TellingWrite};
 pub struct SlotNotes {
     /// The number of slot lines without a time, which were left out.
     pub untimed: u64,
+    /// The number of lines with a time that were left out, since they are of another programme.
+    pub others: u64,
     /// How often nobody knows how many slots were lost.
     pub breaks: u64,
+    /// The newest stretch whose times were too coarse to count slots by, up to its newest group at which they were.
+    pub coarse: Option<Stretch>,
     /// The note on a malformed line.
     pub bad: Option<BadStart>,
 }
 
 impl SlotNotes {
     /// Makes empty notes.
-    pub fn new() -> SlotNotes {
+    pub fn new() -> SlotNotes
+        ensures { result.bad ≡ None }
+    {
         SlotNotes {
             untimed: 0,
+            others: 0,
             breaks: 0,
+            coarse: None,
             bad: None,
         }
     }
 }
 
-/// Writes the log with a line for each slot: each group with its time, and the slots that were lost before it.
+/// Writes the log with a line for each slot: each group with its time, and the slots that were lost before it. Takes notes
+/// for a person. The new notes replace the old content of `notes`.
 ///
-/// The output for the lines of one read is written before the next read.
+/// Returns whether the times are too coarse to count slots by. The output is complete in any case. The output for the lines
+/// of one read is written before the next read.
 ///
 /// # Errors
 ///
@@ -42,21 +56,29 @@ impl SlotNotes {
 pub fn fill_with_notes<R: TellingRead, W: TellingWrite>(
     reader: &mut R,
     writer: &mut W,
-    grain: Grain,
-    dwell: Dwell,
+    filling: Filling,
     notes: &mut SlotNotes,
-) -> Result<(), LogFault> {
+) -> Result<bool, LogFault>
+    ensures fills { Fills filling (traffic R.remaining R.failures reader.old reader.new)
+        (traffic W.contents W.failures writer.old writer.new) result }
+    ensures reads { MadeReads (2 ^ 32) (R.reads reader.old) (R.reads reader.new) result }
+    ensures fault { IfErr result (λ fault.
+        NotesFault (traffic R.remaining R.failures reader.old reader.new) fault notes.new.bad) }
+{
+    *notes = SlotNotes::new();
     let mut source = Source::new(MOST_READS);
-    let mut filler = Filler::new(grain, dwell);
+    let mut filler = Filler::new(filling);
     let mut said = LogLine::Skip;
-    let mut start: LineStart = ArrayVec::new();
+    let mut first: LineStart = ArrayVec::new();
     loop {
-        match source.next_with_start(reader, &mut said, &mut start) {
-            Ok(true) => filler.line(said, start.as_slice(), writer)?,
+        match source.next_with_start(reader, &mut said, &mut first) {
+            Ok(true) => filler.line(said, first.as_slice(), writer)?,
             Ok(false) => {
                 notes.untimed = filler.untimed;
+                notes.others = filler.others;
                 notes.breaks = filler.breaks;
-                return Ok(());
+                notes.coarse = filler.pace.coarse;
+                return Ok(notes.coarse.is_some());
             }
             Err(fault) => {
                 filler.write(writer)?;

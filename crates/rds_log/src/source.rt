@@ -1,6 +1,6 @@
 //! Reads the lines of a log.
 ghost use Rattle.std.specs.Prelude.{◌≡◌, ◌≢◌, ◌≤◌, ◌<◌, ◌+◌, ◌-◌, ◌*◌, ◌^◌, ◌↔◌, []};
-ghost use Rattle.std.specs.Prelude.{ℕ, List, None, Some, IfErr, IfOk, IsTrue, MatchResult, OnOk, false, true};
+ghost use Rattle.std.specs.Prelude.{ℕ, List, None, Some, IfErr, IfOk, IsTrue, MatchResult, OnOk, false, take, true};
 ghost use Rattle.rds_log.specs.LogLines.{Line};
 ghost use Rattle.rds_log.specs.Notes.{HasNote};
 ghost use Rattle.rds_log.specs.Reads.{MadeReads, to_come};
@@ -38,8 +38,9 @@ pub(crate) struct Source {
 }
 
 impl Source {
-    ghost use Rattle.rds_log.specs.Inside.Source.{GivesNext, HasNoNext, IsAtLast, IsBadLineFault, ReadsOn, ReaderState};
-    ghost use Rattle.rds_log.specs.Inside.Source.{SourceStandsAt, WhereItReads, budget, given_if, state_of};
+    ghost use Rattle.rds_log.specs.Inside.Source.{GivesNext, GivesStart, HasNoNext, IsAtLast, IsBadLineFault, ReadsOn};
+    ghost use Rattle.rds_log.specs.Inside.Source.{ReaderState, SourceStandsAt, WhereItReads, budget, given_if};
+    ghost use Rattle.rds_log.specs.Inside.Source.{start_with, state_of, waiting};
 
     /// Starts a log of at most this many reads.
     pub(crate) fn new(reads: u64) -> Source
@@ -115,7 +116,7 @@ impl Source {
         &mut self,
         reader: &mut R,
         said: &mut LogLine,
-        start: &mut LineStart,
+        first: &mut LineStart,
     ) -> Result<bool, LogFault>
         ensures budget { IfOk result (λ given. given ≡ true → budget self.new < budget self.old) }
         ensures there { self.old.line ≢ None → MatchResult result (λ given. given ≡ true) IsBadLineFault }
@@ -123,14 +124,14 @@ impl Source {
             (λ most start _. MadeReads most start.reads (R.reads reader.new) result) }
         ensures gives { WhereItReads self.old (state_of R.remaining R.failures R.reads reader.old)
             (λ most start lines. MatchResult result
-            (λ given. GivesNext self.new most start (state_of R.remaining R.failures R.reads reader.new) lines
-            (given_if given said.new))
+            (λ given. GivesStart self.new most start (state_of R.remaining R.failures R.reads reader.new) lines
+            first.new.items (given_if given said.new))
             (HasNoNext most start (state_of R.remaining R.failures R.reads reader.new) lines
             self.new.cutter.kept.items)) }
     {
         loop {
             if let Some(count) = self.line {
-                self.copy_start(count, start);
+                self.copy_start(count, first);
                 *said = self.close(count)?;
                 return Ok(true);
             }
@@ -138,7 +139,7 @@ impl Source {
                 return Ok(false);
             }
             if !self.read(reader)? {
-                self.cutter.copy_start(&[], start);
+                self.cutter.copy_start(&[], first);
                 let Some(last) = self.last()? else {
                     return Ok(false);
                 };
@@ -170,12 +171,13 @@ impl Source {
     }
 
     /// Copies the first bytes of the line with this many of the unread bytes.
-    fn copy_start(&self, count: usize, start: &mut LineStart)
+    fn copy_start(&self, count: usize, first: &mut LineStart)
         requires { self.now.line ≡ Some count }
+        ensures { first.new.items ≡ start_with self.now (take count (waiting self.now)) }
     {
         let end = self.at + count;
         let chunk: &[u8] = &self.chunk;
-        self.cutter.copy_start(&chunk[self.at..end], start);
+        self.cutter.copy_start(&chunk[self.at..end], first);
     }
 
     /// Returns the meaning of the line with this many of the unread bytes.
@@ -184,7 +186,8 @@ impl Source {
         requires { self.old.line ≡ Some count }
         ensures budget { budget self.new < budget self.old }
         ensures gives { (now : ReaderState) → WhereItReads self.old now (λ most start lines.
-            MatchResult result (λ said. GivesNext self.new most start now lines (Some said))
+            MatchResult result (λ said. GivesStart self.new most start now lines
+            (start_with self.old (take count (waiting self.old))) (Some said))
             (λ bad. HasNoNext most start now lines self.new.cutter.kept.items (faults.BadLine bad.number))) }
     {
         let end = self.at + count;
@@ -237,7 +240,7 @@ impl Source {
         ensures budget { budget self.new < budget self.old }
         ensures gives { (most : ℕ) (start now : ReaderState) (lines : List Line)
             → IsAtLast self.old most start now lines → MatchResult result
-            (GivesNext self.new most start now lines)
+            (GivesStart self.new most start now lines (start_with self.old []))
             (λ bad. HasNoNext most start now lines self.new.cutter.kept.items (faults.BadLine bad.number)) }
     {
         self.ended = true;

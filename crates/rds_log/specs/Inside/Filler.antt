@@ -1,12 +1,13 @@
 -- The state of the filler of a log after these lines, the newest first. w is the traffic with the writer.
-use Rattle.std.specs.Prelude.{◌≡◌, ◌++◌, ◌∷◌, [], ℕ, List, Option, Some, None}
+use Rattle.std.specs.Prelude.{◌≡◌, ◌++◌, ℕ, List, None, Option, Some, max, option_map}
 use Rattle.std.specs.Io.KnownBytes.{Appends}
-use Rattle.rds_block.specs.declared.group.Group.{Group}
 use Rattle.rds_io.specs.Told.{AppendsPrefix, HasFailed, IsCalm, Traffic}
-use Rattle.rds_arrivals.specs.Arrivals.{Arrival, lost_between}
+use Rattle.rds_arrivals.specs.Arrivals.{lost_between}
 use Rattle.rds_log.specs.LogLines.{Line}
-use Rattle.rds_log.specs.Fill.{AreFilled}
+use Rattle.rds_log.specs.Fill.{AreFilled, SoFar}
+use Rattle.rds_log.specs.Inside.Pace.{PaceStandsAt}
 use Rattle.rds_log.specs.declared.filler.Filler.{Filler}
+use Rattle.rds_log.specs.declared.filler.Filling.{Filling}
 
 -- this is the output so far: a part of it was written, and the rest waits
 pub record HasOutput (w : Traffic) (f : Filler) (total : List ℕ) : Type 0 where
@@ -20,28 +21,31 @@ pub record LostOutput (w : Traffic) (total : List ℕ) : Type 0 where
   pub wrote : AppendsPrefix w.before w.after total
   pub failed : HasFailed w
 
-abbrev pub newest_time : List (Arrival Group) → Option ℕ
-newest_time [] = None
-newest_time (a ∷ before) = Some a.time
+-- the time of the last group
+abbrev pub last_time : Filler → Option ℕ
+last_time f = option_map (λ s. s.last) f.pace.stretch
+
+-- the lost slots that are written since the last group, after this time
+abbrev pub told_after : Filling → Option ℕ → ℕ → ℕ → ℕ
+told_after f None told time = told
+told_after f (Some last) told time = max told (lost_between f.grain f.dwell last time)
 
 -- the filler took these lines
 pub record HasFilled (f : Filler) (w : Traffic) (lines : List Line) : Type 0 where
-  pub arrivals : List (Arrival Group)
-  pub total : List ℕ
-  pub fill : AreFilled f.grain f.dwell lines arrivals total
-  pub last : f.last ≡ newest_time arrivals
-  pub output : HasOutput w f total
+  pub so_far : SoFar
+  pub fill : AreFilled f.filling lines so_far
+  pub pace : PaceStandsAt f.pace so_far.came
+  pub grain : f.pace.grain ≡ f.filling.grain
+  pub told : f.told ≡ so_far.told
+  pub output : HasOutput w f so_far.written
 
--- the same settings, and the same last time
+-- the same settings, and the same times
+pub record KeepsPace (before after : Filler) : Type 0 where
+  pub filling : after.filling ≡ before.filling
+  pub pace : after.pace ≡ before.pace
+
+-- and as many lost slots since
 pub record KeepsTime (before after : Filler) : Type 0 where
-  pub grain : after.grain ≡ before.grain
-  pub dwell : after.dwell ≡ before.dwell
-  pub last : after.last ≡ before.last
-
-abbrev pub HasSettings : Filler → Filler → Type 0
-HasSettings before after = (after.grain ≡ before.grain) × (after.dwell ≡ before.dwell)
-
--- the lost slots before a time, given the last time
-abbrev pub lost_after : ℕ → ℕ → Option ℕ → ℕ → ℕ
-lost_after grain m None time = 0
-lost_after grain m (Some last) time = lost_between grain m last time
+  pub filling : after.filling ≡ before.filling
+  pub pace : after.pace ≡ before.pace
+  pub told : after.told ≡ before.told

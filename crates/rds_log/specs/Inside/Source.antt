@@ -101,6 +101,16 @@ GivesNext s most start now lines None = SourceStandsAt s most start now lines ×
 GivesNext s most start now lines (Some said) =
     (line : Line) × LineSays line said × SourceStandsAt s most start now (line ∷ lines)
 
+-- the same, and the first bytes of that line
+abbrev pub GivesStart : Source → ℕ → ReaderState → ReaderState → List Line → List ℕ → Option LogLine → Type 0
+GivesStart s most start now lines first None = GivesNext s most start now lines None
+GivesStart s most start now lines first (Some said) =
+    (line : Line) × LineSays line said × SourceStandsAt s most start now (line ∷ lines) × (first ≡ take deciding line)
+
+-- the first bytes of the next line, if these bytes end it
+abbrev pub start_with : Source → Line → List ℕ
+start_with s last = take deciding (s.cutter.kept.items ++ last)
+
 -- the returned line, if there is one
 abbrev pub given_if : Bool → LogLine → Option LogLine
 given_if true said = Some said

@@ -1,4 +1,4 @@
-use Rattle.std.proofs.Common.{◌^◌, arith, rules}
+use Rattle.std.proofs.Common.{arith, rules}
 use Rattle.rds_io.specs.Told.{traffic}
 use Rattle.rds_log.proofs.Meaning.{meaning}
 use Rattle.rds_log.proofs.audit_log.audit_with_notes.Goals as goal

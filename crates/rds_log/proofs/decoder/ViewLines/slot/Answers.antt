@@ -5,11 +5,11 @@ use Rattle.rds_log.proofs.decoder.ViewLines.slot.Goals as goal
 
 pub returns-then-not-slot_blocks-clause-change : goal.returns-then-not-slot_blocks-clause-change
 returns-then-not-slot_blocks-clause-change g c t slots written s =
-    slot_same t c.args.self.now _ slots written c.args.lines.now c.args.group s
+    slot_same g.T.Receive.stands t c.args.self.now _ slots written c.args.lines.now c.args.group s
     (c.slot_blocks.ensures.stands t slots s.receiver) (λ view shown. c.slot_blocks.ensures.same c.if-not-slot_blocks.true view t slots s.receiver shown) refl refl
 
 pub returns-clause-change : goal.returns-clause-change
 returns-clause-change g c t slots written s =
     let receiver = c.slot_blocks.ensures.stands t slots s.receiver in
-    slot_given t c.args.self.now _ slots written c.args.lines.now c.show.new.lines c.args.group (view_kept c.show.new.shown) s
+    slot_given g.T.Receive.stands t c.args.self.now _ slots written c.args.lines.now c.show.new.lines c.args.group (view_kept c.show.new.shown) s
     receiver (c.show.ensures.shows t (c.args.group ∷ slots) receiver) refl refl c.show.ensures.changes

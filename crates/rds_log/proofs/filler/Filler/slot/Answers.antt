@@ -1,23 +1,34 @@
-use Rattle.std.proofs.Common.{◌∙◌, sym}
+use Rattle.std.proofs.Common.{◌∙◌, ap, refl, sym}
 use Rattle.std.proofs.lemmas.Result.{err_from_is_err_and}
 use Rattle.rds_io.specs.Told.{traffic}
-use Rattle.rds_log.proofs.Filled.{fails_at_slot, same_output, slot_done}
+use Rattle.rds_log.proofs.Filled.{fails_at_slot, group_done, same_output, time_done}
+use Rattle.rds_log.specs.declared.pace.Pace.{Pace}
 use Rattle.rds_log.proofs.filler.Filler.slot.Goals as goal
 
-pub returns-in_err-push_lost-clause-filled : goal.returns-in_err-push_lost-clause-filled
-returns-in_err-push_lost-clause-filled g c start lines line slot says first has =
+pub returns-in_err-push_gap-clause-filled : goal.returns-in_err-push_gap-clause-filled
+returns-in_err-push_gap-clause-filled g c start lines line slot says is_group first has =
     let p = err_from_is_err_and c.from_residual.result c.from_residual.ensures.1 in
     let w = traffic g.W.Write.contents g.W.TellingWrite.failures start c.args.writer.now in
-    rw p.1 (fails_at_slot c.args.self.now w _ lines line slot c.in-Some.stamp c.lost_before-lost.result c.args.first.now says first (sym c.stamp_of.ensures.value ∙ c.in-Some.is) c.lost_before-lost.ensures.value has
-    (c.in_err-push_lost.ensures.pushed start has.total (same_output c.args.self.now _ w has.total has.output c.lost_before-lost.ensures.output)))
+    rw p.1 (fails_at_slot c.args.self.now w _ lines line slot c.in-Some.stamp c.args.first.now says first (sym c.stamp_of.ensures.value ∙ c.in-Some.is)
+    (λ other. (let yes = c.is_of_another.ensures.1 other in let no = c.if-is_of_another.false in cc)) has
+    (c.in_err-push_gap.ensures.pushed start has.so_far.written has.output))
+
+pub returns-then-not-is_group-clause-filled : goal.returns-then-not-is_group-clause-filled
+returns-then-not-is_group-clause-filled g c start lines line slot says is_group first has =
+    let w = traffic g.W.Write.contents g.W.TellingWrite.failures start c.args.writer.now in
+    time_done c.args.self.now c.push_gap.new.self w _ lines line slot c.in-Some.stamp c.args.first.now says (sym is_group ∙ c.if-not-is_group.true) first
+    (sym c.stamp_of.ensures.value ∙ c.in-Some.is)
+    (λ other. (let yes = c.is_of_another.ensures.1 other in let no = c.if-is_of_another.false in cc)) has
+    c.in_ok-push_gap.ensures.keeps c.in_ok-push_gap.ensures.told (c.in_ok-push_gap.ensures.pushed start has.so_far.written has.output)
 
 pub returns-clause-filled : goal.returns-clause-filled
-returns-clause-filled g c start lines line slot says first has =
+returns-clause-filled g c start lines line slot says is_group first has =
     let w = traffic g.W.Write.contents g.W.TellingWrite.failures start c.args.writer.now in
-    let lost = c.in_ok-push_lost.ensures.pushed start has.total (same_output c.args.self.now _ w has.total has.output c.lost_before-lost.ensures.output) in
-    slot_done c.args.self.now _ w _ lines line slot c.in-Some.stamp c.lost_before-lost.result c.args.first.now c.push_shown.result says first (sym c.stamp_of.ensures.value ∙ c.in-Some.is)
-    c.lost_before-lost.ensures.value has
-    (c.push_shown.ensures.keeps.grain ∙ c.in_ok-push_lost.ensures.keeps.grain ∙ c.lost_before-lost.ensures.keeps.grain)
-    (c.push_shown.ensures.keeps.dwell ∙ c.in_ok-push_lost.ensures.keeps.dwell ∙ c.lost_before-lost.ensures.keeps.dwell)
-    (c.push_shown.ensures.keeps.last ∙ c.in_ok-push_lost.ensures.keeps.last)
-    (c.push_shown.ensures.pushed start _ lost)
+    group_done c.args.self.now _ w _ lines line slot c.in-Some.stamp c.args.first.now c.push_line.result says (sym is_group ∙ c.if-not-is_group.false) first
+    (sym c.stamp_of.ensures.value ∙ c.in-Some.is)
+    (λ other. (let yes = c.is_of_another.ensures.1 other in let no = c.if-is_of_another.false in cc)) has
+    (c.push_line.ensures.keeps.filling ∙ c.in_ok-push_gap.ensures.keeps.filling)
+    (λ a time. rw c.push_line.ensures.keeps.pace (c.add.ensures.stands has.so_far.came a time (rw c.in_ok-push_gap.ensures.keeps.pace has.pace)))
+    (ap (λ (x : Pace). x.grain) c.push_line.ensures.keeps.pace ∙ c.add.ensures.grain ∙ ap (λ (x : Pace). x.grain) c.in_ok-push_gap.ensures.keeps.pace)
+    c.push_line.ensures.keeps.told
+    (c.push_line.ensures.pushed start _ (same_output c.push_gap.new.self _ _ _ (c.in_ok-push_gap.ensures.pushed start has.so_far.written has.output) refl))

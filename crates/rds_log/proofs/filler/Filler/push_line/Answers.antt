@@ -1,6 +1,6 @@
 use Rattle.std.proofs.lemmas.Result.{err_from_is_err_and}
 use Rattle.rds_log.proofs.Filled.{lost_longer}
-use Rattle.rds_log.proofs.filler.Filler.push_shown.Goals as goal
+use Rattle.rds_log.proofs.filler.Filler.push_line.Goals as goal
 
 pub returns-in_err-make_room-clause-pushed : goal.returns-in_err-make_room-clause-pushed
 returns-in_err-make_room-clause-pushed g c start total has =

@@ -1,11 +1,11 @@
 use Rattle.std.proofs.Common.{◌≡◌, ◌+◌, ◌^◌, ◌≤◌, [], List, None, length}
 use Rattle.rds_io.specs.Told.{traffic}
+use Rattle.rds_receiver.specs.Receipts.{Tuning}
 use Rattle.rds_log.specs.Inside.Decoder.{HasDecoded}
 use Rattle.rds_log.specs.Heard.{HeardLines}
-use Rattle.rds_log.specs.LogWrites.{tuned}
 use Rattle.rds_log.specs.LogLines.{Line}
 use Rattle.rds_log.specs.Inside.Source.{SourceStandsAt, budget, state_of}
-use Rattle.rds_log.proofs.decode_log.decode_with_notes.Given as goal
+use Rattle.rds_log.proofs.decode_log.decode_by.Given as goal
 
 abbrev pub invariant-loop-notes : goal.invariant-loop-notes
 invariant-loop-notes g l = record {
@@ -16,7 +16,7 @@ invariant-loop-notes g l = record {
   bad : l.notes.bad ≡ None;
   stands : (lines : List Line) × SourceStandsAt l.source l.fn.reads (state_of g.R.Read.remaining g.R.TellingRead.failures g.R.TellingRead.reads l.initial.reader)
       (state_of g.R.Read.remaining g.R.TellingRead.failures g.R.TellingRead.reads l.reader) lines
-      × HasDecoded (tuned l.fn.pi l.fn.dwell) l.decoder (traffic g.W.Write.contents g.W.TellingWrite.failures l.initial.writer l.writer) lines
+      × ((t : Tuning) → g.T.Receive.stands t l.fn.receiver [] → HasDecoded g.T.Receive.stands t l.decoder (traffic g.W.Write.contents g.W.TellingWrite.failures l.initial.writer l.writer) lines)
       × HeardLines l.fn.pi lines l.notes.heard;
 }
 

@@ -1,0 +1,78 @@
+//! Tests of `slots`: what it notes of a log.
+
+use crate::same::same;
+use rds_arrivals::Grain;
+use rds_fields::Dwell;
+use rds_io::Told;
+use rds_log::{Filling, SlotNotes, fill_with_notes};
+use std::test::Fail;
+
+/// Groups of two programmes. The third has no time. The time of the last is before that of the fourth.
+const LOG: &[u8] = b"C201 2140 4849 0D20 1.00\nC202 2140 4849 0D20 1.09\nC201 2140 4849 0D20\n\
+    C201 2140 4849 0D20 1.26 x\n# note\nC201 2140 4849 0D20 0.5";
+
+/// The output if the lines of C201 count: 2 slots are lost in 0.26 s.
+const OF_ONE: &[u8] = b"C201 2140 4849 0D20 1.00\n---- ---- ---- ----\n---- ---- ---- ----\n\
+    C201 2140 4849 0D20 1.26\n# time went back\n---- ---- ---- ----\n---- ---- ---- ----\n\
+    C201 2140 4849 0D20 0.5\n";
+
+/// The output if all lines count: 0 slots are lost in 0.09 s, and 1 in 0.17 s.
+const OF_ALL: &[u8] = b"C201 2140 4849 0D20 1.00\nC202 2140 4849 0D20 1.09\n---- ---- ---- ----\n\
+    C201 2140 4849 0D20 1.26\n# time went back\n---- ---- ---- ----\n---- ---- ---- ----\n\
+    C201 2140 4849 0D20 0.5\n";
+
+fn filling(pi: Option<u16>) -> Result<Filling, Fail> {
+    Ok(Filling {
+        pi,
+        grain: Grain::new(20_000).ok_or("grain")?,
+        dwell: Dwell::new(2).ok_or("dwell")?,
+    })
+}
+
+/// Lines without a time, lines of other programmes and breaks are counted. Notes replace the notes of a run before.
+#[test]
+fn counted_lines(rt: HostRuntime) -> Result<(), Fail> {
+    let mut notes = SlotNotes::new();
+    for (pi, output, others) in [(Some(0xC201), OF_ONE, 1), (None, OF_ALL, 0)] {
+        let mut written = Vec::new(rt.alloc());
+        let done = fill_with_notes(
+            &mut Told::new(LOG),
+            &mut Told::new(&mut written),
+            filling(pi)?,
+            &mut notes,
+        );
+        same(&rt, done, Ok(false));
+        same(&rt, written.as_slice(), output);
+        same(
+            &rt,
+            (notes.untimed, notes.others, notes.breaks),
+            (1, others, 1),
+        );
+    }
+    Ok(())
+}
+
+/// Groups with times in whole seconds are counted, and noted as coarse: 13 slots are counted, and 11 fit in a second and
+/// the grain.
+#[test]
+fn whole_seconds(rt: HostRuntime) -> Result<(), Fail> {
+    let log = b"C201 2140 4849 0D20 7\nC201 2140 4849 0D20 7\nC201 2140 4849 0D20 8\n".as_slice();
+    let mut notes = SlotNotes::new();
+    let mut written = Vec::new(rt.alloc());
+    let done = fill_with_notes(
+        &mut Told::new(log),
+        &mut Told::new(&mut written),
+        filling(None)?,
+        &mut notes,
+    );
+    same(&rt, done, Ok(true));
+    same(&rt, written.len(), 3 * 22 + 11 * 20);
+    let stretch = notes.coarse.ok_or("coarse times are noted")?;
+    same(
+        &rt,
+        (stretch.first, stretch.last, stretch.slots),
+        (7_000_000, 8_000_000, 13),
+    );
+    same(&rt, stretch.room(filling(None)?.grain), 11);
+    Ok(())
+}

@@ -1,0 +1,217 @@
+-- The output of `slots` is a log of the filled slots, and what a receiver of it shows is safe.
+use Rattle.std.proofs.Common.{◌≡◌, ◌≢◌, ◌+◌, ◌-◌, ◌==◌, ◌≤◌, ℕ, zero, suc, Bool, true, false, not, cond, List, [], ◌∷◌, ◌++◌, Option, Some, None, append_assoc, ap, codes, drop, length, max, take, refl, sym, subst, ◌∙◌, arith, inl, inr}
+use Rattle.std.specs.Prelude.{All, nat_lt}
+use Rattle.std.proofs.Math.Nat.{max-zero}
+use Rattle.rds_log.proofs.Filled.{nothing_more, something_more}
+use Rattle.std.specs.List.{list_all}
+use Rattle.std.proofs.lemmas.Bool.{and_parts, cases_lt}
+use Rattle.std.proofs.lemmas.Bool.Decides.{eqb_tells}
+use Rattle.std.proofs.lemmas.List.{append-nil, drop_all, get_or-take, length-take}
+use Rattle.std.proofs.lemmas.List.Elements.{All-cons, All-head, All-nil, All-tail, All-take}
+use Rattle.rds_block.specs.declared.group.Group.{Group}
+use Rattle.rds_receiver.specs.Receipts.{Tuning}
+use Rattle.rds_receiver.specs.Shown.{IsView, ShownView}
+use Rattle.rds_arrivals.specs.Arrivals.{Arrival, and_lost, filled, lost_between, lost_until}
+use Rattle.rds_arrivals.specs.Breaks.{break_of}
+use Rattle.rds_arrivals.specs.Delivered.{arrivals}
+use Rattle.rds_arrivals.specs.Laws.{FilledLogsAreSafe}
+use Rattle.rds_arrivals.specs.Stamps.{stamp_in}
+use Rattle.rds_arrivals.specs.declared.lost.Break.{Break}
+use Rattle.rds_arrivals.specs.declared.lost.Break.TheVariants.{Back, Day}
+use Rattle.rds_arrivals.specs.declared.stamp.Stamp.{Stamp}
+use Rattle.rds_log.specs.Fill.{AreFilled, SoFar, break_line, gap_lines, lost_lines, more_lines, newest_time, time_of}
+use Rattle.rds_log.specs.FilledLog.{FilledTextsAreLogs, FilledTextsAreSafe}
+use Rattle.rds_log.specs.LineSays.{LineSays}
+use Rattle.rds_log.specs.LogLines.{IsLine, Line, line_feed, text_of}
+use Rattle.rds_log.specs.LogWrites.{AreSlots, AreViews, tuned}
+use Rattle.rds_log.specs.declared.filler.Filling.{Filling}
+use Rattle.rds_log.specs.declared.log_line.Block.TheVariants.{Missing}
+use Rattle.rds_log.specs.declared.log_line.LogLine.TheVariants.{Skip, Slot}
+use Rattle.rds_log.proofs.Cutting.{text_of-more}
+use Rattle.rds_log.proofs.FirstBytes.{content_near, same_slot_line}
+use Rattle.rds_log.proofs.OneOutput.{same_lines, same_slots}
+
+-- ---- a line as far as its time
+
+no_stamp : stamp_in [] ≡ None
+unfolding stamp_in
+no_stamp = refl
+
+-- a line with a time goes on after the blocks and a space
+pub goes_on : (first : List ℕ) (stamp : Stamp) → time_of first ≡ Some stamp → 21 ≤ length first
+goes_on first stamp timed = elim (cases_lt 20 (length first)) [
+  | inl more ↦ omega (arith, more)
+  | inr few ↦ absurd (nothing few)
+]
+  where
+    nothing : length first ≤ 20 → ⊥
+    nothing few =
+        let none : stamp_in (drop 20 first) ≡ None = ap stamp_in (drop_all 20 first few) ∙ no_stamp in
+        by (nat_lt (length first) 20) none timed
+      where
+        by : (b : Bool) → stamp_in (drop 20 first) ≡ None → cond b None (stamp_in (drop 20 first)) ≡ Some stamp → ⊥
+        by true none e = cc
+        by false none e = (let bad : None ≡ Some stamp = sym none ∙ e in cc)
+
+-- it is the same slot as far as its time
+pub cut_says : (line : Line) (slot : Option Group) (stamp : Stamp) → LineSays line (Slot slot) → time_of (take 60 line) ≡ Some stamp
+    → LineSays (take (20 + stamp.end) (take 60 line)) (Slot slot)
+cut_says line slot stamp says timed =
+    let long = goes_on (take 60 line) stamp timed in
+    let q = take (20 + stamp.end) (take 60 line) in
+    same_slot_line line q slot
+    (omega (arith, long, length-take 60 line, content_near line))
+    (omega (arith, long, length-take (20 + stamp.end) (take 60 line), content_near q))
+    (λ i h. sym (get_or-take (20 + stamp.end) (take 60 line) i 0 (omega (arith, h)) ∙ get_or-take 60 line i 0 (omega (arith, h)))) says
+
+-- ---- lines more
+
+-- the text has these lines, and ends between lines
+record HasCut (text : List ℕ) (slots : List (Option Group)) : Type 0 where
+  pub cut : List Line
+  pub text_is : text ≡ text_of cut []
+  pub lines : All IsLine cut
+  pub say : AreSlots cut slots
+
+more_text : (text line : List ℕ) (cut : List Line) → text ≡ text_of cut [] → text ++ (line ++ codes "\n") ≡ text_of (line ∷ cut) []
+more_text text line cut is =
+    ap (λ (l : List ℕ). l ++ (line ++ codes "\n")) is ∙ sym (append_assoc (text_of cut []) line (codes "\n"))
+    ∙ ap (λ (l : List ℕ). l ++ codes "\n") (text_of-more cut [] line)
+
+with_slot : (text line : List ℕ) (slot : Option Group) (slots : List (Option Group)) → HasCut text slots → IsLine line → LineSays line (Slot slot)
+    → HasCut (text ++ (line ++ codes "\n")) (slot ∷ slots)
+with_slot text line slot slots had is says = record {
+  cut = line ∷ had.cut;
+  text_is = more_text text line had.cut had.text_is;
+  lines = All-cons IsLine line had.cut is had.lines;
+  say = inr (slot, slots, says, refl, had.say);
+}
+
+with_comment : (text line : List ℕ) (slots : List (Option Group)) → HasCut text slots → IsLine line → LineSays line Skip → HasCut (text ++ (line ++ codes "\n")) slots
+with_comment text line slots had is says = record {
+  cut = line ∷ had.cut;
+  text_is = more_text text line had.cut had.text_is;
+  lines = All-cons IsLine line had.cut is had.lines;
+  say = inl (says, had.say);
+}
+
+same_text : (text other : List ℕ) (slots : List (Option Group)) → text ≡ other → HasCut text slots → HasCut other slots
+same_text text other slots same had = subst (λ (l : List ℕ). HasCut l slots) same had
+
+-- ---- the lines before an arrival
+
+-- bytes that a test finds without a line feed
+feedless : (bytes : List ℕ) → list_all (λ b. not (b == line_feed)) bytes ≡ true → IsLine bytes
+feedless [] e = All-nil (λ (x : ℕ). x ≢ line_feed)
+feedless (b ∷ rest) e =
+    let both = and_parts (not (b == line_feed)) (list_all (λ b. not (b == line_feed)) rest) e in
+    All-cons (λ (x : ℕ). x ≢ line_feed) b rest (other both.0) (feedless rest both.1)
+  where
+    other : not (b == line_feed) ≡ true → b ≢ line_feed
+    other test = elim (eqb_tells b line_feed) [
+      | inl same ↦ absurd (let bad : false ≡ true = rw same.0 at test in cc)
+      | inr apart ↦ apart.1
+    ]
+
+dashes : LineSays (codes "---- ---- ---- ----") (Slot None)
+dashes = (
+  record { at_least = omega arith; first_space = refl; second_space = refl; third_space = refl; ends = inl refl },
+  record {
+    a = Missing;
+    b = Missing;
+    c = Missing;
+    d = Missing;
+    first = record { first = refl; second = refl; third = refl; fourth = refl };
+    second = record { first = refl; second = refl; third = refl; fourth = refl };
+    third = record { first = refl; second = refl; third = refl; fourth = refl };
+    fourth = record { first = refl; second = refl; third = refl; fourth = refl };
+    carried = refl;
+  },
+)
+
+with_lost : (n : ℕ) (text : List ℕ) (slots : List (Option Group)) → HasCut text slots → HasCut (text ++ lost_lines n) (and_lost n slots)
+with_lost zero text slots had = same_text text (text ++ []) slots (sym (append-nil text)) had
+with_lost (suc n) text slots had =
+    same_text _ _ (None ∷ and_lost n slots) (append_assoc text (lost_lines n) (codes "---- ---- ---- ----\n"))
+    (with_slot (text ++ lost_lines n) (codes "---- ---- ---- ----") None (and_lost n slots) (with_lost n text slots had) (feedless (codes "---- ---- ---- ----") refl) dashes)
+
+with_break : (why : Option Break) (text : List ℕ) (slots : List (Option Group)) → HasCut text slots → HasCut (text ++ break_line why) slots
+with_break None text slots had = same_text text (text ++ []) slots (sym (append-nil text)) had
+with_break (Some Back) text slots had = with_comment text (codes "# time went back") slots had (feedless (codes "# time went back") refl) (inr (inr (inl refl)))
+with_break (Some Day) text slots had = with_comment text (codes "# more than a day passed") slots had (feedless (codes "# more than a day passed") refl) (inr (inr (inl refl)))
+
+more_and_lost : {X : Type 0} (n k sum : ℕ) (slots : List (Option X)) → n + k ≡ sum → and_lost n (and_lost k slots) ≡ and_lost sum slots
+more_and_lost zero k sum slots is = (let same : k ≡ sum = omega (arith, is) in ap (λ (m : ℕ). and_lost m slots) same)
+more_and_lost (suc n) k zero slots is = absurd (omega (arith, is))
+more_and_lost (suc n) k (suc sum) slots is = ap (λ (l : List (Option _)). None ∷ l) (more_and_lost n k sum slots (omega (arith, is)))
+
+-- lost slots that follow others
+with_more : (why : Option Break) (told lost : ℕ) (text : List ℕ) (slots : List (Option Group)) → HasCut text (and_lost told slots)
+    → HasCut (text ++ more_lines why told lost) (and_lost (max told lost) slots)
+with_more why told lost text slots had = elim (cases_lt told lost) [
+  | inl more ↦ (let (is, m) = something_more why told lost more in
+      let sum : lost - told + told ≡ lost = omega (arith, more) in
+      rw (is, m) (subst (λ (l : List (Option Group)). HasCut (text ++ (break_line why ++ lost_lines (lost - told))) l) (more_and_lost (lost - told) told lost slots sum)
+      (same_text _ _ _ (append_assoc text (break_line why) (lost_lines (lost - told)))
+      (with_lost (lost - told) (text ++ break_line why) (and_lost told slots) (with_break why text (and_lost told slots) had)))))
+  | inr few ↦ (let (is, m) = nothing_more why told lost few in
+      rw (is, m) (same_text text (text ++ []) _ (sym (append-nil text)) had))
+]
+
+with_gap : (f : Filling) (came : List (Arrival Group)) (told time : ℕ) (text : List ℕ) (slots : List (Option Group)) → HasCut text (and_lost told slots)
+    → HasCut (text ++ gap_lines f (newest_time came) told time) (and_lost (max told (lost_until f.grain f.dwell came time)) slots)
+with_gap f [] told time text slots had = rw (max-zero told) (same_text text (text ++ []) (and_lost told slots) (sym (append-nil text)) had)
+with_gap f (last ∷ before) told time text slots had = with_more (break_of last.time time) told (lost_between f.grain f.dwell last.time time) text slots had
+
+-- ---- the whole output
+
+cut_of : (f : Filling) (lines : List Line) (s : SoFar) → All IsLine lines → AreFilled f lines s → HasCut s.written (and_lost s.told (filled f.grain f.dwell s.came))
+cut_of f [] s all (none, untold, empty) =
+    rw (none, untold, empty) record { cut = []; text_is = refl; lines = All-nil IsLine; say = refl }
+cut_of f (line ∷ before) s all (inl (none, rest)) = cut_of f before s (All-tail IsLine line before all) rest
+cut_of f (line ∷ before) s all (inr (old, rest, inl adds)) =
+    let had = cut_of f before old (All-tail IsLine line before all) rest in
+    let gap = gap_lines f (newest_time old.came) old.told adds.stamp.time in
+    let first = take (20 + adds.stamp.end) (take 60 line) in
+    let is : IsLine first = All-take (λ x. x ≢ line_feed) (20 + adds.stamp.end) (take 60 line) (All-take (λ x. x ≢ line_feed) 60 line (All-head IsLine line before all)) in
+    let lost = with_gap f old.came old.told adds.stamp.time old.written (filled f.grain f.dwell old.came) had in
+    let all_of = with_slot (old.written ++ gap) first (Some adds.group) _ lost is (cut_says line (Some adds.group) adds.stamp adds.says adds.timed) in
+    rw (adds.came, adds.told, adds.writes) all_of
+cut_of f (line ∷ before) s all (inr (old, rest, inr adds)) =
+    let had = cut_of f before old (All-tail IsLine line before all) rest in
+    rw (adds.came, adds.told, adds.writes) (with_gap f old.came old.told adds.stamp.time old.written (filled f.grain f.dwell old.came) had)
+
+pub are_logs : FilledTextsAreLogs
+are_logs f lines s all fill =
+    let had = cut_of f lines s all fill in
+    record { lines = had.cut; are = (had.cut, [], had.text_is, had.lines, All-nil _, inl (refl, refl)); say = had.say }
+
+-- ---- the view of a receiver of it
+
+-- the newest view of some slots
+newest_of : (t : Tuning) (slot : Option Group) (slots : List (Option Group)) (views : List ShownView) → AreViews t (slot ∷ slots) views
+    → (view : ShownView) × (older : List ShownView) × (views ≡ view ∷ older) × IsView t (slot ∷ slots) view
+newest_of t slot slots [] are = absurd are
+newest_of t slot slots (view ∷ older) are = (view, older, refl, are.0)
+
+-- lost slots may follow
+newest_after : (t : Tuning) (n : ℕ) (slot : Option Group) (slots : List (Option Group)) (views : List ShownView) → AreViews t (and_lost n (slot ∷ slots)) views
+    → (view : ShownView) × (older : List ShownView) × (views ≡ view ∷ older) × IsView t (and_lost n (slot ∷ slots)) view
+newest_after t zero slot slots views are = newest_of t slot slots views are
+newest_after t (suc n) slot slots views are = newest_of t None (and_lost n (slot ∷ slots)) views are
+
+pub texts_are_safe : FilledLogsAreSafe → FilledTextsAreSafe
+texts_are_safe law station f spread plans log sent newest before lines s shown wide some lawful zip are all fill came decoded =
+    let log_of = are_logs f lines s all fill in
+    let same : decoded.cut ≡ log_of.lines = same_lines s.written decoded.cut log_of.lines decoded.are log_of.are in
+    let slots : decoded.write.slots ≡ and_lost s.told (filled f.grain f.dwell (arrivals (newest ∷ before))) =
+    same_slots log_of.lines decoded.write.slots _ (rw same at decoded.write.say)
+    (subst (λ (l : List (Arrival Group)). AreSlots log_of.lines (and_lost s.told (filled f.grain f.dwell l))) came log_of.say) in
+    let (view, older, is_newest, is) = newest_after (tuned station.pi f.dwell) s.told _ _ decoded.write.write.views (rw slots at decoded.write.write.are) in
+    rw slots record {
+      view = view;
+      older = older;
+      newest = is_newest;
+      is = is;
+      safe = law station f.grain spread f.dwell 0 s.told plans log sent newest before view wide some lawful zip are is;
+    }

@@ -1,0 +1,13 @@
+-- The state of the pace of a log after these arrivals, the newest first.
+use Rattle.std.specs.Prelude.{◌≡◌, List, MatchOption, None, option_map}
+use Rattle.rds_block.specs.declared.group.Group.{Group}
+use Rattle.rds_arrivals.specs.Arrivals.{Arrival}
+use Rattle.rds_arrivals.specs.Coarse.{AreCoarse, newest_stretch}
+use Rattle.rds_log.specs.Fill.{newest_time}
+use Rattle.rds_log.specs.declared.pace.Pace.{Pace}
+
+-- these groups were added; if they are not coarse, their newest stretch is kept
+pub record PaceStandsAt (p : Pace) (arrivals : List (Arrival Group)) : Type 0 where
+  pub last : option_map (λ s. s.last) p.stretch ≡ newest_time arrivals
+  pub coarse : MatchOption p.coarse (AreCoarse p.grain arrivals → ⊥) (λ s. AreCoarse p.grain arrivals)
+  pub stretch : p.coarse ≡ None → p.stretch ≡ newest_stretch p.grain arrivals
