@@ -49,7 +49,7 @@ DECIDED = [
     ([*DECODE, *["C201"] * 1000], 2), (["help", "nonsense"], 2), (["help", "--pi"], 2),
     (["--help"], 0), (["-h"], 0), (["help"], 0), (["--version"], 0), (["-V"], 0), ([*DECODE, "--help"], 0),
     *((words, 0) for name in COMMANDS for words in ([name, "--help"], [name, "-h"], ["help", name])),
-    (["slots", "--pi", "C201"], 2), (["slots", "--m", "0"], 2), (["slots", "--grain", "88"], 2),
+    (["slots", "--pi", "C20"], 2), (["slots", "--m", "0"], 2), (["slots", "--grain", "88"], 2),
     (["slots", "--grain", "-1"], 2), (["slots", "--grain", "8", "--grain", "8"], 2), ([*DECODE, "--grain", "8"], 2),
     ([*DECODE, "--running"], 2), (["audit", "--pi", "C201", "--running", "--running"], 2),
     *(([name, "--pi", given], 2) for name in OF_A_STATION for given in ("", "C20", " C201", "C2011", "C20G")),

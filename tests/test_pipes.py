@@ -33,10 +33,10 @@ TURNS = [
         (b"text,HI,1,\n", b"# 0 text silent 1\n---- ---- ---- ----\n"),
         (b"text,HI,1,\n", b"# 1 text ok\nC201 2140 4849 0D20\n"),
     ]),
-    # 0.3 s less 0.02 s are 3.2 slots, so the second group comes in the fourth
+    # 0.35 s are 4.0 slots, so the second group comes in the fourth
     (SLOTS, [
         (b"C201 2140 4849 0D20 1.0 x\n", b"C201 2140 4849 0D20 1.0\n"),
-        (b"C201 2150 594F 0D20 1.3\n", b"---- ---- ---- ----\n" * 3 + b"C201 2150 594F 0D20 1.3\n"),
+        (b"C201 2150 594F 0D20 1.35\n", b"---- ---- ---- ----\n" * 3 + b"C201 2150 594F 0D20 1.35\n"),
     ]),
 ]
 

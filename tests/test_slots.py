@@ -1,125 +1,206 @@
-"""examples/slots: worked arrival times, and a line for each slot of a log with stamps.
+"""`rdsrt slots`: worked times, each form of a time, a line for each slot of random logs, and what `decode` then shows.
 
-A slot is 104 / 1187.5 s, 0.08758 s, and the grain 0.02 s: n slots lie between two groups whose times are apart by more
-than 0.08758 (n - 1) + 0.02 s and by no more than 0.08758 n + 0.02 s.
+n slots are lost between two groups whose times are apart by more than n slots and the grain, and by no more than n + 1
+slots and the grain (or n is 0). The grain is 20 ms.
 """
+import datetime
 import random
 import select
 import subprocess
 
-from tests.support import SECONDS, Case, path
+from tests.calls import DECODE
+from tests.slot import NINETEEN_SLOTS
+from tests.support import PROGRAM, SECONDS, ProgramCase, bytes_of, ran
 
-SLOTS = path("examples/slots")
 HI = "C201 2140 4849 0D20"
 LOST = "---- ---- ---- ----"
-SLOT = 104 / 1187.5
+DAY, M = 86_400_000_000, 128
 SEED = 20261123
-SPY = "@2024/{}.00".format
-BACK = "slots: line 2: the time is earlier than the one before it; a new count begins after {} lost slots\n".format
-DAY = ("slots: line 2: the time is more than a day later than the one before it; "
-       "a new count begins after 128 lost slots\n")
-# name, times of groups, how many lost slots come before each group, and the note
+JUNE = "@2024/06/01 {}".format
+# name, times of groups, and how many lost slots come before each group
 SPACINGS = [
-    ("one slot", ["0", "0.0876"], [0, 0], ""),
-    ("two groups at once", ["5", "5"], [0, 0], ""),
-    ("a slot and the grain", ["0", "0.1075"], [0, 0], ""),
-    ("more than a slot and the grain", ["0", "0.1076"], [0, 1], ""),
-    ("two slots and the grain", ["0", "0.1951"], [0, 1], ""),
-    ("more than two slots and the grain", ["0", "0.1952"], [0, 2], ""),
-    ("slot 100 after slot 0", ["7", "15.75"], [0, 99], ""),
-    ("three groups, each from the one before", ["0", "0.15", "0.3"], [0, 1, 1], ""),
-    ("hundredths", [SPY("06/01 07:58:12"), "@2024/06/01 07:58:12.08", "@2024/06/01 07:58:12.18"], [0, 0, 0], ""),
-    ("a minute: 685.1 slots, less the grain 684.9", [SPY("06/01 07:58:12"), SPY("06/01 07:59:12")], [0, 684], ""),
-    ("words before the time", ["seen 3 4.0", "x @y 4.05"], [0, 0], ""),
+    ("one slot", ["0", "0.0876"], [0, 0]),
+    ("two groups at once", ["5", "5"], [0, 0]),
+    ("a slot and the grain", ["0", "0.107578"], [0, 0]),
+    ("a microsecond more", ["0", "0.107579"], [0, 1]),
+    ("19 slots and the grain", ["0", "1.684"], [0, 18]),
+    ("a microsecond more than 19 slots", ["0", "1.684001"], [0, 19]),
+    ("slot 100 after slot 0", ["7", "15.75"], [0, 99]),
+    ("three groups, each from the one before", ["0", "0.15", "0.3"], [0, 1, 1]),
+    ("hundredths", [JUNE("07:58:12.00"), JUNE("07:58:12.08"), JUNE("07:58:12.18")], [0, 0, 0]),
+    ("a minute: 685.1 slots, less the grain 684.9", [JUNE("07:58:12.00"), JUNE("07:59:12.00")], [0, 684]),
 ]
 # 1 s is 11.4 slots
 CALENDAR = [
-    ("across midnight", [SPY("06/01 23:59:59"), SPY("06/02 00:00:00")], [0, 11], ""),
-    ("across a month", [SPY("06/30 23:59:59"), SPY("07/01 00:00:00")], [0, 11], ""),
-    ("across a leap day", [SPY("02/28 23:59:59"), SPY("02/29 00:00:00")], [0, 11], ""),
-    ("across a year", ["@2023/12/31 23:59:59.50", SPY("01/01 00:00:00")], [0, 5], ""),
+    ("across midnight", [JUNE("23:59:59.00"), "@2024/06/02 00:00:00.00"], [0, 11]),
+    ("across a month", ["@2024/06/30 23:59:59.00", "@2024/07/01 00:00:00.00"], [0, 11]),
+    ("across a leap day", ["@2024/02/28 23:59:59.00", "@2024/02/29 00:00:00.00"], [0, 11]),
+    ("across a year", ["@2023/12/31 23:59:59.50", "@2024/01/01 00:00:00.00"], [0, 5]),
+    ("a leap second", ["@2016/12/31 23:59:59.00", "@2016/12/31 23:59:60.00"], [0, 11]),
+    ("the same moment in two zones", ["2024-06-01T07:58:12.25Z", "2024-06-01T09:58:12.25+02:00"], [0, 0]),
+    ("a second later in another zone", ["2024-06-01T07:58:12Z", "2024-06-01 02:58:13-0500"], [0, 11]),
+    ("exactly a day", [JUNE("00:00:00.00"), "@2024/06/02 00:00:00.00"], [0, 986_538]),
 ]
 JUMPS = [
-    ("an hour back", [SPY("10/27 02:59:59"), SPY("10/27 02:00:00"), "@2024/10/27 02:00:00.09"], [0, 128, 0], BACK(128)),
-    ("a hundredth back", ["9", "8.99", "9.08"], [0, 128, 0], BACK(128)),
-    ("more than a day on", [SPY("06/01 00:00:00"), "@2024/06/02 00:00:00.01"], [0, 128], DAY),
+    ("an hour back", ["@2024/10/27 02:59:59.00", "@2024/10/27 02:00:00.00", "@2024/10/27 02:00:00.09"], [0, M, 0]),
+    ("a hundredth back", ["9", "8.99", "9.08"], [0, M, 0]),
+    ("more than a day on", [JUNE("00:00:00.00"), "@2024/06/02 00:00:00.01"], [0, M]),
 ]
-# lines that have no place in the count, and the cause in the note
-ODD = [
-    ("", ""), ("# note", ""), ('<recorder="balcony">', ""), ("% end", ""),
-    ("C201 2140 4849 0D2 1", "no group"), ("C201  2140 4849 0D20 1", "no group"), ("hello", "no group"),
-    (HI, "a group without a time"), (HI + " soon", "a group without a time"), (HI + "5", "no group"),
-    (HI + " @2024/13/01 00:00:00.00", "a group without a time"),
-    (HI + " @2024/06/01 24:00:00.00", "a group without a time"),
-    (HI + " @2024/02/30 00:00:00.00", "a group without a time"), (HI + " -1", "a group without a time"),
-]
+SKIPPED = ["", "# note", '<recorder="balcony">', "% end"]
+UNTIMED = ["", " soon", " @2024/13/01 00:00:00.00", " @2024/06/01 24:00:00.00", " @2024/02/30 00:00:00.00", " -1",
+           " 07:58:12", " @2024/06/01 07:58:12.00x"]
+MALFORMED = ["C201 2140 4849 0D2 1", "C201  2140 4849 0D20 1", "hello", HI + "5"]
 
 
-def ran(given, *words):
-    """Returns the status, the lines and the notes of examples/slots."""
-    done = subprocess.run([SLOTS, *words], input=given.encode(), capture_output=True, timeout=SECONDS)
-    return done.returncode, done.stdout.decode().splitlines(), done.stderr.decode()
+def filled(lines, *words):
+    """Returns the status, the lines that are no comments, the comments and the notes of `rdsrt slots`."""
+    given = "".join(f"{line}\n" for line in lines).encode()
+    done = subprocess.run([PROGRAM, "slots", *words], input=given, capture_output=True, timeout=SECONDS)
+    rows, notes = done.stdout.decode().splitlines(), done.stderr.decode()
+    return done.returncode, [row for row in rows if row[0] != "#"], [row for row in rows if row[0] == "#"], notes
 
 
-class Worked(Case):
-    def compare(self, rows):
-        for name, times, before, note in rows:
+def lost(earlier, later, grain=20_000):
+    """Returns how many slots are lost between two times in microseconds, by the rule above. M after a break."""
+    apart = later - earlier
+    return max(0, -(-19 * (apart - grain) // NINETEEN_SLOTS) - 1) if 0 <= apart <= DAY else M
+
+
+class Worked(ProgramCase):
+    def compare(self, rows, breaks=0):
+        for name, times, before in rows:
             lines = [f"{HI} {time}" for time in times]
             wanted = [it for count, line in zip(before, lines) for it in [LOST] * count + [line]]
-            self.check(name, ran("\n".join(lines)), (0, wanted, note))
+            _, slots, comments, _ = filled(lines)
+            self.check(name, (slots, len(comments)), (wanted, breaks))
 
     def test_the_times_of_groups_give_the_lost_slots_between_them(self):
         self.compare(SPACINGS)
 
-    def test_a_day_a_month_a_leap_day_or_a_year_ends_between_two_groups(self):
+    def test_dates_zones_and_leap_seconds_are_understood(self):
         self.compare(CALENDAR)
 
     def test_a_time_that_jumps_begins_a_new_count_after_a_dwell(self):
-        self.compare(JUMPS)
-        wanted = [f"{HI} 2", LOST, LOST, LOST, f"{HI} 1"]
-        self.check("a dwell of 3", ran(f"{HI} 2\n{HI} 1\n", "--m", "3"), (0, wanted, BACK(3)))
+        self.compare(JUMPS, breaks=1)
+        _, slots, _, notes = filled([f"{HI} 2", f"{HI} 1"], "--m", "3")
+        self.check("a dwell of 3", slots, [f"{HI} 2", LOST, LOST, LOST, f"{HI} 1"])
+        self.check("the note on a break", "time" in notes and "back" in notes, True, notes)
 
-    def test_no_grain(self):
-        lines = [f"{HI} {time}" for time in ("0", "0.08", "0.1")]
-        self.check("no lost slots", ran("\n".join(lines), "--grain", "0"), (0, lines, ""))
+    def test_what_follows_the_time_is_left_out(self):
+        lines = [f"{HI} {JUNE('07:58:12.00')}", f"{HI} {JUNE('07:58:13.00')}"]
+        wanted = filled(lines)[1]
+        self.check("a signal strength", filled([f"{lines[0]} 57", f"{lines[1]} 55"])[1], wanted)
+        self.check("eleven lost slots", wanted, [lines[0], *[LOST] * 11, lines[1]])
+        endless = [f"{line} {'x' * 1_000_000}" for line in lines]
+        self.check("a line of a megabyte", filled(endless)[1], wanted)
+        self.check("and no line feed at its end", ran(["slots"], endless[0].encode()), (0, f"{lines[0]}\n".encode()))
 
-    def test_wrong_arguments_are_refused(self):
-        for words in (["--grain", "0.09"], ["--m", "0"], ["--m", "x"], ["log"]):
-            self.check(f"{words}", ran("", *words)[:2], (2, []))
+    def test_the_grain_is_an_option(self):
+        for grain, count in (("0", 1), ("87", 0)):
+            _, slots, _, _ = filled([f"{HI} 0", f"{HI} 0.09"], "--grain", grain)
+            self.check(f"grain {grain}", slots.count(LOST), count)
 
-    def test_an_odd_line_is_noted_and_changes_nothing(self):
-        for line, why in ODD:
-            given = f"{HI} 1.00\n{line}\n{HI} 1.09\r\n"
-            note = f"slots: line 2: {why}, skipped\n" if why else ""
-            self.check(f"{line!r}", ran(given), (0, [f"{HI} 1.00", f"{HI} 1.09"], note))
-        partial = "C201 2140 ---- 0D20 1.05"
-        self.check("a group in part", ran(f"{HI} 1\n{partial}\n"), (0, [f"{HI} 1", partial], ""))
+    def test_a_line_without_a_time_is_left_out_and_counted(self):
+        for more in UNTIMED:
+            status, slots, _, notes = filled([f"{HI} 1.00", HI + more, f"{HI} 1.09\r"])
+            self.check(f"{more!r}", (status, slots), (0, [f"{HI} 1.00", f"{HI} 1.09"]))
+            self.check(f"the note on {more!r}", "without a time, left out: 1" in notes, True, notes)
+        for line in SKIPPED:
+            self.check(f"{line!r}", filled([f"{HI} 1.00", line])[:3], (0, [f"{HI} 1.00"], []))
+
+    def test_a_line_without_a_whole_group_only_tells_the_time(self):
+        """Slots 1 to 11 are over after 1 s, less the grain. The next group changes none of them."""
+        for line in (f"{LOST} 2", "C201 2140 ---- 0D20 2"):
+            self.check(f"{line!r}", filled([f"{HI} 1", line])[1], [f"{HI} 1", *[LOST] * 11])
+            self.check(f"{line!r}, and a group", filled([f"{HI} 1", line, f"{HI} 3"])[1],
+                       filled([f"{HI} 1", f"{HI} 3"])[1])
+        self.check("before the first group", filled([f"{LOST} 1", f"{HI} 3"])[1], [f"{HI} 3"])
+        _, slots, comments, _ = filled([f"{HI} 9", f"{LOST} 1", f"{HI} 2"], "--m", "3")
+        self.check("a break is told once", (slots, len(comments)), ([f"{HI} 9", *[LOST] * 3, f"{HI} 2"], 1))
+
+    def test_times_that_are_too_coarse_are_noted(self):
+        """A lossless log with times in steps of 0.2 s has more slots than its clock."""
+        coarse = [f"{HI} {number * NINETEEN_SLOTS // 19 // 200_000 / 5}" for number in range(100)]
+        fine = [f"{HI} {number * NINETEEN_SLOTS / 19e6:.2f}" for number in range(100)]
+        status, slots, _, notes = filled(coarse)
+        self.check("coarse times", (status, len(slots) > 110, notes.count("\n")), (1, True, 1), notes)
+        status, slots, _, notes = filled(fine)
+        self.check("fine times", (status, len(slots), notes), (0, 100, ""))
+
+    def test_a_malformed_line_ends_the_log_with_a_comment(self):
+        for line in MALFORMED:
+            found = filled([f"{HI} 1", line, f"{HI} 2"])[:3]
+            self.check(f"{line!r}", found, (1, [f"{HI} 1"], ["# fault line 2"]))
 
 
-class ByChance(Case):
+class ByChance(ProgramCase):
     def test_each_slot_has_its_line(self):
-        """If delays vary by less than the grain, each group is in its slot. If they vary by less than a slot, no slot
-        is missing."""
+        """If delays vary by less than the grain, each group is in its slot. If they vary by less than a slot less the
+        grain, no slot is missing."""
         rng = random.Random(SEED)
-        for spread, is_exact in ((0.019, True), (SLOT - 0.021, False)):
+        for spread, is_exact in ((19_000, True), (67_000, False)):
             slots = [slot for slot in range(4000) if slot == 0 or rng.random() < 0.3]
-            times = [max(0, slot * SLOT + rng.uniform(0, spread)) for slot in slots]
-            if not is_exact:
-                # an arrival is not before the one that came earlier
-                times = [max(times[:at + 1]) for at in range(len(times))]
-            given = "".join(f"C201 0000 0000 {slot:04X} {time:.4f}\n" for slot, time in zip(slots, times))
-            status, lines, told = ran(given)
-            places = [at for at, line in enumerate(lines) if line != LOST]
-            written = [int(lines[at][15:19], 16) for at in places]
-            self.check(f"seed {SEED}, each group once, {spread}", (written, status, told), (slots, 0, ""), given)
+            times = [slot * NINETEEN_SLOTS // 19 + rng.randrange(spread) for slot in slots]
+            lines = [f"C201 0000 0000 {slot:04X} {time / 1e6:.6f}" for slot, time in zip(slots, times)]
+            status, rows, _, _ = filled(lines)
+            places = [at for at, row in enumerate(rows) if row != LOST]
+            written = [int(rows[at][15:19], 16) for at in places]
+            given = "\n".join(lines)
+            self.check(f"seed {SEED}, each group once, {spread}", written, slots, given)
             gaps = [b - a - (d - c) for a, b, c, d in zip(places, places[1:], slots, slots[1:])]
             self.check(f"seed {SEED}, no slot too few, {spread}", min(gaps), 0, given)
             self.check(f"seed {SEED}, and none too many, {spread}", max(gaps) == 0, is_exact, given)
 
+    def test_random_logs_are_filled_by_the_rule(self):
+        """2,000 logs with seconds or dates, and a clock that jumps now and then."""
+        for number, rng in self.cases(random.Random(f"{SEED} {it}") for it in range(2000)):
+            grain = rng.randrange(88)
+            time, lines, wanted, last = rng.randrange(10**9) * 10_000, [], [], None
+            for _ in range(rng.randrange(1, 9)):
+                lines.append(f"C201 {rng.randrange(65536):04X} 0000 0000 {self.shown(rng, time)}")
+                wanted += [LOST] * (0 if last is None else lost(last, time, 1000 * grain)) + lines[-1:]
+                last = time
+                time += 10_000 * rng.choice([0, 8, 9, 10, 20, rng.randrange(300), rng.randrange(9000)])
+                if rng.random() < 0.05:
+                    time = max(0, time + rng.choice([-10_000, -DAY, DAY + 10_000]))
+            found = filled(lines, "--grain", str(grain))
+            self.check(f"seed {SEED}, log {number}, grain {grain}", found[1], wanted, "\n".join(lines))
 
-class Live(Case):
+    @staticmethod
+    def shown(rng, time):
+        """Returns a time of hundredths in one of its forms."""
+        date = datetime.datetime(2000, 1, 1) + datetime.timedelta(microseconds=time)
+        return date.strftime(rng.choice(["@%Y/%m/%d %H:%M:%S.%f", "%Y-%m-%dT%H:%M:%S.%fZ", "%Y-%m-%d %H:%M:%S.%f"]))
+
+    def test_a_receiver_of_the_filled_log_shows_no_mix(self):
+        """A station with a text every 2 M slots; bursts of slots are lost, and their lines are left out."""
+        rng = random.Random(SEED)
+        texts = [f"{rng.choice(['ALPHA', 'BRAVO', 'CHARLIE', 'DELTA', 'ECHO'])} {number:03d}" for number in range(100)]
+        rows = ["-,,1,"] * M
+        for text in texts:
+            rows += [f"text,{text},1,"] + ["-,,1,"] * (2 * M - 1)
+        _, sent = ran(["encode", "--pi", "C201"], "\n".join(rows).encode())
+        lines, until = [], 0
+        for slot, line in enumerate(it for it in sent.decode().splitlines() if it[0] != "#"):
+            if slot >= until and rng.random() < 0.02:
+                until = slot + rng.randrange(60, 700)
+            if slot >= until and line != LOST:
+                lines.append(f"{line} {1000 + slot * NINETEEN_SLOTS / 19e6 + rng.uniform(0, 0.06):.6f}")
+        plain, whole = lines, filled(lines)[1]
+        counts = [self.mixes(log, texts) for log in (plain, whole)]
+        self.check(f"seed {SEED}: mixes with the lost slots", counts[1], 0)
+        self.check(f"seed {SEED}: and without them", counts[0] > 10, True)
+
+    @staticmethod
+    def mixes(lines, texts):
+        """Returns how many texts are shown that nobody set."""
+        _, shown = ran(DECODE, "".join(f"{line}\n" for line in lines).encode())
+        return sum(line.split('"')[1] not in texts for line in shown.decode().splitlines() if ' text "' in line)
+
+
+class Live(ProgramCase):
     def test_a_group_is_written_before_the_next_is_read(self):
-        with subprocess.Popen([SLOTS], stdin=subprocess.PIPE, stdout=subprocess.PIPE, bufsize=0) as program:
+        with subprocess.Popen([PROGRAM, "slots"], stdin=subprocess.PIPE, stdout=subprocess.PIPE, bufsize=0) as program:
             for time in ("1.00", "1.09"):
                 program.stdin.write(f"{HI} {time}\n".encode())
                 is_there = select.select([program.stdout], [], [], SECONDS)[0]
@@ -128,8 +209,45 @@ class Live(Case):
             program.stdin.close()
             self.check("end of a live pipe", program.wait(SECONDS), 0)
 
+    def test_a_break_is_told_while_the_log_is_open(self):
+        """Each break has a line on standard error at once, and --quiet has none."""
+        told = b"rdsrt: %s: nobody knows how many slots were lost, so M lost slots stand for them\n"
+        with subprocess.Popen([PROGRAM, "slots"], stdin=subprocess.PIPE, stdout=subprocess.DEVNULL,
+                              stderr=subprocess.PIPE, bufsize=0) as program:
+            program.stdin.write(f"{HI} 1.0\n".encode())
+            for time, why in (("0.5", b"time went back"), ("90000", b"more than a day passed")):
+                program.stdin.write(f"{HI} {time}\n".encode())
+                is_there = select.select([program.stderr], [], [], SECONDS)[0]
+                self.check(f"a break at {time}", program.stderr.readline() if is_there else None, told % why)
+            program.stdin.write(b"no line\n")
+            program.stdin.close()
+            self.check("a fault is no break", b"nobody knows" in program.stderr.read(), False)
+        self.check("--quiet", filled([f"{HI} 2", f"{HI} 1"], "--quiet")[3], "")
+
+    def test_a_command_that_reads_a_log_notes_that_it_lacks_slots(self):
+        """The note comes while the log is still open, and once; not for a log with all its slots."""
+        line = f"{HI} {{}}\n".format
+        lacks = "rdsrt: the log spans 23 slots by its times and has 2 lines: put rdsrt slots before this command\n"
+        for command in ("decode", "audit", "witness"):
+            words = [PROGRAM, command, "--pi", "C201"]
+            with subprocess.Popen(words, stdin=subprocess.PIPE, stdout=subprocess.DEVNULL, stderr=subprocess.PIPE,
+                                  bufsize=0) as program:
+                program.stdin.write((line("1.0") + line("3.0")).encode())
+                is_there = select.select([program.stderr], [], [], SECONDS)[0]
+                self.check(f"{command}, live", program.stderr.readline() if is_there else None, lacks.encode())
+                program.stdin.write(line("9.0").encode())
+                program.stdin.close()
+                self.check(f"{command}, once", b"spans" in program.stderr.read(), False)
+        whole = "".join(line(f"{number * NINETEEN_SLOTS / 19e6:.2f}") for number in range(200)).encode()
+        many = "".join(line(f"{number / 4:.2f}") for number in range(4000)).encode()
+        for name, given, wanted in (("whole", whole, 0), ("long", many, 1), ("no times", f"{HI}\n".encode() * 9, 0)):
+            done = subprocess.run([PROGRAM, *DECODE], input=given, capture_output=True, timeout=SECONDS)
+            self.check(f"a {name} log", done.stderr.count(b"put rdsrt slots"), wanted)
+        quiet = subprocess.run([PROGRAM, *DECODE, "--quiet"], input=many, capture_output=True, timeout=SECONDS)
+        self.check("--quiet", quiet.stderr, b"")
+
     def test_full_output_is_noted(self):
         with open("/dev/full", "wb") as full:
-            done = subprocess.run([SLOTS], input=f"{HI} 1\n".encode(), stdout=full, stderr=subprocess.PIPE,
+            done = subprocess.run([PROGRAM, "slots"], input=f"{HI} 1\n".encode(), stdout=full, stderr=subprocess.PIPE,
                                   timeout=SECONDS)
-        self.check("status and note", (done.returncode, done.stderr.startswith(b"slots: ")), (1, True))
+        self.check("status and note", (done.returncode, b"writing standard output failed" in done.stderr), (1, True))

@@ -12,7 +12,7 @@ _rdsrt() {
         help) offered='decode audit witness slots encode sim help' ;;
         decode | witness) offered='--pi --m --quiet --help' ;;
         audit) offered='--pi --m --k --running --quiet --help' ;;
-        slots) offered='--grain --m --quiet --help' ;;
+        slots) offered='--pi --grain --m --quiet --help' ;;
         *) offered='--pi --m --k --pty --tp --quiet --help' ;;
     esac
     mapfile -t COMPREPLY < <(compgen -W "$offered" -- "$word")

@@ -13,7 +13,7 @@ complete -c rdsrt -n $first -a help -d 'Print this message or the help of the gi
 complete -c rdsrt -n $first -s V -l version -d 'Print version'
 complete -c rdsrt -n "not __fish_seen_subcommand_from help" -s h -l help -d 'Print help'
 complete -c rdsrt -n "__fish_seen_subcommand_from help" -a "$commands"
-complete -c rdsrt -n "$no_help decode audit witness encode sim" -l pi -x -d 'PI code of the station'
+complete -c rdsrt -n "$no_help decode audit witness slots encode sim" -l pi -x -d 'PI code of the station'
 complete -c rdsrt -n "$no_help decode audit witness slots encode sim" -s m -l m -x -d 'Dwell M in slots, 1 to 65535'
 complete -c rdsrt -n "$no_help audit encode sim" -s k -l k -x -d 'Lateness K in slots, 0 to 1024'
 complete -c rdsrt -n "$no_help audit" -l running -d 'The station was on air before the log began'

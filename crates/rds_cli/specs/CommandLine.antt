@@ -2,9 +2,9 @@
 -- line.
 use Rattle.std.specs.Prelude.{◌≡◌, ◌&&◌, ◌∷◌, []}
 use Rattle.std.specs.Prelude.{ℕ, Bool, List, Option, Some, None, false, true, codes, if◌then◌else◌}
-use Rattle.std.specs.Prelude.{length, nat_le, nat_lt, not, option_and_then, option_map, pos}
+use Rattle.std.specs.Prelude.{is_some, length, nat_le, nat_lt, not, option_and_then, option_map, pos}
 use Rattle.std.specs.List.{list_all}
-use Rattle.std.specs.Option.{option_map_or}
+use Rattle.std.specs.Option.{option_map_or, option_or}
 use Rattle.std.specs.Str.{bytes_eq}
 use Rattle.std.specs.Str.Parse.{digits_value, without_leading_plus}
 use Rattle.clap.specs.Simple.{on_top}
@@ -29,6 +29,13 @@ pi_rule = record (new_rule (codes "pi")) {
   long = Some (codes "pi");
   value_names = 1;
   required = true;
+}
+
+-- `--pi HHHH`, which may be given
+abbrev pub own_pi_rule : Rule
+own_pi_rule = record (new_rule (codes "pi")) {
+  long = Some (codes "pi");
+  value_names = 1;
 }
 
 -- an option that takes a number, its parser, and its default
@@ -88,9 +95,13 @@ audit_app name = with_rule (late_app name) running_rule
 abbrev pub grain_rule : Rule
 grain_rule = number_rule (codes "grain") (Signed (pos 0) (pos 87)) (codes "20")
 
+-- a subcommand that reads a log with times
+unfoldable pub timed_app : Text → App
+timed_app name = with_rule (with_rule (new_app name) own_pi_rule) grain_rule
+
 -- the subcommand that fills a log with times
 unfoldable pub slots_app : Text → App
-slots_app name = with_rule (with_rule (with_rule (new_app name) grain_rule) dwell_rule) quiet_rule
+slots_app name = with_rule (with_rule (timed_app name) dwell_rule) quiet_rule
 
 -- a subcommand with a station of its own
 unfoldable pub station_app : Text → App
@@ -170,6 +181,10 @@ running_in = flag_in (codes "running")
 abbrev pub quiet_in : List Row → Bool
 quiet_in = flag_in (codes "quiet")
 
+-- `--pi` is given
+abbrev pub has_pi : List Row → Bool
+has_pi rows = is_some (first_of (codes "pi") rows)
+
 abbrev pub programme_in : List Row → Option Programme
 programme_in rows = option_map (λ pty. record { pty = pty; tp = tp_in rows }) (pty_in rows)
 
@@ -184,16 +199,17 @@ task_in name rows =
     else if bytes_eq name (codes "sim") then with_station Simulate rows
     else if bytes_eq name (codes "audit") then option_map (λ late. Audit late (running_in rows)) (late_in rows)
     else if bytes_eq name (codes "witness") then Some Witness
-    else if bytes_eq name (codes "slots") then option_map Slots (grain_in rows)
+    else if bytes_eq name (codes "slots") then option_map (λ grain. Slots grain (has_pi rows)) (grain_in rows)
     else None
 
 abbrev pub asked : Option Task → Option Text → Option ℕ → Bool → Option Requested
 asked (Some task) (Some pi) (Some dwell) quiet = Some (record { task = task; pi = pi; dwell = dwell; quiet = quiet })
 asked _ _ _ _ = None
 
--- the argument of `--pi`; `slots` has none, and takes the groups of each programme
+-- the argument of `--pi`; the task of `slots` says whether it is given, and 0000 stands for none
 abbrev pub pi_in : Text → List Row → Option Text
-pi_in name rows = if bytes_eq name (codes "slots") then Some (codes "0000") else first_of (codes "pi") rows
+pi_in name rows =
+    option_or (first_of (codes "pi") rows) (if bytes_eq name (codes "slots") then Some (codes "0000") else None)
 
 -- the request of a subcommand and its options
 abbrev pub asked_of : Text × List Row → Option Requested

@@ -46,7 +46,11 @@ abbrev pub auditing_running : ℕ → Requested
 auditing_running dwell = record { task = Audit 0 true; pi = codes "C201"; dwell = dwell; quiet = false }
 
 abbrev pub filling : ℕ → ℕ → Requested
-filling dwell grain = record { task = Slots grain; pi = codes "0000"; dwell = dwell; quiet = false }
+filling dwell grain = record { task = Slots grain false; pi = codes "0000"; dwell = dwell; quiet = false }
+
+-- the same of the lines of one programme
+abbrev pub filling_one : Text → ℕ → ℕ → Requested
+filling_one pi dwell grain = record { task = Slots grain true; pi = pi; dwell = dwell; quiet = false }
 
 -- the same without warnings
 abbrev pub quietly : Requested → Requested

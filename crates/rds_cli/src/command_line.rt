@@ -2,8 +2,9 @@
 ghost use Rattle.std.specs.Prelude.{◌≡◌, IfOk, codes, false};
 ghost use Rattle.clap.specs.Words.{App, app_of, rule_of, with_subcommand};
 ghost use Rattle.clap.specs.declared.builder.command.Command.TheViews.{out-Command};
-ghost use Rattle.rds_cli.specs.CommandLine.{audit_app, dwell_rule, flag_rule, grain_rule, late_app, late_rule, log_app, number_rule};
-ghost use Rattle.rds_cli.specs.CommandLine.{pi_rule, pty_rule, quiet_rule, running_rule, slots_app, station_app, top_app, tp_rule, whole_app};
+ghost use Rattle.rds_cli.specs.CommandLine.{audit_app, dwell_rule, flag_rule, grain_rule, late_app, late_rule};
+ghost use Rattle.rds_cli.specs.CommandLine.{log_app, number_rule, own_pi_rule, pi_rule, pty_rule, quiet_rule};
+ghost use Rattle.rds_cli.specs.CommandLine.{running_rule, slots_app, station_app, timed_app, top_app, tp_rule, whole_app};
 
 use clap::builder::ValueParser;
 use clap::{Arg, ArgAction, Command, value_parser};
@@ -19,6 +20,16 @@ fn pi<'a>(alloc: Global) -> Arg<'a>
         .value_name("HHHH")
         .required(true)
         .help("PI code of the station: four hexadecimal digits, for example C201")
+}
+
+/// Makes the option `--pi` of `slots`, which takes the lines of all programmes without it.
+fn own_pi<'a>(alloc: Global) -> Arg<'a>
+    ensures rule { rule_of result ≡ own_pi_rule }
+    ensures local { result.global ≡ false }
+{
+    Arg::new(alloc, "pi").long("pi").value_name("HHHH").help(
+        "PI code: lines of other programmes are left out, their slots count as lost",
+    )
 }
 
 /// Makes an option that takes a number.
@@ -259,26 +270,40 @@ fn witness<'a>(alloc: Global) -> Result<Command<'a>, AllocError>
     log_reader(alloc, "witness", page)
 }
 
+/// Makes a subcommand that reads a log with times.
+#[tactic(auto, unfolding(crate::specs::CommandLine::timed_app))]
+fn timed_reader<'a>(alloc: Global, name: &'a str, page: Page<'a>) -> Result<Command<'a>, AllocError>
+    ensures app { IfOk result (λ c. app_of c ≡ timed_app name.entry.now) }
+    ensures local { IfOk result (λ c. (out-Command c).has_globals ≡ false) }
+{
+    Command::new(alloc, name)
+        .about(page.about)
+        .after_long_help(page.ending)
+        .arg(own_pi(alloc))?
+        .arg(grain(alloc))
+}
+
 /// Makes the subcommand `slots`.
 #[tactic(auto, unfolding(crate::specs::CommandLine::slots_app))]
 fn slots<'a>(alloc: Global) -> Result<Command<'a>, AllocError>
     ensures app { IfOk result (λ c. app_of c ≡ slots_app (codes "slots")) }
     ensures local { IfOk result (λ c. (out-Command c).has_globals ≡ false) }
 {
-    Command::new(alloc, "slots")
-        .about("Reads a log of received groups with times and adds a line for each lost slot")
-        .after_long_help(
-            "Most receivers print only the groups that they received. The other commands need a\n\
-             line for each slot, so put this one before them. Give it their M.\n\n\
-             A time stands after the group: @2024/06/01 07:58:12.08, 2024-06-01T07:58:12.08Z, or\n\
-             seconds such as 12.5. A group without a time is left out. If a time is earlier than\n\
-             the one before it, or more than a day later, M lost slots are added.\n\n\
-             No slot is missing if the delay of the groups varies by less than a slot (87.5 ms)\n\
-             less the grain. None is added in vain if it varies by at most the grain.\n\n\
-             Example:\n  \
-               $ rdsrt slots < spy.log | rdsrt decode --pi C201",
-        )
-        .arg(grain(alloc))?
+    let page = Page {
+        about: "Reads a log of received groups with times and adds a line for each lost slot",
+        ending: "Most receivers print only the groups that they received. The other commands need a\n\
+                 line for each slot, so put this one before them. Give it their M.\n\n\
+                 A time stands after the group: @2024/06/01 07:58:12.08, 2024-06-01T07:58:12.08Z, or\n\
+                 seconds such as 12.5. A group without a time is left out. A line with a time and a\n\
+                 lost block says that no group came until then. If a time is earlier than the one\n\
+                 before it, or more than a day later, a comment and M lost slots are added.\n\n\
+                 No slot is missing if the delay of the groups varies by less than a slot (87.5 ms)\n\
+                 less the grain. None is added in vain if it varies by at most the grain. If more are\n\
+                 counted than a station sends in that time, the times are too coarse: status 1.\n\n\
+                 Example:\n  \
+                   $ rdsrt slots < spy.log | rdsrt decode --pi C201",
+    };
+    timed_reader(alloc, "slots", page)?
         .arg(dwell(alloc))?
         .arg(quiet(alloc))
 }

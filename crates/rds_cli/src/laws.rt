@@ -1,7 +1,7 @@
 //! What the definition of the command line says of written-out arguments.
 ghost use Rattle.std.specs.Prelude.{codes, false, true};
 ghost use Rattle.rds_cli.specs.CommandLine.{AskFor, AskForHelp, default_dwell};
-ghost use Rattle.rds_cli.specs.Examples.{AreNotTaken, CallForHelp, auditing, auditing_running, decoding, encoding, filling, quietly, simulating, typed, witnessing};
+ghost use Rattle.rds_cli.specs.Examples.{AreNotTaken, CallForHelp, auditing, auditing_running, decoding, encoding, filling, filling_one, quietly, simulating, typed, witnessing};
 
 /// Shows the definition at work. The arguments of README's examples are taken and ask for these tasks. A dwell of 0
 /// slots, a programme type of 32, a subcommand without a programme and a missing subcommand are refused. Help and the
@@ -23,6 +23,7 @@ pub fn words_of_the_examples()
     ensures witness { AskFor (typed (codes "rdsrt witness --pi C201 --m 8")) (witnessing 8) }
     ensures slots { AskFor (typed (codes "rdsrt slots")) (filling default_dwell 20) }
     ensures slots_grain { AskFor (typed (codes "rdsrt slots --m 8 --grain 0")) (filling 8 0) }
+    ensures slots_pi { AskFor (typed (codes "rdsrt slots --pi C201")) (filling_one (codes "C201") default_dwell 20) }
     ensures large_grain { AreNotTaken (typed (codes "rdsrt slots --grain 88")) }
     ensures sim_late { AskFor (typed (codes "rdsrt sim --pi C201 --k 1024")) (simulating default_dwell 0 false 1024) }
     ensures sim_of_eleven { AskFor (typed (codes "rdsrt sim --pi C201 --m 8 --k 2 --pty 24 --tp --"))

@@ -3,7 +3,8 @@ ghost use Rattle.std.specs.Prelude.{◌≡◌, ◌⊎◌, ℕ, IfErr, IfNone, If
 ghost use Rattle.clap.specs.Words.{FailsBy, fault_of, found_of, kind_of, rows_of};
 ghost use Rattle.rds_cli.specs.Asks.{asked_by};
 ghost use Rattle.rds_cli.specs.CommandLine.{AreRefused, AskForHelp, IsPi, TakesWords, asked_in, asked_of};
-ghost use Rattle.rds_cli.specs.CommandLine.{dwell_in, flag_in, grain_in, is_shown, late_in, pi_in, programme_in, task_in, whole_app};
+ghost use Rattle.rds_cli.specs.CommandLine.{dwell_in, flag_in, grain_in, has_pi, is_shown, late_in, pi_in};
+ghost use Rattle.rds_cli.specs.CommandLine.{programme_in, task_in, whole_app};
 
 use crate::command_line::whole;
 use clap::error::ErrorKind;
@@ -37,7 +38,8 @@ pub enum Task {
     /// Print which slots of such a log a receiver has to lose to show a mix.
     Witness,
     /// Print a log with times, and a line for each slot that it lacks. Its times are off by at most so many milliseconds.
-    Slots(Place<88>),
+    /// The flag: lines of other programmes are left out.
+    Slots(Place<88>, bool),
 }
 
 /// A command with its options.
@@ -112,19 +114,29 @@ fn task_of(name: &str, inner: &ArgMatches<'_>) -> Option<Task>
         "sim" => Some(Task::Simulate(programme_of(inner)?, late_of(inner)?)),
         "audit" => Some(Task::Audit(late_of(inner)?, is_given(inner, "running"))),
         "witness" => Some(Task::Witness),
-        "slots" => Some(Task::Slots(grain_of(inner)?)),
+        "slots" => Some(Task::Slots(grain_of(inner)?, has_pi(inner))),
         _ => None,
     }
 }
 
-/// Reads the argument of `--pi`. `slots` has none.
+/// Reads the argument of `--pi`. `slots` may have none.
 fn pi_of<'a>(name: &str, inner: &ArgMatches<'a>) -> Option<&'a str>
     ensures { option_map (λ s. s.now) result ≡ pi_in name.now (rows_of (found_of inner.now)) }
 {
-    if name == "slots" {
-        return Some("0000");
+    if let Some(pi) = inner.get_str("pi") {
+        return Some(pi);
     }
-    inner.get_str("pi")
+    if name == "slots" { Some("0000") } else { None }
+}
+
+/// Returns whether `--pi` is given.
+fn has_pi(inner: &ArgMatches<'_>) -> bool
+    ensures { result ≡ has_pi (rows_of (found_of inner.now)) }
+{
+    match inner.get_str("pi") {
+        Some(_) => true,
+        None => false,
+    }
 }
 
 /// Reads the grain.

@@ -1,5 +1,5 @@
 -- From what the words were read as to what the words say.
-use Rattle.std.proofs.Common.{◌≡◌, ◌∙◌, ◌⊎◌, ◌≤◌, ℕ, [], Bool, List, Option, Some, None, Ok, Err, ap, arith, false, true, inl, inr, refl, subst, sym}
+use Rattle.std.proofs.Common.{◌≡◌, ◌∙◌, ◌⊎◌, ℕ, [], Bool, List, Option, Some, None, Ok, Err, ap, false, true, inl, inr, refl, subst, sym}
 use Rattle.std.specs.Prelude.{Result, IfErr, IfOk, option_map}
 use Rattle.clap.specs.Words.{FailsBy, fault_of, kind_of}
 use Rattle.clap.specs.declared.error.Error.{Error}

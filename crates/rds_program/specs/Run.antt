@@ -1,6 +1,6 @@
 -- What the whole program does with its arguments. This is the project's own command line. r is the traffic of a call
 -- with the reader, w its traffic with the writer.
-use Rattle.std.specs.Prelude.{◌≡◌, ◌⊎◌, ◌+◌, ◌^◌, ◌≤◌, ◌++◌, []}
+use Rattle.std.specs.Prelude.{◌≡◌, ◌⊎◌, ◌+◌, ◌*◌, ◌^◌, ◌++◌, []}
 use Rattle.std.specs.Prelude.{ℕ, Bool, List, codes, decimal, None, Some, Option, Ok, Err, Result, if◌then◌else◌}
 use Rattle.clap.specs.Words.{kind_of}
 use Rattle.clap.specs.declared.error.Error.{Error}
@@ -14,7 +14,9 @@ use Rattle.rds_world.specs.declared.world.Config.{Config}
 use Rattle.rds_audit.specs.AuditState.{start_if}
 use Rattle.rds_log.specs.Audit.{Audits}
 use Rattle.rds_log.specs.Decode.{Decodes}
+use Rattle.rds_log.specs.Fill.{Fills}
 use Rattle.rds_log.specs.LogWrites.{tuned}
+use Rattle.rds_log.specs.declared.filler.Filling.{Filling}
 use Rattle.rds_io.specs.ReadFailed.{SomeReadFailed}
 use Rattle.rds_script.specs.Play.{Plays, Reading}
 use Rattle.rds_io.specs.declared.fault.LogFault.{LogFault}
@@ -53,7 +55,7 @@ mark_of (Encode programme late) = codes "# "
 mark_of (Simulate programme late) = []
 mark_of (Audit late running) = []
 mark_of Witness = []
-mark_of (Slots grain) = codes "# "
+mark_of (Slots grain only) = codes "# "
 
 abbrev pub TellsFault : Task → List ℕ → Traffic → Type 0
 TellsFault task text w = PutsLine (mark_of task ++ text ++ codes "\n") w
@@ -86,6 +88,10 @@ verdict_status passed = if passed then 0 else 1
 abbrev pub witness_status : Bool → ℕ
 witness_status found = if found then 1 else 0
 
+-- the status if the times of a log are too coarse, and if not
+abbrev pub coarse_status : Bool → ℕ
+coarse_status coarse = if coarse then 1 else 0
+
 -- an engine ran, and its outcome gave the status; `mid` and `failures` are the writer's between the two
 pub record Runs {X : Type 0} (Engine : Traffic → Result X LogFault → Type 0) (status_of : X → ℕ) (task : Task)
     (w : Traffic) (status : ℕ) : Type 0 where
@@ -103,15 +109,17 @@ station_of t programme late = record {
   late = late;
 }
 
+-- how `slots` fills a log for receivers that are tuned so: by this grain in microseconds, and by the lines of their
+-- programme alone or of all
+abbrev pub filling_of : Tuning → ℕ → Bool → Filling
+filling_of t grain only =
+    record { pi = if only then Some t.programme else None; grain = grain; dwell = t.dwell }
+
 -- the traffic with the reader of a script, and the fact that one of its reads failed
 abbrev pub script_in : Traffic → Type 0 → Reading
 script_in r ReadFailed = record { known = r.before; Failed = ReadFailed }
 
 -- ---- the whole program
-
--- `slots` ran. Open: that it wrote `Fills` of rds_log `specs/Fill`
-abbrev pub RunsSlots : Traffic → Result (Unit {0}) LogFault → Type 0
-RunsSlots w result = Unit {0}
 
 -- the engine of the task ran, with receivers that are tuned so; ReadFailed says that a read of the reader failed
 abbrev pub TaskRuns : Task → Tuning → Traffic → Type 0 → Traffic → ℕ → Type 0
@@ -125,7 +133,8 @@ TaskRuns (Simulate programme late) t r ReadFailed w status =
 TaskRuns (Audit late running) t r ReadFailed w status =
     Runs (Audits (start_if running) t.programme (t.dwell + late) (2 ^ 32) r) verdict_status (Audit late running) w status
 TaskRuns Witness t r ReadFailed w status = Runs (Witnesses t r) witness_status Witness w status
-TaskRuns (Slots grain) t r ReadFailed w status = Runs RunsSlots done (Slots grain) w status
+TaskRuns (Slots grain only) t r ReadFailed w status =
+    Runs (Fills (filling_of t (1000 * grain) only) r) coarse_status (Slots grain only) w status
 
 -- the programme identification is refused
 pub record RefusesPi (task : Task) (w : Traffic) (status : ℕ) : Type 0 where

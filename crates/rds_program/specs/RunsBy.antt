@@ -62,7 +62,7 @@ pub task_by : {P Q : Type 0} → (P → Q) → (task : Task) (t : Tuning) (r w :
 task_by says Decode t r w status ran = ran
 task_by says (Audit late running) t r w status ran = ran
 task_by says Witness t r w status ran = ran
-task_by says (Slots grain) t r w status ran = ran
+task_by says (Slots grain only) t r w status ran = ran
 task_by says (Encode programme late) t r w status ran =
     script_by says Log (station_of t programme late) (Encode programme late) r.before w status ran
 task_by says (Simulate programme late) t r w status ran =

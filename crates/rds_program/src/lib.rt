@@ -2,16 +2,20 @@
 //! contract of `run` says which output each input has.
 #![tactic(auto)]
 
+mod breaks;
 mod note_lines;
 mod notes;
 mod program;
 mod status;
+mod times;
 mod words;
 
+pub use breaks::Breaks;
 pub use note_lines::{print_notes, print_refusal};
 pub use notes::{End, Options, RunNotes};
 pub use program::{run, run_with_notes};
 pub use status::{FAULT, REFUSED, no_words, write_no_memory};
+pub use times::{LogTimes, Timing};
 pub use words::{texts, words_of};
 
 #[cfg(test)]

@@ -2,6 +2,7 @@
 
 use crate::notes::{End, RunNotes};
 use arrayvec::ArrayVec;
+use rds_arrivals::Grain;
 use rds_audit::AuditFault;
 use rds_cli::Task;
 use rds_encoder::Refusal;
@@ -43,8 +44,11 @@ pub fn print_notes<N: TellingWrite>(notes: &RunNotes, reason: Option<&io::Error>
 fn print_warnings<N: TellingWrite>(task: Task, notes: &RunNotes, screen: &mut N) {
     print_wait(notes, screen);
     print_no(notes, screen);
-    print_slots(notes, screen);
-    if let Task::Slots(_) = task {
+    print_times(notes, screen);
+    // Prover: a value is copied by a new name before its second use (docs/PROVER.md, "Workarounds").
+    let filled = task;
+    print_slots(filled, notes, screen);
+    if let Task::Slots(..) = task {
         return;
     }
     // Prover: a value is copied by a new name before its second use (docs/PROVER.md, "Workarounds").
@@ -86,7 +90,7 @@ fn print_covered<N: TellingWrite>(task: Task, notes: &RunNotes, screen: &mut N) 
 fn is_audit(task: Task) -> bool {
     match task {
         Task::Audit(..) => true,
-        Task::Decode | Task::Encode(..) | Task::Simulate(..) | Task::Witness | Task::Slots(_) =>
+        Task::Decode | Task::Encode(..) | Task::Simulate(..) | Task::Witness | Task::Slots(..) =>
             false,
     }
 }
@@ -128,7 +132,7 @@ fn nothing_said(task: Task) -> &'static str {
     match task {
         Task::Audit(..) => ": the yes says nothing",
         Task::Witness => ": the search says nothing",
-        Task::Decode | Task::Encode(..) | Task::Simulate(..) | Task::Slots(_) => "",
+        Task::Decode | Task::Encode(..) | Task::Simulate(..) | Task::Slots(..) => "",
     }
 }
 
@@ -182,8 +186,44 @@ fn print_no_group<N: TellingWrite>(task: Task, notes: &RunNotes, screen: &mut N)
     print(note, screen);
 }
 
-/// Prints how many lines had no time, and how often nobody knows how many slots were lost.
-fn print_slots<N: TellingWrite>(notes: &RunNotes, screen: &mut N) {
+/// Prints that the log lacks slots by its times. After a no the first lines decide: the log was not read to its end.
+fn print_times<N: TellingWrite>(notes: &RunNotes, screen: &mut N) {
+    let Some(times) = &notes.times else {
+        return;
+    };
+    let found = match notes.end {
+        End::Done if notes.log.no.is_none() => times.lack(notes.log.slots),
+        End::Done => times.early_lack(),
+        End::NotRun | End::BadPi | End::Fault(_) => None,
+    };
+    if let Some((slots, lines)) = found {
+        print_lack(slots, lines, screen);
+    }
+}
+
+/// Prints that a log spans more slots by its times than it has lines.
+pub(crate) fn print_lack<N: TellingWrite>(slots: u64, lines: u64, screen: &mut N) {
+    let mut note = begun();
+    let _ = write!(
+        note,
+        "the log spans {slots} slots by its times and has {lines} lines: put rdsrt slots before this command"
+    );
+    print(note, screen);
+}
+
+/// Prints that nobody knows how many slots were lost at a break of a log, and why.
+pub(crate) fn print_break<N: TellingWrite>(why: &[u8], screen: &mut N) {
+    let mut note = begun();
+    push(why, &mut note);
+    let _ = write!(
+        note,
+        ": nobody knows how many slots were lost, so M lost slots stand for them"
+    );
+    print(note, screen);
+}
+
+/// Prints how many lines were left out, and how often nobody knows how many slots were lost.
+fn print_slots<N: TellingWrite>(task: Task, notes: &RunNotes, screen: &mut N) {
     let untimed = notes.slots.untimed;
     if untimed > 0 {
         let mut note = begun();
@@ -193,6 +233,15 @@ fn print_slots<N: TellingWrite>(notes: &RunNotes, screen: &mut N) {
         );
         print(note, screen);
     }
+    let others = notes.slots.others;
+    if others > 0 {
+        let mut note = begun();
+        let _ = write!(note, "lines of other programmes than ");
+        push(notes.pi.as_slice(), &mut note);
+        let _ = write!(note, ", left out: {others}");
+        print(note, screen);
+    }
+    print_coarse(task, notes, screen);
     let breaks = notes.slots.breaks;
     if breaks > 0 {
         let mut note = begun();
@@ -202,6 +251,25 @@ fn print_slots<N: TellingWrite>(notes: &RunNotes, screen: &mut N) {
         );
         print(note, screen);
     }
+}
+
+/// Prints that the times of a log are too coarse, with the slots of the newest stretch that shows it.
+fn print_coarse<N: TellingWrite>(task: Task, notes: &RunNotes, screen: &mut N) {
+    let Some(stretch) = notes.slots.coarse else {
+        return;
+    };
+    let Task::Slots(grain, _) = task else {
+        return;
+    };
+    let slots = stretch.slots;
+    let room = stretch.room(Grain::of_milliseconds(grain));
+    let mut note = begun();
+    let _ = write!(
+        note,
+        "the times vary by more than the grain: {slots} slots were counted where a station sends {room} at most, so slots \
+         may be missing elsewhere. Use finer times"
+    );
+    print(note, screen);
 }
 
 /// Prints which rule the log breaks first, and what to try next.
@@ -235,7 +303,7 @@ fn push_running(no: NoNote, task: Task, note: &mut Note) {
     };
     let takes_it = match task {
         Task::Audit(_, running) => !running,
-        Task::Decode | Task::Encode(..) | Task::Simulate(..) | Task::Witness | Task::Slots(_) =>
+        Task::Decode | Task::Encode(..) | Task::Simulate(..) | Task::Witness | Task::Slots(..) =>
             false,
     };
     if takes_it && may_be_old {
@@ -414,7 +482,7 @@ fn push_shown(bytes: &[u8], note: &mut Note) {
 fn reads_script(task: Task) -> bool {
     match task {
         Task::Encode(..) | Task::Simulate(..) => true,
-        Task::Decode | Task::Audit(..) | Task::Witness | Task::Slots(_) => false,
+        Task::Decode | Task::Audit(..) | Task::Witness | Task::Slots(..) => false,
     }
 }
 

@@ -1,5 +1,6 @@
 //! Notes of a run for a person at a terminal.
 
+use crate::times::LogTimes;
 use arrayvec::ArrayVec;
 use rds_cli::Task;
 use rds_fields::Dwell;
@@ -47,6 +48,8 @@ pub struct RunNotes {
     pub refused: ArrayVec<u8, REFUSED_ROOM>,
     /// Notes on the log of `decode`, `audit` and `witness`.
     pub log: LogNotes,
+    /// The times of the log of `decode`, `audit` and `witness`. `None` if there is nothing to note.
+    pub times: Option<LogTimes>,
     /// Notes on the times of a log, of `slots`.
     pub slots: SlotNotes,
     /// Notes on the script of `encode` and `sim`.
@@ -62,6 +65,7 @@ impl RunNotes {
             pi: ArrayVec::new(),
             refused: ArrayVec::new(),
             log: LogNotes::new(0),
+            times: None,
             slots: SlotNotes::new(),
             script: ScriptNotes::new(),
         }

@@ -21,7 +21,7 @@ use rds_audit::LogStart;
 use rds_cli::{Programme, Request, Task, identification_of, read_words};
 use rds_fields::{Dwell, Head, Late};
 use rds_io::{Lines, LogFault, TellingRead, TellingWrite, put};
-use rds_log::{MOST_READS, audit_with_notes, decode_with_notes, fill_with_notes};
+use rds_log::{Filling, MOST_READS, audit_with_notes, decode_with_notes, fill_with_notes};
 use rds_script::{Form, MOST_RECORDS, play_script};
 use rds_witness::witness_with_notes;
 use rds_world::Config;
@@ -175,7 +175,8 @@ fn run_task<R: TellingRead, W: TellingWrite>(
     let asked = task;
     match task {
         Task::Decode => {
-            let decoded = decode_with_notes(reader, writer, pi, dwell, MOST_READS, &mut notes.log);
+            let log = &mut notes.log;
+            let decoded = decode_with_notes(reader, writer, pi, dwell, None, MOST_READS, log);
             end_with(asked, decoded, writer, &mut notes.end)
         }
         Task::Encode(programme, late) => {
@@ -196,10 +197,12 @@ fn run_task<R: TellingRead, W: TellingWrite>(
                 Err(fault) => fail_with(asked, fault, writer, &mut notes.end),
             }
         }
-        Task::Slots(grain) => {
-            let grain = Grain::of_milliseconds(grain);
-            let filled = fill_with_notes(reader, writer, grain, dwell, &mut notes.slots);
-            end_with(asked, filled, writer, &mut notes.end)
+        Task::Slots(grain, only) => {
+            let filling = filling_of(pi, dwell, Grain::of_milliseconds(grain), only);
+            match fill_with_notes(reader, writer, filling, &mut notes.slots) {
+                Ok(coarse) => answer_by(coarse, NO, OK, &mut notes.end),
+                Err(fault) => fail_with(asked, fault, writer, &mut notes.end),
+            }
         }
         Task::Witness => {
             match witness_with_notes(alloc, reader, writer, pi, dwell, &mut notes.log) {
@@ -239,6 +242,17 @@ fn station_of(pi: u16, dwell: Dwell, programme: Programme, late: Late) -> Config
         },
         dwell,
         late,
+    }
+}
+
+/// Returns how `slots` fills a log: with `only`, it leaves out the lines of other programmes.
+fn filling_of(pi: u16, dwell: Dwell, grain: Grain, only: bool) -> Filling
+    ensures { result ≡ specs.filling_of (tuned pi dwell) grain only }
+{
+    Filling {
+        pi: if only { Some(pi) } else { None },
+        grain,
+        dwell,
     }
 }
 
@@ -335,7 +349,7 @@ fn mark(task: Task) -> &'static [u8]
     ensures short { length result.now ≤ 2 }
 {
     match task {
-        Task::Encode(..) | Task::Slots(_) => b"# ",
+        Task::Encode(..) | Task::Slots(..) => b"# ",
         Task::Decode | Task::Simulate(..) | Task::Audit(..) | Task::Witness => b"",
     }
 }

@@ -9,7 +9,7 @@ use std::io::Write;
 /// The status if all was done, if the audit answers yes, or if help was asked for.
 pub(crate) const OK: u8 = 0;
 
-/// The status if the audit answers no, or if a witness was found.
+/// The status if the audit answers no, if a witness was found, or if the times of a log are too coarse.
 pub(crate) const NO: u8 = 1;
 
 /// The status after a fault of the log, the script, the reader or the writer, or out of memory.

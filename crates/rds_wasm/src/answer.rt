@@ -5,8 +5,8 @@ ghost use Rattle.rds_io.specs.Told.{PutsNothing, traffic};
 ghost use Rattle.rds_wasm.specs.Page.{Prints, Refuses, words_in};
 
 use crate::slice_reader::SliceReader;
-use rds_io::TellingWrite;
-use rds_program::{FAULT, REFUSED, RunNotes, print_notes, run_with_notes, write_no_memory};
+use rds_io::{TellingWrite, Told};
+use rds_program::{FAULT, REFUSED, RunNotes, Timing, print_notes, run_with_notes, write_no_memory};
 use std::alloc::{AllocError, Global};
 
 /// Runs the program over its arguments, one a line, and over the bytes of its input. Writes its notes to `screen`.
@@ -31,9 +31,12 @@ pub fn answer<W: TellingWrite, N: TellingWrite>(
         write_no_memory(writer);
         return FAULT;
     };
-    let mut given = SliceReader::new(input);
+    let words = words.as_slice();
+    let no_screen: Option<Told<Vec<u8>>> = None;
+    let mut given = Timing::new(SliceReader::new(input), no_screen, words);
     let mut notes = RunNotes::new();
-    let status = run_with_notes(alloc, words.as_slice(), &mut given, writer, &mut notes);
+    let status = run_with_notes(alloc, words, &mut given, writer, &mut notes);
+    notes.times = given.take_times();
     print_notes(&notes, None, screen);
     status
 }

@@ -11,7 +11,7 @@
 
 use rds_io::{Prompting, Reasoned, Told, prompt_for};
 use rds_program::{
-    RunNotes, no_words, print_notes, print_refusal, run_with_notes, texts, words_of,
+    Breaks, RunNotes, Timing, no_words, print_notes, print_refusal, run_with_notes, texts, words_of,
 };
 use std::io::{ErrorKind, IsTerminal};
 use std::process::ExitCode;
@@ -39,8 +39,10 @@ fn run(rt: &HostRuntime, words: &[&str]) -> u8 {
         None
     };
     let prompting = Prompting::new(rt.stdin(), line, Told::new(rt.stderr()));
-    let mut input = Told::new(Reasoned::new(prompting));
-    let mut output = Told::new(Reasoned::new(rt.stdout()));
+    let counted = Told::new(Reasoned::new(prompting));
+    let mut input = Timing::new(counted, Some(Told::new(rt.stderr())), words);
+    let printed = Reasoned::new(rt.stdout());
+    let mut output = Told::new(Breaks::new(printed, Told::new(rt.stderr()), words));
     let mut notes = RunNotes::new();
     let status = run_with_notes(rt.alloc(), words, &mut input, &mut output, &mut notes);
     let mut screen = Told::new(rt.stderr());
@@ -48,7 +50,12 @@ fn run(rt: &HostRuntime, words: &[&str]) -> u8 {
     if !rt.stdout().is_terminal() {
         print_refusal(&notes, &mut screen);
     }
-    let reason = output.inner().reason().or(input.inner().reason());
+    notes.times = input.take_times();
+    let reason = output
+        .inner()
+        .inner()
+        .reason()
+        .or(input.inner().inner().reason());
     print_notes(&notes, reason, &mut screen);
     status
 }

@@ -1,10 +1,10 @@
 use Rattle.std.proofs.Common.{refl}
 use Rattle.clap.proofs.OnLiterals.{clap_on_literals}
-use Rattle.rds_cli.specs.CommandLine.{audit_app, late_app, log_app, log_readers_app, slots_app, station_app}
+use Rattle.rds_cli.specs.CommandLine.{audit_app, late_app, log_app, log_readers_app, slots_app, station_app, timed_app}
 use Rattle.rds_cli.proofs.laws.words_of_the_examples.Goals as goal
 
 pub returns : goal.returns
-unfolding clap_on_literals log_app late_app station_app slots_app audit_app log_readers_app
+unfolding clap_on_literals log_app late_app station_app slots_app timed_app audit_app log_readers_app
 returns c = record {
   decode = record { taken = refl; ask = refl };
   decode_other = record { taken = refl; ask = refl };
@@ -19,6 +19,7 @@ returns c = record {
   witness = record { taken = refl; ask = refl };
   slots = record { taken = refl; ask = refl };
   slots_grain = record { taken = refl; ask = refl };
+  slots_pi = record { taken = refl; ask = refl };
   large_grain = record { taken = refl; refused = refl };
   sim_late = record { taken = refl; ask = refl };
   sim_of_eleven = record { taken = refl; ask = refl };

@@ -1,0 +1,6 @@
+-- A reader that keeps the times of a log (this project's own).
+use Rattle.rds_program.specs.declared.times.Timing.{Timing}
+
+-- the reader inside
+abbrev pub inner_of : {R N : Type 0} → Timing R N → R
+inner_of timing = timing.reader

@@ -1,0 +1,244 @@
+//! A reader that finds out whether a log has times and lacks slots by them.
+
+ghost use Rattle.std.specs.Prelude.{◌≡◌, ◌<◌, IsTrue, length};
+ghost use Rattle.rds_program.specs.Timing.{inner_of};
+
+use crate::note_lines::print_lack;
+use arrayvec::ArrayVec;
+use memchr::{memchr_iter, memrchr};
+use rds_arrivals::{slots_in, stamp_in};
+use rds_io::{TellingRead, TellingWrite};
+use std::io::{self, Read};
+
+/// The first bytes of a log, in which every line counts.
+const EARLY: usize = 16384;
+
+/// A second in slots, rounded up. Times may be whole seconds.
+const SECOND: u64 = 12;
+
+/// The length of four blocks.
+const BLOCKS: usize = 19;
+
+/// The length of a line as far as a time can go.
+const LONGEST: usize = 60;
+
+/// The most lines in which a time is looked for at each end of a read.
+const LINES: usize = 16;
+
+/// The times of a log, as far as the reads show them (this project's own rule).
+#[derive(Drop)]
+pub struct LogTimes {
+    first: Option<u64>,
+    /// The first bytes of the last line that may have a time.
+    last: ArrayVec<u8, LONGEST>,
+    /// The bytes of the log so far.
+    bytes: usize,
+    /// The lines in the first bytes, and the last time in them.
+    lines: u64,
+    early: u64,
+}
+
+impl LogTimes {
+    /// Returns the times of no bytes.
+    pub fn new() -> LogTimes {
+        LogTimes {
+            first: None,
+            last: ArrayVec::new(),
+            bytes: 0,
+            lines: 0,
+            early: 0,
+        }
+    }
+
+    /// Takes the bytes of a read.
+    fn take(&mut self, bytes: &[u8]) {
+        if self.bytes < EARLY {
+            let count = bytes.len().min(EARLY - self.bytes);
+            self.take_early(&bytes[..count]);
+        }
+        self.bytes = self.bytes.saturating_add(bytes.len());
+        if self.first.is_some() {
+            self.keep_last(bytes);
+        }
+    }
+
+    /// Counts the lines of the first bytes, and looks for the first time and the last time in them.
+    fn take_early(&mut self, bytes: &[u8]) {
+        let lines = memchr_iter(b'\n', bytes).count();
+        self.lines = self.lines.saturating_add(lines as u64);
+        if self.first.is_none() {
+            self.first = first_time(bytes);
+        }
+        if let Some(time) = last_line(bytes).and_then(time_of) {
+            self.early = time;
+        }
+    }
+
+    /// Keeps the first bytes of the last line.
+    fn keep_last(&mut self, bytes: &[u8]) {
+        if let Some(line) = last_line(bytes) {
+            self.last.clear();
+            let _ = self
+                .last
+                .try_extend_from_slice(&line[..line.len().min(LONGEST)]);
+        }
+    }
+
+    /// Returns whether the first lines are too few by their times: the slots and the lines.
+    pub(crate) fn early_lack(&self) -> Option<(u64, u64)> {
+        self.lack_until(self.early, self.lines)
+    }
+
+    /// Returns whether so many lines are too few by the times of the log: the slots and the lines.
+    pub(crate) fn lack(&self, lines: u64) -> Option<(u64, u64)> {
+        let last = time_of(self.last.as_slice())?;
+        self.lack_until(last, lines)
+    }
+
+    /// Returns the slots from the first time to this one, and the lines, if the slots are more by over a second.
+    fn lack_until(&self, last: u64, lines: u64) -> Option<(u64, u64)> {
+        let apart = last.checked_sub(self.first?)?;
+        let slots = slots_in(apart).saturating_add(1);
+        if slots > lines.saturating_add(SECOND) {
+            Some((slots, lines))
+        } else {
+            None
+        }
+    }
+}
+
+/// Returns the first time in the first lines of these bytes.
+fn first_time(bytes: &[u8]) -> Option<u64> {
+    let lines = whole_lines(bytes)?;
+    lines.split(is_line_feed).take(LINES).find_map(time_of)
+}
+
+/// Returns the last line of these bytes that may have a time.
+fn last_line(bytes: &[u8]) -> Option<&[u8]> {
+    let lines = whole_lines(bytes)?;
+    lines
+        .rsplit(is_line_feed)
+        .take(LINES)
+        .find(|line| may_have_time(line))
+}
+
+/// Returns the lines that end in these bytes, without the last line feed. `None` if no line ends in them.
+fn whole_lines(bytes: &[u8]) -> Option<&[u8]> {
+    let end = memrchr(b'\n', bytes)?;
+    Some(&bytes[..end])
+}
+
+fn is_line_feed(byte: &u8) -> bool {
+    *byte == b'\n'
+}
+
+/// Returns whether a line is one of a slot with something behind its blocks.
+fn may_have_time(line: &[u8]) -> bool
+    ensures { IsTrue result → 19 < length line.now }
+{
+    line.len() > BLOCKS && line[0] != b'#' && line[BLOCKS] == b' '
+}
+
+/// Returns the time of a line of a slot.
+fn time_of(line: &[u8]) -> Option<u64> {
+    if !may_have_time(line) {
+        return None;
+    }
+    let end = line.len().min(LONGEST);
+    let stamp = stamp_in(&line[BLOCKS + 1..end])?;
+    Some(stamp.time)
+}
+
+/// A reader that keeps the times of a log. Its bytes are those of the reader inside. If a read gives fewer bytes than it
+/// may, the log is short or live: then the reader notes at once on its screen that slots are missing by the times.
+#[derive(Drop)]
+pub struct Timing<R, N> {
+    reader: R,
+    screen: Option<N>,
+    /// The times so far. `None` if the command does not want them, or they were noted.
+    times: Option<LogTimes>,
+}
+
+impl<R, N: TellingWrite> Timing<R, N> {
+    /// Wraps the reader of a command with these arguments, with the writer for its note. Without a writer it only keeps
+    /// the times.
+    pub fn new(reader: R, screen: Option<N>, words: &[&str]) -> Self
+        ensures { inner_of result ≡ reader }
+    {
+        let times = if wants_times(words) {
+            Some(LogTimes::new())
+        } else {
+            None
+        };
+        Timing {
+            reader,
+            screen,
+            times,
+        }
+    }
+
+    /// Returns the reader, borrowed.
+    pub fn inner(&self) -> &R
+        ensures { result.now ≡ inner_of self.now }
+    {
+        &self.reader
+    }
+
+    /// Takes the times of the log out. `None` if the command does not want them, or they were noted.
+    pub fn take_times(&mut self) -> Option<LogTimes> {
+        self.times.take()
+    }
+
+    /// Takes the bytes of a read.
+    fn take(&mut self, bytes: &[u8], is_last: bool)
+        ensures { inner_of self.new ≡ inner_of self.old }
+    {
+        let Some(times) = &mut self.times else {
+            return;
+        };
+        times.take(bytes);
+        if !is_last || times.bytes > EARLY {
+            return;
+        }
+        if let Some((slots, lines)) = times.early_lack()
+            && let Some(screen) = &mut self.screen
+        {
+            print_lack(slots, lines, screen);
+            self.times = None;
+        }
+    }
+}
+
+impl<R: Read, N: TellingWrite> Read for Timing<R, N> {
+    ghost remaining = { λ timing. R.remaining (inner_of timing) };
+
+    fn read(&mut self, buf: &mut [u8]) -> io::Result<usize> {
+        self.reader.read(buf)
+    }
+}
+
+impl<R: TellingRead, N: TellingWrite> TellingRead for Timing<R, N> {
+    ghost failures = { λ timing. R.failures (inner_of timing) };
+
+    ghost reads = { λ timing. R.reads (inner_of timing) };
+
+    fn read_one(&mut self, buf: &mut [u8]) -> Option<usize> {
+        let count = self.reader.read_one(buf)?;
+        let is_last = count < buf.len();
+        self.take(&buf[..count], is_last);
+        Some(count)
+    }
+}
+
+/// Returns whether the command of these arguments reads a log with a line for each slot.
+fn wants_times(words: &[&str]) -> bool {
+    let mut wants = false;
+    for word in words {
+        match *word {
+            "decode" | "audit" | "witness" => wants = true,
+            "--quiet" => return false,
+            _ => {}
+        }
+    }
+    wants
+}
