@@ -32,7 +32,11 @@
  * The encoder here is silent for M + K slots after a start, and keeps each text for 2 (M + K), so that tags fit.
  * A receiver works with any station. If the station keeps no dwell, texts can be mixed, as in every other receiver.
  *
- * BITS. The guarantee needs groups that are whole and unchanged. Pass no group in which your decoder corrected bits.
+ * BITS. The guarantee needs groups that are whole and unchanged. Give rdsrt_receiver no group in which your decoder
+ * corrected bits. If it corrects bits, use the second kind of receiver, rdsrt_twice. It shows only what it received twice
+ * within W slots, its window. Its guarantee needs that no segment and no pair of tags is wrong in the same way twice
+ * within W slots. The station has to space its texts by M + K + W - 1 slots. For example, for a station with M = 128 and
+ * groups that come on time, give the receiver M = 64 and W = 65.
  *
  * MEMORY. You hold each struct. It has no pointers: copy it, move it, save it, drop it. No call allocates, waits,
  * prints, keeps a pointer or has a state of its own. Threads may call at the same time on different structs.
@@ -45,15 +49,17 @@
  *
  *     rdsrt_version                      8    0    rdsrt_encoder_on_air             600  672
  *     rdsrt_receiver_init                8    0    rdsrt_encoder_wait               424  480
- *     rdsrt_receiver_slot              168  176    rdsrt_audit_init                 638  656
- *     rdsrt_receiver_view              456  448    rdsrt_audit_init_running         638  656
- *     rdsrt_encoder_init                16    0    rdsrt_audit_slot                 916  768
- *     rdsrt_encoder_set_text           696  720    rdsrt_audit_passed               708  736
- *     rdsrt_encoder_set_name           632  656    rdsrt_audit_texts_turn_the_flag  708  736
- *     rdsrt_encoder_set_tags           664  704    rdsrt_audit_names_turn_the_flag  708  736
- *     rdsrt_encoder_tick               872  928    rdsrt_text_to_display            296  304
- *                                                  rdsrt_text_to_utf8               360  368
- *                                                  rdsrt_text_from_utf8             128  128
+ *     rdsrt_receiver_slot              152  176    rdsrt_audit_init                 638  656
+ *     rdsrt_receiver_view              552  496    rdsrt_audit_init_running         638  656
+ *     rdsrt_twice_init                   8    0    rdsrt_audit_slot                 916  768
+ *     rdsrt_twice_slot                 200  176    rdsrt_audit_passed               708  736
+ *     rdsrt_twice_view                 552  496    rdsrt_audit_texts_turn_the_flag  708  736
+ *     rdsrt_encoder_init                16    0    rdsrt_audit_names_turn_the_flag  708  736
+ *     rdsrt_encoder_set_text           696  720    rdsrt_text_to_display            296  304
+ *     rdsrt_encoder_set_name           632  656    rdsrt_text_to_utf8               360  368
+ *     rdsrt_encoder_set_tags           664  704    rdsrt_text_from_utf8             128  128
+ *     rdsrt_encoder_tick               872  928    rdsrt_lost_slots                   8    0
+ *     rdsrt_slot_time                    8    0    rdsrt_time_in                     88   80
  *
  * YOU PROMISE for every call:
  *  - a pointer to a struct, to a count or to blocks[4] is not NULL, is aligned, and points to all of it;
@@ -86,6 +92,9 @@ extern "C" {
 
 /* The default dwell of the program rdsrt, in slots: about 11 s. */
 #define RDSRT_DEFAULT_DWELL 128
+
+/* Two times do not tell how many slots were lost between them. */
+#define RDSRT_UNKNOWN UINT32_C(4294967295)
 
 struct rdsrt_version { uint32_t abi, major, minor, patch; };
 
@@ -128,8 +137,9 @@ enum rdsrt_code {
     RDSRT_FAULT_TAG_OUTSIDE = 21
 };
 
-/* A receiver, an encoder and an audit. Only the library reads and writes the numbers in them. */
+/* Two kinds of receivers, an encoder and an audit. Only the library reads and writes the numbers in them. */
 struct rdsrt_receiver { uint16_t own_[77]; };
+struct rdsrt_twice { uint32_t own_[66]; };
 struct rdsrt_encoder { uint32_t own_[29]; };
 struct rdsrt_audit { uint32_t own_[52]; };
 
@@ -185,11 +195,47 @@ uint32_t rdsrt_receiver_slot(struct rdsrt_receiver *receiver, const uint16_t *bl
 /* Writes all of *view: the display of the receiver at the end of its last slot. */
 void rdsrt_receiver_view(const struct rdsrt_receiver *receiver, struct rdsrt_view *view);
 
+/* ---- Receiver that shows only what it received twice ---- */
+
+/* Makes a receiver of the programme `pi` that has heard nothing yet. dwell: M, 1 to 65535 slots; window: W, 2 to 255
+ * slots. A segment of a text or name counts only if the last one with its address was the same and came less than W
+ * slots before. RT+ tags count only if the last ones were the same, came less than W slots before, and came later than
+ * the first segment of the text that counted. The window has to be longer than the station's round, the time from a
+ * segment to the same one: for example 64 slots, if one group in four is a segment of a text of 16 segments.
+ * Returns RDSRT_OK, or RDSRT_BAD_ARGUMENT if a number is out of range. */
+uint32_t rdsrt_twice_init(struct rdsrt_twice *receiver, uint16_t pi, uint16_t dwell, uint16_t window);
+
+/* Does what rdsrt_receiver_slot does, with the same codes. The blocks may have corrected bits. */
+uint32_t rdsrt_twice_slot(struct rdsrt_twice *receiver, const uint16_t *blocks, size_t count);
+
+/* Writes all of *view: the display of the receiver at the end of its last slot. */
+void rdsrt_twice_view(const struct rdsrt_twice *receiver, struct rdsrt_view *view);
+
+/* ---- Times and slots ---- */
+
+/* Returns how long so many slots take, in microseconds, rounded down. 19 slots take 1.664 s. */
+uint64_t rdsrt_slot_time(uint32_t slots);
+
+/* Reads the time that a text begins with, in microseconds: what follows the blocks and a space in a line of a log.
+ * docs/FORMATS.md has the forms. The time ends within the first 40 bytes, at a space, a carriage return or the end.
+ * Returns RDSRT_OK, or RDSRT_UNKNOWN, and *time is unchanged, if the text does not begin with a time. */
+uint32_t rdsrt_time_in(const uint8_t *text, size_t length, uint64_t *time);
+
+/* Returns how many slots were lost between two groups that arrived at these times, in microseconds of any clock: the
+ * time between them less the grain, in slots and rounded up, less one; at least 0. The grain
+ * is how far the times may be off, in microseconds. If the delays of the groups vary by less than a slot less the
+ * grain, the number is never too small. End as many slots without a group before the slot of the later group.
+ * Returns RDSRT_UNKNOWN if the later time is before the earlier one, or more than a day after it, or if the grain is
+ * 87,579 or more. Nobody knows then how many slots were lost. End as many as the dwell: the receiver drops all it
+ * holds. */
+uint32_t rdsrt_lost_slots(uint64_t earlier, uint64_t later, uint32_t grain);
+
 /* ---- Encoder ---- */
 
 /* Makes an encoder that (re)starts in this slot, with nothing on air. It sends nothing and refuses every set for
- * dwell + late slots. Restart before the sets of a slot, not after them. pi: the programme; tp: its flag of traffic announcements, 0 or not; pty: its programme type, 0 to
- * 31; dwell: M, 1 to 65535 slots; late: K, how many slots late a group may reach a receiver, 0 to 1024.
+ * dwell + late slots. Restart before the sets of a slot, not after them. pi: the programme; tp: its flag of traffic
+ * announcements, 0 or not; pty: its programme type, 0 to 31; dwell: M, 1 to 65535 slots; late: K, how many slots late a
+ * group may reach a receiver, 0 to 1024.
  * Returns RDSRT_OK, or RDSRT_BAD_ARGUMENT if a number is out of range. */
 uint32_t rdsrt_encoder_init(struct rdsrt_encoder *encoder, uint16_t pi, uint8_t tp, uint8_t pty, uint16_t dwell,
                             uint16_t late);
@@ -208,8 +254,8 @@ struct rdsrt_reply rdsrt_encoder_set_name(struct rdsrt_encoder *encoder, const u
  * RDSRT_OUT_OF_TEXT_2. */
 struct rdsrt_reply rdsrt_encoder_set_tags(struct rdsrt_encoder *encoder, const struct rdsrt_tags *tags);
 
-/* Ends the slot, after its sets, of which there may be any number. is_free: 0 if other services need the slot (then the encoder sends nothing), else not
- * 0.
+/* Ends the slot, after its sets, of which there may be any number. is_free: 0 if other services need the slot (then the
+ * encoder sends nothing), else not 0.
  * Returns RDSRT_SENT and writes the four blocks of the group to send, or returns RDSRT_OK and leaves the blocks. */
 uint32_t rdsrt_encoder_tick(struct rdsrt_encoder *encoder, uint8_t is_free, uint16_t blocks[4]);
 
@@ -281,6 +327,7 @@ RDSRT_IS_(sizeof(size_t) == 8);
 RDSRT_IS_(sizeof(struct rdsrt_version) == 16 && offsetof(struct rdsrt_version, major) == 4);
 RDSRT_IS_(offsetof(struct rdsrt_version, minor) == 8 && offsetof(struct rdsrt_version, patch) == 12);
 RDSRT_IS_(sizeof(struct rdsrt_receiver) == 154);
+RDSRT_IS_(sizeof(struct rdsrt_twice) == 264);
 RDSRT_IS_(sizeof(struct rdsrt_encoder) == 116);
 RDSRT_IS_(sizeof(struct rdsrt_audit) == 208);
 RDSRT_IS_(sizeof(struct rdsrt_text) == 66 && offsetof(struct rdsrt_text, length) == 64);

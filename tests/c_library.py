@@ -7,6 +7,7 @@ import os
 import random
 import re
 
+from tests.slot import NINETEEN_SLOTS
 from tests.support import ARCHIVE, output, path, ran, text_of
 
 HEADER, CODES = "include/rdsrt.h", "crates/rds_ffi/specs/Codes.antt"
@@ -32,8 +33,8 @@ target_link_libraries(static PRIVATE rdsrt::static)
 """
 ROWS, PIECES, ROUNDS = 100_000, 60, 3000
 DWELL, LATE = "16", "3"
-# microseconds of 19 slots, of examples/c/receive.c's grain, of a day, and from 1970 to a day of 2023
-NINETEEN_SLOTS, GRAIN, DAY, EPOCH = 1_664_000, 20_000, 86_400_000_000, 1_700_000_000_000_000
+# microseconds of examples/c/receive.c's grain, of a day, and from 1970 to a day of 2023
+GRAIN, DAY, EPOCH = 20_000, 86_400_000_000, 1_700_000_000_000_000
 LOST = b"---- ---- ---- ----\n"
 
 
@@ -149,15 +150,15 @@ def timed(seed, log):
 def received():
     """Gives worked inputs of receive.c, each with its dwell and answer. ABCDEF is two groups, and HI is one."""
     one, two, whole = b"%d C201 2140 4142 4344\n", b"%d C201 2141 4546 0D20\n", b"%d C201 2140 4849 0D20\n"
-    # 19 slots are 1,664,000 us, and the receiver shows two groups that are less slots apart than the dwell
-    pairs = [(20, 0, b'1 text "ABCDEF"\n'), (20, 1_664_000, b'19 text "ABCDEF"\n'),
-             (20, 1_684_000, b'19 text "ABCDEF"\n'), (20, 1_684_001, b""), (128, 11_122_526, b'127 text "ABCDEF"\n'),
+    # the receiver shows two groups that are less slots apart than the dwell
+    pairs = [(20, 0, b'1 text "ABCDEF"\n'), (20, NINETEEN_SLOTS, b'19 text "ABCDEF"\n'),
+             (20, NINETEEN_SLOTS + GRAIN, b'19 text "ABCDEF"\n'), (20, NINETEEN_SLOTS + GRAIN + 1, b""), (128, 11_122_526, b'127 text "ABCDEF"\n'),
              (128, 11_210_105, b""), (20, -1, b"")]
     # the text goes in slot 20; after a break there are 20 slots without a group
     again = b'0 text "HI"\n20 text none\n%d text "HI"\n'
     repeated = [(DAY, again % 986_539), (DAY + 1, again % 21), (-1, again % 21)]
     timers = [(1_771_578, b'0 text "HI"\n'), (1_771_579, b'0 text "HI"\n20 text none\n')]
-    for begins in (1_664_000, EPOCH):
+    for begins in (NINETEEN_SLOTS, EPOCH):
         for dwell, later, shown in pairs:
             yield dwell, one % begins + two % (begins + later), shown
         for later, shown in repeated:

@@ -12,7 +12,7 @@ from tests.support import (ARCHIVE, INSTALL, Case, build_archive, bytes_of, miss
 class Header(Case):
     def test_it_has_the_codes_of_the_definitions(self):
         defined = dict(re.findall(r"^(RDSRT_\w+) = (\d+)$", text_of(c_library.CODES), re.M))
-        declared = dict(re.findall(r"\b(RDSRT_[A-Z0-9_]+) = (\d+)", text_of(c_library.HEADER)))
+        declared = dict(re.findall(r"\b(RDSRT_[A-Z0-9_]+)(?: = | UINT32_C\()(\d+)", text_of(c_library.HEADER)))
         declared["RDSRT_ABI"] = str(c_library.ABI)
         self.check("codes", declared, defined)
 

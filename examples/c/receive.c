@@ -4,8 +4,8 @@
  * Each line of the input has a time in microseconds, followed by the four blocks of the group that was complete then. A
  * line with only a time is a timer: no group came up to then.
  *
- * The program counts the slots from one group to the next, and rounds up, since a receiver that counts too few slots can
- * show a mix. If the delays of the groups vary by less than a slot less GRAIN (67 ms), it never counts too few.
+ * rdsrt_lost_slots counts the slots from one group to the next. If the delays of the groups vary by less than a slot less
+ * GRAIN (67 ms), it never counts too few.
  *
  *     cc receive.c $(pkg-config --cflags --libs rdsrt) -o receive
  *     ./receive C201 [DWELL] < groups */
@@ -17,10 +17,7 @@
 #include <stdlib.h>
 #include <string.h>
 
-/* All three in microseconds. 19 slots: a slot has 104 bits, at 1187.5 bit/s. */
-#define NINETEEN_SLOTS UINT64_C(1664000)
-#define GRAIN UINT64_C(20000) /* how far the times can be off */
-#define DAY UINT64_C(86400000000)
+#define GRAIN 20000 /* how far the times can be off, in microseconds */
 
 struct radio {
     struct rdsrt_receiver receiver;
@@ -29,15 +26,8 @@ struct radio {
     uint64_t slot;         /* of the next call */
     bool began;            /* there was a time */
     uint64_t last, latest; /* the time of the last group, and the latest time */
-    uint64_t lost;         /* the calls without a group since the last group */
+    uint32_t lost;         /* the calls without a group since the last group */
 };
-
-/* Returns how many slots were lost between groups at these times: the least n such that
- * 19 (later - earlier) <= 19 GRAIN + NINETEEN_SLOTS (n + 1). */
-static uint64_t lost_slots(uint64_t earlier, uint64_t later) {
-    uint64_t apart = later - earlier;
-    return apart <= GRAIN ? 0 : (19 * (apart - GRAIN) - 1) / NINETEEN_SLOTS;
-}
 
 static void show(const struct radio *radio) {
     uint8_t utf8[256];
@@ -73,20 +63,25 @@ static void begin_at(struct radio *radio, uint64_t now) {
 /* Returns whether the time went back, or on by more than a day. Then nobody knows how many slots passed. */
 static bool is_break(const struct radio *radio, uint64_t now) {
     if (now < radio->latest) return now < radio->last || radio->latest - now > GRAIN;
-    return now - radio->latest > DAY;
+    return rdsrt_lost_slots(radio->latest, now, GRAIN) == RDSRT_UNKNOWN;
 }
 
 /* Makes the calls of the slots up to this time in which no group came. After a break it makes as many as the dwell, so
  * that the receiver keeps nothing from before. */
 static void catch_up(struct radio *radio, uint64_t now) {
-    uint64_t lost;
+    uint32_t lost;
     if (!radio->began) begin_at(radio, now);
     radio->began = true;
     if (is_break(radio, now)) {
         for (lost = 0; lost < radio->dwell; lost++) end_slot(radio, NULL);
         begin_at(radio, now);
     }
-    for (lost = lost_slots(radio->last, now); radio->lost < lost; radio->lost++) end_slot(radio, NULL);
+    lost = rdsrt_lost_slots(radio->last, now, GRAIN);
+    if (lost == RDSRT_UNKNOWN) { /* a day without a group */
+        begin_at(radio, now);
+        lost = 0;
+    }
+    for (; radio->lost < lost; radio->lost++) end_slot(radio, NULL);
     if (now > radio->latest) radio->latest = now;
 }
 

@@ -52,16 +52,14 @@ static bool is_cut(const struct rdsrt_tag *tag, const struct rdsrt_text *text) {
     return tag->start + tag->length <= text->length;
 }
 
-static void view(const struct rdsrt_receiver *receiver) {
-    struct rdsrt_view *v = (struct rdsrt_view *)any(sizeof *v);
-    rdsrt_receiver_view(receiver, v);
+static void check_view(const struct rdsrt_view *v) {
     CHECK(is_within(&v->text) && is_cut(&v->tag1, &v->text) && is_cut(&v->tag2, &v->text));
     CHECK(v->name.is_shown <= 1 && v->item.is_shown <= 1 && v->item.toggle <= 1 && v->item.running <= 1);
-    free(v);
 }
 
 static void receiver(void) {
     struct rdsrt_receiver *r = (struct rdsrt_receiver *)any(sizeof *r);
+    struct rdsrt_view *v = (struct rdsrt_view *)any(sizeof *v);
     uint16_t dwell = (uint16_t)roll(3);
     if (roll(4) == 0) CHECK(rdsrt_receiver_init(r, 0xC201, dwell) == (dwell ? RDSRT_OK : RDSRT_BAD_ARGUMENT));
     for (int i = 0; i < 8; i++) {
@@ -71,11 +69,37 @@ static void receiver(void) {
         uint32_t code = rdsrt_receiver_slot(r, count ? blocks : NULL, count);
         CHECK((code == RDSRT_BAD_ARGUMENT) == (count != 0 && count != 4) && code <= RDSRT_BAD_ARGUMENT);
         CHECK(code != RDSRT_BAD_ARGUMENT || memcmp(r, before, sizeof *r) == 0);
-        view(r);
+        rdsrt_receiver_view(r, v);
+        check_view(v);
         free(before);
         free(blocks);
     }
     free(r);
+    free(v);
+}
+
+static void twice(void) {
+    struct rdsrt_twice *r = (struct rdsrt_twice *)any(sizeof *r);
+    struct rdsrt_view *v = (struct rdsrt_view *)any(sizeof *v);
+    unsigned dwell = roll(3), window = roll(300);
+    if (roll(4) == 0) {
+        uint32_t code = rdsrt_twice_init(r, 0xC201, (uint16_t)dwell, (uint16_t)window);
+        CHECK(code == (dwell && window > 1 && window < 256 ? RDSRT_OK : RDSRT_BAD_ARGUMENT));
+    }
+    for (int i = 0; i < 8; i++) {
+        size_t count = roll(3) ? 4 : roll(7);
+        uint16_t *blocks = any_blocks(count, r);
+        void *before = copy(r, sizeof *r);
+        uint32_t code = rdsrt_twice_slot(r, count ? blocks : NULL, count);
+        CHECK((code == RDSRT_BAD_ARGUMENT) == (count != 0 && count != 4) && code <= RDSRT_BAD_ARGUMENT);
+        CHECK(code != RDSRT_BAD_ARGUMENT || memcmp(r, before, sizeof *r) == 0);
+        rdsrt_twice_view(r, v);
+        check_view(v);
+        free(before);
+        free(blocks);
+    }
+    free(r);
+    free(v);
 }
 
 /* A set that was refused has changed nothing, and its code is not above `last`. */
@@ -184,6 +208,7 @@ int main(int count, char **words) {
     long rounds = count > 1 ? atol(words[1]) : 10000;
     for (long i = 0; i < rounds; i++) {
         receiver();
+        twice();
         encoder();
         audit();
         texts();

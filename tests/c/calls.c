@@ -55,6 +55,28 @@ static void tags_shown(void) {
     CHECK(view.tag2.content_type == 0 && view.tag2.start == 0 && view.tag2.length == 0);
 }
 
+/* A text is shown once it came twice less than a window apart, and so are its tags. */
+static void twice(void) {
+    struct rdsrt_twice it;
+    struct rdsrt_view view;
+    CHECK(rdsrt_twice_init(&it, 0xC201, 0, 3) == RDSRT_BAD_ARGUMENT);
+    CHECK(rdsrt_twice_init(&it, 0xC201, 8, 1) == RDSRT_BAD_ARGUMENT);
+    CHECK(rdsrt_twice_init(&it, 0xC201, 8, 256) == RDSRT_BAD_ARGUMENT);
+    CHECK(rdsrt_twice_init(&it, 0xC201, 8, 255) == RDSRT_OK);
+    CHECK(rdsrt_twice_init(&it, 0xC201, 8, 3) == RDSRT_OK);
+    CHECK(rdsrt_twice_slot(&it, hi, 3) == RDSRT_BAD_ARGUMENT);
+    CHECK(rdsrt_twice_slot(&it, hi, 4) == RDSRT_OK && rdsrt_twice_slot(&it, NULL, 0) == RDSRT_OK);
+    CHECK(rdsrt_twice_slot(&it, NULL, 0) == RDSRT_OK && rdsrt_twice_slot(&it, hi, 4) == RDSRT_OK);
+    rdsrt_twice_view(&it, &view);
+    CHECK(!view.text.is_shown && !view.name.is_shown && !view.item.is_shown && !view.tag1.content_type);
+    CHECK(rdsrt_twice_slot(&it, NULL, 0) == RDSRT_OK && rdsrt_twice_slot(&it, hi, 4) == RDSRT_CHANGED);
+    CHECK(rdsrt_twice_slot(&it, announcement, 4) == RDSRT_OK && rdsrt_twice_slot(&it, tags_of_hi, 4) == RDSRT_OK);
+    CHECK(rdsrt_twice_slot(&it, tags_of_hi, 4) == RDSRT_CHANGED);
+    rdsrt_twice_view(&it, &view);
+    CHECK(view.text.is_shown == 1 && view.text.length == 2 && memcmp(view.text.bytes, "HI", 2) == 0);
+    CHECK(view.item.is_shown == 1 && view.tag1.content_type == 4 && view.tag1.start == 0 && view.tag1.length == 2);
+}
+
 /* An encoder of dwell 1 that has had its one slot of silence. */
 static struct rdsrt_encoder station(void) {
     struct rdsrt_encoder it;
@@ -160,6 +182,42 @@ static void audit(void) {
     CHECK(audited(2, hi, NULL, long_tag) == RDSRT_FAULT_TAG_OUTSIDE);
 }
 
+static void times(void) {
+    const uint64_t day = 86400000000;
+    /* 19 slots have 1,664,000 us */
+    CHECK(rdsrt_slot_time(0) == 0);
+    CHECK(rdsrt_slot_time(1) == 87578);
+    CHECK(rdsrt_slot_time(19) == 1664000);
+    CHECK(rdsrt_slot_time(UINT32_MAX) == 376148714677894);
+    CHECK(rdsrt_lost_slots(5, 1664005, 0) == 18);
+    CHECK(rdsrt_lost_slots(5, 1664006, 0) == 19);
+    CHECK(rdsrt_lost_slots(0, 1684000, 20000) == 18);
+    CHECK(rdsrt_lost_slots(0, 1684001, 20000) == 19);
+    CHECK(rdsrt_lost_slots(7, 7, 20000) == 0);
+    CHECK(rdsrt_lost_slots(7, 6, 20000) == RDSRT_UNKNOWN);
+    CHECK(rdsrt_lost_slots(0, day, 0) == 986538);
+    CHECK(rdsrt_lost_slots(0, day + 1, 0) == RDSRT_UNKNOWN);
+    CHECK(rdsrt_lost_slots(0, UINT64_MAX, 0) == RDSRT_UNKNOWN);
+    CHECK(rdsrt_lost_slots(0, 1, 87578) == 0);
+    CHECK(rdsrt_lost_slots(0, 1, 87579) == RDSRT_UNKNOWN);
+}
+
+static void times_of_lines(void) {
+    const uint8_t seconds[] = "12.5 x", zone[] = "1970-01-01T01:00:00.25+01:00", none[] = "soon";
+    uint8_t late[45] = "12.0000000000000000000000000000000000000000";
+    uint64_t time = 7;
+    CHECK(rdsrt_time_in(seconds, 6, &time) == RDSRT_OK && time == 12500000);
+    /* 719,528 days of 86,400 s lie between the beginnings of the years 0 and 1970 */
+    CHECK(rdsrt_time_in(zone, sizeof zone - 1, &time) == RDSRT_OK && time == UINT64_C(719528) * 86400000000 + 250000);
+    CHECK(rdsrt_time_in(none, 4, &time) == RDSRT_UNKNOWN && time == UINT64_C(719528) * 86400000000 + 250000);
+    CHECK(rdsrt_time_in(NULL, 0, &time) == RDSRT_UNKNOWN);
+    CHECK(rdsrt_time_in(late, 40, &time) == RDSRT_OK && time == 12000000);
+    late[40] = 'x';
+    CHECK(rdsrt_time_in(late, 41, &time) == RDSRT_OK);
+    late[39] = 'x';
+    CHECK(rdsrt_time_in(late, 41, &time) == RDSRT_UNKNOWN);
+}
+
 static void texts(void) {
     uint8_t utf8[8], text[4];
     size_t count = 77;
@@ -196,11 +254,14 @@ int main(void) {
     version();
     receiver();
     tags_shown();
+    twice();
     encoder();
     tags_set();
     audit();
     recording();
     flags();
+    times();
+    times_of_lines();
     texts();
     puts("ok");
     return 0;

@@ -14,6 +14,10 @@ use Rattle.rds_ffi.specs.declared.reply.RdsrtReply.{RdsrtReply}
 abbrev pub RDSRT_ABI : ℕ
 RDSRT_ABI = 3
 
+-- the times do not tell how many slots were lost
+abbrev pub RDSRT_UNKNOWN : ℕ
+RDSRT_UNKNOWN = 4294967295
+
 abbrev pub RDSRT_OK : ℕ
 RDSRT_OK = 0
 

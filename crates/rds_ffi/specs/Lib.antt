@@ -2,6 +2,7 @@ pub mod Codes
 pub mod Slots
 pub mod Viewed
 pub mod ReceiverInMemory
+pub mod TwiceInMemory
 pub mod EncoderInMemory
 pub mod Sent
 pub mod Texts

@@ -139,12 +139,5 @@ fn code_of(found: Result<(), AuditFault>) -> u32
     ensures told { result ≡ code_of (fault_in found) }
     ensures answer { result ≢ RDSRT_BAD_ARGUMENT }
 {
-    match found {
-        Ok(()) => codes::OK,
-        Err(AuditFault::Changed) => codes::FAULT_CHANGED,
-        Err(AuditFault::NotOneText) => codes::FAULT_NOT_ONE_TEXT,
-        Err(AuditFault::EarlyFlag) => codes::FAULT_EARLY_FLAG,
-        Err(AuditFault::EarlyTag) => codes::FAULT_EARLY_TAG,
-        Err(AuditFault::TagOutside) => codes::FAULT_TAG_OUTSIDE,
-    }
+    u32::from(AuditFault::code(found.err()))
 }

@@ -3,6 +3,9 @@
 /// The number of this interface. It changes with every size, offset, code or call of the C header.
 pub(crate) const ABI: u32 = 3;
 
+/// The times do not tell how many slots were lost.
+pub(crate) const UNKNOWN: u32 = u32::MAX;
+
 /// Success. For a receiver's slot: the view did not change. For a tick: no group is sent.
 pub(crate) const OK: u32 = 0;
 
@@ -50,18 +53,3 @@ pub(crate) const NO_CHARACTER: u32 = 13;
 
 /// The output does not fit.
 pub(crate) const NO_ROOM: u32 = 14;
-
-/// An address was sent with other bytes.
-pub(crate) const FAULT_CHANGED: u32 = 17;
-
-/// The segments are not of one text or name.
-pub(crate) const FAULT_NOT_ONE_TEXT: u32 = 18;
-
-/// The A/B flag changed back too soon.
-pub(crate) const FAULT_EARLY_FLAG: u32 = 19;
-
-/// Tags came too early for their text.
-pub(crate) const FAULT_EARLY_TAG: u32 = 20;
-
-/// A tag ends after the end of its text.
-pub(crate) const FAULT_TAG_OUTSIDE: u32 = 21;

@@ -4,6 +4,7 @@
 //! that the definitions give for all slots since the struct was made.
 #![tactic(auto)]
 
+mod arrivals;
 mod audit;
 mod codes;
 mod encoder;
@@ -12,11 +13,14 @@ mod reply;
 mod slots;
 mod tags;
 mod text;
+mod twice;
 mod version;
 mod view;
 
 // The sizes that the C header states.
 const _: () = prove!(size_of::<rds_receiver::StoredReceiver>() == 154);
+
+const _: () = prove!(size_of::<rds_receiver::StoredTwice>() == 264);
 
 const _: () = prove!(size_of::<rds_encoder::StoredEncoder>() == 116);
 

@@ -1,5 +1,5 @@
 //! A receiver in the caller's memory.
-ghost use Rattle.std.specs.Prelude.{◌≡◌, ◌≢◌, ◌<◌, ◌↔◌, ◌⊎◌, ℕ, List, [], ◌∷◌, Option};
+ghost use Rattle.std.specs.Prelude.{◌≡◌, ◌≢◌, ◌<◌, ◌↔◌, ◌⊎◌, ℕ, List, [], ◌∷◌, None, Option};
 ghost use Rattle.rds_block.specs.declared.group.Group.{Group};
 ghost use Rattle.rds_fields.specs.declared.message.Message.{Message};
 ghost use Rattle.rds_receiver.specs.Receipts.{AreHeard};
@@ -26,7 +26,8 @@ pub extern "C" fn rdsrt_receiver_init(receiver: &mut StoredReceiver, pi: u16, dw
     ensures code { result ≡ RDSRT_OK ↔ 0 < dwell }
     ensures bad { result ≢ RDSRT_OK → result ≡ RDSRT_BAD_ARGUMENT }
     ensures stands { result ≡ RDSRT_OK → (first : ℕ)
-        → ReceiverInMemory record { programme = pi; dwell = dwell; first = first } receiver.new [] }
+        → ReceiverInMemory record { programme = pi; dwell = dwell; window = None; first = first }
+        receiver.new [] }
     ensures kept { result ≢ RDSRT_OK → receiver.new ≡ receiver.old }
 {
     let Some(dwell) = Dwell::new(dwell) else {

@@ -9,7 +9,7 @@ ghost use Rattle.rds_ffi.specs.Viewed.{AreTagsOf, IsPlainItem, IsPlainName, IsPl
 ghost use Rattle.rds_ffi.specs.Viewed.{count_of, item_viewed, name_viewed, tag_plain, tag_viewed, text_viewed, viewed};
 
 use rds_assembly::LONGEST_TEXT;
-use rds_fields::{Tag, TagPair, Which};
+use rds_fields::{TagPair, Which};
 use rds_receiver::Receiver;
 
 /// A text, its first `length` bytes. `is_shown` is 0 if there is none.
@@ -147,7 +147,15 @@ fn plain_tag(text: Option<&[u8]>, which: Which, pair: Option<TagPair>) -> RdsrtT
     let Some(pair) = pair else {
         return no_tag();
     };
-    cut(pair.tag(which), text.len())
+    let tag = pair.tag(which);
+    if tag.piece_in(text).is_none() {
+        return no_tag();
+    }
+    RdsrtTag {
+        content_type: tag.class(),
+        start: tag.start(),
+        length: tag.extra() + 1,
+    }
 }
 
 /// Returns the value for no tag.
@@ -158,23 +166,5 @@ fn no_tag() -> RdsrtTag
         content_type: 0,
         start: 0,
         length: 0,
-    }
-}
-
-/// Returns the tag, if it is not a dummy and ends in a text of this many bytes.
-fn cut(tag: Tag, count: usize) -> RdsrtTag
-    requires { count ≤ 64 }
-    ensures same { (x : List ℕ) → length x ≡ count → tag_viewed result (Some x) ≡ cut_by tag x }
-    ensures within { result.start + result.length ≤ count }
-    ensures none { result.content_type ≡ 0 → result ≡ specs.no_tag }
-    ensures of_tag { result.content_type ≢ 0 → result ≡ tag_plain tag }
-{
-    if tag.class() == 0 || !tag.ends_in(count) {
-        return no_tag();
-    }
-    RdsrtTag {
-        content_type: tag.class(),
-        start: tag.start(),
-        length: tag.extra() + 1,
     }
 }
