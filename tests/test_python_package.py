@@ -1,4 +1,4 @@
-"""The Python package: its own tests, its types, its wheel, and `slots` beside examples/slots."""
+"""The Python package: its own tests, its types, its wheel, and `slots` beside that of the program."""
 import os
 import random
 import re
@@ -10,7 +10,7 @@ import zipfile
 
 from tests import c_library
 from tests.package import SOURCES, PackageCase
-from tests.support import ARCHIVE, ROOT, needs, path
+from tests.support import ARCHIVE, ROOT, needs, path, ran
 
 SECONDS = 300
 # the system's Python often has setuptools and wheel if the first does not
@@ -54,7 +54,7 @@ class PythonPackage(PackageCase):
             got = output([sys.executable, "-c", code], env={**self.names, "RDSRT_LIBRARY": library})
             self.check(f"{library} in place of the library", got, (0, "True True\n"))
 
-    def test_slots_counts_as_examples_slots(self):
+    def test_slots_counts_as_the_program(self):
         """The times come by chance, and go back now and then."""
         code = ("import sys\nfrom rdsrt import *\n"
                 "pairs = ((float(line.split()[4]), next(read_log([line]))) for line in sys.stdin)\n"
@@ -64,22 +64,21 @@ class PythonPackage(PackageCase):
             jumps = rng.random() >= 0.99
             time += rng.choice([-50, -0.01, 86_401]) if jumps else rng.choice([0.0876, 0.01, rng.random()])
             lines.append(f"C201 0000 0000 {number:04X} {time:.4f}\n")
-        wanted = output([os.path.join(ROOT, "examples/slots"), "--m", "5"], "".join(lines))[1]
-        wanted = [it[:19] for it in wanted.splitlines() if not it.startswith("slots:")]
+        _, wanted = ran(["slots", "--m", "5"], "".join(lines).encode())
+        wanted = [it[:19] for it in wanted.decode().splitlines() if not it.startswith("#")]
         got = output([sys.executable, "-c", code], "".join(lines), env=self.names)[1].splitlines()
         self.check("seed 20261126", got, wanted, "".join(lines))
         self.check("lost slots were added", len(got) > 3000, True)
 
     def test_a_wheel_made_twice_has_the_same_bytes_and_works_alone(self):
-        """It works without RDSRT_LIBRARY."""
-        python = with_wheel()
-        if not python or not shutil.which("x86_64-linux-gnu-gcc"):
+        """Whatever the umask is. It is one of a platform, and works without RDSRT_LIBRARY."""
+        if not with_wheel() or not shutil.which("x86_64-linux-gnu-gcc"):
             self.skipTest("no Python here has setuptools and wheel (apt-get install python3-pip)")
         with tempfile.TemporaryDirectory() as folder:
             made = []
             for place in ("one", "two"):
                 words = [os.path.join(ROOT, "python/wheel"), ARCHIVE, "x86_64", os.path.join(folder, place)]
-                status, printed = output(words, env={**os.environ, "PYTHON": python})
+                status, printed = output(words, umask={"one": 0o022, "two": 0o077}[place])
                 self.check(f"the wheel is made\n{printed}", status, 0)
                 if status:
                     return
@@ -91,6 +90,10 @@ class PythonPackage(PackageCase):
                 packed.extractall(inside)
             inner = os.path.join(inside, f"rdsrt/librdsrt.so.{c_library.ABI}")
             self.check("the library in the wheel", os.path.exists(inner), True)
+            with open(os.path.join(inside, "rdsrt-0.1.0.dist-info/WHEEL"), encoding="utf-8") as file:
+                said = file.read()
+            self.check("its kind", re.findall(r"^(?:Root-Is-Purelib|Tag): (.*)$", said, re.M),
+                       ["false", "py3-none-manylinux_2_17_x86_64"])
             alone = {name: it for name, it in self.names.items() if name != "RDSRT_LIBRARY"}
             code = ("import rdsrt\nreceiver = rdsrt.Receiver(0xC201)\nreceiver.slot((0xC201, 0x2140, 0x4849, 0x0D20))\n"
                     "print(receiver.view.text)")

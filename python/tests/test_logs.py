@@ -4,13 +4,38 @@ import math
 import random
 import unittest
 
-from rdsrt import SLOT, MalformedLine, format_group, read_log, slots
+from rdsrt import (MalformedLine, Receiver, format_group, read_log, read_timed, slot_time, slots,
+                   timed_slots)
+
+SLOT = slot_time(19_000_000) / 19e6
 
 HI = (0xC201, 0x2140, 0x4849, 0x0D20)
 DAY = 86_400
 
 
 class Logs(unittest.TestCase):
+    def test_times_of_lines(self):
+        """A date counts from 1970, with its zone; a line without a time is left out."""
+        day = 1717200000                # 2024-06-01 00:00:00 UTC
+        lines = ["# note", "C201 2140 4849 0D20 @2024/06/01 07:58:12.25",
+                 "C201 2140 4849 0D20 2024-06-01T09:58:12+02:00 x", "C201 ---- 4849 0D20 12.5",
+                 "C201 2140 4849 0D20", "C201 2140 4849 0D20 soon"]
+        seconds = 7 * 3600 + 58 * 60 + 12
+        self.assertEqual(list(read_timed(lines)), [(day + seconds + 0.25, HI), (day + seconds, HI), (12.5, None)])
+        self.assertEqual(list(read_timed(io.BytesIO("\n".join(lines).encode()))), list(read_timed(lines)))
+        with self.assertRaises(MalformedLine):
+            list(read_timed(["C201 2140"]))
+
+    def test_a_change_has_the_time_of_its_slot(self):
+        """The text goes M slots after its group, in a slot that was lost."""
+        timed = [(5.0, HI), (9.0, HI)]
+        times = [(round(seconds - 5.0, 6), view.text) for seconds, view in Receiver(0xC201, dwell=8).watch_timed(timed)]
+        self.assertEqual(times, [(0.0, "HI"), (round(slot_time(8), 6), None), (4.0, "HI")])
+        slots_of = list(timed_slots(timed))
+        self.assertEqual([group for _, group in slots_of], list(slots(timed)))
+        self.assertEqual([seconds for seconds, group in slots_of if group], [5.0, 9.0])
+        self.assertAlmostEqual(slots_of[3][0], 5.0 + slot_time(3))
+
     def test_lines(self):
         log = b"# note\n\n%x\n<y\nC201 2140 4849 0d20\r\nC201 2140 4849 0D20 @12:00 \xff\rx\nC201 ---- 4849 0D20\n\r\n"
         self.assertEqual(list(read_log(io.BytesIO(log))), [HI, HI, None])

@@ -57,6 +57,27 @@ class Receivers(unittest.TestCase):
         self.assertTrue(receiver.slot(HI))
         self.assertEqual(receiver.view, View())
 
+    def test_a_window_asks_for_two_receipts(self):
+        # a receiver without a window shows the wrong group
+        once, twice = Receiver(0xC201, 8), Receiver(0xC201, 8, window=4)
+        wrong, right = (0xC201, 0x2140, 0x4841, 0x0D20), (0xC201, 0x2140, 0x4849, 0x0D20)
+        shown = []
+        for group in (wrong, right, None, right):
+            once.slot(group)
+            twice.slot(group)
+            shown.append((once.view.text, twice.view.text))
+        self.assertEqual(shown[0], ("HA", None))
+        self.assertEqual(shown[1:3], [(shown[1][0], None)] * 2)
+        self.assertEqual(shown[3][1], "HI")
+        self.assertEqual((once.window, twice.window), (None, 4))
+        self.assertEqual(repr(twice)[:40], "<Receiver of C201, dwell 8, window 4: Vi")
+        self.assertEqual(copy.copy(twice).view.text, "HI")
+        for window in (-1, 0, 1, 256):
+            with self.assertRaisesRegex(ValueError, "window is"):
+                Receiver(0xC201, 8, window=window)
+        late = Receiver(0xC201, 8, window=3)
+        self.assertEqual([late.slot(group) for group in (right, None, None, right)][-1], False)
+
     def test_numbers(self):
         for pi, dwell in ((-1, 128), (0x10000, 128), (0xC201, 0), (0xC201, 65536), (2 ** 64 + 1, 128)):
             with self.assertRaises(ValueError):

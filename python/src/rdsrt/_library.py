@@ -9,8 +9,9 @@ ABI = 3
 DEFAULT_DWELL = 128
 OK, DONE, BAD_ARGUMENT, SILENT, HELD, NO_TEXT, OUT_OF_TEXT_1, OUT_OF_TEXT_2 = 0, 1, 2, 3, 4, 5, 6, 7
 TOO_LONG, BAD_BYTE, BAD_TAGS = 8, 9, 10
+UNKNOWN = 0xFFFFFFFF
 
-u8, u16, u32, size_t = ctypes.c_uint8, ctypes.c_uint16, ctypes.c_uint32, ctypes.c_size_t
+u8, u16, u32, u64, size_t = ctypes.c_uint8, ctypes.c_uint16, ctypes.c_uint32, ctypes.c_uint64, ctypes.c_size_t
 Blocks = u16 * 4
 
 
@@ -58,14 +59,20 @@ class Version(ctypes.Structure):
     _fields_ = [("abi", u32), ("major", u32), ("minor", u32), ("patch", u32)]
 
 
-Receiver, Encoder, Audit = u16 * 77, u32 * 29, u32 * 52
-SIZES: Dict[Any, int] = {Receiver: 154, Encoder: 116, Audit: 208, View: 84, OnAir: 75, Tags: 8, Reply: 8, Wait: 12}
+Receiver, Twice, Encoder, Audit = u16 * 77, u32 * 66, u32 * 29, u32 * 52
+SIZES: Dict[Any, int] = {Receiver: 154, Twice: 264, Encoder: 116, Audit: 208, View: 84, OnAir: 75, Tags: 8, Reply: 8, Wait: 12}
 ANY = ctypes.c_void_p
 CALLS: Dict[str, Tuple[Any, List[Any]]] = {
     "version": (Version, []),
     "receiver_init": (u32, [ANY, u16, u16]),
     "receiver_slot": (u32, [ANY, ANY, size_t]),
     "receiver_view": (None, [ANY, ANY]),
+    "twice_init": (u32, [ANY, u16, u16, u16]),
+    "twice_slot": (u32, [ANY, ANY, size_t]),
+    "twice_view": (None, [ANY, ANY]),
+    "slot_time": (u64, [u32]),
+    "time_in": (u32, [ANY, size_t, ANY]),
+    "lost_slots": (u32, [u64, u64, u32]),
     "encoder_init": (u32, [ANY, u16, u8, u8, u16, u16]),
     "encoder_set_text": (Reply, [ANY, ANY, size_t]),
     "encoder_set_name": (Reply, [ANY, ANY, size_t]),

@@ -1,19 +1,18 @@
 """Groups, logs, and groups with times of arrival."""
-import math
+import ctypes
+import functools
 import operator
 import re
 from typing import Iterable, Iterator, List, Optional, Sequence, SupportsIndex, Tuple, Union
 
-from ._library import DEFAULT_DWELL
+from . import _library as c
 
 Group = Tuple[int, int, int, int]
 """The four blocks of a group, 0 to 0xFFFF each, without their check bits."""
-SLOT = 104 / 1187.5
-"""The time of a slot in seconds, about 0.0876."""
-DAY = 86_400
 _BLOCK = "([0-9A-Fa-f]{4}|----)"
 _WORD = re.compile(_BLOCK)
 _LINE = re.compile(rf"{_BLOCK} {_BLOCK} {_BLOCK} {_BLOCK}(?: |\Z)")
+_DATED = re.compile(r"@?\d{4}[/-]")
 
 
 def in_range(what: str, number: SupportsIndex, least: int, most: int) -> int:
@@ -25,6 +24,11 @@ def in_range(what: str, number: SupportsIndex, least: int, most: int) -> int:
     if not least <= it <= most:
         raise ValueError(f"{what} is {it} and not from {least} to {most}")
     return it
+
+
+def slot_time(slots: int = 1) -> float:
+    """Returns how long so many slots take, in seconds, as `rdsrt_slot_time` of the C library says."""
+    return float(c.library().rdsrt_slot_time(in_range("slots", slots, 0, 0xFFFFFFFF)) / 1e6)
 
 
 class MalformedLine(ValueError):
@@ -57,11 +61,8 @@ def _cause(line: str) -> str:
     raise AssertionError(line)
 
 
-def read_log(lines: Iterable[Union[str, bytes]], first: int = 1) -> Iterator[Optional[Group]]:
-    """Yields the slots of a log (docs/FORMATS.md): a group, or None if a block of it is lost. Raises MalformedLine.
-
-    `lines` is an open file or a list, and `first` the number of its first line. Open the file with "rb", because Python
-    ends a line of a text file at a lone carriage return too."""
+def _read(lines: Iterable[Union[str, bytes]], first: int) -> Iterator[Tuple[Optional[Group], str]]:
+    """Yields the slots of a log, each with what follows its blocks."""
     if isinstance(lines, (str, bytes)):
         raise TypeError(f"the lines of a log are an open file or a list and not {type(lines).__name__}")
     for number, line in enumerate(lines, first):
@@ -75,10 +76,40 @@ def read_log(lines: Iterable[Union[str, bytes]], first: int = 1) -> Iterator[Opt
         if not found:
             raise MalformedLine(number, _cause(text))
         one, two, three, four = found.groups()
-        if "----" in (one, two, three, four):
-            yield None
-        else:
-            yield int(one, 16), int(two, 16), int(three, 16), int(four, 16)
+        lost = "----" in (one, two, three, four)
+        yield None if lost else (int(one, 16), int(two, 16), int(three, 16), int(four, 16)), text[found.end():]
+
+
+def read_log(lines: Iterable[Union[str, bytes]], first: int = 1) -> Iterator[Optional[Group]]:
+    """Yields the slots of a log (docs/FORMATS.md): a group, or None if a block of it is lost. Raises MalformedLine.
+
+    `lines` is an open file or a list, and `first` the number of its first line. Open the file with "rb", because Python
+    ends a line of a text file at a lone carriage return too."""
+    return (group for group, _ in _read(lines, first))
+
+
+def _time_in(text: str) -> Optional[int]:
+    """Returns the time that a text begins with, in microseconds as `rdsrt_time_in` counts them."""
+    own, time = text.encode("latin-1", "replace"), c.u64()
+    code = c.library().rdsrt_time_in(own, len(own), ctypes.byref(time))
+    return int(time.value) if code == c.OK else None
+
+
+@functools.lru_cache(maxsize=None)
+def _year_1970() -> int:
+    """Returns the time at which the year 1970 begins."""
+    return _time_in("1970-01-01T00:00:00Z") or 0
+
+
+def read_timed(lines: Iterable[Union[str, bytes]], first: int = 1) -> Iterator[Tuple[float, Optional[Group]]]:
+    """Yields time and group of each line of a log that has a time (docs/FORMATS.md): RDS Spy's, ISO 8601 or seconds. A
+    date is in seconds since the beginning of 1970. The group is None if a block of it is lost. Raises MalformedLine.
+
+    `slots` and `Receiver.watch_timed` take such pairs. `rdsrt_time_in` of the C library reads the times."""
+    for group, after in _read(lines, first):
+        time = _time_in(after)
+        if time is not None:
+            yield (time - (_year_1970() if _DATED.match(after) else 0)) / 1e6, group
 
 
 def blocks_of(group: Sequence[SupportsIndex]) -> List[int]:
@@ -96,31 +127,47 @@ def format_group(group: Optional[Sequence[SupportsIndex]]) -> str:
 
 
 def slots(timed: Iterable[Tuple[float, Optional[Group]]], grain: float = 0.02,
-          dwell: int = DEFAULT_DWELL) -> Iterator[Optional[Group]]:
+          dwell: int = c.DEFAULT_DWELL) -> Iterator[Optional[Group]]:
     """Yields the slots of groups with times of arrival: each group, and before it None for each slot without a group.
 
     `timed` has pairs of a time in seconds and a group. A pair of a time and None says that no group came up to this
     time: it brings the lost slots earlier and changes none. Give such a pair every second or so while no group comes.
 
-    The time between two groups, less `grain` seconds, is divided by SLOT and rounded up. `grain` is how far the times
-    can be off: a group may come that much earlier than a time without a group before it. If a time is earlier than
-    that, earlier than the last group, or more than a day later than the time before it, `dwell` lost slots come: after
-    them a receiver with this dwell has dropped everything."""
+    `rdsrt_lost_slots` of the C library counts the lost slots. `grain` is how far the times can be off, in seconds: a
+    group may come that much earlier than a time without a group before it. If a time is earlier than that, earlier than
+    the last group, or more than a day later than the time before it, `dwell` lost slots come: after them a receiver
+    with this dwell has dropped everything."""
+    return (group for _, group in timed_slots(timed, grain, dwell))
+
+
+def timed_slots(timed: Iterable[Tuple[float, Optional[Group]]], grain: float = 0.02,
+                dwell: int = c.DEFAULT_DWELL) -> Iterator[Tuple[float, Optional[Group]]]:
+    """Yields the same slots as `slots`, each with its time in seconds. A lost slot has the time of the last group and a
+    slot more for each lost one since."""
     in_range("dwell", dwell, 1, 0xFFFF)
-    if not 0 <= grain < SLOT:
-        raise ValueError(f"grain is {grain!r} and not from 0 to less than {SLOT:.4f}")
-    last: Optional[float] = None        # the time of the last group, from which slots count
-    latest, lost = 0.0, 0               # the latest time, and the lost slots since the last group
-    for time, group in timed:
+    if not 0 <= grain < slot_time():
+        raise ValueError(f"grain is {grain!r} and not from 0 to less than {slot_time():.4f}")
+    fine = round(grain * 1e6)
+
+    def lost_between(earlier: int, later: int) -> Optional[int]:
+        count = c.library().rdsrt_lost_slots(earlier, later, fine)
+        return None if count == c.UNKNOWN else int(count)
+
+    last: Optional[int] = None          # the time of the last group, from which slots count
+    latest = lost = 0                   # the latest time, and the lost slots since the last group
+    for seconds, group in timed:
+        time = round(seconds * 1e6)
+        reached = max(time, latest)
         if last is None:
-            last = latest = time
-        elif time < last or not -grain <= time - latest <= DAY:
-            yield from [None] * dwell
-            last, latest, lost = time, time, 0
-        # differences below a microsecond are rounding errors
-        gone = max(lost, math.ceil((time - last - grain - 1e-6) / SLOT) - 1)
-        yield from [None] * (gone - lost)
-        lost, latest = gone, max(latest, time)
+            last = latest = reached = time
+        elif time < last or latest - time > fine or lost_between(latest, reached) is None:
+            yield from ((latest / 1e6 + slot_time(number), None) for number in range(1, dwell + 1))
+            last, latest, reached, lost = time, time, time, 0
+        count = lost_between(last, reached)
+        if count is None:               # a day without a group
+            last, count, lost = latest, lost_between(latest, reached) or 0, 0
+        yield from ((last / 1e6 + slot_time(number), None) for number in range(lost + 1, count + 1))
+        lost, latest = count, reached
         if group is not None:
-            yield group
+            yield seconds, group
             last, latest, lost = time, time, 0

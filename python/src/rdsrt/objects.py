@@ -4,12 +4,12 @@ import enum
 from typing import Any, Dict, Iterable, Iterator, List, NamedTuple, Optional, Sequence, SupportsIndex, Tuple, TypeVar
 
 from . import _library as c
-from ._library import DEFAULT_DWELL
 from .characters import InvalidText, coded, require_str, shown, symbols
-from .logs import Group, blocks_of, in_range
+from .logs import Group, blocks_of, in_range, timed_slots
 from .views import ContentType, Item, Tag, View, content_type_of
 
 _Any = TypeVar("_Any", bound="_Plain")
+_Key = TypeVar("_Key")
 
 
 class Fault(enum.IntEnum):
@@ -109,15 +109,18 @@ class _Plain:
         """The dwell in slots."""
         return self._dwell
 
+    def _struct(self) -> Any:
+        return self._type
+
     def __getstate__(self) -> Dict[str, Any]:
         return {**self.__dict__, "_its": bytes(self._its), "_abi": c.ABI}
 
     def __setstate__(self, state: Dict[str, Any]) -> None:
         its = state["_its"]
-        if state["_abi"] != c.ABI or len(its) != ctypes.sizeof(self._type):
+        self.__dict__.update({name: it for name, it in state.items() if name not in ("_its", "_abi")})
+        if state["_abi"] != c.ABI or len(its) != ctypes.sizeof(self._struct()):
             raise ValueError("this state is of another version of the library")
-        self.__dict__.update({name: it for name, it in state.items() if name != "_abi"})
-        self._its = self._type.from_buffer_copy(its)
+        self._its = self._struct().from_buffer_copy(its)
 
     def __copy__(self: _Any) -> _Any:
         other = type(self).__new__(type(self))
@@ -135,28 +138,48 @@ class _Plain:
 
 class Receiver(_Plain):
     """A receiver of the programme `pi` that has heard nothing yet. It drops a text if no part of it arrived for `dwell`
-    slots."""
-    _type = c.Receiver
+    slots.
 
-    def __init__(self, pi: SupportsIndex, dwell: SupportsIndex = DEFAULT_DWELL):
+    With a `window`, 2 to 255 slots, it shows only what it received twice less than so many slots apart. Its groups may
+    have corrected bits."""
+    _window: Optional[int]
+
+    def __init__(self, pi: SupportsIndex, dwell: SupportsIndex = c.DEFAULT_DWELL, *,
+                 window: Optional[SupportsIndex] = None):
         self._pi, self._dwell = in_range("pi", pi, 0, 0xFFFF), in_range("dwell", dwell, 1, 0xFFFF)
-        self._its = c.Receiver()
-        c.library().rdsrt_receiver_init(self._its, self.pi, self.dwell)
+        self._window = None if window is None else in_range("window", window, 2, 0xFF)
+        self._its = self._struct()()
+        if self._window is None:
+            c.library().rdsrt_receiver_init(self._its, self.pi, self.dwell)
+        else:
+            c.library().rdsrt_twice_init(self._its, self.pi, self.dwell, self._window)
+
+    def _struct(self) -> Any:
+        return c.Receiver if self._window is None else c.Twice
 
     def __repr__(self) -> str:
-        return f"<Receiver of {self.pi:04X}, dwell {self.dwell}: {self.view}>"
+        window = "" if self._window is None else f", window {self._window}"
+        return f"<Receiver of {self.pi:04X}, dwell {self.dwell}{window}: {self.view}>"
+
+    @property
+    def window(self) -> Optional[int]:
+        """The window in slots. None if the receiver shows what it received once."""
+        return self._window
 
     def slot(self, group: Optional[Sequence[SupportsIndex]]) -> bool:
         """Ends a slot with this group, or with None if no whole group arrived. Returns whether the view may have
         changed."""
         blocks, count = _blocks(group)
-        return bool(c.library().rdsrt_receiver_slot(self._its, blocks, count) == c.DONE)
+        library = c.library()
+        call = library.rdsrt_receiver_slot if self._window is None else library.rdsrt_twice_slot
+        return bool(call(self._its, blocks, count) == c.DONE)
 
     @property
     def view(self) -> View:
         """Everything that the receiver shows at the end of its last slot."""
-        it = c.View()
-        c.library().rdsrt_receiver_view(self._its, ctypes.byref(it))
+        it, library = c.View(), c.library()
+        call = library.rdsrt_receiver_view if self._window is None else library.rdsrt_twice_view
+        call(self._its, ctypes.byref(it))
         text = bytes(it.text.bytes)
         tags = tuple(Tag(content_type_of(tag.content_type), shown(text[tag.start:tag.start + tag.length]), tag.start,
                          tag.length) for tag in (it.tag1, it.tag2) if tag.length)
@@ -165,11 +188,20 @@ class Receiver(_Plain):
 
     def watch(self, groups: Iterable[Optional[Sequence[SupportsIndex]]]) -> Iterator[Tuple[int, View]]:
         """Takes these slots. Yields the number of each slot that changed the view, from 0, and the view."""
+        return self._changes(enumerate(groups))
+
+    def watch_timed(self, timed: Iterable[Tuple[float, Optional[Group]]],
+                    grain: float = 0.02) -> Iterator[Tuple[float, View]]:
+        """Takes groups with their times, and the slots that were lost between them (`timed_slots`). Yields the time of
+        each slot that changed the view, in seconds, and the view."""
+        return self._changes(timed_slots(timed, grain, self.dwell))
+
+    def _changes(self, slots: Iterable[Tuple[_Key, Optional[Sequence[SupportsIndex]]]]) -> Iterator[Tuple[_Key, View]]:
         last = self.view
-        for number, group in enumerate(groups):
+        for key, group in slots:
             if self.slot(group) and (view := self.view) != last:
                 last = view
-                yield number, view
+                yield key, view
 
 
 class Encoder(_Plain):
@@ -180,7 +212,7 @@ class Encoder(_Plain):
     name (PS)."""
     _type = c.Encoder
 
-    def __init__(self, pi: SupportsIndex, *, pty: SupportsIndex = 0, tp: bool = False, dwell: SupportsIndex = DEFAULT_DWELL,
+    def __init__(self, pi: SupportsIndex, *, pty: SupportsIndex = 0, tp: bool = False, dwell: SupportsIndex = c.DEFAULT_DWELL,
                  late: SupportsIndex = 0):
         self._pi, self._pty, self._tp = in_range("pi", pi, 0, 0xFFFF), in_range("pty", pty, 0, 31), bool(tp)
         self._dwell, self._late = in_range("dwell", dwell, 1, 0xFFFF), in_range("late", late, 0, 1024)
@@ -311,7 +343,7 @@ class Audit(_Plain):
     spacing."""
     _type = c.Audit
 
-    def __init__(self, pi: SupportsIndex, dwell: SupportsIndex = DEFAULT_DWELL, late: SupportsIndex = 0, *,
+    def __init__(self, pi: SupportsIndex, dwell: SupportsIndex = c.DEFAULT_DWELL, late: SupportsIndex = 0, *,
                  running: bool = False):
         self._pi, self._slots = in_range("pi", pi, 0, 0xFFFF), 0
         self._dwell, self._late = in_range("dwell", dwell, 1, 0xFFFF), in_range("late", late, 0, 1024)
