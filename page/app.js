@@ -34,34 +34,46 @@ const page = (() => {
     });
   }
 
-  /* A script has a comma in its first line; no line of a log has one before its 20th byte. */
-  const isScript = (name, text) => /\.csv$/i.test(name) || /^\uFEFF?(?:\r?\n)*(?:-|text|name|tags|restart|"[a-z-]+"),/.test(text);
+  /* A script has a comma in its first line; no line of a log has one before its 20th byte. The content decides before the
+     extension does. */
+  const SCRIPT = /^\uFEFF?(?:\r?\n)*(?:-|text|name|tags|restart|"[a-z-]+"),/, LOG = /^\uFEFF?(?:[<#%].*|\s*?)*^(?:[\dA-Fa-f]{4}|----) (?:[\dA-Fa-f]{4}|----) /m;
+  const isScript = (name, text) => SCRIPT.test(text) || (/\.csv$/i.test(name) && !LOG.test(text));
+
+  /* The bytes of a log without a byte-order mark. Windows writes some text in UTF-16: it becomes UTF-8. */
+  function plainLog(bytes) {
+    const [first, second, third] = bytes;
+    if (first === 0xEF && second === 0xBB && third === 0xBF) return bytes.subarray(3);
+    const encoding = { "255 254": "utf-16le", "254 255": "utf-16be" }[`${first} ${second}`];
+    return encoding ? new TextEncoder().encode(new TextDecoder(encoding).decode(bytes)) : bytes;
+  }
 
   const WITH_INPUT = { log: logTab, script: scriptTab };
   const isUnsaved = (name) => WITH_INPUT[name].isUnsaved();
 
   /* Asks whether edits that nobody saved may go. Until it is answered, another question gets a no. */
-  function asks() {
+  function asks(name) {
     const dialog = $("ask");
     if (dialog.open) return Promise.resolve(false);
     dialog.returnValue = "";
+    $("ask-what").textContent = `The ${name} has edits that are not saved. Opening another one drops them.`;
     dialog.showModal();
     return new Promise((answer) => { dialog.onclose = () => answer(dialog.returnValue === "yes"); });
   }
 
   /* Does it at once if the tab has no unsaved edits, and else after a yes. Without a yes it does the other thing. */
   function replaces(name, does, otherwise = () => {}) {
-    return isUnsaved(name) ? asks().then((isYes) => isYes ? does() : otherwise()) : does();
+    return isUnsaved(name) ? asks(name).then((isYes) => isYes ? does() : otherwise()) : does();
   }
 
   /* Opens a file. The program gets its bytes as they are. The text that the page shows keeps a byte-order mark. */
   async function openFile(file) {
     const input = new Uint8Array(await file.arrayBuffer()), how = { ...DEFAULTS, file: file.name };
-    const name = isScript(file.name, decoder.decode(input.subarray(0, BEGIN))) ? "script" : "log";
+    const plain = plainLog(input), begin = decoder.decode(plain.subarray(0, BEGIN));
+    const name = isScript(file.name, begin) ? "script" : "log", blob = plain === input ? file : undefined;
     $("left-out").replaceChildren();
     return replaces(name, async () => {
       tab(name);
-      if (name === "script") scriptTab.open(decoder.decode(input), { ...how, input }); else await logTab.open(input, { ...how, running: true, blob: file });
+      if (name === "script") scriptTab.open(decoder.decode(input), { ...how, input }); else await logTab.open(plain, { ...how, running: true, blob });
       return true;
     });
   }
@@ -113,7 +125,11 @@ const page = (() => {
   async function openAddress() {
     const hash = location.hash.slice(1), name = links.tabOf(hash);
     if (!name) return TABS.includes(hash) ? hash : "log";
-    const open = () => WITH_INPUT[name].openLink(hash).catch((error) => links.tell(name, links.whyNot(name, error)));
+    const open = () => WITH_INPUT[name].openLink(hash, DEFAULTS).catch(async (error) => {
+      const why = links.whyNot(name, error);
+      await WITH_INPUT[name].refuse(why, DEFAULTS);
+      links.tell(name, why);
+    });
     await replaces(name, open);
     return name;
   }

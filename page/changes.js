@@ -5,15 +5,15 @@ const changes = (() => {
   /* So many rows are laid out at a time. */
   const ROWS = 100;
   const NAMES = { text: "text", name: "name (PTYN)", tag1: "tag", tag2: "tag" };
-  const state = { all: [], found: [], first: 0, now: -1, goTo: () => {}, clock: () => "" };
+  const state = { all: [], found: [], first: 0, now: -1, goTo: () => {}, clock: () => "", line: () => "" };
 
-  /* Shows the changes of a view. `clock` gives the clock time of a slot, if the log has one. */
-  function show(view, mixed, { goTo, clock }) {
+  /* Shows the changes of a view. `clock` gives the clock time of a slot, if the log has one, and `line` its line. */
+  function show(view, mixed, { goTo, clock, line }) {
     const rows = (part) => view.parts[part].filter((run) => run.value !== null).map((run) => ({
       slot: run.from, part, text: parts.labelOf(run.value), isMix: mixed(part, run.value),
     }));
     const all = Object.keys(NAMES).flatMap(rows).sort((a, b) => a.slot - b.slot);
-    Object.assign(state, { all, goTo, clock, now: -1 });
+    Object.assign(state, { all, goTo, clock, line, now: -1 });
     find();
   }
 
@@ -40,6 +40,7 @@ const changes = (() => {
     const time = state.clock(row.slot) || lines.time(row.slot), { slot, part, text, isMix } = row;
     const inside = [["slot", slot.toLocaleString("en")], ["time", time], ["part", NAMES[part]], ["said", `${isMix ? "⚠ " : ""}${text}`]];
     const go = make("button", { type: "button" }, ...inside.map(([className, textContent]) => make("span", { className, textContent })));
+    go.title = state.line(slot);
     go.onclick = () => state.goTo(slot);
     const it = make("li", { className: isMix ? "mix" : "" }, go);
     it.dataset.row = i;

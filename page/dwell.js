@@ -48,14 +48,22 @@ const dwellTab = (() => {
     return `<svg viewBox="0 0 ${WIDTH} 190" role="img" aria-label="${said}">${bars.join("")}${times.join("")}</svg>`;
   }
 
-  /* The whole slots in so many whole seconds: a slot has 104 bits, and a second has 1187.5. */
-  const slotsIn = (seconds) => Math.floor(seconds * 1187.5 / 104);
+  /* The whole slots in so many whole seconds. */
+  const slotsIn = (seconds) => Math.floor(seconds / lines.SLOT);
+
+  /* Which M the longest text needs at this share of free slots, up to the largest one. */
+  function range(free, best) {
+    const least = Math.ceil(LONGEST / free), share = `at ${Math.round(free * 100)} % free slots`;
+    return best < least
+      ? `A text of 64 characters needs M = ${least} ${share}: send shorter texts, free more slots, or change texts less often.`
+      : `A text of 64 characters needs M = ${least} ${share}, so M can be from ${least} to ${best.toLocaleString("en")}.`;
+  }
 
   /* One answer: the largest M + K, whether the chosen one fits, and a button that sets the largest M for the chosen K. */
-  function answer(whose, because, most, { m, k }) {
+  function answer(whose, because, most, { m, k, free }) {
     const best = Math.min(MOST, most - k), fits = m + k <= most ? "fits" : "is too large";
-    const chosen = `The chosen M + K = ${(m + k).toLocaleString("en")} ${fits}.`;
-    const text = ` M + K can be at most ${parts.counted(most, "slot")} (${lines.time(most)}). ${because} ${chosen} `;
+    const chosen = `The chosen M + K = ${(m + k).toLocaleString("en")} ${fits}.`, bounds = best > 0 ? ` ${range(free, best)}` : "";
+    const text = ` M + K can be at most ${parts.counted(most, "slot")} (${lines.time(most)}). ${because}${bounds} ${chosen} `;
     const set = make("button", { type: "button", textContent: `Set M = ${best.toLocaleString("en")}` });
     set.onclick = () => {
       $("dwell-m").value = best;
@@ -102,7 +110,7 @@ const dwellTab = (() => {
     say("f", f, "%");
     $("dwell-fault").hidden = true;
     $("ladder").hidden = false;
-    $("answers").replaceChildren(...answers(seconds, { m, k }));
+    $("answers").replaceChildren(...answers(seconds, { m, k, free: f / 100 }));
     $("cards").replaceChildren(...cards({ m, d: m + k, free: f / 100 }));
     $("ladder").innerHTML = ladder(m + k);
   }

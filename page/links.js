@@ -1,10 +1,12 @@
 "use strict";
-/* Links that hold a log or a script, and the address of the page. A link has the letters of the text, the options, the slot
-   and the zoom. */
+/* Links that hold a log or a script, and the address of the page. A link has the letters of the text, the options, the slot,
+   the zoom and an end mark. */
 const links = (() => {
   const { $, make } = parts;
   /* A few letters can hold many bytes, so both ways have a bound of bytes. */
-  const MOST = 8000, MOST_PLAIN = 4_000_000, MOST_LOST = 100_000, TOO_LARGE = "too large";
+  const MOST = 8000, MOST_PLAIN = 4_000_000, MOST_LOST = 100_000, TOO_LARGE = "too large", CUT = "cut";
+  /* A link without it at its end was cut, and may have lost options. */
+  const END = "&end";
   const FROM_DISK = "This page was opened from a disk, so its links are of no use to others. Save the file and share it. ";
   /* The link of each tab: the text and the options that it holds, its hash, and whether the tab still holds them. */
   const held = {};
@@ -90,7 +92,7 @@ const links = (() => {
     const isShown = packed !== null && location.protocol !== "file:";
     field.hidden = !isShown;
     if (packed === null) { tell(tab, `This ${tab} is too long for a link: save it as a file.`); return false; }
-    hold(tab, { text, options }, `${tab}=${packed}&${options}&${sight}`);
+    hold(tab, { text, options }, `${tab}=${packed}&${options}&${sight}${END}`);
     if (isShown) await copy(tab, field);
     else tell(tab, FROM_DISK, make("button", { type: "button", textContent: `Save the ${tab}`, onclick: save }));
     return isShown;
@@ -112,6 +114,7 @@ const links = (() => {
 
   /* Reads the text of a link, and its numbers within bounds. */
   async function read(tab, hash) {
+    if (!hash.endsWith(END)) throw new RangeError(CUT);
     const given = new URLSearchParams(hash);
     const within = (name, low, high) => {
       const number = /^\d{1,7}$/.test(given.get(name) ?? "") ? Number(given.get(name)) : NaN;
@@ -155,6 +158,7 @@ const links = (() => {
 
   /* Why a link was not opened. */
   function whyNot(tab, error) {
+    if (error.message === CUT) return "The link was cut: copy the whole link.";
     if (error.message === TOO_LARGE) return `The link holds a ${tab} of more than 4 MB. The page does not open it.`;
     return `The link has no ${tab}.`;
   }

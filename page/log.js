@@ -16,7 +16,9 @@ const logTab = (() => {
   const CLOCK = /\d\d:\d\d:\d\d/, LONGEST_TIME = 80;
   const encoder = new TextEncoder(), decoder = new TextDecoder("utf-8", { ignoreBOM: true });
   const NO_LOG = { count: 0, end: 0, words: [], missing: [], starts: [], numbers: [] };
-  const NO_TIMES = { timed: 0, absent: 0, breaks: 0 };
+  /* Another question was asked meanwhile. */
+  class Superseded extends Error {}
+  const NO_TIMES = { timed: 0, absent: 0, breaks: 0, coarse: "" };
   const empty = () => ({
     log: NO_LOG, times: NO_TIMES, programmes: [], groups: 0, codes: new Uint8Array(0), view: new lines.View(), alone: new lines.View(),
     mixed: () => false, whole: null, known: {}, witness: null, result: null, audits: new Map(),
@@ -27,6 +29,7 @@ const logTab = (() => {
     label: "Slot of the log",
     onMove: showSlot,
     clock,
+    line,
     onPaint: (lane, from, to, e) => {
       if (lane && from === to && (e.shiftKey || (lane.lost && $("log-click").checked))) lose([from]);
       return false;
@@ -168,7 +171,7 @@ const logTab = (() => {
     // the list is laid out after the lanes are drawn
     await pause();
     if (state.turn !== turn) return;
-    changes.show(view, state.mixed, { goTo: does.goTo, clock });
+    changes.show(view, state.mixed, { goTo: does.goTo, clock, line });
     changes.move(timeline.cursor);
   }
 
@@ -205,14 +208,18 @@ const logTab = (() => {
     verdict.showWitness(found, does);
   }
 
-  /* Asks for the answers with other dwells, one after the other, and shows each one. */
+  /* Looks for the dwells that pass around the chosen one, and shows their bounds. */
   async function judgeOthers(asked, turn) {
     if (!state.groups || !state.result.audit || /^fault/m.test(state.result.audit.output)) return;
-    verdict.offerDwells(Number(asked.m), does);
-    for (const m of verdict.DWELLS) {
+    const passes = async (m) => {
       const got = await audit({ ...asked, m: String(m) }, "search");
-      if (state.turn !== turn || !got) return;
-      verdict.showDwell(m, verdict.noOf(got));
+      if (state.turn !== turn || !got) throw new Superseded();
+      return got.output.startsWith("yes ");
+    };
+    try {
+      verdict.showDwells(await passing.bounds(Number(asked.m), passes), does);
+    } catch (error) {
+      if (!(error instanceof Superseded)) throw error;
     }
   }
 
@@ -233,10 +240,9 @@ const logTab = (() => {
   /* Opens the log with a line for each slot that its times say it lacks. */
   async function fill() {
     const name = $("log-file-name").textContent, m = $("log-m").value, pi = $("log-pi").value;
-    const { bytes } = await workers.whole.ask("fill", { m: Number(m) });
-    if (!bytes) { showProblem("The times are so far apart that the page does not add the lost slots. Use examples/slots."); return; }
+    const { bytes } = await workers.whole.ask("fill", { m });
     const [k, running] = [$("log-k").value, $("log-running").checked];
-    await open(bytes, { pi, m, k, running, isEdited: true, file: `${name || "log"}, with its lost slots` });
+    await open(bytes, { pi, m, k, running, isEdited: state.isEdited, file: `${name || "log"}, with its lost slots` });
   }
 
   /* Shows why nothing is decoded, and no result of what was there before. */
@@ -245,7 +251,7 @@ const logTab = (() => {
     state.codes = new Uint8Array(0);
     timeline.title = "";
     timeline.show([], state.log.count, { fit });
-    changes.show(state.view, state.mixed, { goTo: does.goTo, clock });
+    changes.show(state.view, state.mixed, { goTo: does.goTo, clock, line });
     verdict.showNone("No verdict", problem);
     $("log-limit").hidden = true;
     for (const name of ["log", "audit"]) tellLines(name, "", "");
@@ -313,6 +319,9 @@ const logTab = (() => {
     return CLOCK.exec(decoder.decode(state.bytes.subarray(start, end)))?.[0] ?? "";
   }
 
+  /* The line of a slot, in words. */
+  function line(slot) { return slot < state.log.count ? `line ${state.log.numbers[slot].toLocaleString("en")}` : ""; }
+
   function showSlot(slot) {
     const group = logfile.groupAt(state.log, slot), sent = group ? `${KINDS[lines.codeOf(group, state.number)]} group` : "nothing received";
     const what = !state.result ? "" : state.lost.has(slot) ? "lost" : sent, run = state.view.at("text", slot);
@@ -343,12 +352,18 @@ const logTab = (() => {
   const link = () => links.give("log", { text: state.text, options: options(), sight: links.sightOf(timeline) }, save);
 
   /* Opens the log of a link. */
-  async function openLink(hash) {
+  async function openLink(hash, defaults) {
     const it = await links.read("log", hash), { text, given, within } = it, lost = links.slotsOf(given.get("lost"));
     const running = within("running", 0, 1) === 1;
-    await open(text, { pi: given.get("pi"), m: within("m", 1, 65535), k: within("k", 0, 1024), running, lost });
+    await open(text, { pi: given.get("pi"), m: within("m", 1, 65535) ?? defaults.m, k: within("k", 0, 1024) ?? defaults.k, running, lost });
     links.look(timeline, it);
     links.hold("log", { text, options: options() }, hash);
+  }
+
+  /* Opens no log, and says why. */
+  async function refuse(why, defaults) {
+    await open("", defaults);
+    verdict.showNone(why, "No log is open.", "no");
   }
 
   /* Begins with the compiled program. */
@@ -363,5 +378,5 @@ const logTab = (() => {
     changes.begin();
   }
 
-  return { begin, isUnsaved, look, lose, open, openLink, state, timeline };
+  return { begin, isUnsaved, look, lose, open, openLink, refuse, state, timeline };
 })();

@@ -474,13 +474,19 @@ const scriptTab = (() => {
   }
 
   /* Opens the script of a link. */
-  async function openLink(hash) {
+  async function openLink(hash, defaults) {
     const it = await links.read("script", hash), { text, within } = it;
-    open(text, { m: within("m", 1, 65535), k: within("k", 0, 1024), pty: within("pty", 0, 31) });
+    open(text, { m: within("m", 1, 65535) ?? defaults.m, k: within("k", 0, 1024) ?? defaults.k, pty: within("pty", 0, 31) });
     state.chosen = within("receiver", 0, receivers() - 1) ?? state.chosen;
     timeline.chosen = receivers() ? state.chosen : null;
     links.look(timeline, it);
     links.hold("script", { text, options: options() }, hash);
+  }
+
+  /* Opens no script, and says why. */
+  function refuse(why, defaults) {
+    open("", defaults);
+    showProblem(why);
   }
 
   function begin() {
@@ -499,5 +505,5 @@ const scriptTab = (() => {
     for (const [id, what] of Object.entries(buttons)) $(id).onclick = what;
   }
 
-  return { begin, commandChanged, edited, isUnsaved, open, openLink, play, state, timeline, undo };
+  return { begin, commandChanged, edited, isUnsaved, open, openLink, play, refuse, state, timeline, undo };
 })();

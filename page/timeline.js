@@ -6,8 +6,8 @@ class Timeline {
   /* The modes of a page that change its colours. */
   static MODES = ["(prefers-color-scheme: dark)", "(forced-colors: active)"];
 
-  constructor(root, { label, onMove, onPaint = () => false, onKey = () => false, onLane = () => {}, clock = () => "" }) {
-    Object.assign(this, { root, onMove, onPaint, onKey, onLane, clock });
+  constructor(root, { label, onMove, onPaint = () => false, onKey = () => false, onLane = () => {}, clock = () => "", line = () => "" }) {
+    Object.assign(this, { root, onMove, onPaint, onKey, onLane, clock, line });
     Object.assign(this, { lanes: [], count: 1, from: 0, across: 1, cursor: 0, chosen: null, span: null, changes: [], texts: [] });
     root.innerHTML = `<div class="time-bar"><output></output><span class="space"></span>
       <button type="button" data-do="out" title="Show more slots (− or S)" aria-label="Zoom out">−</button>
@@ -141,10 +141,11 @@ class Timeline {
     this.draw();
   }
 
-  /* Returns the chosen slot in words, with its clock time if it has one. */
+  /* Returns the chosen slot in words, with its line and its clock time if it has them. */
   place() {
-    const clock = this.clock(this.cursor), slot = `slot ${this.cursor.toLocaleString("en")} of ${this.count.toLocaleString("en")}`;
-    return `${slot} · ${lines.time(this.cursor)}${clock ? ` · ${clock}` : ""}`;
+    const slot = `slot ${this.cursor.toLocaleString("en")} of ${this.count.toLocaleString("en")}`;
+    const words = [slot, this.line(this.cursor), lines.time(this.cursor), this.clock(this.cursor)];
+    return words.filter(Boolean).join(" · ");
   }
 
   /* Returns whether a pointer is on the axis, the row of slot numbers. */

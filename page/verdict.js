@@ -1,5 +1,6 @@
 "use strict";
-/* The answer of the audit in words: what it covers, what the encoder should do, and the answers with other dwells. */
+/* The answer of the audit in words: passes, breaks a rule, or cannot say. What it covers, what the encoder should do, and
+   which other dwells pass. */
 const verdict = (() => {
   const { $, make } = parts;
   const NO_WITNESS = ": no burst of lost slots makes a mix. Two bursts may still make one. "
@@ -14,7 +15,8 @@ const verdict = (() => {
     EarlyTag: "Send the first tags M + K slots after the start of their text.",
     TagOutside: "Count the start from 0, send the number of characters less one as the length, and set the tags after their text.",
   };
-  const DWELLS = [8, 16, 32, 64, 128, 256, 512, 1024];
+  /* A yes over fewer slots with a group says too little. */
+  const LEAST_SHARE = 0.9;
   const WHOLE_NAME = "A name has eight printable characters, filled with spaces.";
   const OTHER_TAGS = "If this 11A is not RT+, empty its lines before the audit.";
 
@@ -37,9 +39,15 @@ const verdict = (() => {
   /* What a yes covers, in the words of the program. */
   const covered = ({ notes }) => (notes.find((note) => note.startsWith("judged ")) ?? "").replace("judged", "Judged");
 
+  /* A yes over a log that does not show enough. */
+  const unsure = ({ audit, m }) => [
+    make("h2", { textContent: "Cannot say" }),
+    make("p", { textContent: `The program answers yes ${withDwell(m)}, but the log does not show enough. ${covered(audit)}.` }),
+  ];
+
   /* A yes; it covers the slots that were recorded. */
   function passed({ audit, log, groups, m }) {
-    const missing = log.count - groups, few = `${number(missing)} of ${parts.counted(log.count, "slot")} ${missing === 1 ? "is" : "are"} missing`;
+    const missing = log.count - groups, few = `${number(missing)} of ${parts.counted(log.count, "slot")} ${missing === 1 ? "has" : "have"} no whole group.`;
     const kept = missing ? `The recorded ${groups === 1 ? "slot keeps" : "slots keep"}`
       : log.count === 1 ? "The one slot keeps" : `All ${parts.counted(log.count, "slot")} keep`;
     const of = missing ? "the recorded texts" : "two texts";
@@ -48,7 +56,7 @@ const verdict = (() => {
       make("p", { textContent: `${kept} the rules. No receiver with this M shows a mix of ${of}, whichever groups it loses.` }),
       make("p", { textContent: `${covered(audit)}.` }),
     ];
-    return missing ? [...all, says(few, "(no whole group). The yes covers only the others.")] : all;
+    return missing ? [...all, says(few, "None was sent, or it was not recorded. The yes covers the others.")] : all;
   }
 
   /* Returns the cure of a fault in this slot. */
@@ -91,11 +99,29 @@ const verdict = (() => {
     return [says("Lost slots:", `${told} ${saysOf}${leftOut} `, button("Add the lost slots", does.fill))];
   }
 
+  /* Says that the times of the lines are too coarse to count slots by, in the words of the program. */
+  const coarse = ({ times }) => (times.coarse ? [says("Coarse times:", `${times.coarse}.`)] : []);
+
+  /* Says that few slots of a log with times have a group. In a log without times a slot without a group may have been silent. */
+  function few({ log, groups, times }) {
+    const share = groups / log.count, has = `${number(groups)} of ${number(log.count)} slots have a group`;
+    if (2 * times.timed < groups || !(share < LEAST_SHARE)) return [];
+    return [says("Lost slots:", `${has} (${Math.floor(100 * share)} %). The log says nothing of the others.`)];
+  }
+
   /* The kind of an answer: yes, no, a yes that means nothing, or a fault. */
-  function kindOf(no, isYes, isEmpty, gaps) {
+  function kindOf(no, isYes, isGrey) {
     if (no) return " no";
     if (!isYes) return " fault";
-    return isEmpty || gaps ? " empty" : "";
+    return isGrey ? " empty" : "";
+  }
+
+  /* The answer in words. */
+  function answer(given, no, isYes, isEmpty, doubts, does) {
+    if (no) return refused(given, no, does);
+    if (!isYes) return faulty(given, does);
+    if (isEmpty) return empty(given);
+    return doubts.length ? unsure(given) : passed(given);
   }
 
   /* Returns slot and fault of a no; nothing after another answer. */
@@ -108,39 +134,30 @@ const verdict = (() => {
   function show({ audit, log, groups, pi, m, k, running, times }, does) {
     const given = { audit, log, groups, pi, m, times }, no = noOf(audit), isYes = audit.output.startsWith("yes ");
     const isEmpty = isYes && emptyNote(audit) !== "";
-    const gaps = no || isYes ? absent(given, does) : [];
-    const told = no ? refused(given, no, does) : isEmpty ? empty(given) : isYes ? passed(given) : faulty(given, does);
+    const doubts = no || isYes ? [...absent(given, does), ...coarse(given), ...(isYes && !isEmpty ? few(given) : [])] : [];
     const before = running ? " The station was on air before the log began." : "";
     const about = `The audit reads the log as sent, with M + K = ${m + k} slots (${lines.time(m + k)}).${before}`;
-    $("verdict").className = `verdict${kindOf(no, isYes, isEmpty, gaps.length)}`;
-    $("verdict").replaceChildren(...told, ...gaps, make("p", { className: "dwells", id: "dwells", hidden: true }),
-      make("p", { className: "small", textContent: about }));
+    $("verdict").className = `verdict${kindOf(no, isYes, isEmpty || doubts.length)}`;
+    $("verdict").replaceChildren(...answer(given, no, isYes, isEmpty, doubts, does), ...doubts,
+      make("p", { className: "dwells", id: "dwells", hidden: true }), make("p", { className: "small", textContent: about }));
     return no;
   }
 
-  /* Offers the other dwells as buttons. */
-  function offerDwells(chosen, does) {
-    const buttons = DWELLS.map((m) => {
-      const it = button(`${number(m)} …`, () => does.chooseDwell(m));
-      it.dataset.m = m;
-      it.setAttribute("aria-pressed", m === chosen);
-      return it;
-    });
+  /* Shows the dwells that pass, from the least one to the greatest one of those that were tried, as buttons. */
+  function showDwells(found, does) {
+    const choose = (m) => Object.assign(button(number(m), () => does.chooseDwell(m)), { title: lines.time(m) });
+    const { least, greatest } = found ?? {};
+    const failing = [least?.beyond, greatest?.beyond].filter(Boolean).map(number);
+    const beyond = failing.length ? `: ${failing.join(" and ")} ${failing.length > 1 ? "do" : "does"} not.` : ".";
+    const all = found ? ["from ", choose(least.last), " to ", choose(greatest.last), ` passes, as far as was tried${beyond}`]
+      : ["no dwell that was tried passes: powers of two, and 65,535."];
     $("dwells").hidden = false;
-    $("dwells").replaceChildren(make("b", { textContent: "With other dwells M:" }), ...buttons);
-  }
-
-  /* Shows the answer with one of them. */
-  function showDwell(m, no) {
-    const it = $("dwells").querySelector(`[data-m="${m}"]`);
-    it.className = no ? "no" : "yes";
-    it.textContent = `${number(m)} ${no ? "✗" : "✓"}`;
-    it.title = it.ariaLabel = `M = ${number(m)} (${lines.time(m)}): ${no ? `no, ${no.fault} in slot ${number(no.slot)}` : "passes"}`;
+    $("dwells").replaceChildren(make("b", { textContent: "With other dwells M:" }), " ", ...all);
   }
 
   /* Shows a heading and a sentence in place of an answer. */
-  function showNone(heading, sentence) {
-    $("verdict").className = "verdict fault";
+  function showNone(heading, sentence, kind = "fault") {
+    $("verdict").className = `verdict ${kind}`;
     $("verdict").replaceChildren(make("h2", { textContent: heading }), make("p", { textContent: sentence }));
   }
 
@@ -155,5 +172,5 @@ const verdict = (() => {
       ` a receiver that loses ${slots} shows what a receiver that loses nothing does not: `, what, ". ", doSo);
   }
 
-  return { DWELLS, noOf, offerDwells, show, showDwell, showNone, showWitness };
+  return { noOf, show, showDwells, showNone, showWitness };
 })();

@@ -3,6 +3,7 @@
    answer has the same id. */
 (() => {
   const state = { bytes: new Uint8Array(0), log: null, known: {} };
+  const encoder = new TextEncoder();
   const teller = (id) => (done) => postMessage({ id, done });
 
   /* The output and the notes of the program over these bytes. */
@@ -20,12 +21,23 @@
     state.log = logfile.parse(state.bytes, tell);
   }
 
+  /* What `rdsrt slots` finds: the lines with a time, the slots that the log lacks by them, the breaks of unknown length, and
+     its note on coarse times. With M = 1 one lost slot stands for a break. */
+  function timesOf(bytes, log) {
+    const { output, notes } = run(["slots", "--m", "1"], bytes);
+    const numberIn = (begin) => Number(notes.find((note) => note.startsWith(begin))?.match(/: (\d+)/)[1] ?? 0);
+    const timed = log.count - numberIn("groups without a time"), breaks = numberIn("times that went back");
+    const slots = output.split("\n").filter((line) => line !== "" && !line.startsWith("#")).length;
+    const coarse = notes.find((note) => note.startsWith("the times vary")) ?? "";
+    return { timed, absent: Math.max(0, slots - timed - breaks), breaks, coarse };
+  }
+
   /* Reads a log, and returns copies of its slots, and its programmes. */
   async function open({ blob }, tell) {
     await read({ blob }, tell);
     const { log } = state, copy = { ...log };
     for (const name of ["words", "missing", "starts", "numbers"]) copy[name] = log[name].slice();
-    return { log: copy, programmes: logfile.programmes(log), times: arrivals.count(state.bytes, log) };
+    return { log: copy, programmes: logfile.programmes(log), times: timesOf(state.bytes, log) };
   }
 
   /* Returns the parts that do not depend on M: the view of the flag bit alone, and the codes of the slots with their sums.
@@ -54,7 +66,7 @@
   const find = (given) => witness.find(state.bytes, given);
 
   /* The log with a line for each slot that its times say it lacks. */
-  const fill = ({ m }) => ({ bytes: arrivals.filled(state.bytes, state.log, m) });
+  const fill = ({ m }) => ({ bytes: encoder.encode(run(["slots", "--m", m], state.bytes).output) });
 
   const CALLS = { open, read, keep, warm, decode, audit, witness: find, fill };
 

@@ -33,13 +33,20 @@ class DwellTab:
         call(b, "page.tab", "dwell")
         for field, number in (("m", 128), ("k", 0), ("f", 50), ("s", 15)):
             call(b, "probe.choose", f"dwell-{field}", number)
-        answer = "{} M + K can be at most {}. {} The chosen M + K = {} {}. {}"
+        answer = "{} M + K can be at most {}. {} {} The chosen M + K = {} {}. {}"
+        least = "A text of 64 characters needs M = 64 at 50 % free slots, so M can be from 64 to {}.".format
         rules = (("Safe:", "Each text must stay on air for at least M + K slots."),
                  ("With our own encoder:", "It keeps each text on air for 2 (M + K) slots."))
-        wanted = [answer.format(rules[0][0], "171 slots (15.0 s)", rules[0][1], 128, "fits", "Set M = 171"),
-                  answer.format(rules[1][0], "85 slots (7.44 s)", rules[1][1], 128, "is too large", "Set M = 85"),
+        wanted = [answer.format(rules[0][0], "171 slots (15.0 s)", rules[0][1], least(171), 128, "fits", "Set M = 171"),
+                  answer.format(rules[1][0], "85 slots (7.44 s)", rules[1][1], least(85), 128, "is too large", "Set M = 85"),
                   "11.2 s"]
         self.check("texts of 15 s", dwell_shows(b), wanted)
+        call(b, "probe.choose", "dwell-f", 20)
+        needs = "A text of 64 characters needs M = 160 at 20 % free slots"
+        self.check("few free slots", [needs + more in it for it, more in
+                                      zip(dwell_shows(b), (", so M can be from 160 to 171.", ": send shorter texts"))],
+                   [True, True])
+        call(b, "probe.choose", "dwell-f", 50)
         b.run("[...document.querySelectorAll('#answers button')].at(-1).click()")
         self.check("the button sets M", [of(b, "#dwell-m", "value"), *dwell_shows(b)],
                    ["85", wanted[0].replace("128", "85"), wanted[1].replace("128 is too large", "85 fits"), "7.44 s"])

@@ -4,6 +4,7 @@ import re
 
 from tests.page_support import (EVERY_100, HI, NOTHING, SEED, ChromiumCase, FirefoxCase, call, click, first_examples,
                                 of, open_script, run_program, settle, shown, text_of, verdict_of)
+from tests.slot import SLOT
 
 BAD_ROW = re.compile(r"fault row (\d+) \(line (\d+)\)")
 SOME_ROWS = ["-,,1,G"] * 6 + ['"-","",1,G', '""', "", "", '-,"a\n,b",1,G', '-,"a""b",1,G', '-,"a"b,1,G', '"a\n\nb"',
@@ -109,7 +110,7 @@ class Faults:
             seen.add(plain.split("\n")[int(told[2]) - 1])
         self.check_all("several kinds of bad rows", len(seen) > 4 or seen, True)
 
-    def test_an_empty_yes_and_a_refused_set_have_a_warning(self):
+    def test_an_empty_yes_has_a_warning(self):
         b = self.b
         noted, no_kind = "Nothing to auditThe program answers yes, with a note: ", "no 2A, 10A or 11A group of C201"
         rows = [
@@ -125,9 +126,10 @@ class Faults:
             (f"{HI}\n{NOTHING}\n", "",
              "✓ Passes with M = 8 (0.70 s)The recorded slot keeps the rules. No receiver with this M shows a mix "
              "of the recorded texts, whichever groups it loses.Judged in 2 slots: 1 text, 0 names, 0 pairs of tags.1 of 2 "
-             "slots is missing (no whole group). The yes covers only the others."),
+             "slots has no whole group. None was sent, or it was not recorded. The yes covers the others."),
             (f"{HI}\n" * 1188 + f"{NOTHING}\n" * 1812, "",
-             "1,812 of 3,000 slots are missing (no whole group). The yes covers only the others."),
+             "1,812 of 3,000 slots have no whole group. None was sent, or it was not recorded. The yes "
+             "covers the others."),
         ]
         for log, kind, wanted in rows:
             said, colour = verdict_of(b, log,
@@ -135,6 +137,30 @@ class Faults:
             ink = call(b, "probe.colour", "t4" if kind else "good")
             self.check(f"a yes over {log[:20]!r}", (wanted in said and "undefined" not in said or said, colour),
                        (True, ink))
+    def test_a_yes_over_a_log_that_does_not_show_enough_is_grey(self):
+        """Slots are absent by the times, times are too coarse to count by, or few slots have a group."""
+        b = self.b
+        cannot = "Cannot sayThe program answers yes with M = 8 (0.70 s), but the log does not show enough. Judged in "
+        coarse = "".join(f"{HI} {time:.1f}\n" for time in (0, 0, 0.2, 0.2, 0.4, 0.4))
+        rows = [
+            ("absent", f"{HI} 0\n{HI} 0.96\n",
+             ["Lost slots: By the times of the lines, 10 slots are not in this log."]),
+            # between the first and the last time a clock has room for 4.7 slots
+            ("coarse", coarse, ["Coarse times: the times vary by more than the grain: ", "a station sends 4 at most"]),
+            ("few", f"{HI} 0\n{NOTHING}\n",
+             ["Lost slots: 1 of 2 slots have a group (50 %). The log says nothing of the others."]),
+        ]
+        for name, log, wanted in rows:
+            said = verdict_of(b, log, 8)
+            colour = b.run("getComputedStyle(document.querySelector('#verdict')).borderLeftColor")
+            self.check(name, [it in said for it in (cannot, *wanted)] + [colour],
+                       [True] * (1 + len(wanted)) + [call(b, "probe.colour", "t4")], said)
+        nine = "".join(f"{HI} {number * SLOT:.2f}\n" for number in range(9))
+        said = verdict_of(b, f"{nine}{NOTHING}\n", 8)
+        self.check("nine slots in ten", "✓ Passes with M = 8" in said, True, said)
+
+    def test_a_refused_set_has_a_warning(self):
+        b = self.b
         open_script(b, "text,HI,1,G\n" * 3, m=8, k=0)
         self.check("the first refused set", text_of(b, "#script-note"),
                    "slot 0: text refused, the station is silent after a restart for 8 slots more; "

@@ -26,6 +26,22 @@ class Files:
             self.check(f"dropped: {names}", got,
                        (told.format(names[0], left) if left else "", [it for it in TABS if it != tab], names[0]))
 
+    def test_a_log_is_read_in_each_encoding_and_under_each_name(self):
+        """The content decides what a file is, also if Windows wrote it in UTF-16 or with a byte-order mark."""
+        b = self.b
+        log = f"# noted\n{HI} @2024/06/01 07:58:12.00\n{NOTHING}\n"
+        for name, data in (("plain.log", log.encode()), ("mark.log", b"\xEF\xBB\xBF" + log.encode()),
+                           ("small.txt", b"\xFF\xFE" + log.encode("utf-16-le")),
+                           ("large.txt", b"\xFE\xFF" + log.encode("utf-16-be")), ("spread.csv", log.encode())):
+            b.run(f"page.openFile(new File([Uint8Array.from({list(data)})], '{name}'))")
+            settle(b)
+            got = hidden(b), of(b, "#log-text", "value"), text_of(b, "#log-lines")
+            self.check(name, got, (["script", "dwell"], log, '0 text "HI"\n'))
+        script = "\uFEFFtext,HI,1,G\n"
+        call(b, "probe.drop", "own.txt", script)
+        settle(b)
+        self.check("a script with a mark", (hidden(b), of(b, "#script-text", "value")), (["log", "dwell"], script))
+
     def test_a_long_field_is_printed_nowhere(self):
         """A fault does not quote a field of 3 MB, and the form shows its begin."""
         b = self.b
@@ -112,23 +128,23 @@ class Files:
         self.check("an example is complete", of(b, "#log-running", "checked"), False)
 
     def test_a_file_is_read_as_the_program_reads_its_bytes(self):
+        """A log loses its byte-order mark, and one in UTF-16 becomes UTF-8."""
         b = self.b
         mark, log, script = b"\xef\xbb\xbf", example("hi.log"), example("tunnel.csv")
         latin = "text,Édith,1,\n".encode("latin-1")
-        logs = [mark + log, log.decode().encode("utf-16"), log + b"\xff\xfe\n" + log,
-                "# Édith\n".encode("latin-1") + log,
-                log.replace(b"\n", b"\r\n")]
-        for data in logs:
+        others = [log + b"\xff\xfe\n" + log, "# Édith\n".encode("latin-1") + log, log.replace(b"\n", b"\r\n")]
+        logs = [(mark + log, log), (log.decode().encode("utf-16"), log), *((it, it) for it in others)]
+        for data, plain in logs:
             call(b, "probe.drop", "own.log", list(data))
             settle(b)
             for name, words in (("log", ["decode", "--pi", "C201"]), ("audit", ["audit", "--pi", "C201"])):
                 self.check(f"{words[0]} over a file that begins with {data[:12]}", text_of(b, f"#{name}-lines"),
-                           program(words, data)[1])
+                           program(words, plain)[1])
             b.run("logTab.lose([0])")
             self.check("and once a slot is lost", text_of(b, "#audit-lines"),
-                       program(["audit", "--pi", "C201"], data)[1])
-        self.check("the last one passes, the first does not",
-                   (text_of(b, "#verdict")[:8], program(["audit", "--pi", "C201"], logs[0])),
+                       program(["audit", "--pi", "C201"], plain)[1])
+        self.check("the last one passes, and the program takes no mark",
+                   (text_of(b, "#verdict")[:8], program(["audit", "--pi", "C201"], logs[0][0])),
                    ("✓ Passes", [1, "fault line 1\n"]))
         for data in (mark + script, script.decode().encode("utf-16"), latin, script + latin,
                      script.replace(b"\n", b"\r\n\r\n")):

@@ -52,11 +52,14 @@ class Links:
         visit(b, link)
         self.check("a link opens its script", (printed(b), hidden(b), len(link) < 2000),
                    (before, ["log", "dwell"], True))
-        visit(b, f"{URL}#script=nonsense")
-        self.check("a link that holds none", text_of(b, "#script-saved"), "The link has no script.")
+        for name, broken, told in (("holds none", f"{URL}#script=nonsense&end", "The link has no script."),
+                                   ("was cut", link[:-9], "The link was cut: copy the whole link.")):
+            visit(b, broken)
+            self.check(f"a link that {name}", (text_of(b, "#script-saved"), text_of(b, "#script-fault"), printed(b)),
+                       (told, told, ""))
         too_large = "The link holds a script of more than 4 MB. The page does not open it."
         for size, told in ((4_000_000, ""), (4_000_001, too_large), (100_000_000, too_large)):
-            visit(b, f"{URL}#script={packed(b'-,,1,' + bytes(size - 5))}")
+            visit(b, f"{URL}#script={packed(b'-,,1,' + bytes(size - 5))}&end")
             self.check(f"a link that holds {size} bytes", text_of(b, "#script-saved"), told)
         visit(b, f"{URL}#script")
         self.check("a tab by its name", (text_of(b, "#script-saved"), hidden(b)), ("", ["log", "dwell"]))
@@ -98,7 +101,7 @@ class Links:
             reload(b)
             self.check("and a reload too", [printed(b), b.run(SIGHT), hidden(b)], [before, sight, ["log", "dwell"]])
             for more in ("&slot=9999999&from=-1&across=0&receiver=9", "&slot=x&from=1e9&across=1e9&receiver="):
-                visit(b, re.sub("&slot=.*", "", link) + more)
+                visit(b, f"{re.sub('&slot=.*', '', link)}{more}&end")
                 self.check(f"a link with {more}", [printed(b), b.run(f"{SIGHT}[3] > 7 && {SIGHT}[1] < 2")],
                            [before, True])
 
@@ -129,12 +132,15 @@ class Links:
             visit(b, link)
             self.check("the link opens all that", [b.run(LOG_STATE), hidden(b)], [before, ["script", "dwell"]])
             for more in ("&lost=1-9999999.0-9999999", "&lost=1-&m=0&k=1025&pi=FFFF&slot=-1", "&lost=<b>"):
-                visit(b, re.sub("&.*", "", link) + more)
+                visit(b, f"{re.sub('&.*', '', link)}{more}&end")
                 state = b.run(LOG_STATE)
                 self.check(f"a link with {more}", (told(), state[5:], len(state[1]) <= 100_000),
-                           ("", ["C201", "8", "0"], True))
-            visit(b, f"{url}#log=nonsense")
-            self.check("a link that holds none", told(), "The link has no log.")
+                           ("", ["C201", "128", "0"], True))
+            for name, broken, why in (("holds none", f"{url}#log=nonsense&end", "The link has no log."),
+                                      ("was cut", link[:200], "The link was cut: copy the whole link.")):
+                visit(b, broken)
+                card = text_of(b, "#verdict"), of(b, "#verdict", "className"), of(b, "#log-text", "value")
+                self.check(f"a link that {name}", (told(), card), (why, (f"{why}No log is open.", "verdict no", "")))
             dice = random.Random(SEED)
             call(b, "logTab.open", "".join(f"# {dice.random()}\n" for _ in range(20_000)))
             click(b, "#log-share")

@@ -1,15 +1,14 @@
 """The tab that looks at a log: its verdict, its list of changes, its words and its witnesses."""
-import os
 import random
 import re
-import subprocess
 
-from tests.page_support import (EVERY_100, EXAMPLES, GROUPS, HI, NOTHING, SEED, YO, ChromiumCase, FirefoxCase, call,
+from tests.page_support import (EVERY_100, GROUPS, HI, NOTHING, SEED, YO, ChromiumCase, FirefoxCase, call,
                                 click, example, first_examples, idle, of, program, settle, settled_verdict, shown,
                                 text_of, verdict_of)
-from tests.support import SECONDS
 
-DWELLS = (8, 16, 32, 64, 128, 256, 512, 1024)
+POWERS = [*(1 << exponent for exponent in range(16)), 65535]
+PASSING = re.compile(r"With other dwells M: from (\d+) to (\d+) passes, as far as was tried"
+                     r"(?:: (\d+)(?: and (\d+))? does? not)?\.")
 GROUP_WORDS = [
     ("C201 2140 4849 0D20", "2A RadioText · flag A · segment 0 · “HI” · C201 2140 4849 0D20"),
     ("C201 2153 6E63 8220", "2A RadioText · flag B · segment 3 · “ncé ” · C201 2153 6E63 8220"),
@@ -98,7 +97,7 @@ class LogTab:
         idle(b)
         self.check("a key gives a lost slot back", lost(b), [2, 3])
         told = of(b, "#log-time canvas", "ariaValueText").split(". ")
-        self.check("the slider tells slot and group", told[:2], ["slot 4 of 6 · 0.35 s", "text group"])
+        self.check("the slider tells slot and group", told[:2], ["slot 4 of 6 · line 5 · 0.35 s", "text group"])
         click(b, "#log-unlose")
         self.check("all received again", text_of(b, "#log-lines").splitlines()[-1], '5 text "POP MIX"')
         settled_verdict(b)
@@ -110,8 +109,9 @@ class LogTab:
         self.check("a click loses a slot", lost(b), [2, 3, 0])
         click(b, "#log-click")
 
-    def test_other_dwells_have_the_answers_of_the_program(self):
-        """Yes and no are not monotone in M."""
+    def test_the_dwells_that_pass_are_those_of_the_program(self):
+        """The least and the greatest M that pass around the chosen one. Yes and no are not monotone in M, so this is as
+        far as was tried: both bounds pass, and the dwells beyond them do not."""
         b = self.b
         dice = random.Random(SEED)
         logs = [EVERY_100, example("flags.log").decode(),
@@ -119,27 +119,34 @@ class LogTab:
         for number, log in enumerate(logs):
             for k in (0, 3):
                 call(b, "logTab.open", log, {"pi": "C201", "m": 128, "k": k})
-                got = b.run("[...document.querySelectorAll('#dwells button')].map(it => it.textContent)")
-                answers = [program(["audit", "--pi", "C201", "--m", str(m), "--k", str(k)],
-                                   log.encode())[0] for m in DWELLS]
-                self.check(f"seed {SEED}, answers for log {number}, K {k}", got,
-                           [f"{m:,} {'✗' if no else '✓'}" for m, no in zip(DWELLS, answers)], log)
+                said = re.sub(r"(?<=\d),(?=\d)", "", text_of(b, "#dwells"))
+                passes = {m: program(["audit", "--pi", "C201", "--m", str(m), "--k", str(k)], log.encode())[0] == 0
+                          for m in {128, *POWERS, *map(int, re.findall(r"\d+", said))}}
+                found = PASSING.fullmatch(said)
+                tried = f"seed {SEED}, log {number}, K {k}"
+                self.check(f"{tried}: bounds", found is not None, any(passes.values()), f"{said}\n{log}")
+                if not found:
+                    continue
+                least, greatest = int(found[1]), int(found[2])
+                beyond = [int(it) for it in found.groups()[2:] if it]
+                self.check(f"{tried}: both", (passes[least], passes[greatest]), (True, True), f"{said}\n{log}")
+                self.check(f"{tried}: beyond", [(it, passes[it]) for it in beyond],
+                           [(it, False) for it in (least - 1, greatest + 1) if 1 <= it <= 65535], f"{said}\n{log}")
         call(b, "logTab.open", EVERY_100, {"pi": "C201", "m": 128, "k": 0})
-        click(b, "#dwells [data-m='64']")
-        self.check("a button chooses its dwell", (of(b, "#log-m", "value"), text_of(b, "#verdict h2")),
-                   ("64", "✓ Passes with M = 64 (5.61 s)"))
+        click(b, "#dwells button")
+        self.check("a button chooses its dwell", (of(b, "#log-m", "value"), text_of(b, "#verdict h2")[:12]),
+                   ("1", "✓ Passes wit"))
         call(b, "logTab.open", f"{NOTHING}\n", {"pi": "C201", "m": 8, "k": 0})
         self.check("no answers without a group", of(b, "#dwells", "hidden"), True)
 
-    def test_lost_slots_by_time_are_added_as_by_examples_slots(self):
+    def test_lost_slots_by_time_are_added_as_by_the_program(self):
         """Until then the verdict is not green."""
         b = self.b
         dice, offered = random.Random(SEED), 0
         for number, (log, m) in self.cases((with_times(dice), dice.choice([8, 128])) for _ in range(60)):
             call(b, "logTab.open", log, {"pi": "C201", "m": m, "k": 0})
-            done = subprocess.run([os.path.join(EXAMPLES, "slots"), "--m", str(m)], input=log.encode(),
-                                  capture_output=True, timeout=SECONDS)
-            has_more = len(done.stdout.splitlines()) > b.run("logTab.state.times.timed")
+            filled = program(["slots", "--m", str(m)], log.encode())[1]
+            has_more = len(filled.splitlines()) > b.run("logTab.state.times.timed")
             is_offered = "Add the lost slots" in text_of(b, "#verdict")
             self.check(f"seed {SEED}, times {number}: offered", is_offered, has_more, log)
             if not is_offered:
@@ -150,8 +157,8 @@ class LogTab:
             buttons = "[...document.querySelectorAll('#verdict button')]"
             b.run(f"{buttons}.find(it => it.textContent === 'Add the lost slots').click()")
             idle(b)
-            self.check(f"seed {SEED}, times {number}: added as by examples/slots", of(b, "#log-text", "value"),
-                       done.stdout.decode(), log)
+            self.check(f"seed {SEED}, times {number}: added as by the program", of(b, "#log-text", "value"), filled,
+                       log)
         self.check_all("lost slots were offered", offered > 20, True)
         hour = f"{HI} @2026/11/26 10:00:00.00\nC201 2150 4A4F 0D20 @2026/11/26 11:00:00.00\n"
         call(b, "logTab.open", hour, {"pi": "C201", "m": 128, "k": 0})
@@ -288,7 +295,7 @@ class LogTab:
         used = clicks(lambda: click(b, "#tab-log"), file, lambda: call(b, "probe.choose", "log-find", "news"),
                       lambda: click(b, "#log-changes button"))
         self.check("when did the text change", (used <= 4, text_of(b, "#log-time output")),
-                   (True, "slot 101 of 300 · 8.85 s"))
+                   (True, "slot 101 of 300 · line 102 · 8.85 s"))
         call(b, "probe.choose", "log-find", "")
         first_examples(b)
 

@@ -39,7 +39,7 @@ class Chromium(ChromiumCase):
             ways = (("an example", lambda: call(b, "probe.choose", "script-example", 2)),
                     ("a file", lambda: call(b, "probe.pick", "script-file", "own.csv", other)),
                     ("a dropped file", lambda: call(b, "probe.drop", "own.csv", other)),
-                    ("a link", lambda: b.run(f"location.hash = 'script={packed(other.encode())}&m=4&k=2'")))
+                    ("a link", lambda: b.run(f"location.hash = 'script={packed(other.encode())}&m=4&k=2&end'")))
             for what, does in ways:
                 open_script(b, script, m=8, k=0)
                 b.run("scriptTab.timeline.move(3)")

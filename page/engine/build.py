@@ -16,9 +16,9 @@ import sys
 
 PAGE_FOLDER = os.path.dirname(os.path.dirname(os.path.abspath(__file__)))
 # Each script uses only names of scripts before it. A worker runs those of WORKER.
-WORKER = ["lines.js", "rdsrt.js", "flag-alone.js", "logfile.js", "arrivals.js", "witness.js", "worker.js"]
+WORKER = ["lines.js", "rdsrt.js", "flag-alone.js", "logfile.js", "witness.js", "worker.js"]
 PAGE = ["lines.js", "rdsrt.js", "records.js", "flag-alone.js", "logfile.js", "painter.js", "picture.js", "timeline.js", "parts.js",
-        "undo.js", "links.js", "log-worker.js", "log-text.js", "groups.js", "changes.js", "verdict.js", "log.js", "script.js", "dwell.js", "app.js"]
+        "undo.js", "links.js", "log-worker.js", "log-text.js", "groups.js", "changes.js", "verdict.js", "passing.js", "log.js", "script.js", "dwell.js", "app.js"]
 DEFINED = re.compile(r"^(?:const|class) (\w+)", re.M)
 
 ENCODE = ["encode", "--pi", "C201", "--pty", "10", "--m", "8"]
