@@ -1,8 +1,10 @@
 """examples/monitor: several stations beside decode and examples/json, metrics, the unit file, GNU parallel."""
+import contextlib
 import json
 import os
 import re
 import select
+import signal
 import subprocess
 import sys
 import time
@@ -61,10 +63,10 @@ def series(metrics):
     values, types = {}, {}
     with open(metrics, encoding="utf-8") as file:
         for line in file:
-            found = re.fullmatch(r'(\w+)\{station="((?:[^"\\]|\\.)*)",pi="([0-9A-F]{4})"\} (-?[\d.]+)\n', line)
+            found = re.fullmatch(r'(\w+)(?:\{station="((?:[^"\\]|\\.)*)",pi="([0-9A-F]{4})"\})? (-?[\d.]+)\n', line)
             head = re.fullmatch(r"# (?:HELP (\w+) .+|TYPE (\w+) (counter|gauge))\n", line)
             if found:
-                values[found[1], re.sub(r"\\(.)", r"\1", found[2])] = float(found[4])
+                values[found[1], re.sub(r"\\(.)", r"\1", found[2] or "")] = float(found[4])
             elif head and head[2]:
                 types[head[2]] = head[3]
             elif not head:
@@ -99,7 +101,8 @@ class Monitor(PackageCase):
             self.check(f"text of {name}", values["rdsrt_text_shown", name], is_shown)
             self.check(f"age of {name}", 0 <= values["rdsrt_text_age_seconds", name] < SECONDS, True)
         self.check("no audit", [it for it in values if it[0] == "rdsrt_audit_fault"], [])
-        self.check("types", types, {**{f"rdsrt_{it}_total": "counter" for it in counts}, "rdsrt_text_shown": "gauge",
+        self.check("when it was written", time.time() - values["rdsrt_written_seconds", ""] < SECONDS, True)
+        self.check("types", types, {"rdsrt_written_seconds": "gauge", **{f"rdsrt_{it}_total": "counter" for it in counts}, "rdsrt_text_shown": "gauge",
                                         "rdsrt_text_age_seconds": "gauge", "rdsrt_audit_fault": "gauge"})
         self.check("the new file is renamed", sorted(os.listdir(self.folder)), ["rdsrt.prom", "stations"])
 
@@ -154,8 +157,68 @@ class Monitor(PackageCase):
         done = subprocess.run([MONITOR, "/nowhere"], stdin=subprocess.DEVNULL, capture_output=True, timeout=SECONDS,
                               env=self.names)
         self.check("no file", (done.returncode, done.stderr.startswith(b"monitor: ")), (2, True))
-        self.check("metrics in no folder", ran(self.folder, self.names, "A C201\n", "", "--metrics", "/nowhere/m")[:2],
-                   (1, []))
+
+    def test_metrics_that_cannot_be_written_are_told_once_and_tried_again(self):
+        """The stations go on meanwhile."""
+        metrics, told = os.path.join(self.folder, "later/rdsrt.prom"), "No such file or directory; the next one is tried\n"
+        with self.live("A C201\n", "--metrics", metrics, "--every", "0.1") as program:
+            self.check("told", program.stderr.readline(), f"monitor: {metrics}: {told}".encode())
+            self.check("goes on", self.object_after(program, f"A {HI}\n")["radiotext"], "HI")
+            os.mkdir(os.path.dirname(metrics))
+            self.check("tried again", self.value(metrics, "rdsrt_text_shown", 1), 1)
+            program.stdin.close()
+            self.check("no other word", (program.stderr.read(), program.wait(SECONDS)), (b"", 0))
+        self.check("no file is left over", os.listdir(os.path.dirname(metrics)), ["rdsrt.prom"])
+
+    def test_term_writes_the_last_metrics(self):
+        metrics = os.path.join(self.folder, "rdsrt.prom")
+        with self.live("A C201\n", "--metrics", metrics, "--every", "3600") as program:
+            self.object_after(program, f"A {HI}\n")
+            program.send_signal(signal.SIGTERM)
+            self.check("status", program.wait(SECONDS), 0)
+        self.check("last metrics", series(metrics)[0]["rdsrt_text_shown", "A"], 1)
+
+    def test_hup_reads_the_stations_again_and_keeps_the_texts(self):
+        """A station with another dwell begins anew, and an invalid file changes nothing."""
+        metrics = os.path.join(self.folder, "rdsrt.prom")
+        with self.live("A C201\nB C201\n", "--metrics", metrics, "--every", "0.1", "--time") as program:
+            began = self.object_after(program, f"A {HI}\n")
+            self.check("the time", began["rx_time"][:2], "20")
+            self.object_after(program, f"B {HI}\n")
+            for table in ("A C20G\n", "A C201\nB C201 64\nC C202\n"):
+                with open(os.path.join(self.folder, "stations"), "w", encoding="utf-8") as file:
+                    file.write(table)
+                program.send_signal(signal.SIGHUP)
+                if "C20G" in table:
+                    self.check("invalid", b"line 1 is not" in program.stderr.readline(), True)
+            self.check("a new station", self.value(metrics, "rdsrt_slots_total", 0, "C"), 0)
+            values, _ = series(metrics)
+            self.check("texts", [values["rdsrt_text_shown", name] for name in "ABC"], [1, 0, 0])
+            program.stdin.close()
+            self.check("status", program.wait(SECONDS), 0)
+
+    def live(self, table, *words):
+        """Returns a monitor of these stations that waits for lines."""
+        stations = os.path.join(self.folder, "stations")
+        with open(stations, "w", encoding="utf-8") as file:
+            file.write(table)
+        return subprocess.Popen([MONITOR, *words, stations], stdin=subprocess.PIPE, stdout=subprocess.PIPE,
+                                stderr=subprocess.PIPE, bufsize=0, env=self.names)
+
+    def object_after(self, program, line):
+        """Returns the object that comes after this line."""
+        program.stdin.write(line.encode())
+        self.check(f"an object after {line!r}", bool(select.select([program.stdout], [], [], PROMPT)[0]), True)
+        return json.loads(program.stdout.readline())
+
+    def value(self, metrics, name, wanted, station="A"):
+        """Returns the value of a metric, once it is the one that is wanted or time is up."""
+        end, found = time.monotonic() + PROMPT, None
+        while found != wanted and time.monotonic() < end:
+            time.sleep(0.05)
+            with contextlib.suppress(OSError):
+                found = series(metrics)[0].get((name, station))
+        return found
 
     @needs("parallel", package="parallel")
     def test_the_guides_lines_share_stations_among_machines(self):

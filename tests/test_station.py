@@ -12,10 +12,10 @@ import subprocess
 import tempfile
 import time
 
+from tests.slot import SLOT
 from tests.support import PROGRAM, SECONDS, Case, bytes_of, path
 
 STATION = path("examples/station")
-SLOT = 104 / 1187.5
 SEED = 20261125
 LOST = "---- ---- ---- ----"
 
