@@ -1,10 +1,14 @@
 """Logs of any length, from a fixed seed: texts with their tags, names and announcements, other groups between, one slot
 in ten lost, and behind the blocks the time stamps that RDS Spy writes.
 """
+import os
 import random
+import sys
+
+sys.path.insert(1, os.path.dirname(os.path.dirname(os.path.abspath(__file__))))
+from tests.slot import SLOT
 
 SEED = 20261122
-SLOT_SECONDS = 104 / 1187.5
 WORDS = ["ABBA", "WATERLOO", "NEWS", "TRAFFIC", "FIRST SONG", "OTHER SONG", "WEATHER", "JAZZ"]
 
 
@@ -25,7 +29,7 @@ def segment_line(number, flag, address, piece):
 
 def stamp(slot):
     """The time of a slot, as RDS Spy writes it."""
-    hours, seconds = divmod(slot * SLOT_SECONDS, 3600)
+    hours, seconds = divmod(slot * SLOT, 3600)
     return f"@2024/01/01 {int(12 + hours) % 24:02d}:{int(seconds // 60):02d}:{int(seconds % 60):02d}.{int(seconds * 100 % 100):02d}"
 
 
