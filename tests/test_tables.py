@@ -1,8 +1,9 @@
-"""Tables that other languages repeat are those of the program: the default dwell, and the names of content types."""
+"""What other languages repeat is that of the program: the default dwell, content types, the time of a slot."""
 import re
 
 from tests.calls import DECODE
-from tests.support import ProgramCase, bytes_of, ran
+from tests.slot import NINETEEN_SLOTS
+from tests.support import ProgramCase, ran, text_of
 
 # each place of the default dwell: a file, and the pattern in front of the number
 DWELLS = [
@@ -12,7 +13,6 @@ DWELLS = [
     ("page/index.html", r'id="log-m" min="1" max="65535" value="'),
     ("page/index.html", r'id="dwell-m" min="1" max="65535" value="'),
     ("examples/station", r'"--m", type=int, default='),
-    ("examples/slots", r'"--m", type=int, default='),
     ("docs/GUIDE.md", r"The default is "),
 ]
 # each table of names: a file, and the pattern in front of the names between quotation marks
@@ -21,10 +21,6 @@ NAMES = [
     ("examples/c/decode.c", r"\{\s*(?=\"\", \"ITEM)"),
     ("bench/c/decode.c", r"classes\[12\] = \{"),
 ]
-
-
-def text_of(path):
-    return bytes_of(path).decode()
 
 
 def shown_class(number):
@@ -42,6 +38,15 @@ class Tables(ProgramCase):
         wanted = re.search(rb"-m, --m.*?\[default: (\d+)\]", shown, re.S)[1].decode()
         for path, before in DWELLS:
             self.check(f"{path}: {before}", re.findall(before + r"(\d+)", text_of(path)), [wanted])
+
+    def test_a_slot_of_the_page_is_one_of_slots(self):
+        """In so many microseconds 18 groups are lost, and with one more 19."""
+        for apart, lost in ((NINETEEN_SLOTS, 18), (NINETEEN_SLOTS + 1, 19)):
+            log = "".join(f"C201 2140 4849 0D20 {time / 1e6:.6f}\n" for time in (0, apart))
+            _, output = ran(["slots", "--grain", "0"], log.encode())
+            self.check(f"{apart} us", output.count(b"----\n"), lost)
+        bits, rate = re.search(r"const SLOT = (\d+) / ([\d.]+);", text_of("page/lines.js")).groups()
+        self.check("page/lines.js", round(19e6 * int(bits) / float(rate)), NINETEEN_SLOTS)
 
     def test_the_names_of_content_types_are_those_of_the_output(self):
         wanted = [shown_class(number) for number in range(1, 13)]
