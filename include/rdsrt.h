@@ -24,6 +24,12 @@
  * For example, C201 2140 4849 0D20 is a group of programme C201 with the whole text "HI". After one call with it the
  * view shows HI.
  *
+ * BLOCKS. A block is a number: its first bit on the air is bit 15. A tuner chip that gives two bytes, the high byte first,
+ * gives high << 8 | low.
+ *
+ * STATIONS. A receiver takes the groups of one PI, those whose first block is that number, and ages in all other slots. If
+ * you do not know the PI, take the first block of two groups that agree. When you tune to another PI, call _init again.
+ *
  * THE DWELL. A receiver drops a text if no part of it arrived for M slots, its dwell. The program rdsrt has M = 128 by
  * default, about 11 s. The station needs the same M or a larger one, and spaces its texts by M slots. Then no text or
  * name that the receiver shows is a mix of two, whichever groups it lost, and each was on air within the last M slots.
@@ -38,8 +44,9 @@
  * within W slots. The station has to space its texts by M + K + W - 1 slots. For example, for a station with M = 128 and
  * groups that come on time, give the receiver M = 64 and W = 65.
  *
- * MEMORY. You hold each struct. It has no pointers: copy it, move it, save it, drop it. No call allocates, waits,
- * prints, keeps a pointer or has a state of its own. Threads may call at the same time on different structs.
+ * MEMORY. You hold each struct. It has no pointers: copy it, move it, save it, drop it. Its saved bytes belong to one
+ * RDSRT_ABI and one byte order. No call allocates, waits, prints, keeps a pointer or has a state of its own. Threads may
+ * call at the same time on different structs.
  *
  * LINK with -lrdsrt. pkg-config knows the library as rdsrt. CMake finds it by find_package(rdsrt), as rdsrt::rdsrt and
  * rdsrt::static. It needs memcpy, memset, memmove and memcmp at most.
