@@ -235,6 +235,17 @@ def readme(check, folder, prefix, compiler="cc", runner=()):
     check("README's lines of C", output([*runner, program], env=paths), (0, b"HI\n"))
 
 
+def typed(check, folder, prefix):
+    """Types README's commands for C in a shell whose home has the installed library, and checks that they print HI."""
+    write_hi(folder)
+    home = os.path.join(folder, "home")
+    os.mkdir(home)
+    os.symlink(prefix, os.path.join(home, "rdsrt"))
+    lines = re.search(r"```sh\n(export PKG_CONFIG_PATH=.*?)```", text_of("README.md"), re.S).group(1)
+    call = ["sh", "-ec", f"cd '{folder}'\n{lines}"]
+    check("README's commands for C", output(call, env=dict(os.environ, HOME=home)), (0, b"HI\n"))
+
+
 def cmake(check, folder, prefix):
     """Checks that CMake finds the library for the versions that fit, and that README's lines of C show HI by either
     library.

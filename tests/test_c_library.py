@@ -86,6 +86,7 @@ class Install(Case):
 
     def test_pkg_config_finds_the_library(self):
         c_library.readme(self.check, self.folder, self.prefix)
+        c_library.typed(self.check, temporary_folder(self), self.prefix)
 
     @needs("cmake")
     def test_cmake_finds_the_library_for_the_versions_that_fit(self):
