@@ -1,0 +1,175 @@
+/* Plays a station over white noise, with a decoder that corrects bursts of wrong bits: how many wrong texts do two kinds of
+ * receivers of the C library show, and when do they show the right one?
+ *
+ * usage: noise DECIBELS BITS HOURS SEED     the energy of a bit over the density of the noise; the longest burst that is
+ *                                           corrected in a block, in bits
+ *
+ * Biphase symbols are decided one by one, and a bit says whether a symbol differs from the one before. The station is an
+ * encoder with M = 128. It sets a text of 64 characters each 4000 slots. One slot in two is free, so a segment of the text
+ * goes each four slots, and its round is 64 slots. The receivers are rdsrt_receiver with M = 128, and rdsrt_twice with
+ * M = 64 and W = 65. A text that is shown is wrong if it was on air in none of the last 128 slots.
+ *
+ * Prints one line of numbers: slots, received groups, wrong groups, and for each receiver wrong texts and the mean slots
+ * from the set of a text to its display. */
+#include <math.h>
+#include <rdsrt.h>
+#include <stdio.h>
+#include <stdlib.h>
+#include <string.h>
+
+enum { PI = 0xC201, TEXT = 64, SPACING = 128, EVERY = 4000, ONE_IN = 2, BITS = 26, CHECK = 10, GENERATOR = 0x5B9 };
+
+/* A shift register with a period of 2^128 - 1 (xorshift128+). */
+static uint64_t seeds[2];
+static uint64_t chosen(void) {
+    uint64_t a = seeds[0], b = seeds[1];
+    seeds[0] = b;
+    a ^= a << 23;
+    seeds[1] = a ^ b ^ (a >> 18) ^ (b >> 5);
+    return seeds[1] + b;
+}
+
+/* ---- The channel and the decoder ---- */
+
+static struct {
+    double log_right;                       /* of the chance of a right symbol */
+    long right;                             /* right symbols before the next wrong one */
+    int was_wrong;
+    uint32_t error[1 << CHECK];             /* of each syndrome that is corrected */
+    char corrects[1 << CHECK];
+} channel;
+
+static uint32_t syndrome(uint32_t block) {
+    for (int at = BITS - 1; at >= CHECK; at--)
+        if (block >> at & 1) block ^= (uint32_t)GENERATOR << (at - CHECK);
+    return block;
+}
+
+static void corrects_bursts(int longest) {
+    channel.corrects[0] = 1;
+    for (int length = 1; length <= longest; length++) {
+        int inner = length > 2 ? 1 << (length - 2) : 1;
+        for (int in = 0; in < inner; in++) {
+            uint32_t burst = length == 1 ? 1 : 1u << (length - 1) | 1u | (uint32_t)in << 1;
+            for (int at = 0; at + length <= BITS; at++) {
+                channel.corrects[syndrome(burst << at)] = 1;
+                channel.error[syndrome(burst << at)] = burst << at;
+            }
+        }
+    }
+}
+
+static int next_is_wrong(void) {
+    if (channel.right-- > 0) return 0;
+    double any = (double)((chosen() >> 11) + 1) * 0x1p-53;
+    channel.right = (long)(log(any) / channel.log_right);
+    return 1;
+}
+
+/* Sends a block. Returns whether one was decoded, which may be a wrong one. */
+static int send(uint16_t *word) {
+    uint32_t wrong = 0;
+    for (int at = BITS - 1; at >= 0; at--) {
+        int is_wrong = next_is_wrong();
+        if (is_wrong != channel.was_wrong) wrong |= 1u << at;
+        channel.was_wrong = is_wrong;
+    }
+    uint32_t found = syndrome(wrong);
+    *word ^= (uint16_t)((wrong ^ channel.error[found]) >> CHECK);
+    return channel.corrects[found];
+}
+
+/* ---- The texts ---- */
+
+/* The text on air, the one before, and when the one on air was set. */
+static struct {
+    uint8_t now[TEXT], before[TEXT];
+    long since, count;
+} on_air = {.since = -SPACING};
+
+static void set_text(struct rdsrt_encoder *encoder, long slot) {
+    memcpy(on_air.before, on_air.now, TEXT);
+    for (int at = 0; at < TEXT; at++) on_air.now[at] = (uint8_t)('A' + chosen() % 26);
+    on_air.since = slot;
+    on_air.count++;
+    if (rdsrt_encoder_set_text(encoder, on_air.now, TEXT).code != RDSRT_OK) exit(1);
+}
+
+/* What a receiver showed so far. */
+struct display {
+    uint8_t shown[TEXT];
+    int is_wrong, is_right;
+    long wrong, right, slots;
+};
+
+static void look(struct display *it, const struct rdsrt_view *view, long slot) {
+    const struct rdsrt_text *text = &view->text;
+    int is_whole = text->is_shown && text->length == TEXT;
+    int is_now = is_whole && memcmp(text->bytes, on_air.now, TEXT) == 0;
+    int is_before = is_whole && slot < on_air.since + SPACING && memcmp(text->bytes, on_air.before, TEXT) == 0;
+    int is_wrong = text->is_shown && !is_now && !is_before;
+    if (is_wrong && !(it->is_wrong && memcmp(text->bytes, it->shown, TEXT) == 0)) it->wrong++;
+    if (is_now && !it->is_right) {
+        it->right++;
+        it->slots += slot - on_air.since + 1;
+    }
+    it->is_right = it->is_right || is_now;
+    it->is_wrong = is_wrong;
+    memcpy(it->shown, text->bytes, TEXT);
+}
+
+static double mean_slots(const struct display *it) {
+    return it->right ? (double)it->slots / (double)it->right : 0;
+}
+
+/* The group of this slot: the encoder's, or in a slot that it has not one of the station's name. */
+static void group_of(struct rdsrt_encoder *encoder, long slot, uint16_t blocks[4]) {
+    if (rdsrt_encoder_tick(encoder, slot % ONE_IN == 0, blocks) == RDSRT_SENT) return;
+    uint16_t name[4] = {PI, 0x0548, 0xE20F, 0x4142};
+    memcpy(blocks, name, sizeof name);
+}
+
+int main(int count, char **words) {
+    if (count != 5) return 2;
+    double decibels = atof(words[1]), hours = atof(words[3]);
+    channel.log_right = log1p(-erfc(sqrt(pow(10, decibels / 10))) / 2);
+    corrects_bursts(atoi(words[2]));
+    seeds[0] = (uint64_t)atol(words[4]) * 7919 + 1;
+    seeds[1] = UINT64_C(88172645463325252);
+    struct rdsrt_encoder encoder;
+    struct rdsrt_receiver once;
+    struct rdsrt_twice twice;
+    struct display of_once = {.is_right = 0}, of_twice = {.is_right = 0};
+    struct rdsrt_view view;
+    rdsrt_encoder_init(&encoder, PI, 0, 10, SPACING, 0);
+    rdsrt_receiver_init(&once, PI, SPACING);
+    rdsrt_twice_init(&twice, PI, 64, 65);
+    long slots = (long)(hours * 3.6e12 / (double)rdsrt_slot_time(1000000) * 1000), received = 0, wrong = 0;
+    for (long slot = 0; slot < slots; slot++) {
+        uint16_t sent[4], blocks[4];
+        if (slot % EVERY == SPACING) {
+            set_text(&encoder, slot);
+            of_once.is_right = of_twice.is_right = 0;
+        }
+        group_of(&encoder, slot, sent);
+        memcpy(blocks, sent, sizeof sent);
+        int is_whole = 1;
+        for (int at = 0; at < 4; at++) is_whole &= send(&blocks[at]);
+        is_whole = is_whole && blocks[0] == PI;
+        received += is_whole;
+        wrong += is_whole && memcmp(blocks, sent, sizeof sent) != 0;
+        size_t words = is_whole ? 4 : 0;
+        if (rdsrt_receiver_slot(&once, blocks, words) == RDSRT_CHANGED) {
+            rdsrt_receiver_view(&once, &view);
+            look(&of_once, &view, slot);
+        }
+        if (rdsrt_twice_slot(&twice, blocks, words) == RDSRT_CHANGED) {
+            rdsrt_twice_view(&twice, &view);
+            look(&of_twice, &view, slot);
+        }
+    }
+    printf("%ld %ld %ld", slots, received, wrong);
+    printf(" %ld %.0f", of_once.wrong, mean_slots(&of_once));
+    printf(" %ld %.0f\n", of_twice.wrong, mean_slots(&of_twice));
+    return 0;
+}
