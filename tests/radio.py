@@ -19,8 +19,9 @@ SECONDS = 100
 SAMPLES_A_SLOT = 104 * 144
 WORDS = "ABBA WATERLOO NEWS JAZZ WEATHER SONG NIGHT TRAIN SUN MOON RIVER HOUSE".split()
 
-# programme, slots, dwell, decibels, seed, fades as slots, and whether another station is heard in them
-Case = collections.namedtuple("Case", "name slots dwell decibels seed fades other")
+# programme, slots, dwell, decibels, seed, fades as slots, whether another station is heard in them, and the longest burst
+# of wrong bits that is corrected in a block
+Case = collections.namedtuple("Case", "name slots dwell decibels seed fades other correct", defaults=[0])
 Heard = collections.namedtuple("Heard", "texts sent lines")
 
 
@@ -77,7 +78,7 @@ def heard(case, folder):
             # slots of another station begin at other times
             file.write(made[2 * SAMPLES_A_SLOT // 3:])
         air.append(samples)
-    steps = [TRANSMIT, "--pi", "C201"], air, [RECEIVE, "--pi", "C201"]
+    steps = [TRANSMIT, "--pi", "C201"], air, [RECEIVE, "--pi", "C201", "--correct", str(case.correct)]
     call = "set -o pipefail; " + " | ".join(map(shlex.join, steps))
     done = subprocess.run(["bash", "-c", call], input=log, stdout=subprocess.PIPE, stderr=subprocess.DEVNULL,
                           timeout=SECONDS, check=True)
@@ -85,12 +86,11 @@ def heard(case, folder):
     return Heard(texts, sent, done.stdout.decode().splitlines())
 
 
-def shown(lines, dwell):
-    """Returns the texts that `decode` shows of these lines."""
+def shown(lines, *words):
+    """Returns the texts that `decode` with these arguments shows of these lines."""
     given = "".join(f"{line}\n" for line in lines).encode()
-    words = [PROGRAM, "decode", "--pi", "C201", "--m", str(dwell)]
-    output = subprocess.run(words, input=given, stdout=subprocess.PIPE, stderr=subprocess.DEVNULL, timeout=SECONDS,
-                            check=True).stdout
+    output = subprocess.run([PROGRAM, "decode", "--pi", "C201", *words], input=given, stdout=subprocess.PIPE,
+                            stderr=subprocess.DEVNULL, timeout=SECONDS, check=True).stdout
     return re.findall(r'^\d+ text "(.*)"$', output.decode(), re.M)
 
 
@@ -100,6 +100,16 @@ def is_of(line, sent):
     return line in (LOST, sent) or (sent == LOST and re.fullmatch("C201 000[0-3] E0CD [0-9A-F]{4}", line) is not None)
 
 
-def never_set(lines, case, texts):
-    """Returns the texts that `decode` shows although no station set them."""
-    return [text for text in shown(lines, case.dwell) if text not in texts]
+def once(case):
+    """Returns the arguments of `decode` for the station's dwell."""
+    return "--m", str(case.dwell)
+
+
+def twice(case):
+    """Returns those of a receiver that shows only what it heard twice, and needs the same spacing of the station."""
+    return "--m", str(case.dwell // 2), "--confirm", str(case.dwell // 2 + 1)
+
+
+def never_set(shown_texts, texts):
+    """Returns the texts that were shown although no station set them."""
+    return [text for text in shown_texts if text not in texts]

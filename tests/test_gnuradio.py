@@ -37,11 +37,25 @@ class GnuRadio(Case):
         self.check(f"seed {case.seed}: no line too many, or too few", case.slots - 4 <= len(got.lines) <= case.slots,
                    True)
         self.check(f"seed {case.seed}: most that could be heard", len(groups) > 0.8 * (case.slots - away), True)
-        self.check(f"seed {case.seed}: texts are shown", len(radio.shown(got.lines, case.dwell)) > 5, True)
-        self.check(f"seed {case.seed}: none that was never set", radio.never_set(got.lines, case, got.texts), [])
+        texts = radio.shown(got.lines, *radio.once(case))
+        self.check(f"seed {case.seed}: texts are shown", len(texts) > 5, True)
+        self.check(f"seed {case.seed}: none that was never set", radio.never_set(texts, got.texts), [])
         if case.fades:
-            mixed = radio.never_set(groups, case, got.texts)
+            mixed = radio.never_set(radio.shown(groups, *radio.once(case)), got.texts)
             self.check(f"seed {case.seed}: some without the lost lines", bool(mixed), True)
+
+    def test_corrected_bits(self):
+        """At 5 dB correction gives nearly every group, and no wrong text is shown by a receiver that hears twice."""
+        plain = radio.Case("5 dB", 1700, 128, 5, 4, [], False)
+        corrected = plain._replace(correct=2)
+        counts = []
+        for case in (plain, corrected):
+            got = radio.heard(case, temporary_folder(self))
+            counts.append(sum(line != radio.LOST for line in got.lines))
+        texts = radio.shown(got.lines, *radio.twice(corrected))
+        self.check("more groups with corrected bits", counts[1] > 1.3 * counts[0], True)
+        self.check("texts are shown", len(texts) > 2, True)
+        self.check("none that was never set", radio.never_set(texts, got.texts), [])
 
     def test_lines_come_while_the_samples_come(self):
         """They come in a fade too."""
@@ -67,7 +81,7 @@ class GnuRadio(Case):
 
     def test_wrong_arguments_and_full_output_are_refused(self):
         rows = [([radio.TRANSMIT], b"", 2), ([radio.TRANSMIT, "--pi", "C20"], b"", 2), ([radio.RECEIVE], b"", 2),
-                ([radio.RECEIVE, "--pi", "x"], b"", 2), ([radio.TRANSMIT, "--pi", "C201"], b"C201 2140 4849\n", 1),
+                ([radio.RECEIVE, "--pi", "x"], b"", 2), ([radio.RECEIVE, "--pi", "C201", "--correct", "6"], b"", 2), ([radio.TRANSMIT, "--pi", "C201"], b"C201 2140 4849\n", 1),
                 ([radio.TRANSMIT, "--pi", "C201", "--name", "NINE CHAR"], b"", 2),
                 ([radio.RECEIVE, "--pi", "C201"], b"", 0), ([radio.TRANSMIT, "--help"], b"", 0),
                 ([radio.RECEIVE, "--help"], b"", 0)]
