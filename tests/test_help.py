@@ -38,6 +38,7 @@ SHOWN = [
     ("no_value", ["decode", "--pi"], 2),
     ("extra_word", ["decode", "--pi", "C201", "C201"], 2),
     ("no_dwell", ["decode", "--pi", "C201", "--m", "0"], 2),
+    ("small_window", ["decode", "--pi", "C201", "--confirm", "1"], 2),
     ("large_programme_type", ["encode", "--pi", "C201", "--pty", "32"], 2),
 ]
 # arguments that decide alone, and the status
@@ -51,6 +52,9 @@ DECIDED = [
     *((words, 0) for name in COMMANDS for words in ([name, "--help"], [name, "-h"], ["help", name])),
     (["slots", "--pi", "C20"], 2), (["slots", "--m", "0"], 2), (["slots", "--grain", "88"], 2),
     (["slots", "--grain", "-1"], 2), (["slots", "--grain", "8", "--grain", "8"], 2), ([*DECODE, "--grain", "8"], 2),
+    *(([*DECODE, "--confirm", given], 2) for given in ("0", "1", "256", "-2", "", "x")), ([*DECODE, "--confirm"], 2),
+    ([*DECODE, "--confirm", "2", "--confirm", "2"], 2),
+    *(([name, "--pi", "C201", "--confirm", "65"], 2) for name in COMMANDS if name != "decode"),
     ([*DECODE, "--running"], 2), (["audit", "--pi", "C201", "--running", "--running"], 2),
     *(([name, "--pi", given], 2) for name in OF_A_STATION for given in ("", "C20", " C201", "C2011", "C20G")),
 ]

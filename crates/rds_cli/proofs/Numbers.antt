@@ -42,6 +42,13 @@ above least most n h = go (nat_le least n) (nat_le n most) refl
     go true false e = refl
     go true true e = let low = leb-true n most e in absurd (omega arith)
 
+below : (least most n : ℕ) → n < least → between least most n ≡ None
+below least most n h = go (nat_le least n) (nat_le n most) refl
+  where
+    go : (a b : Bool) → nat_le least n ≡ a → (if a && b then Some n else None) ≡ None
+    go false b e = refl
+    go true b e = let low = leb-true least n e in absurd (omega arith)
+
 read_number : (k least most : ℕ) {E : Type 0} (G : Text → Result ℕ E → Type 0) (o : Option Text) (r : Option ℕ) → (o ≡ None → r ≡ None)
     → ((t : Text) → o ≡ Some t → ReadsOne G t r) → ((t : Text) (x : Result ℕ E) → G t x → ParsesUnsigned k 10 t x) → most < 2 ^ k
     → option_and_then (number_from_to least most) o ≡ option_and_then (between least most) r
@@ -123,3 +130,18 @@ grain_between n None some value = elim (cases_lt n 88) [
 grain_between n (Some d) some value =
     let small = some.0 refl in
     rw (le-leb 0 n (omega arith), le-leb n 87 (omega (arith, small))) (ap Some value)
+
+-- a window is a number of slots from 2 to 255
+pub window_between : (n : ℕ) (o : Option ℕ) → IsSome o ↔ ((1 < n) × (n < 256)) → IfSome o (λ w. w ≡ n) → o ≡ between 2 255 n
+window_between n None some value = elim (cases_lt 1 n) [
+  | inl large ↦ elim (cases_lt n 256) [
+    | inl small ↦
+        let here : IsSome {T = ℕ} None = some.1 (large, small) in
+        cc
+    | inr h ↦ sym (above 2 255 n h)
+  ]
+  | inr h ↦ sym (below 2 255 n (omega (arith, h)))
+]
+window_between n (Some w) some value =
+    let (large, small) = some.0 refl in
+    rw (le-leb 2 n large, le-leb n 255 (omega (arith, small))) (ap Some value)

@@ -83,6 +83,18 @@ quiet_rule = flag_rule (codes "quiet")
 unfoldable pub log_app : Text → App
 log_app name = with_rule (with_rule (with_rule (new_app name) pi_rule) dwell_rule) quiet_rule
 
+-- `--confirm W`, from 2 to 255, which may be given
+abbrev pub confirm_rule : Rule
+confirm_rule = record (new_rule (codes "confirm")) {
+  long = Some (codes "confirm");
+  value_names = 1;
+  parser = Some (Signed (pos 2) (pos 255));
+}
+
+-- the subcommand that decodes a log
+unfoldable pub decode_app : Text → App
+decode_app name = with_rule (log_app name) confirm_rule
+
 -- a subcommand that takes `--k`
 unfoldable pub late_app : Text → App
 late_app name = with_rule (log_app name) late_rule
@@ -112,14 +124,14 @@ abbrev pub top_app : App
 top_app = on_top (λ s. record s { has_version = true; subcommand_required = true }) (new_app (codes "rdsrt"))
 
 -- with the subcommand `decode` alone
-abbrev pub decoder_app : App
-decoder_app = with_subcommand top_app (log_app (codes "decode")).top
+abbrev pub with_decode_app : App
+with_decode_app = with_subcommand top_app (decode_app (codes "decode")).top
 
 -- with the subcommands that read a log
 unfoldable pub log_readers_app : App
 log_readers_app =
     with_subcommand
-    (with_subcommand (with_subcommand decoder_app (audit_app (codes "audit")).top) (log_app (codes "witness")).top)
+    (with_subcommand (with_subcommand with_decode_app (audit_app (codes "audit")).top) (log_app (codes "witness")).top)
     (slots_app (codes "slots")).top
 
 -- with all subcommands except `sim`
@@ -181,9 +193,16 @@ running_in = flag_in (codes "running")
 abbrev pub quiet_in : List Row → Bool
 quiet_in = flag_in (codes "quiet")
 
--- `--pi` is given
-abbrev pub has_pi : List Row → Bool
-has_pi rows = is_some (first_of (codes "pi") rows)
+-- an option has a value
+abbrev pub has_value : Text → List Row → Bool
+has_value name rows = is_some (first_of name rows)
+
+-- the window in slots, or none without `--confirm`
+abbrev pub window_in : List Row → Option (Option ℕ)
+window_in rows =
+    if has_value (codes "confirm") rows
+    then option_map Some (option_and_then (number_from_to 2 255) (one_of (codes "confirm") rows))
+    else Some None
 
 abbrev pub programme_in : List Row → Option Programme
 programme_in rows = option_map (λ pty. record { pty = pty; tp = tp_in rows }) (pty_in rows)
@@ -194,12 +213,12 @@ with_station task rows = option_and_then (λ programme. option_map (task program
 
 abbrev pub task_in : Text → List Row → Option Task
 task_in name rows =
-    if bytes_eq name (codes "decode") then Some Decode
+    if bytes_eq name (codes "decode") then option_map Decode (window_in rows)
     else if bytes_eq name (codes "encode") then with_station Encode rows
     else if bytes_eq name (codes "sim") then with_station Simulate rows
     else if bytes_eq name (codes "audit") then option_map (λ late. Audit late (running_in rows)) (late_in rows)
     else if bytes_eq name (codes "witness") then Some Witness
-    else if bytes_eq name (codes "slots") then option_map (λ grain. Slots grain (has_pi rows)) (grain_in rows)
+    else if bytes_eq name (codes "slots") then option_map (λ grain. Slots grain (has_value (codes "pi") rows)) (grain_in rows)
     else None
 
 abbrev pub asked : Option Task → Option Text → Option ℕ → Bool → Option Requested

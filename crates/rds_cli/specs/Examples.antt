@@ -1,5 +1,5 @@
 -- Written-out arguments, and what they ask for.
-use Rattle.std.specs.Prelude.{◌≡◌, ◌==◌, ◌∷◌, ℕ, Bool, List, [], codes, false, true, if◌then◌else◌}
+use Rattle.std.specs.Prelude.{◌≡◌, ◌==◌, ◌∷◌, ℕ, Bool, List, [], None, Some, codes, false, true, if◌then◌else◌}
 use Rattle.clap.specs.Words.{Text, fault_of, takes}
 use Rattle.clap.specs.declared.error.kind.ErrorKind.TheVariants.{DisplayHelp, InvalidSubcommand}
 use Rattle.rds_cli.specs.CommandLine.{AreRefused, Requested, whole_app}
@@ -25,7 +25,11 @@ pub record CallForHelp (words : List Text) : Type 0 where
   pub kinds : fault_of whole_app words ≡ DisplayHelp ∷ InvalidSubcommand ∷ []
 
 abbrev pub decoding : Text → ℕ → Requested
-decoding pi dwell = record { task = Decode; pi = pi; dwell = dwell; quiet = false }
+decoding pi dwell = record { task = Decode None; pi = pi; dwell = dwell; quiet = false }
+
+-- the same of what was heard twice within a window
+abbrev pub confirming : ℕ → ℕ → Requested
+confirming dwell window = record { task = Decode (Some window); pi = codes "C201"; dwell = dwell; quiet = false }
 
 abbrev pub encoding : ℕ → ℕ → Requested
 encoding dwell pty =

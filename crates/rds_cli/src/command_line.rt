@@ -2,7 +2,8 @@
 ghost use Rattle.std.specs.Prelude.{◌≡◌, IfOk, codes, false};
 ghost use Rattle.clap.specs.Words.{App, app_of, rule_of, with_subcommand};
 ghost use Rattle.clap.specs.declared.builder.command.Command.TheViews.{out-Command};
-ghost use Rattle.rds_cli.specs.CommandLine.{audit_app, dwell_rule, flag_rule, grain_rule, late_app, late_rule};
+ghost use Rattle.rds_cli.specs.CommandLine.{audit_app, confirm_rule, decode_app, dwell_rule, flag_rule, grain_rule};
+ghost use Rattle.rds_cli.specs.CommandLine.{late_app, late_rule};
 ghost use Rattle.rds_cli.specs.CommandLine.{log_app, number_rule, own_pi_rule, pi_rule, pty_rule, quiet_rule};
 ghost use Rattle.rds_cli.specs.CommandLine.{running_rule, slots_app, station_app, timed_app, top_app, tp_rule, whole_app};
 
@@ -74,6 +75,25 @@ fn dwell<'a>(alloc: Global) -> Arg<'a>
              A receiver drops a text if no part of it arrived for M slots. The station needs\n\
              the same M or a larger one. Then no receiver shows a mix of two texts.",
     )
+}
+
+/// Makes the option `--confirm`, which has no default.
+fn confirm<'a>(alloc: Global) -> Arg<'a>
+    ensures rule { rule_of result ≡ confirm_rule }
+    ensures local { result.global ≡ false }
+{
+    Arg::new(alloc, "confirm")
+        .long("confirm")
+        .value_name("W")
+        .value_parser(value_parser!(u16).range(2..256))
+        .help("Shows only what was received twice within W slots, 2 to 255")
+        .long_help(
+            "Shows only what was received twice within W slots, 2 to 255. Give it if the receiver\n\
+             corrects bits, because then some of its groups are wrong. Correct at most 2 bits of\n\
+             a block: with 5 bits it shows more wrong texts. W has to be longer than the station's\n\
+             round, the time from a segment to the same one. The station has to space its texts\n\
+             by M + K + W - 1 slots: one with an M of 128 serves -m 64 --confirm 65 if K is 0.",
+        )
 }
 
 /// Makes the option `-k`, `--k`.
@@ -179,8 +199,9 @@ fn log_reader<'a>(alloc: Global, name: &'a str, page: Page<'a>) -> Result<Comman
 }
 
 /// Makes the subcommand `decode`.
+#[tactic(auto, unfolding(crate::specs::CommandLine::decode_app))]
 fn decode<'a>(alloc: Global) -> Result<Command<'a>, AllocError>
-    ensures app { IfOk result (λ c. app_of c ≡ log_app (codes "decode")) }
+    ensures app { IfOk result (λ c. app_of c ≡ decode_app (codes "decode")) }
     ensures local { IfOk result (λ c. (out-Command c).has_globals ≡ false) }
 {
     let page = Page {
@@ -194,7 +215,7 @@ fn decode<'a>(alloc: Global) -> Result<Command<'a>, AllocError>
                    $ echo C201 2140 4849 0D20 | rdsrt decode --pi C201\n  \
                    0 text \"HI\"",
     };
-    log_reader(alloc, "decode", page)
+    log_reader(alloc, "decode", page)?.arg(confirm(alloc))
 }
 
 /// Makes a subcommand that takes `--k`.

@@ -1,10 +1,11 @@
 //! What the definition of the command line says of written-out arguments.
 ghost use Rattle.std.specs.Prelude.{codes, false, true};
 ghost use Rattle.rds_cli.specs.CommandLine.{AskFor, AskForHelp, default_dwell};
-ghost use Rattle.rds_cli.specs.Examples.{AreNotTaken, CallForHelp, auditing, auditing_running, decoding, encoding, filling, filling_one, quietly, simulating, typed, witnessing};
+ghost use Rattle.rds_cli.specs.Examples.{AreNotTaken, CallForHelp, auditing, auditing_running, confirming, decoding, encoding, filling, filling_one, quietly, simulating, typed, witnessing};
 
 /// Shows the definition at work. The arguments of README's examples are taken and ask for these tasks. A dwell of 0
-/// slots, a programme type of 32, a subcommand without a programme and a missing subcommand are refused. Help and the
+/// slots, a window of 1 or 256 slots, a programme type of 32, an option of another subcommand, a subcommand without a
+/// programme and a missing subcommand are refused. Help and the
 /// version are answered. `help` followed by a command is not taken, and the definition leaves open whether that gives
 /// help or is refused.
 pub fn words_of_the_examples()
@@ -32,6 +33,10 @@ pub fn words_of_the_examples()
     ensures sim_short { AskFor (typed (codes "rdsrt sim --pi C201 -k 2")) (simulating default_dwell 0 false 2) }
     ensures decode_quiet { AskFor (typed (codes "rdsrt decode --pi C201 --quiet"))
         (quietly (decoding (codes "C201") default_dwell)) }
+    ensures decode_confirm { AskFor (typed (codes "rdsrt decode --pi C201 -m 64 --confirm 65")) (confirming 64 65) }
+    ensures small_window { AreNotTaken (typed (codes "rdsrt decode --pi C201 --confirm 1")) }
+    ensures large_window { AreNotTaken (typed (codes "rdsrt decode --pi C201 --confirm 256")) }
+    ensures audit_confirm { AreNotTaken (typed (codes "rdsrt audit --pi C201 --confirm 65")) }
     ensures sim_quiet { AskFor (typed (codes "rdsrt sim --quiet --pi C201 --pty 10 --tp"))
         (quietly (simulating default_dwell 10 true 0)) }
     ensures help { AskForHelp (typed (codes "rdsrt --help")) }

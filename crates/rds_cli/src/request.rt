@@ -3,8 +3,8 @@ ghost use Rattle.std.specs.Prelude.{◌≡◌, ◌⊎◌, ℕ, IfErr, IfNone, If
 ghost use Rattle.clap.specs.Words.{FailsBy, fault_of, found_of, kind_of, rows_of};
 ghost use Rattle.rds_cli.specs.Asks.{asked_by};
 ghost use Rattle.rds_cli.specs.CommandLine.{AreRefused, AskForHelp, IsPi, TakesWords, asked_in, asked_of};
-ghost use Rattle.rds_cli.specs.CommandLine.{dwell_in, flag_in, grain_in, has_pi, is_shown, late_in, pi_in};
-ghost use Rattle.rds_cli.specs.CommandLine.{programme_in, task_in, whole_app};
+ghost use Rattle.rds_cli.specs.CommandLine.{dwell_in, flag_in, grain_in, has_value, is_shown, late_in, pi_in};
+ghost use Rattle.rds_cli.specs.CommandLine.{programme_in, task_in, whole_app, window_in};
 
 use crate::command_line::whole;
 use clap::error::ErrorKind;
@@ -12,6 +12,7 @@ use clap::{ArgMatches, Error};
 use rds_block::Place;
 use rds_fields::{Dwell, Late};
 use rds_io::word_at;
+use rds_receiver::Window;
 use std::alloc::Global;
 
 /// The programme type and the traffic flag, which every group of a station carries.
@@ -26,8 +27,8 @@ pub struct Programme {
 /// The command. `encode` and `sim` have a station; the lateness is the most slots that a group may come late.
 #[derive(Clone, Copy)]
 pub enum Task {
-    /// Print what a receiver shows of a log.
-    Decode,
+    /// Print what a receiver shows of a log. With a window it shows only what it heard twice within it.
+    Decode(Option<Window>),
     /// Print the groups that a station sends.
     Encode(Programme, Late),
     /// Print what a station sends and what its receivers show.
@@ -109,12 +110,12 @@ fn task_of(name: &str, inner: &ArgMatches<'_>) -> Option<Task>
     ensures { result ≡ task_in name.now (rows_of (found_of inner.now)) }
 {
     match name {
-        "decode" => Some(Task::Decode),
+        "decode" => Some(Task::Decode(window_of(inner)?)),
         "encode" => Some(Task::Encode(programme_of(inner)?, late_of(inner)?)),
         "sim" => Some(Task::Simulate(programme_of(inner)?, late_of(inner)?)),
         "audit" => Some(Task::Audit(late_of(inner)?, is_given(inner, "running"))),
         "witness" => Some(Task::Witness),
-        "slots" => Some(Task::Slots(grain_of(inner)?, has_pi(inner))),
+        "slots" => Some(Task::Slots(grain_of(inner)?, has_value(inner, "pi"))),
         _ => None,
     }
 }
@@ -129,14 +130,24 @@ fn pi_of<'a>(name: &str, inner: &ArgMatches<'a>) -> Option<&'a str>
     if name == "slots" { Some("0000") } else { None }
 }
 
-/// Returns whether `--pi` is given.
-fn has_pi(inner: &ArgMatches<'_>) -> bool
-    ensures { result ≡ has_pi (rows_of (found_of inner.now)) }
+/// Returns whether an option has a value.
+fn has_value(inner: &ArgMatches<'_>, name: &str) -> bool
+    ensures { result ≡ has_value name.now (rows_of (found_of inner.now)) }
 {
-    match inner.get_str("pi") {
+    match inner.get_str(name) {
         Some(_) => true,
         None => false,
     }
+}
+
+/// Reads the window, `None` if none is given.
+fn window_of(inner: &ArgMatches<'_>) -> Option<Option<Window>>
+    ensures { result ≡ window_in (rows_of (found_of inner.now)) }
+{
+    if !has_value(inner, "confirm") {
+        return Some(None);
+    }
+    Some(Some(Window::new(inner.get_one::<u16>("confirm")?)?))
 }
 
 /// Reads the grain.

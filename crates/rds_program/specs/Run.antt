@@ -50,7 +50,7 @@ PutsLine line w = (r : Result (Unit {0}) WriteFault) × Puts w line r
 
 -- the mark before the line of a fault: in the log that `encode` or `slots` writes, the line is a comment
 abbrev pub mark_of : Task → List ℕ
-mark_of Decode = []
+mark_of (Decode window) = []
 mark_of (Encode programme late) = codes "# "
 mark_of (Simulate programme late) = []
 mark_of (Audit late running) = []
@@ -121,9 +121,11 @@ script_in r ReadFailed = record { known = r.before; Failed = ReadFailed }
 
 -- ---- the whole program
 
--- the engine of the task ran, with receivers that are tuned so; ReadFailed says that a read of the reader failed
+-- the engine of the task ran, with receivers that are tuned so; the receiver of `decode` has the window of the task.
+-- ReadFailed says that a read of the reader failed
 abbrev pub TaskRuns : Task → Tuning → Traffic → Type 0 → Traffic → ℕ → Type 0
-TaskRuns Decode t r ReadFailed w status = Runs (Decodes t (2 ^ 32) r) done Decode w status
+TaskRuns (Decode window) t r ReadFailed w status =
+    Runs (Decodes (record t { window = window }) (2 ^ 32) r) done (Decode window) w status
 TaskRuns (Encode programme late) t r ReadFailed w status =
     Runs (Plays Log (station_of t programme late) (2 ^ 32) (script_in r ReadFailed)) done
     (Encode programme late) w status

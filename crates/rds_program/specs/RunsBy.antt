@@ -59,7 +59,7 @@ script_by says form config task known w status ran = record {
 -- the run of a task, with another statement about its reads
 pub task_by : {P Q : Type 0} → (P → Q) → (task : Task) (t : Tuning) (r w : Traffic) (status : ℕ)
     → TaskRuns task t r P w status → TaskRuns task t r Q w status
-task_by says Decode t r w status ran = ran
+task_by says (Decode window) t r w status ran = ran
 task_by says (Audit late running) t r w status ran = ran
 task_by says Witness t r w status ran = ran
 task_by says (Slots grain only) t r w status ran = ran

@@ -90,8 +90,11 @@ fn print_covered<N: TellingWrite>(task: Task, notes: &RunNotes, screen: &mut N) 
 fn is_audit(task: Task) -> bool {
     match task {
         Task::Audit(..) => true,
-        Task::Decode | Task::Encode(..) | Task::Simulate(..) | Task::Witness | Task::Slots(..) =>
-            false,
+        Task::Decode(..)
+        | Task::Encode(..)
+        | Task::Simulate(..)
+        | Task::Witness
+        | Task::Slots(..) => false,
     }
 }
 
@@ -132,7 +135,7 @@ fn nothing_said(task: Task) -> &'static str {
     match task {
         Task::Audit(..) => ": the yes says nothing",
         Task::Witness => ": the search says nothing",
-        Task::Decode | Task::Encode(..) | Task::Simulate(..) | Task::Slots(..) => "",
+        Task::Decode(..) | Task::Encode(..) | Task::Simulate(..) | Task::Slots(..) => "",
     }
 }
 
@@ -303,8 +306,11 @@ fn push_running(no: NoNote, task: Task, note: &mut Note) {
     };
     let takes_it = match task {
         Task::Audit(_, running) => !running,
-        Task::Decode | Task::Encode(..) | Task::Simulate(..) | Task::Witness | Task::Slots(..) =>
-            false,
+        Task::Decode(..)
+        | Task::Encode(..)
+        | Task::Simulate(..)
+        | Task::Witness
+        | Task::Slots(..) => false,
     };
     if takes_it && may_be_old {
         let _ = write!(
@@ -482,7 +488,7 @@ fn push_shown(bytes: &[u8], note: &mut Note) {
 fn reads_script(task: Task) -> bool {
     match task {
         Task::Encode(..) | Task::Simulate(..) => true,
-        Task::Decode | Task::Audit(..) | Task::Witness | Task::Slots(..) => false,
+        Task::Decode(..) | Task::Audit(..) | Task::Witness | Task::Slots(..) => false,
     }
 }
 

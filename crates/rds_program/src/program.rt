@@ -94,7 +94,8 @@ fn run_read<R: TellingRead, W: TellingWrite>(
         (traffic W.contents W.failures writer.old writer.new) result }
 {
     match read {
-        Ok(Some(request)) => answer(alloc, request, reader, writer, notes),
+        // Prover: `answer` borrows the request (docs/PROVER.md, "Workarounds").
+        Ok(Some(request)) => answer(alloc, &request, reader, writer, notes),
         Ok(None) => REFUSED,
         Err(error) => write_error(&error, writer, notes),
     }
@@ -123,17 +124,17 @@ fn write_error<W: TellingWrite>(error: &Error, writer: &mut W, notes: &mut RunNo
 /// Runs the command of a request.
 fn answer<R: TellingRead, W: TellingWrite>(
     alloc: Global,
-    request: Request<'_>,
+    request: &Request<'_>,
     reader: &mut R,
     writer: &mut W,
     notes: &mut RunNotes,
 ) -> u8
-    ensures runs { (pi : ℕ) → IsPi request.entry.pi.now pi
-        → TaskRuns request.entry.task (tuned pi request.entry.dwell)
+    ensures runs { (pi : ℕ) → IsPi request.now.pi.now pi
+        → TaskRuns request.now.task (tuned pi request.now.dwell)
         (traffic R.remaining R.failures reader.old reader.new) (SomeReadFailed R.failures)
         (traffic W.contents W.failures writer.old writer.new) result }
-    ensures fault_pi { ((pi : ℕ) → IsPi request.entry.pi.now pi → ⊥)
-        → RefusesPi request.entry.task (traffic W.contents W.failures writer.old writer.new) result
+    ensures fault_pi { ((pi : ℕ) → IsPi request.now.pi.now pi → ⊥)
+        → RefusesPi request.now.task (traffic W.contents W.failures writer.old writer.new) result
         × IsUntouched R.remaining R.failures R.reads reader.old reader.new }
 {
     notes.options = Some(Options {
@@ -174,9 +175,9 @@ fn run_task<R: TellingRead, W: TellingWrite>(
     // Prover: a matched value is copied by a new name before its second use (docs/PROVER.md, "Workarounds").
     let asked = task;
     match task {
-        Task::Decode => {
+        Task::Decode(window) => {
             let log = &mut notes.log;
-            let decoded = decode_with_notes(reader, writer, pi, dwell, None, MOST_READS, log);
+            let decoded = decode_with_notes(reader, writer, pi, dwell, window, MOST_READS, log);
             end_with(asked, decoded, writer, &mut notes.end)
         }
         Task::Encode(programme, late) => {
@@ -350,7 +351,7 @@ fn mark(task: Task) -> &'static [u8]
 {
     match task {
         Task::Encode(..) | Task::Slots(..) => b"# ",
-        Task::Decode | Task::Simulate(..) | Task::Audit(..) | Task::Witness => b"",
+        Task::Decode(..) | Task::Simulate(..) | Task::Audit(..) | Task::Witness => b"",
     }
 }
 

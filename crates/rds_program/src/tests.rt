@@ -14,7 +14,7 @@ fn too_long(rt: HostRuntime) -> Result<(), Fail> {
         let mut notes = RunNotes::new();
         notes.end = End::Fault(LogFault::TooLong);
         notes.options = Some(Options {
-            task: Task::Decode,
+            task: Task::Decode(None),
             dwell: Dwell::new(128).ok_or("dwell")?,
             quiet,
         });

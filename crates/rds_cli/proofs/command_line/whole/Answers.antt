@@ -1,6 +1,6 @@
 use Rattle.std.proofs.Common.{◌≡◌, ◌∙◌, IfOk, Ok, Result, ap, codes, subst}
 use Rattle.clap.specs.Words.{App, Shape, app_of, with_subcommand}
-use Rattle.rds_cli.specs.CommandLine.{audit_app, decoder_app, log_app, log_readers_app, slots_app, station_app, without_sim_app}
+use Rattle.rds_cli.specs.CommandLine.{audit_app, decode_app, log_app, log_readers_app, slots_app, station_app, with_decode_app, without_sim_app}
 use Rattle.rds_cli.proofs.command_line.whole.Goals as goal
 
 -- a command that has one subcommand more than the one that was known
@@ -14,13 +14,13 @@ one_more view r m c before sub was holds is =
 pub returns : goal.returns
 unfolding log_readers_app
 returns c =
-    let decoder : app_of c.in_ok-with_decode.with_decode ≡ decoder_app =
+    let decoder : app_of c.in_ok-with_decode.with_decode ≡ with_decode_app =
     one_more app_of _ _ _ _ _ c.in_ok-with_decode.was
-    (c.with.ensures (log_app (codes "decode")) c.decode.ensures.app c.decode.ensures.local) c.top.ensures in
-    let audited : app_of c.in_ok-with_audit.with_audit ≡ with_subcommand decoder_app (audit_app (codes "audit")).top =
+    (c.with.ensures (decode_app (codes "decode")) c.decode.ensures.app c.decode.ensures.local) c.top.ensures in
+    let audited : app_of c.in_ok-with_audit.with_audit ≡ with_subcommand with_decode_app (audit_app (codes "audit")).top =
     one_more app_of _ _ _ _ _ c.in_ok-with_audit.was
     (c.with-2.ensures (audit_app (codes "audit")) c.audit.ensures.app c.audit.ensures.local) decoder in
-    let witnessed : app_of c.in_ok-with_witness.with_witness ≡ with_subcommand (with_subcommand decoder_app (audit_app (codes "audit")).top) (log_app (codes "witness")).top =
+    let witnessed : app_of c.in_ok-with_witness.with_witness ≡ with_subcommand (with_subcommand with_decode_app (audit_app (codes "audit")).top) (log_app (codes "witness")).top =
     one_more app_of _ _ _ _ _ c.in_ok-with_witness.was
     (c.with-3.ensures (log_app (codes "witness")) c.witness.ensures.app c.witness.ensures.local) audited in
     let log_readers : app_of c.in_ok-with_slots.with_slots ≡ log_readers_app =

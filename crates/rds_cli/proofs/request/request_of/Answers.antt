@@ -1,7 +1,6 @@
-use Rattle.std.proofs.Common.{◌≡◌, ◌∙◌, Option, None, Some, ap, codes, refl, sym}
+use Rattle.std.proofs.Common.{◌≡◌, ◌∙◌, Option, None, Some, ap, refl, sym}
 use Rattle.std.specs.Prelude.{ℕ, Bool, option_map}
-use Rattle.clap.specs.Words.{Text, first_of, found_of, rows_of}
-use Rattle.clap.proofs.WalkLemmas.{first_value-rows}
+use Rattle.clap.specs.Words.{Text, found_of, rows_of}
 use Rattle.rds_cli.specs.Asks.{asked_by}
 use Rattle.rds_cli.specs.CommandLine.{asked, dwell_in, pi_in, quiet_in, task_in}
 use Rattle.rds_cli.specs.declared.request.Task.{Task}
