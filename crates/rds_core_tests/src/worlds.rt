@@ -6,8 +6,9 @@ use arrayvec::ArrayVec;
 use rds_assembly::{Name, Text};
 use rds_block::Place;
 use rds_fields::{Dwell, Head, Late};
+use rds_receiver::Receive;
 use rds_world::{
-    Answer, Command, Config, PlayRefused, Reception, Reply, SlotEvent, StepRefused, World,
+    Answer, Command, Config, PlayRefused, Premise, Reception, Reply, SlotEvent, StepRefused, World,
     WorldRefused, play,
 };
 use std::alloc::Global;
@@ -143,7 +144,7 @@ fn assert_text(
     receiver: usize,
     wanted: Option<&[u8]>,
 ) -> Result<(), Fail> {
-    let shown = world.receiver(receiver).ok_or("receiver")?.text();
+    let shown = world.receiver(receiver).ok_or("receiver")?.view().text;
     same(rt, (receiver, shown), (receiver, wanted));
     Ok(())
 }
@@ -175,14 +176,14 @@ fn config() -> Result<Config, Fail> {
     Ok(Config {
         head,
         dwell: Dwell::new(4).ok_or("dwell")?,
-        late: Late::new(0).ok_or("late")?,
+        premise: Premise::once(Late::new(0).ok_or("late")?),
     })
 }
 
 /// The same with groups that come up to so many slots late.
 fn late_config(slots: u16) -> Result<Config, Fail> {
     Ok(Config {
-        late: Late::new(slots).ok_or("late")?,
+        premise: Premise::once(Late::new(slots).ok_or("late")?),
         ..config()?
     })
 }

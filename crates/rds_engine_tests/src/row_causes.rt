@@ -45,7 +45,7 @@ fn played(alloc: Global, form: Form, script: &[u8]) -> Result<Ended, Fail> {
     let form = match form {
         Form::Log => rds_script::Form::Log,
         Form::Receivers(late) => {
-            station.late = Late::new(late).ok_or("late")?;
+            station.premise = Premise::once(Late::new(late).ok_or("late")?);
             rds_script::Form::Simulation
         }
     };

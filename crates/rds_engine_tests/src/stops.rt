@@ -6,7 +6,7 @@ use rds_fields::{Dwell, Head, Late};
 use rds_io::{LogFault, TellingRead, Told};
 use rds_log::audit;
 use rds_script::{encode, simulate};
-use rds_world::Config;
+use rds_world::{Config, Premise};
 use std::alloc::Global;
 use std::cell::Cell;
 use std::io::{self, Read};
@@ -41,7 +41,7 @@ fn config(pi: u16, dwell: u16, late: u16) -> Result<Config, Fail> {
             pty: Place::new(31).ok_or("pty")?,
         },
         dwell: Dwell::new(dwell).ok_or("dwell")?,
-        late: Late::new(late).ok_or("late")?,
+        premise: Premise::once(Late::new(late).ok_or("late")?),
     })
 }
 
@@ -97,7 +97,7 @@ fn audited(alloc: Global, log: &[u8]) -> Result<(Result<bool, LogFault>, usize),
         &mut writer,
         0xC201,
         station.dwell,
-        station.late,
+        station.premise.late(),
     );
     Ok((answer, left.get()))
 }

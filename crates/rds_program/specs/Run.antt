@@ -106,7 +106,7 @@ abbrev pub station_of : Tuning → Programme → ℕ → Config
 station_of t programme late = record {
   head = record { pi = t.programme; tp = programme.tp; pty = programme.pty };
   dwell = t.dwell;
-  late = late;
+  premise = record { late = late; window = None };
 }
 
 -- how `slots` fills a log for receivers that are tuned so: by this grain in microseconds, and by the lines of their

@@ -24,7 +24,7 @@ use rds_io::{Lines, LogFault, TellingRead, TellingWrite, put};
 use rds_log::{Filling, MOST_READS, audit_with_notes, decode_with_notes, fill_with_notes};
 use rds_script::{Form, MOST_RECORDS, play_script};
 use rds_witness::witness_with_notes;
-use rds_world::Config;
+use rds_world::{Config, Premise};
 use std::alloc::Global;
 use std::io::Write;
 
@@ -242,7 +242,7 @@ fn station_of(pi: u16, dwell: Dwell, programme: Programme, late: Late) -> Config
             pty: programme.pty,
         },
         dwell,
-        late,
+        premise: Premise::once(late),
     }
 }
 

@@ -11,6 +11,7 @@ use Rattle.rds_charset.specs.Laws.{TextIsReadOneWay}
 use Rattle.rds_encoder.specs.Known.{sent_is_known as sent_is_known_in}
 use Rattle.rds_encoder.specs.Sent.{IsSent}
 use Rattle.rds_receiver.specs.OneView.{same_heard, same_view}
+use Rattle.rds_receiver.specs.Twice.{counted}
 use Rattle.rds_receiver.specs.Shown.{ShownView, ShowsView}
 use Rattle.rds_world.specs.Event.{Event}
 use Rattle.rds_safety.specs.Late.{Input}
@@ -41,7 +42,7 @@ same_view_of_input : (config : Config) (input : Input) (v w : ShownView) → IsV
 same_view_of_input config input v w p q =
     let (heard, are, shows) = q.is in
     let other : heard ≡ input.heard = same_heard config.head.pi q.groups heard input.heard are q.spelled in
-    same_view (tuned_to config input) p.groups v w p.is (input.heard, p.spelled, subst (λ (h : List (Option Message)). ShowsView config.dwell input.first h w) other shows)
+    same_view (tuned_to config input) p.groups v w p.is (input.heard, p.spelled, subst (λ (h : List (Option Message)). ShowsView config.dwell input.first (counted (tuned_to config input) h) w) other shows)
 
 sent_is_known : (d : ℕ) (e : Event) (before : List Event) → sent_at d e before ≢ Some Other
 sent_is_known d e before =
@@ -78,6 +79,6 @@ same_outcomes one config (e ∷ before) (o ∷ outcomes) (o' ∷ other) p q =
 -- rows write one output
 pub same_written : TextIsReadOneWay → OneGroup → (form : Form) (config : Config) (records : List Record) (written other : List ℕ) → RowsWrite form config records written → RowsWrite form config records other → written ≡ other
 same_written text one form config records written other p q =
-    let events : p.events ≡ q.events = same_events text config.late p.say.receivers q.say.receivers records p.events q.events p.say.rows q.say.rows in
+    let events : p.events ≡ q.events = same_events text config.premise.late p.say.receivers q.say.receivers records p.events q.events p.say.rows q.say.rows in
     let outcomes : p.write.outcomes ≡ q.write.outcomes = same_outcomes one config q.events p.write.outcomes q.write.outcomes (subst (λ (l : List Event). AreOutcomes config l p.write.outcomes) events p.write.are) q.write.are in
     p.write.lines ∙ ap (lines_of form) outcomes ∙ sym q.write.lines

@@ -100,18 +100,18 @@ none_shown config (e ∷ before) outcomes are none = absurd (omega (arith, ap le
 pub record IsReady (played : Played) (events : List Event) (outcomes : List Outcome) (asked : ℕ) (w : Watched) : Type 0 where
   pub receivers : ℕ
   pub allowed : IsAllowed played.form receivers
-  pub rows : AreRows played.config.late receivers played.records events
+  pub rows : AreRows played.config.premise.late receivers played.records events
   pub stands : WatchedStandsAt played.config receivers w events
   pub same : AreKept (views_kept w) (newest_views outcomes)
   pub how : (0 < length played.records) ⊎ (receivers ≡ asked)
 
 pub is_ready : (before : Option Watched) (w : Watched) (played : Played) (asked : ℕ) (events : List Event) (outcomes : List Outcome) → IsAllowed played.form played.receivers → IsAllowed played.form asked
-    → AreRows played.config.late played.receivers played.records events → AreOutcomes played.config events outcomes → HasWatched played.config played.receivers before events outcomes
+    → AreRows played.config.premise.late played.receivers played.records events → AreOutcomes played.config events outcomes → HasWatched played.config played.receivers before events outcomes
     → IsBegun played.config asked before w → IsReady played events outcomes asked w
 is_ready None w played asked events outcomes had allowed rows are none begun = record {
   receivers = asked;
   allowed = allowed;
-  rows = none_played played.config.late played.receivers asked played.records events rows none;
+  rows = none_played played.config.premise.late played.receivers asked played.records events rows none;
   stands = rw none begun.0;
   same = rw (none_shown played.config events outcomes are none) begun.1;
   how = inr refl;
@@ -122,7 +122,7 @@ is_ready (Some before) w played asked events outcomes had allowed rows are has b
   rows = rows;
   stands = rw begun has.1;
   same = rw begun has.2;
-  how = inl (let counted = as_many_rows played.config.late played.receivers played.records events rows in omega (arith, has.0, counted));
+  how = inl (let counted = as_many_rows played.config.premise.late played.receivers played.records events rows in omega (arith, has.0, counted));
 }
 
 -- an event and an outcome for each slot
@@ -135,8 +135,8 @@ as_many_outcomes config (e ∷ before) (o ∷ older) are = ap suc (as_many_outco
 -- a slot more is played in a world whose receivers are watched
 pub plays_on : {T E : Type 0} (r : Result T E) (before now : Player) (played : Played) (s : PlayerStandsAt before played) (receivers : ℕ) (kept : List ShownView) (w : Watched) (row : Record) (e : Event) (old new : List ℕ)
     → now.form ≡ before.form → now.config ≡ before.config → now.slot ≡ before.slot + 1 → now.watched ≡ Some w → IsAllowed played.form receivers
-    → AreRows played.config.late receivers played.records s.events → SaysEvent row e → AreKept kept (newest_views s.outcomes)
-    → OnOk r (CanBeTaken played.config.late receivers e s.events) → OnOk r (WatchedStandsAt played.config receivers w (e ∷ s.events))
+    → AreRows played.config.premise.late receivers played.records s.events → SaysEvent row e → AreKept kept (newest_views s.outcomes)
+    → OnOk r (CanBeTaken played.config.premise.late receivers e s.events) → OnOk r (WatchedStandsAt played.config receivers w (e ∷ s.events))
     → OnOk r ((o : Outcome) × IsOutcome played.config e s.events o × (o.views ≡ views_kept w) × (new ≡ old ++ slot_lines played.form before.slot kept o))
     → OnOk r (now.wait ≡ first_of (wait_of before.slot e.command (reply_at (distance played.config) e.command (entries s.events))) before.wait)
     → OnOk r (AppendsRow now row old new played)
@@ -184,14 +184,14 @@ not_taken k receivers e before (step.Late r) refused taken = refused.late.late (
 
 -- a slot that is refused: the record is no row, after rows or as the first one, for the cause that is found
 pub refused_on : TextIsReadOneWay → (played : Played) (k first slot receivers : ℕ) (row : Record) (e : Event) (events : List Event) (why : StepRefused) (cause : RowCause)
-    → k ≡ played.config.late → first ≡ receivers → slot ≡ length played.records → AreRows played.config.late receivers played.records events → SaysEvent row e → IsAllowed played.form (length e.receptions)
-    → (0 < length played.records) ⊎ (receivers ≡ length e.receptions) → IsStepRefused played.config.late receivers e events why
+    → k ≡ played.config.premise.late → first ≡ receivers → slot ≡ length played.records → AreRows played.config.premise.late receivers played.records events → SaysEvent row e → IsAllowed played.form (length e.receptions)
+    → (0 < length played.records) ⊎ (receivers ≡ length e.receptions) → IsStepRefused played.config.premise.late receivers e events why
     → ((form : Form) (before : List Record) (row : Record) (events : List Event) → AreRows k first before events → slot ≡ length before → SaysEvent row e → IsAllowed form (length e.receptions)
     → (0 < length before) ⊎ (first ≡ length e.receptions) → IsStepRefused k first e events why → IsEventCause form k before row cause)
     → IsRowRefused played row (refused.NoRow cause)
 refused_on one played k first slot receivers row e events why cause late count now rows says allowed how is finds =
     let found = finds played.form played.records row events (rw (late, count) rows) now says allowed (rw count how) (rw (late, count) is) in
-    (refused_row one played.form played.config.late receivers row played.records e events rows says how (not_taken played.config.late receivers e events why is), inr (inr (rw late at found)))
+    (refused_row one played.form played.config.premise.late receivers row played.records e events rows says how (not_taken played.config.premise.late receivers e events why is), inr (inr (rw late at found)))
 
 -- what a receiver shows that shows what it showed
 pub still_shown : (config : Config) (n i : ℕ) (events : List Event) (kept now : List ShownView) → ShowsStill config i events → WereShown config n events kept → i < n

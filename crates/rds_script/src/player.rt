@@ -84,7 +84,7 @@ impl Player {
                     Ok(()) => Ok(()),
                     Err(why) => Err(RowRefused::NoRow(refused_cause(
                         why,
-                        self.config.late,
+                        self.config.premise,
                         slot,
                         watched.receivers(),
                         &event,

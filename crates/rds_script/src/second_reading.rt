@@ -34,8 +34,8 @@ use arrayvec::ArrayVec;
 use csv::ByteRecord;
 use rds_assembly::{LONGEST_TEXT, NAME_LENGTH, Name, Text, TextRefused};
 use rds_charset::{Stop, measure_text, read_text};
-use rds_fields::{Late, Which};
-use rds_world::{MOST_RECEIVERS, Reception, SlotEvent, StepRefused};
+use rds_fields::Which;
+use rds_world::{MOST_RECEIVERS, Premise, Reception, SlotEvent, StepRefused};
 
 /// The number of numbers that `tags` takes.
 const TAG_NUMBERS: usize = 8;
@@ -338,17 +338,17 @@ fn reception_cause(byte: u8, digits: &[u8], place: usize) -> RowCause
 #[inline(never)]
 pub(crate) fn refused_cause(
     why: StepRefused,
-    late: Late,
+    premise: Premise,
     slot: u64,
     first: usize,
     event: &SlotEvent,
 ) -> RowCause
     ensures { (form : Form) (before : List Record) (row : Record) (events : List Event)
-        → AreRows late first before events → slot ≡ length before → SaysEvent row event.now
+        → AreRows premise.late first before events → slot ≡ length before → SaysEvent row event.now
         → IsAllowed form (length event.now.receptions)
         → (0 < length before) ⊎ (first ≡ length event.now.receptions)
-        → IsStepRefused late first event.now events why
-        → IsEventCause form late before row result }
+        → IsStepRefused premise.late first event.now events why
+        → IsEventCause form premise.late before row result }
 {
     let receptions = event.receptions.as_slice();
     match why {
@@ -360,7 +360,7 @@ pub(crate) fn refused_cause(
             late_cause(
                 receiver,
                 lateness_at(receptions, receiver),
-                late.get(),
+                premise.late().get(),
                 slot,
             )
         }

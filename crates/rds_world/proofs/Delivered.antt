@@ -1,7 +1,8 @@
 -- Lemmas: a receiver of a world that got on time each free one of enough slots of a broadcast shows it, as each receiver
 -- of a station does.
-use Rattle.std.proofs.Common.{◌≡◌, ◌+◌, ◌-◌, ◌≤◌, ℕ, inl, inr, Bool, true, false, List, [], ◌∷◌, ◌++◌, length-append, Option, Some, refl, sym, ap, ◌∙◌, subst, arith, length}
+use Rattle.std.proofs.Common.{◌≡◌, ◌+◌, ◌-◌, ◌≤◌, ℕ, inl, inr, Bool, true, false, List, [], ◌∷◌, ◌++◌, length-append, Option, Some, None, refl, sym, ap, ◌∙◌, subst, arith, length}
 use Rattle.std.specs.Prelude.{slice_index_or}
+use Rattle.rds_fields.specs.declared.head.Head.{Head}
 use Rattle.rds_fields.specs.declared.message.Message.{Message}
 use Rattle.rds_encoder.specs.Delivery.{free_in}
 use Rattle.rds_encoder.specs.Entries.{Entry, Tick, text_moves}
@@ -111,12 +112,22 @@ came_in_own d i (e ∷ recent) before gets s since (inl here) =
 
 -- ---- a receiver of a world
 
-module _ (config : Config) (e : Event) (recent before : List Event) (view : ShownView) (gets : GotRecently config (e ∷ recent) before view) where
+-- the configuration of a world without a window
+abbrev plain : Head → ℕ → ℕ → Config
+plain head m k = record { head = head; dwell = m; premise = record { late = k; window = None } }
+
+is_plain : (config : Config) → config.premise.window ≡ None → plain config.head config.dwell config.premise.late ≡ config
+is_plain config once = sym (λ i. record { head = config.head; dwell = config.dwell; premise = record { late = config.premise.late; window = once i } })
+
+module _ (head : Head) (m k : ℕ) (e : Event) (recent before : List Event) (view : ShownView) (gets : GotRecently (plain head m k) (e ∷ recent) before view) where
+  abbrev config : Config
+  config = plain head m k
+
   abbrev events : List Event
   events = e ∷ recent ++ before
 
   abbrev d : ℕ
-  d = distance config
+  d = m + k
 
   abbrev receiver : Listener
   receiver = record { input = input_of d gets.number events; view = view }
@@ -127,24 +138,24 @@ module _ (config : Config) (e : Event) (recent before : List Event) (view : Show
   due : StandsAt config gets.world events
   due = gets.stands
 
-  listening : ListensTo config.late config.dwell (slots_in (entries events) - 1) (sent_log d (entries events)) receiver
+  listening : ListensTo k m (slots_in (entries events) - 1) (sent_log d (entries events)) receiver
   listening =
       let last : length (recent ++ before) ≡ slots_in (entries events) - 1 = omega (arith, slots_are events) in
       let same = slots_of_a_world d events due.values in
-      subst (λ (t : ℕ). ListensTo config.late config.dwell t (sent_log d (entries events)) receiver) last
-      (subst (λ (sent : List (Option Message)). ListensTo config.late config.dwell (length (recent ++ before)) sent receiver) (sym same.log)
+      subst (λ (t : ℕ). ListensTo k m t (sent_log d (entries events)) receiver) last
+      (subst (λ (sent : List (Option Message)). ListensTo k m (length (recent ++ before)) sent receiver) (sym same.log)
       (listens config e (recent ++ before) gets.number gets.receiver view due.due (due.receivers.each gets.number gets.receiver gets.there) gets.shows))
 
-  got_of_station : GotOfStation config.late config.dwell told.later (entries before) receiver
+  got_of_station : GotOfStation k m told.later (entries before) receiver
   got_of_station = record {
     slots = subst AreSlots told.is (slots_of_a_world d events due.values).slots;
-    listens = subst (λ (es : List Entry). ListensTo config.late config.dwell (slots_in es - 1) (sent_log d es) receiver) told.is listening;
-    within = subst (λ (es : List Entry). slots_in es ≤ slots_in (entries before) + config.dwell) told.is within;
+    listens = subst (λ (es : List Entry). ListensTo k m (slots_in es - 1) (sent_log d es) receiver) told.is listening;
+    within = subst (λ (es : List Entry). slots_in es ≤ slots_in (entries before) + m) told.is within;
     got = λ s since free. came_in_own d gets.number (e ∷ recent) before gets.got s (omega (arith, since, slots_are before))
         (subst (λ (es : List Entry). IsFreeIn es s) (sym told.is) free);
   }
     where
-      within : slots_in (entries events) ≤ slots_in (entries before) + config.dwell
+      within : slots_in (entries events) ≤ slots_in (entries before) + m
       within = (let most = gets.within in omega (arith, most, slots_are events, slots_are before, length-append (e ∷ recent) before))
 
   -- a broadcast of the plans of the world is one of the plans of its station
@@ -157,24 +168,40 @@ module _ (config : Config) (e : Event) (recent before : List Event) (view : Show
     to = subst (λ (es : List Entry). slots_in es ≤ b.end + 1) told.is (let to = lies.to in omega (arith, to, slots_are events));
   }
 
+-- what holds in each world without a window holds wherever receivers got the recent slots
+abbrev IsShownIn : (Plans → List Broadcast) → (ShownView → Option (List ℕ)) → List Event → List Event → ShownView → Broadcast → Config → Type 0
+IsShownIn plan part recent before view b config =
+    GotRecently config recent before view → LieIn (plan (plans_of (distance config) (recent ++ before))) recent before b → part view ≡ Some b.bytes
+
+for_each : (plan : Plans → List Broadcast) (part : ShownView → Option (List ℕ)) (recent before : List Event) (view : ShownView) (b : Broadcast)
+    → ((head : Head) (m k : ℕ) → IsShownIn plan part recent before view b (plain head m k)) → (config : Config) → IsShownIn plan part recent before view b config
+for_each plan part recent before view b shown config gets lies =
+    subst (IsShownIn plan part recent before view b) (is_plain config gets.once) (shown config.head config.dwell config.premise.late) gets lies
+
 -- a broadcast of texts has segments, so some slots are recent
 pub text_delivered : AStationDeliversAText → ATextIsDelivered
 text_delivered delivers config [] before view b gets lies enough = absurd (omega (arith, enough, one_segment b.bytes))
 text_delivered delivers config (e ∷ recent) before view b gets lies enough =
-    let lasts = gets.stands.lasts in
-    delivers config.late config.dwell _ _ _ b (omega arith) (got_of_station config e recent before view gets) (lies_of config e recent before view gets (λ plans. plans.text) b lies)
-    (omega (arith, enough, (told config e recent before view gets).free))
+    for_each (λ plans. plans.text) (λ v. v.text) (e ∷ recent) before view b
+    (λ head m k got lie.
+    let lasts = got.stands.lasts in
+    delivers k m _ _ _ b (omega arith) (got_of_station head m k e recent before view got) (lies_of head m k e recent before view got (λ plans. plans.text) b lie)
+    (omega (arith, enough, (told head m k e recent before view got).free))) config gets lies
 
 pub any_text_delivered : AStationDeliversAnyText → AnyTextIsDelivered
 any_text_delivered delivers config [] before view b gets lies enough = absurd (omega (arith, enough))
 any_text_delivered delivers config (e ∷ recent) before view b gets lies enough =
-    let lasts = gets.stands.lasts in
-    delivers config.late config.dwell _ _ _ b (omega arith) (got_of_station config e recent before view gets) (lies_of config e recent before view gets (λ plans. plans.text) b lies)
-    (omega (arith, enough, (told config e recent before view gets).free))
+    for_each (λ plans. plans.text) (λ v. v.text) (e ∷ recent) before view b
+    (λ head m k got lie.
+    let lasts = got.stands.lasts in
+    delivers k m _ _ _ b (omega arith) (got_of_station head m k e recent before view got) (lies_of head m k e recent before view got (λ plans. plans.text) b lie)
+    (omega (arith, enough, (told head m k e recent before view got).free))) config gets lies
 
 pub name_delivered : AStationDeliversAName → ANameIsDelivered
 name_delivered delivers config [] before view b gets lies enough = absurd (omega (arith, enough))
 name_delivered delivers config (e ∷ recent) before view b gets lies enough =
-    let lasts = gets.stands.lasts in
-    delivers config.late config.dwell _ _ _ b (omega arith) (got_of_station config e recent before view gets) (lies_of config e recent before view gets (λ plans. plans.name) b lies)
-    (omega (arith, enough, (told config e recent before view gets).free))
+    for_each (λ plans. plans.name) (λ v. v.name) (e ∷ recent) before view b
+    (λ head m k got lie.
+    let lasts = got.stands.lasts in
+    delivers k m _ _ _ b (omega arith) (got_of_station head m k e recent before view got) (lies_of head m k e recent before view got (λ plans. plans.name) b lie)
+    (omega (arith, enough, (told head m k e recent before view got).free))) config gets lies

@@ -4,6 +4,7 @@ pub mod Stepped
 pub mod LawfulStation
 pub mod WorldSlots
 pub mod InTime
+pub mod NoneWrong
 pub mod SafeWorld
 pub mod StationDelivered
 pub mod Delivered

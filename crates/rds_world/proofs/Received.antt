@@ -8,9 +8,12 @@ use Rattle.rds_encoder.specs.Sent.{IsSent}
 use Rattle.rds_receiver.specs.Receipts.{Hears}
 use Rattle.rds_receiver.specs.OneView.{same_heard}
 use Rattle.rds_receiver.specs.Shown.{IsView, ShowsView}
-use Rattle.rds_receiver.specs.StandsAt.{KeepsView, TakesSlot}
-use Rattle.rds_receiver.specs.State.{ReceiverState}
+use Rattle.rds_receiver.specs.Receive.{GoesOn, KeepsViews}
+use Rattle.rds_receiver.specs.Twice.{counted}
 use Rattle.rds_safety.specs.Late.{Input}
+use Rattle.rds_world.specs.AnyReceiver.{StandsAny}
+use Rattle.rds_world.specs.declared.any_receiver.AnyReceiver.{AnyReceiver}
+use Rattle.rds_world.specs.declared.any_receiver.AnyReceiver.TheVariants.{Once, Twice}
 use Rattle.rds_world.specs.StandsAt.{HasHeard, IsNew, StaysShown, tuned_to}
 use Rattle.rds_world.specs.declared.world.Config.{Config}
 
@@ -25,30 +28,30 @@ abbrev input_from : ℕ → List (Option Message) → List (Option ℕ) → Inpu
 input_from first heard origins = record { first = first; heard = heard; origins = origins }
 
 -- one more group was handled, so one more entry was heard
-pub hears_more : (config : Config) (input : Input) (old new : ReceiverState) (group : Option Group) (heard : Option Message) (origin : Option ℕ)
-    → Hears config.head.pi group heard → TakesSlot old new group
+pub hears_more : (config : Config) (input : Input) (old new : AnyReceiver) (group : Option Group) (heard : Option Message) (origin : Option ℕ)
+    → Hears config.head.pi group heard → GoesOn StandsAny old new group
     → HasHeard config input old → HasHeard config (input_from input.first (heard ∷ input.heard) (origin ∷ input.origins)) new
 hears_more config input old new group heard origin hears goes_on has = record {
   groups = group ∷ has.groups;
   spelled = (hears, has.spelled);
-  stands = goes_on record { programme = config.head.pi; dwell = config.dwell; window = None; first = input.first } has.groups has.stands;
+  stands = goes_on (tuned_to config input) has.groups has.stands;
 }
 
 -- one more group was handled, and the view did not change
-pub stays_shown : (config : Config) (input : Input) (old : ReceiverState) (group : Option Group) (heard : Option Message) (origin : Option ℕ)
-    → Hears config.head.pi group heard → KeepsView old group
+pub stays_shown : (config : Config) (input : Input) (old : AnyReceiver) (group : Option Group) (heard : Option Message) (origin : Option ℕ)
+    → Hears config.head.pi group heard → KeepsViews StandsAny old group
     → HasHeard config input old → StaysShown config input (input_from input.first (heard ∷ input.heard) (origin ∷ input.origins))
 stays_shown config input old group heard origin hears stays has view shown =
     let (other, are, shows) = shown.is in
     let same : other ≡ input.heard = same_heard config.head.pi shown.groups other input.heard are shown.spelled in
-    let by_own : IsView (tuned_to config input) has.groups view = (input.heard, has.spelled, subst (λ (x : List (Option Message)). ShowsView config.dwell input.first x view) same shows) in
+    let by_own : IsView (tuned_to config input) has.groups view = (input.heard, has.spelled, subst (λ (x : List (Option Message)). ShowsView config.dwell input.first (counted (tuned_to config input) x) view) same shows) in
     record {
       groups = group ∷ has.groups;
       spelled = (hears, has.spelled);
       is = stays view (tuned_to config input) has.groups has.stands by_own;
     }
 
-pub heard_nothing : (config : Config) (first : ℕ) (r : ReceiverState) → IsNew config r
+pub heard_nothing : (config : Config) (first : ℕ) (r : AnyReceiver) → IsNew config r
     → HasHeard config (input_from first [] []) r
 heard_nothing config first r begins = record { groups = []; spelled = tt; stands = begins first }
 
@@ -79,9 +82,13 @@ of_first (suc n) (y ∷ xs) zero x e = (omega arith, e)
 of_first (suc n) (y ∷ xs) (suc i) x e = (let later = of_first n xs i x e in (omega (arith, later.0), later.1))
 
 -- a receiver that stands at an input has a dwell above 0
-pub some_slots : (config : Config) (rs : List ReceiverState) → AllByRecursion (IsNew config) rs → 0 < length rs → 0 < config.dwell
+pub some_slots : (config : Config) (rs : List AnyReceiver) → AllByRecursion (IsNew config) rs → 0 < length rs → 0 < config.dwell
 some_slots config [] all some = absurd (omega (arith, some))
-some_slots config (r ∷ rs) all some = (all.0 0).holds.lasts
+some_slots config (r ∷ rs) all some = lasts r (all.0 0)
+  where
+    lasts : (r : AnyReceiver) → StandsAny (tuned_to config (input_from 0 [] [])) r [] → 0 < config.dwell
+    lasts (Once r) stands = stands.holds.lasts
+    lasts (Twice s) stands = stands.holds.receiver.lasts
 
 -- writing one mark of a list keeps the others
 pub other_marked : {X : Type 0} (xs : List X) (i k : ℕ) (x d : X) → k ≢ i → slice_index_or (slice_set xs i x) k d ≡ slice_index_or xs k d

@@ -1,44 +1,70 @@
 -- Lemmas: the receivers of a world listen to its encoder, so their views are safe.
-use Rattle.std.proofs.Common.{◌≡◌, ◌+◌, ℕ, suc, List, [], ◌∷◌, Option, Some, refl, ◌∙◌, subst, arith, length}
-use Rattle.std.specs.List.{AllByRecursion, AllZip}
+use Rattle.std.proofs.Common.{◌≡◌, ◌+◌, ℕ, suc, List, [], ◌∷◌, Option, Some, None, refl, ◌∙◌, subst, arith, length}
+use Rattle.std.specs.List.{All, AllByRecursion, AllZip}
 use Rattle.std.specs.Prelude.{slice_get}
 use Rattle.std.proofs.lemmas.List.Elements.{All-from_recursion}
 use Rattle.rds_fields.specs.declared.message.Message.{Message}
 use Rattle.rds_receiver.specs.OneView.{same_heard}
 use Rattle.rds_receiver.specs.Shown.{ShowsView, ShownView}
-use Rattle.rds_receiver.specs.State.{ReceiverState}
+use Rattle.rds_receiver.specs.Twice.{counted_in}
+use Rattle.rds_world.specs.declared.any_receiver.AnyReceiver.{AnyReceiver}
 use Rattle.rds_world.specs.Due.{AreDue}
 use Rattle.rds_world.specs.Event.{Event}
-use Rattle.rds_safety.specs.Late.{Input}
+use Rattle.rds_world.specs.Premise.{counted_input, lateness_in}
+use Rattle.rds_safety.specs.Late.{Input, IsHeardLate}
 use Rattle.rds_safety.specs.Laws.{LawfulPlansAreSafe}
-use Rattle.rds_safety.specs.Safe.{ListensTo}
-use Rattle.rds_world.specs.SafeSlots.{OnlyWhatWasOnAirIsShown, listeners}
+use Rattle.rds_safety.specs.OwnClock.{next_slot}
+use Rattle.rds_safety.specs.Plans.{AreLawful, Plans}
+use Rattle.rds_safety.specs.Safe.{AreSafe, Listener, ListensTo}
+use Rattle.rds_safety.specs.Twice.{ListensTwice}
+use Rattle.rds_safety.specs.TwiceLaws.{LawfulPlansAreSafeTwice}
+use Rattle.rds_world.specs.SafeSlots.{OnlyWhatWasOnAirIsShown, input_that_counts, listeners}
 use Rattle.rds_world.specs.Slots.{input_of, log, plans_of}
 use Rattle.rds_world.specs.StandsAt.{HasHeard, Shows, StandsAt, tuned_to}
 use Rattle.rds_world.specs.State.{WorldState, distance}
 use Rattle.rds_world.specs.declared.world.Config.{Config}
 use Rattle.rds_world.specs.Station.{TheEncoderIsLawful}
+use Rattle.rds_world.proofs.NoneWrong.{late_is_heard, late_has_none_wrong}
 use Rattle.rds_world.proofs.WorldSlots.{events_are_lawful}
 use Rattle.rds_world.proofs.InTime.{in_time, input_reaches}
 
--- the view of a receiver is that of its input
-pub shows_view : (config : Config) (input : Input) (r : ReceiverState) (view : ShownView) → HasHeard config input r → Shows r view → ShowsView config.dwell input.first input.heard view
+-- the view of a receiver is that of what counts of its input
+pub shows_view : (config : Config) (input : Input) (r : AnyReceiver) (view : ShownView) → HasHeard config input r → Shows r view
+    → ShowsView config.dwell input.first (counted_in config.premise.window config.dwell input.first input.heard) view
 shows_view config input r view has shows =
     let v = shows (tuned_to config input) has.groups has.stands in
-    subst (λ (heard : List (Option Message)). ShowsView config.dwell input.first heard view) (same_heard config.head.pi has.groups v.0 input.heard v.1 has.spelled) v.2
+    subst (λ (heard : List (Option Message)). ShowsView config.dwell input.first (counted_in config.premise.window config.dwell input.first heard) view)
+    (same_heard config.head.pi has.groups v.0 input.heard v.1 has.spelled) v.2
 
-pub listens : (config : Config) (e : Event) (before : List Event) (i : ℕ) (r : ReceiverState) (view : ShownView)
-    → AreDue config.late (e ∷ before) → HasHeard config (input_of (distance config) i (e ∷ before)) r → Shows r view
-    → ListensTo config.late config.dwell (length before) (log (distance config) (e ∷ before)) record { input = input_of (distance config) i (e ∷ before); view = view }
-listens config e before i r view due has shows = record {
-  late = in_time (distance config) config.late i (e ∷ before) due;
-  now = input_reaches (distance config) i (e ∷ before) ∙ omega arith;
-  shows = shows_view config (input_of (distance config) i (e ∷ before)) r view has shows;
+-- the receiver listens to the log, with or without a window
+abbrev pub ListensIn : Option ℕ → ℕ → ℕ → ℕ → List (Option Message) → Listener → Type 0
+ListensIn None k m t log r = ListensTo k m t log r
+ListensIn (Some w) k m t log r = ListensTwice w k m t log r
+
+listens_in : (window : Option ℕ) (k m t : ℕ) (log : List (Option Message)) (input : Input) (view : ShownView)
+    → IsHeardLate k log input → next_slot input ≡ t + 1 → ShowsView m input.first (counted_in window m input.first input.heard) view
+    → ListensIn window k m t log record { input = counted_input window m input; view = view }
+listens_in None k m t log input view late now shows = record { late = late; now = now; shows = shows }
+listens_in (Some w) k m t log input view late now shows = record {
+  raw = input;
+  heard = late_is_heard k log input late;
+  once = late_has_none_wrong w k log input late;
+  now = now;
+  confirmed = refl;
+  shows = shows;
 }
 
-all_listen : (config : Config) (e : Event) (before : List Event) (i : ℕ) (receivers : List ReceiverState) (views : List ShownView) → AreDue config.late (e ∷ before)
-    → ((n : ℕ) (r : ReceiverState) → slice_get receivers n ≡ Some r → HasHeard config (input_of (distance config) (i + n) (e ∷ before)) r) → AllZip Shows receivers views
-    → AllByRecursion (ListensTo config.late config.dwell (length before) (log (distance config) (e ∷ before))) (listeners (distance config) (e ∷ before) i views)
+pub listens : (config : Config) (e : Event) (before : List Event) (i : ℕ) (r : AnyReceiver) (view : ShownView)
+    → AreDue config.premise.late (e ∷ before) → HasHeard config (input_of (distance config) i (e ∷ before)) r → Shows r view
+    → ListensIn config.premise.window config.premise.late config.dwell (length before) (log (distance config) (e ∷ before)) record { input = input_that_counts config i (e ∷ before); view = view }
+listens config e before i r view due has shows =
+    let input = input_of (distance config) i (e ∷ before) in
+    listens_in config.premise.window config.premise.late config.dwell (length before) (log (distance config) (e ∷ before)) input view
+    (in_time (distance config) config.premise.late i (e ∷ before) due) (input_reaches (distance config) i (e ∷ before) ∙ omega arith) (shows_view config input r view has shows)
+
+all_listen : (config : Config) (e : Event) (before : List Event) (i : ℕ) (receivers : List AnyReceiver) (views : List ShownView) → AreDue config.premise.late (e ∷ before)
+    → ((n : ℕ) (r : AnyReceiver) → slice_get receivers n ≡ Some r → HasHeard config (input_of (distance config) (i + n) (e ∷ before)) r) → AllZip Shows receivers views
+    → AllByRecursion (ListensIn config.premise.window config.premise.late config.dwell (length before) (log (distance config) (e ∷ before))) (listeners config (e ∷ before) i views)
 all_listen config e before i [] [] due has shows = tt
 all_listen config e before i [] (view ∷ views) due has shows = absurd shows
 all_listen config e before i (r ∷ receivers) [] due has shows = absurd shows
@@ -52,14 +78,21 @@ all_listen config e before i (r ∷ receivers) (view ∷ views) due has shows =
           shows.1,
     )
 
-pub safe_world : TheEncoderIsLawful → LawfulPlansAreSafe → (config : Config) (w : WorldState) (events : List Event) → StandsAt config w events → OnlyWhatWasOnAirIsShown config events w.receivers
-safe_world lawful safe config w [] st = tt
-safe_world lawful safe config w (e ∷ before) st = λ views shows.
+-- lawful plans make each slot safe, with or without a window
+safe_in : LawfulPlansAreSafe → LawfulPlansAreSafeTwice → (window : Option ℕ) (k m t : ℕ) (plans : Plans) (log : List (Option Message)) (receivers : List Listener)
+    → AreLawful (m + lateness_in window k) plans log → All (ListensIn window k m t log) receivers → AreSafe (m + lateness_in window k) m t plans log receivers
+safe_in safe twice None k m t plans log receivers lawful all = safe m k t plans log receivers lawful all
+safe_in safe twice (Some w) k m t plans log receivers lawful all = twice w k m t plans log receivers lawful all
+
+pub safe_world : TheEncoderIsLawful → LawfulPlansAreSafe → LawfulPlansAreSafeTwice → (config : Config) (w : WorldState) (events : List Event) → StandsAt config w events → OnlyWhatWasOnAirIsShown config events w.receivers
+safe_world lawful safe twice config w [] st = tt
+safe_world lawful safe twice config w (e ∷ before) st = λ views shows.
     let events = e ∷ before in
     let d = distance config in
     let some = st.lasts in
-    let all : AllByRecursion (ListensTo config.late config.dwell (length before) (log d events)) (listeners d events 0 views) =
+    let p = config.premise in
+    let all : AllByRecursion (ListensIn p.window p.late config.dwell (length before) (log d events)) (listeners config events 0 views) =
     all_listen config e before 0 w.receivers views st.due
     (λ n r at. (let same : n ≡ 0 + n = omega arith in subst (λ i. HasHeard config (input_of d i events) r) same (st.receivers.each n r at))) shows in
-    safe config.dwell config.late (length before) (plans_of d events) (log d events) (listeners d events 0 views) (events_are_lawful lawful d events (omega (arith, some)) st.values)
-    (All-from_recursion _ (listeners d events 0 views) all)
+    safe_in safe twice p.window p.late config.dwell (length before) (plans_of d events) (log d events) (listeners config events 0 views) (events_are_lawful lawful d events (omega (arith, some)) st.values)
+    (All-from_recursion _ (listeners config events 0 views) all)

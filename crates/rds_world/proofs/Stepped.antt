@@ -8,7 +8,7 @@ use Rattle.std.proofs.Math.Seq.{take-append_seam}
 use Rattle.std.proofs.lemmas.Option.{slice_get_read}
 use Rattle.rds_encoder.specs.StandsAt as encoder
 use Rattle.rds_receiver.specs.Shown.{ShownView}
-use Rattle.rds_receiver.specs.State.{ReceiverState}
+use Rattle.rds_world.specs.declared.any_receiver.AnyReceiver.{AnyReceiver}
 use Rattle.rds_world.specs.declared.event.Reception.TheVariants.{Lost}
 use Rattle.rds_world.specs.Due.{IsDueToAll}
 use Rattle.rds_world.specs.Event.{Event}
@@ -29,10 +29,10 @@ by_own config w events st = subst (λ (c : Config). StandsAt c w events) (sym st
 
 -- the encoder and the receivers took the slot
 pub stepped : (config : Config) (old new : WorldState) (events : List Event) (e : Event) → StandsAt config old events → new.config ≡ old.config
-    → SetsAValue e.command → IsDueToAll old.config.late e events
+    → SetsAValue e.command → IsDueToAll old.config.premise.late e events
     → encoder.StandsAt old.config.head (distance old.config) new.encoder (entries (e ∷ events))
     → AllHaveHeard old.config (λ i. received (slice_index_or e.receptions i Lost) (length events) (log (distance old.config) (e ∷ events)) (input_of (distance old.config) i events)) new.receivers
-    → HaveReaches old.config.late (e ∷ events) new.reaches → AreLastSent old.config (log (distance old.config) (e ∷ events)) new.sent
+    → HaveReaches old.config.premise.late (e ∷ events) new.reaches → AreLastSent old.config (log (distance old.config) (e ∷ events)) new.sent
     → ((i : ℕ) → slice_index_or new.stays i false ≡ true → ShowsStill old.config i (e ∷ events))
     → StandsAt config new (e ∷ events)
 stepped config old new events e st same value due told heard reaches sent stay =
@@ -51,7 +51,7 @@ stepped config old new events e st same value due told heard reaches sent stay =
 
 -- the view of a borrowed receiver is that of its input
 pub shows_what_it_heard : (config : Config) (w : WorldState) (i : ℕ) (events : List Event) → StandsAt config w events
-    → (o : Option (Bor ReceiverState)) → is_some o ≡ nat_lt i (length w.receivers) → IfSome o (λ r. r.now ≡ slice_index_or w.receivers i r.now)
+    → (o : Option (Bor AnyReceiver)) → is_some o ≡ nat_lt i (length w.receivers) → IfSome o (λ r. r.now ≡ slice_index_or w.receivers i r.now)
     → IfSome o (λ r. (view : ShownView) → Shows r.now view → IsViewOfInput config (input_of (distance config) i events) view)
 shows_what_it_heard config w i events st None there is = tt
 shows_what_it_heard config w i events st (Some r) there is = λ view shows.

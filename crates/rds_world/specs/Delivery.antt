@@ -2,7 +2,7 @@
 -- some slots of a broadcast, enough of them and at most M slots, shows that broadcast. The laws about a world are cases
 -- of those about a station. Lists have the newest first.
 use Rattle.std.specs.Prelude.{◌≡◌, ◌+◌, ◌-◌, ◌*◌, ◌<◌, ◌≤◌, [], ◌∷◌, ◌++◌}
-use Rattle.std.specs.Prelude.{ℕ, Bool, true, false, List, Some, length, slice_get, slice_index_or}
+use Rattle.std.specs.Prelude.{ℕ, Bool, true, false, List, None, Some, length, slice_get, slice_index_or}
 use Rattle.std.specs.List.{AllByRecursion}
 use Rattle.rds_assembly.specs.Body.{segment_count, text_body}
 use Rattle.rds_encoder.specs.Delivery.{free_in}
@@ -10,9 +10,9 @@ use Rattle.rds_encoder.specs.Entries.{Entry}
 use Rattle.rds_encoder.specs.Plan.{Broadcast, HasNumber}
 use Rattle.rds_encoder.specs.Sent.{one_if, sent_log}
 use Rattle.rds_receiver.specs.Shown.{ShownView}
-use Rattle.rds_receiver.specs.State.{ReceiverState}
 use Rattle.rds_safety.specs.Late.{CameFrom}
 use Rattle.rds_safety.specs.Safe.{Listener, ListensTo}
+use Rattle.rds_world.specs.declared.any_receiver.AnyReceiver.{AnyReceiver}
 use Rattle.rds_world.specs.declared.event.Reception.{Reception}
 use Rattle.rds_world.specs.declared.event.Reception.TheVariants.{Got, Lost, Restart}
 use Rattle.rds_world.specs.Event.{Event}
@@ -47,14 +47,15 @@ pub record LieIn (plan : List Broadcast) (recent before : List Event) (b : Broad
   pub from : b.start ≤ length before
   pub to : length (recent ++ before) ≤ b.end + 1
 
--- in a world that stands at the slots before and the recent ones, a receiver got on time each free one of the recent
--- slots, at most M, and shows this view
+-- in a world without a window that stands at the slots before and the recent ones, a receiver got on time each free one
+-- of the recent slots, at most M, and shows this view
 pub record GotRecently (config : Config) (recent before : List Event) (view : ShownView) : Type 0 where
+  pub once : config.premise.window ≡ None
   pub world : WorldState
   pub stands : StandsAt config world (recent ++ before)
   pub within : length recent ≤ config.dwell
   pub number : ℕ
-  pub receiver : ReceiverState
+  pub receiver : AnyReceiver
   pub there : slice_get world.receivers number ≡ Some receiver
   pub got : GetsEachFree number recent
   pub shows : Shows receiver view

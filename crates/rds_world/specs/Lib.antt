@@ -2,6 +2,8 @@
 -- a world, Station and TwiceStation those of a station with any number of sets in a slot, and FlagStation those of such
 -- a station to receivers with the flag bit alone.
 pub mod Event
+pub mod Premise
+pub mod AnyReceiver
 pub mod Due
 pub mod Slots
 pub mod State

@@ -2,30 +2,38 @@
 use Rattle.std.specs.Prelude.{ℕ, ◌+◌, List, [], ◌∷◌, length}
 use Rattle.std.specs.List.{AllZip}
 use Rattle.rds_receiver.specs.Shown.{ShownView}
-use Rattle.rds_receiver.specs.State.{ReceiverState}
 use Rattle.rds_world.specs.Event.{Event}
+use Rattle.rds_world.specs.Premise.{counted_input}
+use Rattle.rds_world.specs.declared.any_receiver.AnyReceiver.{AnyReceiver}
+use Rattle.rds_safety.specs.Late.{Input}
 use Rattle.rds_safety.specs.Safe.{AreSafe, Listener}
 use Rattle.rds_world.specs.Slots.{input_of, log, plans_of}
 use Rattle.rds_world.specs.StandsAt.{Shows, StandsAt}
 use Rattle.rds_world.specs.State.{WorldState, distance}
 use Rattle.rds_world.specs.declared.world.Config.{Config}
 
--- the receivers from number i on, each with its input and its view
-abbrev pub listeners : ℕ → List Event → ℕ → List ShownView → List Listener
-listeners d events i [] = []
-listeners d events i (view ∷ views) =
-    record { input = input_of d i events; view = view } ∷ listeners d events (i + 1) views
+-- what counts of the input of receiver i
+abbrev pub input_that_counts : Config → ℕ → List Event → Input
+input_that_counts config i events =
+    counted_input config.premise.window config.dwell (input_of (distance config) i events)
+
+-- the receivers from number i on, each with what counts of its input, and its view
+abbrev pub listeners : Config → List Event → ℕ → List ShownView → List Listener
+listeners config events i [] = []
+listeners config events i (view ∷ views) =
+    record { input = input_that_counts config i events; view = view } ∷ listeners config events (i + 1) views
 
 -- The headline, for each list of slots. In each slot the encoder and any receiver may restart. Each receiver gets what
 -- was sent at most K slots before, in the order of sending, or nothing. At the end of the newest slot, each text or
--- name that these receivers show was on air in one of the last M + K slots, the tags shown were sent for the text
--- shown, and any two receivers show one broadcast or two that follow each other.
-abbrev pub OnlyWhatWasOnAirIsShown : Config → List Event → List ReceiverState → Type 0
+-- name that these receivers show was on air in one of the last d slots, the tags shown were sent for the text shown,
+-- and any two receivers show one broadcast or two that follow each other. Here d is M + K, and M + K + W - 1 for
+-- receivers with a window of W slots.
+abbrev pub OnlyWhatWasOnAirIsShown : Config → List Event → List AnyReceiver → Type 0
 OnlyWhatWasOnAirIsShown config [] receivers = Unit {0}
 OnlyWhatWasOnAirIsShown config (newest ∷ before) receivers =
     (views : List ShownView) → AllZip Shows receivers views
     → AreSafe (distance config) config.dwell (length before) (plans_of (distance config) (newest ∷ before))
-    (log (distance config) (newest ∷ before)) (listeners (distance config) (newest ∷ before) 0 views)
+    (log (distance config) (newest ∷ before)) (listeners config (newest ∷ before) 0 views)
 
 -- this holds in each world, for each list of slots that it stands at
 abbrev pub EveryWorldShowsOnlyWhatWasOnAir : Type 0

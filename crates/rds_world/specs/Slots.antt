@@ -1,6 +1,6 @@
 -- What follows from a list of slots (this project's own rule): the encoder's entries, what was sent in each slot, the
 -- plans, and the input of each receiver. Lists have the newest first, and the slot of an event is the number of events
--- before it. The encoder's spacing d is M + K.
+-- before it. The encoder's spacing is d (State).
 use Rattle.std.specs.Prelude.{ℕ, ◌+◌, ◌-◌, List, [], ◌∷◌, Option, Some, None, length, slice_index_or}
 use Rattle.std.specs.List.{AllByRecursion}
 use Rattle.rds_fields.specs.declared.message.Message.{Message}

@@ -6,10 +6,11 @@ use Rattle.rds_fields.specs.declared.message.Message.{Message}
 use Rattle.rds_encoder.specs.StandsAt as encoder
 use Rattle.rds_receiver.specs.Receipts.{AreHeard, Hears, Tuning}
 use Rattle.rds_receiver.specs.Shown.{IsView, ShownView}
-use Rattle.rds_receiver.specs.StandsAt as receiver
-use Rattle.rds_receiver.specs.State.{ReceiverState}
+use Rattle.rds_receiver.specs.Receive.{WhereStands}
 use Rattle.rds_world.specs.declared.event.Reception.{Reception}
 use Rattle.rds_world.specs.declared.event.Reception.TheVariants.{Lost}
+use Rattle.rds_world.specs.AnyReceiver.{StandsAny}
+use Rattle.rds_world.specs.declared.any_receiver.AnyReceiver.{AnyReceiver}
 use Rattle.rds_world.specs.Due.{AreDue, IsDue, last_named, reach_of}
 use Rattle.rds_world.specs.Event.{Event}
 use Rattle.rds_safety.specs.Late.{Input}
@@ -17,31 +18,36 @@ use Rattle.rds_world.specs.Slots.{SetValues, entries, input_of, log, received, s
 use Rattle.rds_world.specs.State.{WorldState, distance}
 use Rattle.rds_world.specs.declared.world.Config.{Config}
 
--- the tuning to the station: its PI, its receivers' dwell, and the slot in which the input begins
+-- the tuning to the station: its PI, its receivers' dwell and window, and the slot in which the input begins
 abbrev pub tuned_to : Config → Input → Tuning
-tuned_to config input = record { programme = config.head.pi; dwell = config.dwell; window = None; first = input.first }
+tuned_to config input = record {
+  programme = config.head.pi;
+  dwell = config.dwell;
+  window = config.premise.window;
+  first = input.first;
+}
 
 -- the receiver stands at groups whose messages are the input
-pub record HasHeard (config : Config) (input : Input) (r : ReceiverState) : Type 0 where
+pub record HasHeard (config : Config) (input : Input) (r : AnyReceiver) : Type 0 where
   pub groups : List (Option Group)
   pub spelled : AreHeard config.head.pi groups input.heard
-  pub stands : receiver.StandsAt (tuned_to config input) r groups
+  pub stands : StandsAny (tuned_to config input) r groups
 
 -- the receiver has heard nothing yet, in whichever slot its input begins
-abbrev pub IsNew : Config → ReceiverState → Type 0
+abbrev pub IsNew : Config → AnyReceiver → Type 0
 IsNew config r =
     (first : ℕ)
-    → receiver.StandsAt record { programme = config.head.pi; dwell = config.dwell; window = None; first = first } r []
+    → StandsAny (tuned_to config record { first = first; heard = []; origins = [] }) r []
 
 -- each receiver has heard the input with its number
-pub record AllHaveHeard (config : Config) (inputs : ℕ → Input) (receivers : List ReceiverState) : Type 0 where
-  pub each : (i : ℕ) (r : ReceiverState) → slice_get receivers i ≡ Some r → HasHeard config (inputs i) r
+pub record AllHaveHeard (config : Config) (inputs : ℕ → Input) (receivers : List AnyReceiver) : Type 0 where
+  pub each : (i : ℕ) (r : AnyReceiver) → slice_get receivers i ≡ Some r → HasHeard config (inputs i) r
 
 -- these are the groups of the last K + 1 slots, the newest first: receivers of the programme hear the messages of the log
 -- from them
 abbrev pub AreLastSent : Config → List (Option Message) → List (Option Group) → Type 0
 AreLastSent config sent groups =
-    (back : ℕ) → back ≤ config.late → Hears config.head.pi (slice_index_or groups back None) (sent_back back sent)
+    (back : ℕ) → back ≤ config.premise.late → Hears config.head.pi (slice_index_or groups back None) (sent_back back sent)
 
 -- the inputs of all receivers after one more slot, with the log up to this slot
 abbrev pub all_received : List Reception → ℕ → List (Option Message) → (ℕ → Input) → ℕ → Input
@@ -49,11 +55,11 @@ all_received receptions slot sent inputs i = received (slice_index_or receptions
 
 -- this holds of each slot, log and list of inputs for which the kept groups are the last ones of the log, each
 -- reception is due, and the receivers have heard the inputs
-abbrev pub WhereTheyListen : Config → List Reception → List (Option Group) → List ReceiverState
+abbrev pub WhereTheyListen : Config → List Reception → List (Option Group) → List AnyReceiver
     → (ℕ → List (Option Message) → (ℕ → Input) → Type 0) → Type 0
 WhereTheyListen config receptions kept receivers Holds =
     (slot : ℕ) (sent : List (Option Message)) (inputs : ℕ → Input) (last : ℕ → Option ℕ) → AreLastSent config sent kept
-    → ((i : ℕ) → IsDue config.late slot (last i) (slice_index_or receptions i Lost))
+    → ((i : ℕ) → IsDue config.premise.late slot (last i) (slice_index_or receptions i Lost))
     → AllHaveHeard config inputs receivers → Holds slot sent inputs
 
 -- each receiver has the reach that follows from the slots
@@ -82,10 +88,10 @@ pub record StandsAt (config : Config) (w : WorldState) (events : List Event) : T
   pub is_set : w.config ≡ config
   pub lasts : 0 < config.dwell
   pub values : SetValues events
-  pub due : AreDue config.late events
+  pub due : AreDue config.premise.late events
   pub encoder : encoder.StandsAt config.head (distance config) w.encoder (entries events)
   pub receivers : AllHaveHeard config (λ i. input_of (distance config) i events) w.receivers
-  pub reaches : HaveReaches config.late events w.reaches
+  pub reaches : HaveReaches config.premise.late events w.reaches
   pub sent : AreLastSent config (log (distance config) events) w.sent
   pub stay : (i : ℕ) → slice_index_or w.stays i false ≡ true → ShowsStill config i events
 
@@ -94,5 +100,5 @@ abbrev pub WhereItStands : WorldState → (Config → List Event → Type 0) →
 WhereItStands w Holds = (config : Config) (events : List Event) → StandsAt config w events → Holds config events
 
 -- the receiver shows this view: the view follows from every input that can lead to this state
-abbrev pub Shows : ReceiverState → ShownView → Type 0
-Shows r view = receiver.WhereItStands r (λ t input. IsView t input view)
+abbrev pub Shows : AnyReceiver → ShownView → Type 0
+Shows r view = WhereStands StandsAny r (λ t input. IsView t input view)

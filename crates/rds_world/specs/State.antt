@@ -3,17 +3,19 @@
 use Rattle.std.specs.Prelude.{ℕ, ◌+◌, Bool, List, Option}
 use Rattle.rds_block.specs.declared.group.Group.{Group}
 use Rattle.rds_encoder.specs.State.{EncoderState}
-use Rattle.rds_receiver.specs.State.{ReceiverState}
+use Rattle.rds_world.specs.Premise.{lateness}
+use Rattle.rds_world.specs.declared.any_receiver.AnyReceiver.{AnyReceiver}
 use Rattle.rds_world.specs.declared.world.Config.{Config}
 
--- the spacing d of the station, in slots: the dwell M plus the lateness K
+-- the spacing d of the station, in slots: the dwell M plus the lateness of what counts. It is M + K, and M + K + W - 1
+-- with a window of W slots
 abbrev pub distance : Config → ℕ
-distance config = config.dwell + config.late
+distance config = config.dwell + lateness config.premise
 
 pub record WorldState : Type 0 where
   pub config : Config
   pub encoder : EncoderState
-  pub receivers : List ReceiverState
+  pub receivers : List AnyReceiver
   pub stays : List Bool
   pub reaches : List ℕ
   pub sent : List (Option Group)

@@ -2,10 +2,12 @@
 //! a group that was sent, in its slot or some slots late, or nothing.
 //!
 //! Lists of slots have the newest first. Whatever the slots are, each text that a receiver shows was on air in one of
-//! the last M + K slots.
+//! the last d slots: M + K slots, or M + K + W - 1 if the receivers have a window of W slots.
 #![tactic(auto)]
 
+mod any_receiver;
 mod event;
+mod premise;
 mod reach;
 mod receivers;
 mod recent;
@@ -15,7 +17,9 @@ mod station;
 mod station_laws;
 mod world;
 
+pub use any_receiver::AnyReceiver;
 pub use event::{Command, MOST_RECEIVERS, Reception, SlotEvent};
+pub use premise::Premise;
 pub use reply::{Answer, Reply, StepRefused, WorldRefused};
 pub use slots::{PlayRefused, play};
 pub use station_laws::{

@@ -11,33 +11,38 @@ ghost use Rattle.rds_world.specs.StandsAt.{AllHaveHeard, AreLastSent, HasHeard, 
 ghost use Rattle.rds_world.specs.StandsAt.{StaysShown, WhereTheyListen, all_received};
 
 use crate::recent::Recent;
-use crate::{Config, MOST_RECEIVERS, Reception};
+use crate::{AnyReceiver, Config, MOST_RECEIVERS, Reception};
 use rds_block::Blocks;
-use rds_receiver::Receiver;
+use rds_receiver::Receive;
 
 /// Makes eight receivers that have heard nothing yet.
 // Prover: all eight are written out, without `array::from_fn` (docs/PROVER.md, "Workarounds").
-pub(crate) fn eight_receivers(config: &Config) -> [Receiver; MOST_RECEIVERS]
+pub(crate) fn eight_receivers(config: &Config) -> [AnyReceiver; MOST_RECEIVERS]
     ensures { AllByRecursion (IsNew config.now) result }
 {
-    let pi = config.head.pi;
-    let dwell = config.dwell;
     [
-        Receiver::new(pi, dwell),
-        Receiver::new(pi, dwell),
-        Receiver::new(pi, dwell),
-        Receiver::new(pi, dwell),
-        Receiver::new(pi, dwell),
-        Receiver::new(pi, dwell),
-        Receiver::new(pi, dwell),
-        Receiver::new(pi, dwell),
+        new_receiver(config),
+        new_receiver(config),
+        new_receiver(config),
+        new_receiver(config),
+        new_receiver(config),
+        new_receiver(config),
+        new_receiver(config),
+        new_receiver(config),
     ]
+}
+
+/// Makes a receiver that has heard nothing yet.
+fn new_receiver(config: &Config) -> AnyReceiver
+    ensures { IsNew config.now result }
+{
+    AnyReceiver::new(config.head.pi, config.dwell, config.premise.window())
 }
 
 /// Gives each receiver its reception of a slot from the recent groups. Returns a mark for each: if it is true, the
 /// view of that receiver did not change.
 pub(crate) fn hand_out(
-    receivers: &mut [Receiver],
+    receivers: &mut [AnyReceiver],
     config: &Config,
     receptions: &[Reception],
     recent: &Recent,
@@ -62,7 +67,7 @@ pub(crate) fn hand_out(
 
 /// Gives one receiver its reception of a slot. If it returns true, the view did not change.
 fn receive(
-    receiver: &mut Receiver,
+    receiver: &mut AnyReceiver,
     config: &Config,
     reception: Reception,
     recent: &Recent,
@@ -71,12 +76,12 @@ fn receive(
     requires { newest.now ≡ slice_index_or recent.now.items 0 None }
     ensures heard { (slot : ℕ) (sent : List (Option Message)) (input : Input) (last : Option ℕ)
         → AreLastSent config.now sent recent.now.items
-        → IsDue config.now.late slot last reception
+        → IsDue config.now.premise.late slot last reception
         → HasHeard config.now input receiver.old
         → HasHeard config.now (received reception slot sent input) receiver.new }
     ensures stays { (slot : ℕ) (sent : List (Option Message)) (input : Input) (last : Option ℕ)
         → AreLastSent config.now sent recent.now.items
-        → IsDue config.now.late slot last reception
+        → IsDue config.now.premise.late slot last reception
         → HasHeard config.now input receiver.old → IsTrue result
         → StaysShown config.now input (received reception slot sent input) }
 {
@@ -84,7 +89,7 @@ fn receive(
         Reception::Got(back) => !receiver.slot_blocks(recent.back_from(newest, back)),
         Reception::Lost => !receiver.slot_blocks(None),
         Reception::Restart => {
-            *receiver = Receiver::new(config.head.pi, config.dwell);
+            *receiver = new_receiver(config);
             false
         }
     }

@@ -1,6 +1,6 @@
 //! The encoder's part of a slot: the command.
-ghost use Rattle.std.specs.Prelude.{◌≡◌, List};
-ghost use Rattle.rds_encoder.specs.Entries.{Entry};
+ghost use Rattle.std.specs.Prelude.{◌≡◌, [], ◌∷◌, List};
+ghost use Rattle.rds_encoder.specs.Entries.{Entry, Restart};
 ghost use Rattle.rds_encoder.specs.StandsAt.{StandsAt};
 ghost use Rattle.rds_world.specs.Replies.{answered, reply_at};
 ghost use Rattle.rds_world.specs.Slots.{SetsAValue, commanded};
@@ -8,6 +8,15 @@ ghost use Rattle.rds_world.specs.State.{distance};
 
 use crate::{Command, Config, Reply};
 use rds_encoder::{Encoder, Refusal};
+
+/// Makes the encoder at a restart: its spacing is the dwell plus the lateness of what counts.
+pub(crate) fn new_encoder(config: &Config) -> Encoder
+    ensures first { StandsAt config.now.head (distance config.now) result [] }
+    ensures again { (entries : List Entry)
+        → StandsAt config.now.head (distance config.now) result (Restart ∷ entries) }
+{
+    Encoder::new(config.head, config.dwell, config.premise.lateness())
+}
 
 /// Gives the command to the encoder and returns the reply.
 pub(crate) fn obey(encoder: &mut Encoder, config: &Config, command: &Command) -> Reply
@@ -22,7 +31,7 @@ pub(crate) fn obey(encoder: &mut Encoder, config: &Config, command: &Command) ->
     match *command {
         Command::Quiet => Reply::Quiet,
         Command::Restart => {
-            *encoder = Encoder::new(config.head, config.dwell, config.late);
+            *encoder = new_encoder(config);
             Reply::Restarted
         }
         Command::SetText(text) => answer(encoder.set_text(text)),

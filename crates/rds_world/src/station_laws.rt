@@ -45,6 +45,7 @@ pub fn only_what_was_on_air_is_shown()
 {
     the_encoder_is_lawful();
     safe_by_plans();
+    safe_if_heard_twice();
 }
 
 /// States the headline for receivers that get wrong groups and show only what they heard twice.

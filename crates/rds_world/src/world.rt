@@ -17,24 +17,24 @@ ghost use Rattle.rds_world.specs.declared.event.TheConstants.{MOST_RECEIVERS};
 use crate::reach::{Reach, reaches_after};
 use crate::receivers::{eight_receivers, hand_out};
 use crate::recent::Recent;
-use crate::station::obey;
+use crate::station::{new_encoder, obey};
 use crate::{
-    Answer, MOST_RECEIVERS, SlotEvent, StepRefused, WorldRefused, only_what_was_on_air_is_shown,
+    Answer, AnyReceiver, MOST_RECEIVERS, Premise, SlotEvent, StepRefused, WorldRefused,
+    only_what_was_on_air_is_shown,
 };
 use rds_block::Blocks;
 use rds_encoder::Encoder;
-use rds_fields::{Dwell, Head, Late};
-use rds_receiver::Receiver;
+use rds_fields::{Dwell, Head};
 use std::alloc::Global;
 use std::marker::Model;
 
-/// The configuration of a world: the head of each group that the station sends, the dwell M of the receivers, and the
-/// lateness K, both in slots.
+/// The configuration of a world: the head of each group that the station sends, the dwell M of the receivers in slots,
+/// and how groups may reach them.
 #[derive(Clone, Copy)]
 pub struct Config {
     pub head: Head,
     pub dwell: Dwell,
-    pub late: Late,
+    pub premise: Premise,
 }
 
 /// One encoder and up to eight receivers of its programme.
@@ -45,7 +45,7 @@ pub struct Config {
 pub struct World {
     config: Config,
     encoder: Encoder,
-    receivers: [Receiver; MOST_RECEIVERS],
+    receivers: [AnyReceiver; MOST_RECEIVERS],
     stays: [bool; MOST_RECEIVERS],
     reaches: [Reach; MOST_RECEIVERS],
     count: usize,
@@ -55,13 +55,13 @@ pub struct World {
 impl Model for World {
     ghost use Rattle.std.specs.Prelude.{◌≡◌, ◌≤◌, ◌+◌, length, take};
     ghost use Rattle.std.specs.Coded.{codes};
-    ghost use Rattle.rds_receiver.specs.Codes.{receiver_code};
+    ghost use Rattle.rds_receiver.specs.Codes.{receiver_code, twice_code};
     ghost use Rattle.rds_world.specs.State.{WorldState};
     ghost use Rattle.rds_world.specs.declared.event.TheConstants.{MOST_RECEIVERS};
 
     ghost Value = { WorldState };
 
-    ghost coded = { Prim.hlevel (codes, receiver_code) };
+    ghost coded = { Prim.hlevel (codes, receiver_code, twice_code) };
 
     ghost view = { λ w. record {
       config = w.config;
@@ -73,7 +73,7 @@ impl Model for World {
     } };
 
     ghost invariant = { λ w. (w.count ≤ MOST_RECEIVERS) × (length w.receivers ≡ MOST_RECEIVERS)
-        × (length w.reaches ≡ MOST_RECEIVERS) × (w.recent.capacity ≡ w.config.late + 1) };
+        × (length w.reaches ≡ MOST_RECEIVERS) × (w.recent.capacity ≡ w.config.premise.late + 1) };
 }
 
 impl World {
@@ -90,12 +90,12 @@ impl World {
         if receivers > MOST_RECEIVERS {
             return Err(WorldRefused::TooManyReceivers);
         }
-        let Ok(recent) = Recent::new(alloc, config.late) else {
+        let Ok(recent) = Recent::new(alloc, config.premise.late()) else {
             return Err(WorldRefused::Memory);
         };
         Ok(World {
             config,
-            encoder: Encoder::new(config.head, config.dwell, config.late),
+            encoder: new_encoder(&config),
             receivers: eight_receivers(&config),
             stays: [false; MOST_RECEIVERS],
             reaches: [Reach::new(); MOST_RECEIVERS],
@@ -114,8 +114,8 @@ impl World {
         ensures counted { IsErrOf result StepRefused.ReceiverCount
             ↔ (length event.now.receptions ≢ length self.old.receivers) }
         ensures refused { WhereItStands self.old (λ config events. MatchResult result
-            (λ _. CanBeTaken config.late (length self.old.receivers) event.now events)
-            (IsStepRefused config.late (length self.old.receivers) event.now events)) }
+            (λ _. CanBeTaken config.premise.late (length self.old.receivers) event.now events)
+            (IsStepRefused config.premise.late (length self.old.receivers) event.now events)) }
         ensures kept { OnErr result (self.new ≡ self.old) }
         ensures count { length self.new.receivers ≡ length self.old.receivers }
         ensures reply { WhereItStands self.old (λ config events. IfOk result (λ answer.
@@ -133,7 +133,11 @@ impl World {
         if receptions.len() != self.count {
             return Err(StepRefused::ReceiverCount);
         }
-        let reaches = match reaches_after(&self.reaches[..self.count], self.config.late, event) {
+        let reaches = match reaches_after(
+            &self.reaches[..self.count],
+            self.config.premise.late(),
+            event,
+        ) {
             Ok(reaches) => reaches,
             Err(receiver) => return Err(StepRefused::Late(receiver)),
         };
@@ -164,7 +168,7 @@ impl World {
     }
 
     /// Returns receiver i, counted from 0, borrowed from the world. `None` if there are no more than i receivers.
-    pub fn receiver(&self, i: usize) -> Option<&Receiver>
+    pub fn receiver(&self, i: usize) -> Option<&AnyReceiver>
         ensures there { IsSome result ↔ (i < length self.now.receivers) }
         ensures same { option_copied result ≡ slice_get self.now.receivers i }
         ensures heard { WhereItStands self.now (λ config events.

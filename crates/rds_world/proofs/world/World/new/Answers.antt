@@ -10,19 +10,19 @@ pub returns-clause-stands : goal.returns-clause-stands
 returns-clause-stands c =
     let config = c.args.config in
     let made = c.eight_receivers.result in
-    let one = c.new-3.ensures in
+    let one = c.new-2.ensures in
     record {
       is_set = refl;
       lasts = some_slots config made c.eight_receivers.ensures (omega (arith, c.eight_receivers.type_inv));
       values = tt;
       due = tt;
-      encoder = c.new-2.ensures.first;
+      encoder = c.new_encoder.ensures.first;
       receivers = record {
         each = λ i r e. heard_nothing config 0 r
             (one_of_first (IsNew config) c.args.receivers made i r c.eight_receivers.ensures e);
       };
       reaches = record {
-        each = λ i reach e. one_of_first (λ n. n ≡ 1) c.args.receivers _ i reach (one, (one, (one, (one, (one, (one, (one, (one, tt)))))))) e ∙ at_first config.late;
+        each = λ i reach e. one_of_first (λ n. n ≡ 1) c.args.receivers _ i reach (one, (one, (one, (one, (one, (one, (one, (one, tt)))))))) e ∙ at_first config.premise.late;
       };
       sent = subst (λ (b : Buffer (Option Group)). AreLastSent config [] b.items) (sym c.in-Ok.ensures) (λ back within. refl);
       stay = λ i is. tt;

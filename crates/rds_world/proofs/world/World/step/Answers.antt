@@ -2,7 +2,7 @@ use Rattle.std.proofs.Common.{◌≡◌, ◌++◌, ◌∷◌, ℕ, List, Option,
 use Rattle.std.specs.Prelude.{slice_index_or}
 use Rattle.circular_buffer.specs.Buffer.{Buffer}
 use Rattle.rds_block.specs.declared.group.Group.{Group}
-use Rattle.rds_receiver.specs.State.{ReceiverState}
+use Rattle.rds_world.specs.declared.any_receiver.AnyReceiver.{AnyReceiver}
 use Rattle.rds_world.specs.declared.event.Reception.{Reception}
 use Rattle.rds_world.specs.declared.event.Reception.TheVariants.{Lost}
 use Rattle.rds_world.specs.Due.{IsDue, IsDueToAll, last_named}
@@ -22,13 +22,14 @@ returns-clause-stands c config events st =
     let own = by_own config _ events at in
     let world = c.self.inside in
     let set = world.config in
-    let late = set.late in
+    let late = set.premise.late in
     let apart = distance set in
     let before = entries events in
     let e : Event = c.args.event.now in
     let now : Event = record { command = c.event.inside.command; free = c.event.inside.free; receptions = c.event.inside.receptions.items } in
     let same : now ≡ e = c.event.view_is in
-    let due : IsDueToAll late e events = c.in-Ok.ensures.due events own.reaches in
+    let had : HaveReaches c.late.result events (take world.count world.reaches) = subst (λ (n : ℕ). HaveReaches n events (take world.count world.reaches)) (sym c.late.ensures) own.reaches in
+    let due : IsDueToAll late e events = subst (λ (n : ℕ). IsDueToAll n e events) c.late.ensures (c.in-Ok.ensures.due events had) in
     let due_now : IsDueToAll late now events = subst (λ (x : Event). IsDueToAll late x events) (sym same) due in
     let done = c.obey-reply.ensures.stands before own.encoder in
     let ticked = c.tick-sent.ensures.stands set.head apart (commanded now.command before) done in
@@ -52,13 +53,14 @@ returns-clause-stands c config events st =
     } in
     let inputs : ℕ → Input = λ i. received (slice_index_or now.receptions i Lost) (length events) all_sent (input_of apart i events) in
     let all : AllHaveHeard set inputs new.receivers =
-    subst (λ (rs : List ReceiverState). AllHaveHeard set inputs rs)
+    subst (λ (rs : List AnyReceiver). AllHaveHeard set inputs rs)
     (front_is c.hand_out-self-inside.new.receivers world.receivers world.count c.hand_out-self-inside.ensures.count c.self.invariant.0 c.self.invariant.1)
     (rw c.as_slice-receptions.ensures.value at heard) in
     let many : length (take world.count world.reaches) ≡ world.count = length-take-le world.count world.reaches (omega (arith, c.self.invariant.0, c.self.invariant.2)) in
     let reaches : HaveReaches late (now ∷ events) new.reaches =
     subst (λ (x : Event). HaveReaches late (x ∷ events) new.reaches) (sym same)
-    (subst (λ (n : ℕ). HaveReaches late (e ∷ events) (take n c.in-Ok.reaches)) many (c.in-Ok.ensures.reaches events own.reaches)) in
+    (subst (λ (n : ℕ). HaveReaches late (e ∷ events) (take n c.in-Ok.reaches)) many
+    (subst (λ (n : ℕ). HaveReaches n (e ∷ events) (take (length (take world.count world.reaches)) c.in-Ok.reaches)) c.late.ensures (c.in-Ok.ensures.reaches events had))) in
     let stay = rw c.as_slice-receptions.ensures.value at (c.hand_out-self-inside.ensures.stays (length events) all_sent (λ i. input_of apart i events) (λ i. last_named i events) kept due_told own.receivers) in
     subst (λ (x : Event). StandsAt config new (x ∷ events)) same
     (stepped config old new events now at refl c.obey-reply.ensures.value due_now ticked all reaches kept stay)
