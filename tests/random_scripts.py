@@ -49,6 +49,7 @@ def refused_words(rng, command, asked):
     good = words(rng, command, asked)
     numbers = [("--m", it) for it in ("0", "65536", "", " 8", "8 ", "x", "0x8", "8.0", "-1", "99999999999999999999")]
     numbers += [("--k", "1025"), ("--k", "-1"), ("--pty", "32"), ("--pty", "256")]
+    numbers += [("--confirm", "1"), ("--confirm", "256")]
     return rng.choice((
         [command],
         [*good, "--nothing"], [*good, "-x"], [*good, ""], [*good, "C201"], [*good, "--", "C201"], [*good, *good],
