@@ -28,3 +28,5 @@ mod stored_receiver;
 mod twice;
 #[cfg(test)]
 mod worlds;
+#[cfg(test)]
+mod wrong_groups;

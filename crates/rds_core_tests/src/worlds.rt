@@ -22,7 +22,7 @@ const LOST: Reception = Reception::Lost;
 /// So many free slots of a world whose receivers get each group: what happens in each, its reply and what it sends, and
 /// the text that all show at its end.
 #[derive(Clone, Copy)]
-struct Row {
+pub(crate) struct Row {
     slots: u32,
     command: Command,
     reply: Reply,
@@ -31,7 +31,7 @@ struct Row {
 }
 
 /// So many slots with no command; nothing is sent, and nothing is shown.
-fn quiet(slots: u32) -> Row {
+pub(crate) fn quiet(slots: u32) -> Row {
     Row {
         slots,
         command: Command::Quiet,
@@ -42,7 +42,7 @@ fn quiet(slots: u32) -> Row {
 }
 
 /// A slot with a command and its reply.
-fn told(command: Command, reply: Reply) -> Row {
+pub(crate) fn told(command: Command, reply: Reply) -> Row {
     Row {
         command,
         reply,
@@ -51,14 +51,14 @@ fn told(command: Command, reply: Reply) -> Row {
 }
 
 impl Row {
-    fn sends(self, words: [u16; 4]) -> Row {
+    pub(crate) fn sends(self, words: [u16; 4]) -> Row {
         Row {
             sent: Some(words),
             ..self
         }
     }
 
-    fn shows(self, text: Text) -> Row {
+    pub(crate) fn shows(self, text: Text) -> Row {
         Row {
             text: Some(text),
             ..self
@@ -77,7 +77,7 @@ fn play_slots(
 }
 
 /// Returns why the slots are not played. `None` if they are.
-fn not_played(
+pub(crate) fn not_played(
     alloc: Global,
     config: Config,
     receivers: usize,
@@ -92,7 +92,7 @@ fn not_made(alloc: Global, config: Config, receivers: usize) -> Option<WorldRefu
 }
 
 /// Plays a slot in the world, and promises nothing either.
-fn play_slot(world: &mut World, slot: &SlotEvent) -> Result<Answer, StepRefused> {
+pub(crate) fn play_slot(world: &mut World, slot: &SlotEvent) -> Result<Answer, StepRefused> {
     world.step(slot)
 }
 
@@ -101,7 +101,7 @@ fn new_world(alloc: Global, receivers: usize) -> Result<World, Fail> {
     world_of(alloc, config()?, receivers)
 }
 
-fn world_of(alloc: Global, config: Config, receivers: usize) -> Result<World, Fail> {
+pub(crate) fn world_of(alloc: Global, config: Config, receivers: usize) -> Result<World, Fail> {
     Ok(World::new(alloc, config, receivers).ok().ok_or("world")?)
 }
 
@@ -113,7 +113,7 @@ fn played(rt: &impl Abort, alloc: Global, receivers: usize, rows: &[Row]) -> Res
 }
 
 /// Plays the rows on this world of up to two receivers.
-fn step_rows(
+pub(crate) fn step_rows(
     rt: &impl Abort,
     world: &mut World,
     receivers: usize,
@@ -138,7 +138,7 @@ fn step_rows(
 }
 
 /// Compares the text of a receiver with this one. The clauses of a world then burden no test that calls this.
-fn assert_text(
+pub(crate) fn assert_text(
     rt: &impl Abort,
     world: &World,
     receiver: usize,
@@ -154,7 +154,11 @@ fn assert_on_air(rt: &impl Abort, world: &World, wanted: (Option<&[u8]>, Option<
     same(rt, world.on_air(), wanted);
 }
 
-fn slot_event(command: Command, free: bool, each: &[Reception]) -> Result<SlotEvent, Fail> {
+pub(crate) fn slot_event(
+    command: Command,
+    free: bool,
+    each: &[Reception],
+) -> Result<SlotEvent, Fail> {
     let mut receptions = ArrayVec::new();
     for reception in each {
         receptions.try_push(*reception).ok().ok_or("receptions")?;
@@ -167,7 +171,7 @@ fn slot_event(command: Command, free: bool, each: &[Reception]) -> Result<SlotEv
 }
 
 /// PI C201, TP 0, PTY 10, a dwell of four slots, and receivers that are on time.
-fn config() -> Result<Config, Fail> {
+pub(crate) fn config() -> Result<Config, Fail> {
     let head = Head {
         pi: 0xC201,
         tp: false,

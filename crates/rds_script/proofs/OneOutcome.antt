@@ -79,6 +79,6 @@ same_outcomes one config (e ∷ before) (o ∷ outcomes) (o' ∷ other) p q =
 -- rows write one output
 pub same_written : TextIsReadOneWay → OneGroup → (form : Form) (config : Config) (records : List Record) (written other : List ℕ) → RowsWrite form config records written → RowsWrite form config records other → written ≡ other
 same_written text one form config records written other p q =
-    let events : p.events ≡ q.events = same_events text config.premise.late p.say.receivers q.say.receivers records p.events q.events p.say.rows q.say.rows in
+    let events : p.events ≡ q.events = same_events text config.premise p.say.receivers q.say.receivers records p.events q.events p.say.rows q.say.rows in
     let outcomes : p.write.outcomes ≡ q.write.outcomes = same_outcomes one config q.events p.write.outcomes q.write.outcomes (subst (λ (l : List Event). AreOutcomes config l p.write.outcomes) events p.write.are) q.write.are in
     p.write.lines ∙ ap (lines_of form) outcomes ∙ sym q.write.lines

@@ -2,6 +2,7 @@
 use Rattle.std.proofs.Common.{◌≡◌, ◌⊎◌, ◌<◌, ◌≤◌, ◌+◌, ◌∙◌, ◌∷◌, ◌++◌, [], ℕ, zero, suc, add-one, List, None, Option, Some, ap, ap₂, arith, inl, inr, length, refl, subst, sym}
 use Rattle.std.specs.Prelude.{Err, Ok, OnOk, Result}
 use Rattle.rds_world.specs.Event.{Event}
+use Rattle.rds_world.specs.Premise.{Premise}
 use Rattle.rds_world.specs.State.{distance}
 use Rattle.rds_receiver.specs.Shown.{ShownView}
 use Rattle.rds_script.proofs.Changes.{changes_same}
@@ -32,7 +33,7 @@ use Rattle.rds_world.specs.declared.event.TheConstants.{MOST_RECEIVERS}
 use Rattle.rds_world.specs.declared.world.Config.{Config}
 
 -- a record, an event and an outcome for each slot
-pub as_many_rows : (k receivers : ℕ) (records : List Record) (events : List Event) → AreRows k receivers records events → length records ≡ length events
+pub as_many_rows : (k : Premise) (receivers : ℕ) (records : List Record) (events : List Event) → AreRows k receivers records events → length records ≡ length events
 as_many_rows k receivers [] [] are = refl
 as_many_rows k receivers [] (e ∷ older) are = absurd are
 as_many_rows k receivers (row ∷ before) [] are = absurd are
@@ -48,7 +49,7 @@ same_count row e f p q =
     fourth e = (cc)
 
 -- a row with more receivers than its script may name
-pub names_receivers : (k : ℕ) (form : Form) (row : Record) (records : List Record) (e : Event) → SaysEvent row e → (IsAllowed form (length e.receptions) → ⊥) → AreNoRows k form (row ∷ records)
+pub names_receivers : (k : Premise) (form : Form) (row : Record) (records : List Record) (e : Event) → SaysEvent row e → (IsAllowed form (length e.receptions) → ⊥) → AreNoRows k form (row ∷ records)
 names_receivers k form row records e says none [] say = say.rows
 names_receivers k form row records e says none (f ∷ older) say = none (subst (IsAllowed form) (sym (same_count row e f says say.rows.0 ∙ say.rows.1.count)) say.allowed)
 
@@ -57,7 +58,7 @@ few_allowed : (form : Form) (n : ℕ) → IsAllowed form n → n ≤ MOST_RECEIV
 few_allowed Simulation n allowed = allowed
 few_allowed Log n allowed = omega (arith, allowed)
 
-pub says_none : (k : ℕ) (form : Form) (row : Record) (records : List Record) → ((e : Event) → length e.receptions ≤ MOST_RECEIVERS → SaysEvent row e → ⊥) → AreNoRows k form (row ∷ records)
+pub says_none : (k : Premise) (form : Form) (row : Record) (records : List Record) → ((e : Event) → length e.receptions ≤ MOST_RECEIVERS → SaysEvent row e → ⊥) → AreNoRows k form (row ∷ records)
 says_none k form row records none [] say = say.rows
 says_none k form row records none (e ∷ older) say = none e (let few = few_allowed form say.receivers say.allowed in omega (arith, few, say.rows.1.count)) say.rows.0
 
@@ -68,7 +69,7 @@ not_allowed Log zero few none = absurd (none refl)
 not_allowed Log (suc n) few none = (refl, omega arith)
 
 -- rows of one script have one number of receivers
-same_receivers : (k n other : ℕ) (records : List Record) (events older : List Event) → AreRows k n records events → AreRows k other records older → 0 < length records → n ≡ other
+same_receivers : (k : Premise) (n other : ℕ) (records : List Record) (events older : List Event) → AreRows k n records events → AreRows k other records older → 0 < length records → n ≡ other
 same_receivers k n other [] events older p q some = absurd (omega (arith, some))
 same_receivers k n other (row ∷ records) [] older p q some = absurd p
 same_receivers k n other (row ∷ records) (e ∷ events) [] p q some = absurd q
@@ -85,7 +86,7 @@ slot_written form slot kept o older written lines had now same gave =
     ap₂ (λ (x y : List ℕ). x ++ y) had (gave ∙ ap₂ (λ (x y : List ℕ). x ++ y) answer changes)
 
 -- before the first slot any number of receivers will do, and no outcome shows a thing
-pub none_played : (k receivers other : ℕ) (records : List Record) (events : List Event) → AreRows k receivers records events → events ≡ [] → AreRows k other records events
+pub none_played : (k : Premise) (receivers other : ℕ) (records : List Record) (events : List Event) → AreRows k receivers records events → events ≡ [] → AreRows k other records events
 none_played k receivers other [] [] rows none = tt
 none_played k receivers other [] (e ∷ older) rows none = absurd rows
 none_played k receivers other (row ∷ records) [] rows none = absurd rows
@@ -100,18 +101,18 @@ none_shown config (e ∷ before) outcomes are none = absurd (omega (arith, ap le
 pub record IsReady (played : Played) (events : List Event) (outcomes : List Outcome) (asked : ℕ) (w : Watched) : Type 0 where
   pub receivers : ℕ
   pub allowed : IsAllowed played.form receivers
-  pub rows : AreRows played.config.premise.late receivers played.records events
+  pub rows : AreRows played.config.premise receivers played.records events
   pub stands : WatchedStandsAt played.config receivers w events
   pub same : AreKept (views_kept w) (newest_views outcomes)
   pub how : (0 < length played.records) ⊎ (receivers ≡ asked)
 
 pub is_ready : (before : Option Watched) (w : Watched) (played : Played) (asked : ℕ) (events : List Event) (outcomes : List Outcome) → IsAllowed played.form played.receivers → IsAllowed played.form asked
-    → AreRows played.config.premise.late played.receivers played.records events → AreOutcomes played.config events outcomes → HasWatched played.config played.receivers before events outcomes
+    → AreRows played.config.premise played.receivers played.records events → AreOutcomes played.config events outcomes → HasWatched played.config played.receivers before events outcomes
     → IsBegun played.config asked before w → IsReady played events outcomes asked w
 is_ready None w played asked events outcomes had allowed rows are none begun = record {
   receivers = asked;
   allowed = allowed;
-  rows = none_played played.config.premise.late played.receivers asked played.records events rows none;
+  rows = none_played played.config.premise played.receivers asked played.records events rows none;
   stands = rw none begun.0;
   same = rw (none_shown played.config events outcomes are none) begun.1;
   how = inr refl;
@@ -122,7 +123,7 @@ is_ready (Some before) w played asked events outcomes had allowed rows are has b
   rows = rows;
   stands = rw begun has.1;
   same = rw begun has.2;
-  how = inl (let counted = as_many_rows played.config.premise.late played.receivers played.records events rows in omega (arith, has.0, counted));
+  how = inl (let counted = as_many_rows played.config.premise played.receivers played.records events rows in omega (arith, has.0, counted));
 }
 
 -- an event and an outcome for each slot
@@ -135,8 +136,8 @@ as_many_outcomes config (e ∷ before) (o ∷ older) are = ap suc (as_many_outco
 -- a slot more is played in a world whose receivers are watched
 pub plays_on : {T E : Type 0} (r : Result T E) (before now : Player) (played : Played) (s : PlayerStandsAt before played) (receivers : ℕ) (kept : List ShownView) (w : Watched) (row : Record) (e : Event) (old new : List ℕ)
     → now.form ≡ before.form → now.config ≡ before.config → now.slot ≡ before.slot + 1 → now.watched ≡ Some w → IsAllowed played.form receivers
-    → AreRows played.config.premise.late receivers played.records s.events → SaysEvent row e → AreKept kept (newest_views s.outcomes)
-    → OnOk r (CanBeTaken played.config.premise.late receivers e s.events) → OnOk r (WatchedStandsAt played.config receivers w (e ∷ s.events))
+    → AreRows played.config.premise receivers played.records s.events → SaysEvent row e → AreKept kept (newest_views s.outcomes)
+    → OnOk r (CanBeTaken played.config.premise receivers e s.events) → OnOk r (WatchedStandsAt played.config receivers w (e ∷ s.events))
     → OnOk r ((o : Outcome) × IsOutcome played.config e s.events o × (o.views ≡ views_kept w) × (new ≡ old ++ slot_lines played.form before.slot kept o))
     → OnOk r (now.wait ≡ first_of (wait_of before.slot e.command (reply_at (distance played.config) e.command (entries s.events))) before.wait)
     → OnOk r (AppendsRow now row old new played)
@@ -165,7 +166,7 @@ plays_on (Ok done) before now played s receivers kept w row e old new form confi
 )
 
 -- a record whose event was refused, after rows or as the first one
-pub refused_row : TextIsReadOneWay → (form : Form) (k receivers : ℕ) (row : Record) (records : List Record) (e : Event) (events : List Event) → AreRows k receivers records events → SaysEvent row e
+pub refused_row : TextIsReadOneWay → (form : Form) (k : Premise) (receivers : ℕ) (row : Record) (records : List Record) (e : Event) (events : List Event) → AreRows k receivers records events → SaysEvent row e
     → (0 < length records) ⊎ (receivers ≡ length e.receptions) → (CanBeTaken k receivers e events → ⊥) → AreNoRows k form (row ∷ records)
 refused_row one form k receivers row records e events rows says how none [] say = say.rows
 refused_row one form k receivers row records e events rows says how none (g ∷ older) say =
@@ -178,20 +179,22 @@ refused_row one form k receivers row records e events rows says how none (g ∷ 
     none (subst (λ (n : ℕ). CanBeTaken k n e events) count (subst (λ (x : Event). CanBeTaken k say.receivers x events) same (subst (λ (l : List Event). CanBeTaken k say.receivers g l) before say.rows.1)))
 
 -- a slot that is refused can't be taken
-not_taken : (k receivers : ℕ) (e : Event) (before : List Event) (why : StepRefused) → IsStepRefused k receivers e before why → CanBeTaken k receivers e before → ⊥
+not_taken : (k : Premise) (receivers : ℕ) (e : Event) (before : List Event) (why : StepRefused) → IsStepRefused k receivers e before why → CanBeTaken k receivers e before → ⊥
 not_taken k receivers e before step.ReceiverCount refused taken = refused taken.count
 not_taken k receivers e before (step.Late r) refused taken = refused.late.late (taken.due r)
+not_taken k receivers e before (step.Wrong r) refused taken = refused.unfit.1.breaks (taken.fit r)
+not_taken k receivers e before (step.WrongTwice r) refused taken = refused.unfit.1.breaks (taken.fit r)
 
 -- a slot that is refused: the record is no row, after rows or as the first one, for the cause that is found
-pub refused_on : TextIsReadOneWay → (played : Played) (k first slot receivers : ℕ) (row : Record) (e : Event) (events : List Event) (why : StepRefused) (cause : RowCause)
-    → k ≡ played.config.premise.late → first ≡ receivers → slot ≡ length played.records → AreRows played.config.premise.late receivers played.records events → SaysEvent row e → IsAllowed played.form (length e.receptions)
-    → (0 < length played.records) ⊎ (receivers ≡ length e.receptions) → IsStepRefused played.config.premise.late receivers e events why
+pub refused_on : TextIsReadOneWay → (played : Played) (k : Premise) (first slot receivers : ℕ) (row : Record) (e : Event) (events : List Event) (why : StepRefused) (cause : RowCause)
+    → k ≡ played.config.premise → first ≡ receivers → slot ≡ length played.records → AreRows played.config.premise receivers played.records events → SaysEvent row e → IsAllowed played.form (length e.receptions)
+    → (0 < length played.records) ⊎ (receivers ≡ length e.receptions) → IsStepRefused played.config.premise receivers e events why
     → ((form : Form) (before : List Record) (row : Record) (events : List Event) → AreRows k first before events → slot ≡ length before → SaysEvent row e → IsAllowed form (length e.receptions)
     → (0 < length before) ⊎ (first ≡ length e.receptions) → IsStepRefused k first e events why → IsEventCause form k before row cause)
     → IsRowRefused played row (refused.NoRow cause)
 refused_on one played k first slot receivers row e events why cause late count now rows says allowed how is finds =
     let found = finds played.form played.records row events (rw (late, count) rows) now says allowed (rw count how) (rw (late, count) is) in
-    (refused_row one played.form played.config.premise.late receivers row played.records e events rows says how (not_taken played.config.premise.late receivers e events why is), inr (inr (rw late at found)))
+    (refused_row one played.form played.config.premise receivers row played.records e events rows says how (not_taken played.config.premise receivers e events why is), inr (inr (rw late at found)))
 
 -- what a receiver shows that shows what it showed
 pub still_shown : (config : Config) (n i : ℕ) (events : List Event) (kept now : List ShownView) → ShowsStill config i events → WereShown config n events kept → i < n

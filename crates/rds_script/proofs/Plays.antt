@@ -58,7 +58,7 @@ wrote_rows remaining form config known w s p records stands played = record {
 abbrev pub noted : Option BadRecord → Player → ScriptNotes
 noted bad p = record { bad = bad; wait = p.wait }
 
-pub rows_say : (p : Player) (played : Played) (s : PlayerStandsAt p played) → RowsSay played.config.premise.late played.form played.records s.events
+pub rows_say : (p : Player) (played : Played) (s : PlayerStandsAt p played) → RowsSay played.config.premise played.form played.records s.events
 rows_say p played s = record { receivers = played.receivers; allowed = s.allowed; rows = s.rows }
 
 -- what a player played is where its next record begins

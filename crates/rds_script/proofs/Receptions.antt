@@ -8,8 +8,10 @@ use Rattle.std.proofs.lemmas.Str.Parse.{digit_from_value}
 use Rattle.std.proofs.Math.Nat.{pow-le-pow_right}
 use Rattle.std.specs.Char.{IsAsciiDigit, IsNotAsciiDigit, digit_value}
 use Rattle.std.specs.Str.Parse.{AllDigits, digits_value}
+use Rattle.std.specs.Prelude.{slice_index_or}
+use Rattle.rds_fields.specs.declared.message.Message.{Message}
 use Rattle.rds_world.specs.declared.event.Reception.{Reception}
-use Rattle.rds_world.specs.declared.event.Reception.TheVariants.{Got, Lost, Restart}
+use Rattle.rds_world.specs.declared.event.Reception.TheVariants.{Got, Lost, Wrong, Restart}
 use Rattle.rds_script.specs.Receptions.{AreReceptions, HasDigits, HasNoDigitFirst, IsDigitCut, letter}
 
 not_empty : (b : ℕ) (more : List ℕ) → b ∷ more ≡ [] → ⊥
@@ -33,6 +35,7 @@ same_cut (b ∷ digits) (c ∷ other) rest others p q h k e =
 no_digit : (r : Reception) → 10 ≤ digit_value (letter r)
 no_digit (Got late) = omega arith
 no_digit Lost = omega arith
+no_digit (Wrong message) = omega arith
 no_digit Restart = omega arith
 
 begins_with_letter : (text : List ℕ) (all : List Reception) → AreReceptions text all → HasNoDigitFirst text
@@ -43,6 +46,7 @@ begins_with_letter text (r ∷ others) (digits, rest, spelled, has, are) = subst
 decimal : (r : Reception) (digits : List ℕ) → HasDigits r digits → AllDigits 10 digits
 decimal (Got late) digits has = has.decimal
 decimal Lost digits none = subst (AllDigits 10) (sym none) tt
+decimal (Wrong message) digits none = absurd none
 decimal Restart digits none = subst (AllDigits 10) (sym none) tt
 
 -- a letter and its digits say one reception
@@ -56,6 +60,10 @@ same_reception digits Lost Restart e p q = absurd (omega (arith, e))
 same_reception digits Restart (Got k) e p q = absurd (omega (arith, e))
 same_reception digits Restart Lost e p q = absurd (omega (arith, e))
 same_reception digits Restart Restart e p q = refl
+same_reception digits (Wrong message) s e p q = absurd p
+same_reception digits (Got d) (Wrong message) e p q = absurd q
+same_reception digits Lost (Wrong message) e p q = absurd q
+same_reception digits Restart (Wrong message) e p q = absurd q
 
 -- the receptions of a text that a byte and the digits after it begin: the first of them, and those of the rest
 record IsFirst (b : ℕ) (digits : List ℕ) (all : List Reception) (rest : List ℕ) : Type 0 where
@@ -175,3 +183,10 @@ pub one_more_digit : (digits : List ℕ) (i late : ℕ) → AllDigits 10 digits 
 one_more_digit digits i late all within value =
     let digit : digit_value (get_or digits i 0) + 48 ≡ get_or digits i 0 = digit_value_digit (get_or digits i 0) (digit_at digits i all within) in
     omega (arith, digit, value, digits_value_more 10 digits i within)
+
+-- no reception that a text spells is wrong
+pub none_wrong : (text : List ℕ) (all : List Reception) (i : ℕ) (message : Message) → AreReceptions text all → slice_index_or all i Lost ≡ Wrong message → ⊥
+unfolding AreReceptions
+none_wrong text [] i message are e = cc
+none_wrong text (r ∷ others) zero message (digits, rest, spelled, has, are) e = subst (λ (s : Reception). HasDigits s digits) e has
+none_wrong text (r ∷ others) (suc i) message (digits, rest, spelled, has, are) e = none_wrong rest others i message are e

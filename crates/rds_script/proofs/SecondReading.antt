@@ -13,7 +13,7 @@ use Rattle.rds_assembly.specs.Value.{IsText}
 use Rattle.rds_charset.specs.ReadAs.{IsReadAs}
 use Rattle.rds_world.specs.declared.event.Command.TheVariants.{SetText, SetName, SetTags}
 use Rattle.rds_world.specs.declared.event.Reception.{Reception}
-use Rattle.rds_world.specs.declared.event.Reception.TheVariants.{Got, Lost, Restart}
+use Rattle.rds_world.specs.declared.event.Reception.TheVariants.{Got, Lost, Wrong, Restart}
 use Rattle.rds_world.specs.Due.{IsDue}
 use Rattle.rds_script.specs.Receptions.{AreReceptions, HasDigits, IsDigitCut, letter}
 use Rattle.rds_script.specs.RowCauses.{AreWithin, BeginsWith, BeginsWithNumbers, IsBadDummy, SaysSomeCommand, most_numbers, spaces}
@@ -114,6 +114,7 @@ pair_of_eight numbers eight within one two = absurd (omega arith)
 pub asks_group : (k slot : ℕ) (last : Option ℕ) (r : Reception) → (IsDue k slot last r → ⊥) → (d : ℕ) × (r ≡ Got d)
 asks_group k slot last (Got d) late = (d, refl)
 asks_group k slot last Lost late = absurd (late tt)
+asks_group k slot last (Wrong message) late = absurd (late tt)
 asks_group k slot last Restart late = absurd (late tt)
 
 not_after : (s n : ℕ) → (s < n → ⊥) → n ≤ s

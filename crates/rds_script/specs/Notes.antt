@@ -77,7 +77,7 @@ TellsBad form config most r w (Ok done) plays bad = bad ≡ None
 TellsBad form config most r w (Err (fault.BadLine n)) plays bad = bad ≡ None
 TellsBad form config most r w (Err (fault.BadRow n)) plays None = ⊥
 TellsBad form config most r w (Err (fault.BadRow n)) plays (Some bad) =
-    IsRowCause form config.premise.late plays.0.records plays.0.bad bad.cause
+    IsRowCause form config.premise plays.0.records plays.0.bad bad.cause
 TellsBad form config most r w (Err fault.Read) plays bad = bad ≡ None
 TellsBad form config most r w (Err fault.Memory) plays bad = bad ≡ None
 TellsBad form config most r w (Err fault.TooLong) plays bad = bad ≡ None
@@ -90,5 +90,5 @@ pub record NotesTell (form : Form) (config : Config) (most : ℕ) (r : Reading) 
   pub plays : Plays form config most r w result
   pub bad : TellsBad form config most r w result plays notes.bad
   pub events : List Event
-  pub say : RowsSay config.premise.late form (rows_played form config most r w result plays) events
+  pub say : RowsSay config.premise form (rows_played form config most r w result plays) events
   pub wait : notes.wait ≡ first_wait config events

@@ -36,7 +36,7 @@ HasAllRecords known records = (script : List ℕ) → known ≡ Some script
 -- the records are rows, and this is their output
 pub record RowsWrite (form : Form) (config : Config) (records : List Record) (written : List ℕ) : Type 0 where
   pub events : List Event
-  pub say : RowsSay config.premise.late form records events
+  pub say : RowsSay config.premise form records events
   pub write : EventsWrite form config events written
 
 -- this is the output of the bytes of a script, all of whose records are rows
@@ -61,7 +61,7 @@ pub record PlayStopsAtBadRow (form : Form) (config : Config) (known : Option (Li
   pub bad : List (List ℕ)
   pub wrote : WroteRows form config known w records
   pub begins : HasRecords known (bad ∷ records)
-  pub none : AreNoRows config.premise.late form (bad ∷ records)
+  pub none : AreNoRows config.premise form (bad ∷ records)
   pub number : n ≡ length records + 1
 
 -- the writer failed: some first part of the output of these records, at most as many as the bound, was written

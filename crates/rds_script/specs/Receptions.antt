@@ -5,12 +5,13 @@ use Rattle.std.specs.Prelude.{◌≡◌, ◌≤◌, ◌++◌, ℕ, List, [], ◌
 use Rattle.std.specs.Char.{digit_value}
 use Rattle.std.specs.Str.Parse.{AllDigits, digits_value}
 use Rattle.rds_world.specs.declared.event.Reception.{Reception}
-use Rattle.rds_world.specs.declared.event.Reception.TheVariants.{Got, Lost, Restart}
+use Rattle.rds_world.specs.declared.event.Reception.TheVariants.{Got, Lost, Wrong, Restart}
 
--- the letter of a reception
+-- the letter of a reception; a wrong group has none, and 256 is no byte
 abbrev pub letter : Reception → ℕ
 letter (Got late) = 0x47
 letter Lost = 0x4C
+letter (Wrong message) = 256
 letter Restart = 0x52
 
 -- up to four decimal digits, and the number that they write: 0 if there are none
@@ -19,10 +20,11 @@ pub record IsLateness (digits : List ℕ) (late : ℕ) : Type 0 where
   pub short : length digits ≤ 4
   pub value : late ≡ digits_value 10 digits
 
--- the digits after the letter of a reception
+-- the digits after the letter of a reception; no row spells a wrong group
 abbrev pub HasDigits : Reception → List ℕ → Type 0
 HasDigits (Got late) digits = IsLateness digits late
 HasDigits Lost digits = digits ≡ []
+HasDigits (Wrong message) digits = ⊥
 HasDigits Restart digits = digits ≡ []
 
 -- the text spells the receptions: a letter and its digits, and then the other receptions

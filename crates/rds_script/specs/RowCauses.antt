@@ -15,6 +15,7 @@ use Rattle.rds_world.specs.declared.event.Reception.TheVariants.{Got, Lost, Rest
 use Rattle.rds_world.specs.declared.event.TheConstants.{MOST_RECEIVERS}
 use Rattle.rds_world.specs.Due.{IsFirstLate, last_named}
 use Rattle.rds_world.specs.Event.{Event}
+use Rattle.rds_world.specs.Premise.{Premise}
 use Rattle.rds_script.specs.Receptions.{HasDigits, IsDigitCut, letter}
 use Rattle.rds_script.specs.Rows.{AreNumbers, AreRows, HasNoSpace, IsAllowed, IsCut, IsNumber, Record, SaysCommand, SaysEvent}
 use Rattle.rds_script.specs.Rows.{free_field}
@@ -210,30 +211,30 @@ IsReceptionsCause field _ = ⊥
 
 -- this receiver is the first that asks for a group that is not due to it, `late` slots back; the number of receivers is
 -- good
-pub record AsksTooMuch (form : Form) (k : ℕ) (before : List Record) (row : Record) (receiver late : ℕ) : Type 0 where
+pub record AsksTooMuch (form : Form) (p : Premise) (before : List Record) (row : Record) (receiver late : ℕ) : Type 0 where
   pub event : Event
   pub says : SaysEvent row event
   pub allowed : IsAllowed form (length event.receptions)
   pub events : List Event
-  pub rows : AreRows k (length event.receptions) before events
-  pub first : IsFirstLate k event events receiver
+  pub rows : AreRows p (length event.receptions) before events
+  pub first : IsFirstLate p.late event events receiver
   pub got : slice_index_or event.receptions receiver Lost ≡ Got late
 
 -- the number of the rows before is the number of this slot
-abbrev pub IsEventCause : Form → ℕ → List Record → Record → RowCause → Type 0
-IsEventCause form k before row (cause.EncodeTakesNone n) =
+abbrev pub IsEventCause : Form → Premise → List Record → Record → RowCause → Type 0
+IsEventCause form p before row (cause.EncodeTakesNone n) =
     (form ≡ Log) × (event : Event) × SaysEvent row event × (n ≡ length event.receptions) × (0 < n)
-IsEventCause form k before row (cause.ReceiverCount given first) =
+IsEventCause form p before row (cause.ReceiverCount given first) =
     (event : Event) × SaysEvent row event × IsAllowed form (length event.receptions) × (events : List Event)
-    × AreRows k first before events × (0 < length before) × (given ≡ length event.receptions) × (given ≢ first)
-IsEventCause form k before row (cause.Late receiver late most) =
-    AsksTooMuch form k before row receiver late × (most ≡ k) × (k < late)
-IsEventCause form k before row (cause.BeforeFirst receiver late) =
-    AsksTooMuch form k before row receiver late × (late ≤ k) × (length before < late)
-IsEventCause form k before row (cause.AlreadyHanded receiver late) =
-    (asks : AsksTooMuch form k before row receiver late) × (late ≤ k) × (late ≤ length before)
+    × AreRows p first before events × (0 < length before) × (given ≡ length event.receptions) × (given ≢ first)
+IsEventCause form p before row (cause.Late receiver late most) =
+    AsksTooMuch form p before row receiver late × (most ≡ p.late) × (p.late < late)
+IsEventCause form p before row (cause.BeforeFirst receiver late) =
+    AsksTooMuch form p before row receiver late × (late ≤ p.late) × (length before < late)
+IsEventCause form p before row (cause.AlreadyHanded receiver late) =
+    (asks : AsksTooMuch form p before row receiver late) × (late ≤ p.late) × (late ≤ length before)
     × (s : ℕ) × (last_named receiver asks.events ≡ Some s) × (length before - late ≤ s)
-IsEventCause form k before row _ = ⊥
+IsEventCause form p before row _ = ⊥
 
 -- a cause in one of the four fields
 abbrev pub IsFieldCause : List ℕ → List ℕ → List ℕ → List ℕ → RowCause → Type 0
@@ -251,7 +252,7 @@ pub record HasFieldCause (row : Record) (cause : RowCause) : Type 0 where
   pub field : IsFieldCause word argument free receptions cause
 
 -- the cause for which this record, after the records before it, is not a row of a script of this form; a group may come
--- k slots late
-abbrev pub IsRowCause : Form → ℕ → List Record → Record → RowCause → Type 0
-IsRowCause form k before row cause =
-    IsFieldCountCause row cause ⊎ (HasFieldCause row cause ⊎ IsEventCause form k before row cause)
+-- K slots late
+abbrev pub IsRowCause : Form → Premise → List Record → Record → RowCause → Type 0
+IsRowCause form p before row cause =
+    IsFieldCountCause row cause ⊎ (HasFieldCause row cause ⊎ IsEventCause form p before row cause)

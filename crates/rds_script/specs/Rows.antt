@@ -11,6 +11,7 @@ use Rattle.rds_world.specs.declared.event.Command.{Command}
 use Rattle.rds_world.specs.declared.event.Command.TheVariants.{Quiet, Restart, SetText, SetName, SetTags}
 use Rattle.rds_world.specs.declared.event.TheConstants.{MOST_RECEIVERS}
 use Rattle.rds_world.specs.Event.{Event}
+use Rattle.rds_world.specs.Premise.{Premise}
 use Rattle.rds_world.specs.Replies.{CanBeTaken}
 use Rattle.rds_script.specs.Receptions.{AreReceptions}
 use Rattle.rds_assembly.specs.Body.{space}
@@ -90,21 +91,21 @@ abbrev pub IsAllowed : Form → ℕ → Type 0
 IsAllowed Simulation receivers = receivers ≤ MOST_RECEIVERS
 IsAllowed Log receivers = receivers ≡ 0
 
--- the records are rows with these events and this number of receivers, and each reception is due: at most k slots late,
--- and in the order of sending
-abbrev pub AreRows : ℕ → ℕ → List Record → List Event → Type 0
-AreRows k receivers [] [] = Unit {0}
-AreRows k receivers [] (e ∷ older) = ⊥
-AreRows k receivers (row ∷ before) [] = ⊥
-AreRows k receivers (row ∷ before) (e ∷ older) =
-    SaysEvent row e × CanBeTaken k receivers e older × AreRows k receivers before older
+-- the records are rows with these events and this number of receivers, and each slot can be taken: a group comes at most
+-- K slots late, and in the order of sending
+abbrev pub AreRows : Premise → ℕ → List Record → List Event → Type 0
+AreRows p receivers [] [] = Unit {0}
+AreRows p receivers [] (e ∷ older) = ⊥
+AreRows p receivers (row ∷ before) [] = ⊥
+AreRows p receivers (row ∷ before) (e ∷ older) =
+    SaysEvent row e × CanBeTaken p receivers e older × AreRows p receivers before older
 
 -- the records are rows: the first of them fixes the number of receivers
-pub record RowsSay (k : ℕ) (form : Form) (records : List Record) (events : List Event) : Type 0 where
+pub record RowsSay (p : Premise) (form : Form) (records : List Record) (events : List Event) : Type 0 where
   pub receivers : ℕ
   pub allowed : IsAllowed form receivers
-  pub rows : AreRows k receivers records events
+  pub rows : AreRows p receivers records events
 
 -- not all of the records are rows
-abbrev pub AreNoRows : ℕ → Form → List Record → Type 0
-AreNoRows k form records = (events : List Event) → RowsSay k form records events → ⊥
+abbrev pub AreNoRows : Premise → Form → List Record → Type 0
+AreNoRows p form records = (events : List Event) → RowsSay p form records events → ⊥

@@ -24,7 +24,7 @@ use arrayvec::ArrayVec;
 use csv::ByteRecord;
 use rds_assembly::{LONGEST_TEXT, Name, Text};
 use rds_charset::{read_text, text_is_read_one_way};
-use rds_fields::{Tag, TagPair};
+use rds_fields::{Message, Tag, TagPair};
 use rds_world::{Command, MOST_RECEIVERS, Reception, SlotEvent};
 
 /// The command of a row, without its argument.
@@ -285,6 +285,8 @@ fn read_receptions(field: &[u8], receptions: &mut ArrayVec<Reception, MOST_RECEI
     ensures none { IsFalse result → (others : List Reception) → length others ≤ MOST_RECEIVERS
         → AreReceptions field.now others → ⊥ }
 {
+    // Prover: the borrow checker has to be told of the type in `Reception::Wrong` (docs/PROVER.md, "Workarounds").
+    let _told: Option<Message> = None;
     let mut rest = field;
     while let Some((letter, after)) = rest.split_first() {
         let (digits, others) = after.split_at(digits_in_front(after));

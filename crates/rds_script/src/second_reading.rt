@@ -10,6 +10,7 @@ ghost use Rattle.rds_charset.specs.Stops.{IsStop};
 ghost use Rattle.rds_assembly.specs.Value.{IsText};
 ghost use Rattle.rds_fields.specs.Tag.{IsPair, PairFields};
 ghost use Rattle.rds_world.specs.Event.{Event};
+ghost use Rattle.rds_world.specs.Premise.{Premise};
 ghost use Rattle.rds_world.specs.Replies.{IsStepRefused};
 ghost use Rattle.rds_world.specs.declared.event.Reception.{Reception};
 ghost use Rattle.rds_world.specs.declared.event.Reception.TheVariants as reception;
@@ -48,8 +49,8 @@ const MOST_NUMBERS: [u8; 8] = [1, 1, 63, 63, 63, 63, 63, 31];
 pub(crate) fn cause_of(row: &ByteRecord) -> RowCause
     requires { (e : Event) → length e.receptions ≤ MOST_RECEIVERS
         → SaysEvent (fields_of row.now) e → ⊥ }
-    ensures { (form : Form) (k : ℕ) (before : List Record)
-        → IsRowCause form k before (fields_of row.now) result }
+    ensures { (form : Form) (p : Premise) (before : List Record)
+        → IsRowCause form p before (fields_of row.now) result }
 {
     let Some(fields) = four_fields(row) else {
         return RowCause::Fields(row.len());
@@ -344,11 +345,11 @@ pub(crate) fn refused_cause(
     event: &SlotEvent,
 ) -> RowCause
     ensures { (form : Form) (before : List Record) (row : Record) (events : List Event)
-        → AreRows premise.late first before events → slot ≡ length before → SaysEvent row event.now
+        → AreRows premise first before events → slot ≡ length before → SaysEvent row event.now
         → IsAllowed form (length event.now.receptions)
         → (0 < length before) ⊎ (first ≡ length event.now.receptions)
-        → IsStepRefused premise.late first event.now events why
-        → IsEventCause form premise.late before row result }
+        → IsStepRefused premise first event.now events why
+        → IsEventCause form premise before row result }
 {
     let receptions = event.receptions.as_slice();
     match why {
@@ -357,13 +358,11 @@ pub(crate) fn refused_cause(
             first,
         },
         StepRefused::Late(receiver) => {
-            late_cause(
-                receiver,
-                lateness_at(receptions, receiver),
-                premise.late().get(),
-                slot,
-            )
+            late_cause(receiver, lateness_at(receptions, receiver), premise, slot)
         }
+        // No row spells a wrong group, so these two do not come.
+        StepRefused::Wrong(_) => RowCause::NoReception(0),
+        StepRefused::WrongTwice(_) => RowCause::NoReception(0),
     }
 }
 
@@ -379,11 +378,12 @@ fn lateness_at(receptions: &[Reception], receiver: usize) -> u16
 }
 
 /// Returns the cause for a receiver that asks for a group, `late` slots late, that is not due to it.
-fn late_cause(receiver: usize, late: u16, most: u16, slot: u64) -> RowCause
+fn late_cause(receiver: usize, late: u16, premise: Premise, slot: u64) -> RowCause
     ensures { (form : Form) (before : List Record) (row : Record) → slot ≡ length before
-        → AsksTooMuch form most before row receiver late
-        → IsEventCause form most before row result }
+        → AsksTooMuch form premise before row receiver late
+        → IsEventCause form premise before row result }
 {
+    let most = premise.late().get();
     if late > most {
         RowCause::Late {
             receiver,

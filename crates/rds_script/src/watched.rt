@@ -75,7 +75,7 @@ impl Watched {
         ensures stands { WhereWatchedStands self.old (λ config receivers events.
             OnOk result (WatchedStandsAt config receivers self.new (event.now ∷ events))) }
         ensures taken { WhereWatchedStands self.old (λ config receivers events.
-            OnOk result (CanBeTaken config.premise.late receivers event.now events)) }
+            OnOk result (CanBeTaken config.premise receivers event.now events)) }
         ensures outcome { WhereWatchedStands self.old (λ config receivers events.
             OnOk result ((o : Outcome) × IsOutcome config event.now events o × (o.views ≡ views_kept self.new)
             × (lines.new ≡ lines.old ++ slot_lines form slot (views_kept self.old) o))) }
@@ -84,7 +84,7 @@ impl Watched {
             (reply_at (distance config) event.now.command (entries events))) wait.old)) }
         ensures no_wait { OnErr result (wait.new ≡ wait.old) }
         ensures refused { WhereWatchedStands self.old (λ config receivers events.
-            IfErr result (IsStepRefused config.premise.late receivers event.now events)) }
+            IfErr result (IsStepRefused config.premise receivers event.now events)) }
         ensures kept { OnErr result (self.new ≡ self.old) }
         ensures no_lines { OnErr result (lines.new ≡ lines.old) }
     {

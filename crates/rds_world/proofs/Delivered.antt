@@ -16,7 +16,7 @@ use Rattle.rds_safety.proofs.Counts.{one_segment}
 use Rattle.rds_world.specs.declared.event.Command.{Command}
 use Rattle.rds_world.specs.declared.event.Command.TheVariants as command
 use Rattle.rds_world.specs.declared.event.Reception.{Reception}
-use Rattle.rds_world.specs.declared.event.Reception.TheVariants.{Got, Lost}
+use Rattle.rds_world.specs.declared.event.Reception.TheVariants.{Got, Lost, Wrong}
 use Rattle.rds_world.specs.declared.event.Reception.TheVariants as reception
 use Rattle.rds_world.specs.Delivery.{ANameIsDelivered, AStationDeliversAName, AStationDeliversAText, AStationDeliversAnyText, ATextIsDelivered, AnyTextIsDelivered, GetsEachFree, GetsIfFree, GotOfStation, GotRecently, LieIn, LieInBroadcast, free_slots}
 use Rattle.rds_world.specs.Event.{Event}
@@ -70,11 +70,14 @@ slots_are events = reaches text_moves text_service events
 own_origin : (r : Reception) (slot : ℕ) (sent : List (Option Message)) (input : Input) → GetsIfFree true r → input.first + length input.origins ≡ slot → CameFrom (received r slot sent input) slot slot
 own_origin (Got back) slot sent input gets now = inl (sym now, (let own : slot ≡ slot - back = omega (arith, gets) in ap (λ (n : ℕ). Some n) own))
 own_origin Lost slot sent input gets now = absurd gets
+own_origin (Wrong x) slot sent input gets now = absurd gets
 own_origin reception.Restart slot sent input gets now = absurd gets
 
 came_still : (r : Reception) (free : Bool) (slot : ℕ) (sent : List (Option Message)) (input : Input) (t s : ℕ) → GetsIfFree free r → CameFrom input t s → CameFrom (received r slot sent input) t s
 came_still (Got back) free slot sent input t s gets came = inr came
 came_still Lost free slot sent input t s gets came = inr came
+came_still (Wrong x) true slot sent input t s gets came = absurd gets
+came_still (Wrong x) false slot sent input t s gets came = absurd gets
 came_still reception.Restart true slot sent input t s gets came = absurd gets
 came_still reception.Restart false slot sent input t s gets came = absurd gets
 
@@ -95,6 +98,7 @@ origins d i (e ∷ before) = by (slice_index_or e.receptions i Lost) (origins d 
         → (received r (length before) (log d (e ∷ before)) (input_of d i before)).first + length (received r (length before) (log d (e ∷ before)) (input_of d i before)).origins ≡ length (e ∷ before)
     by (Got back) now = omega (arith, now)
     by Lost now = omega (arith, now)
+    by (Wrong x) now = omega (arith, now)
     by reception.Restart now = omega arith
 
 -- each free one of the recent slots came in its own slot
@@ -144,7 +148,7 @@ module _ (head : Head) (m k : ℕ) (e : Event) (recent before : List Event) (vie
       let same = slots_of_a_world d events due.values in
       subst (λ (t : ℕ). ListensTo k m t (sent_log d (entries events)) receiver) last
       (subst (λ (sent : List (Option Message)). ListensTo k m (length (recent ++ before)) sent receiver) (sym same.log)
-      (listens config e (recent ++ before) gets.number gets.receiver view due.due (due.receivers.each gets.number gets.receiver gets.there) gets.shows))
+      (listens config e (recent ++ before) gets.number gets.receiver view due.due due.fit (due.receivers.each gets.number gets.receiver gets.there) gets.shows))
 
   got_of_station : GotOfStation k m told.later (entries before) receiver
   got_of_station = record {

@@ -7,7 +7,7 @@ use Rattle.rds_fields.specs.declared.message.Message.{Message}
 use Rattle.rds_encoder.specs.Sent.{IsSent}
 use Rattle.rds_receiver.specs.Receipts.{Hears}
 use Rattle.rds_world.specs.declared.event.Reception.{Reception}
-use Rattle.rds_world.specs.declared.event.Reception.TheVariants.{Got, Lost, Restart}
+use Rattle.rds_world.specs.declared.event.Reception.TheVariants.{Got, Lost, Wrong, Restart}
 use Rattle.rds_world.specs.Due.{IsDue, IsDueTo, last_named, named, reach_of}
 use Rattle.rds_world.specs.Event.{Event}
 use Rattle.rds_world.specs.Slots.{sent_back}
@@ -24,6 +24,8 @@ named_past i (e ∷ before) = by (slice_index_or e.receptions i Lost) (last_name
     by (Got back) last h = omega arith
     by Lost None h = tt
     by Lost (Some s) h = omega (arith, h)
+    by (Wrong x) None h = tt
+    by (Wrong x) (Some s) h = omega (arith, h)
     by Restart None h = tt
     by Restart (Some s) h = omega (arith, h)
 
@@ -37,8 +39,8 @@ one_more_sent config sent group before groups now kept back within = rw (get_or-
     by (suc back) within = kept back (omega (arith, within))
 
 -- a reception at a place within the list is that of the event
-pub same_reception : (e : Event) (receptions : List Reception) (i : ℕ) → receptions ≡ e.receptions → i < length receptions → slice_index_or receptions i (Got 0) ≡ slice_index_or e.receptions i Lost
-same_reception e receptions i same there = get_or_default receptions i (Got 0) Lost there ∙ ap (λ (xs : List Reception). slice_index_or xs i Lost) same
+pub same_reception : (e : Event) (receptions : List Reception) (i : ℕ) (r : Reception) → receptions ≡ e.receptions → i < length receptions → r ≡ slice_index_or receptions i r → r ≡ slice_index_or e.receptions i Lost
+same_reception e receptions i r same there is = is ∙ get_or_default receptions i r Lost there ∙ ap (λ (xs : List Reception). slice_index_or xs i Lost) same
 
 -- a reception past the end of the list is due
 pub due_past : (k : ℕ) (e : Event) (before : List Event) (i : ℕ) → length e.receptions ≤ i → IsDueTo k e before i

@@ -1,30 +1,72 @@
--- Lemmas: each message that a receiver of a world got was sent at most k slots before, if its receptions are due.
-use Rattle.std.proofs.Common.{◌≡◌, ◌+◌, ◌-◌, ◌<◌, ◌≤◌, ℕ, zero, suc, List, [], ◌∷◌, Option, Some, None, refl, subst, ◌∙◌, inl, inr, arith, length}
+-- Lemmas: each message that a receiver of a world got was sent at most k slots before or is wrong, if its receptions are
+-- due.
+use Rattle.std.proofs.Common.{◌≡◌, ◌+◌, ◌-◌, ◌<◌, ◌≤◌, ℕ, zero, suc, List, [], ◌∷◌, Option, Some, None, refl, sym, subst, ◌∙◌, inl, inr, arith, length}
 use Rattle.std.specs.Prelude.{IfSome, slice_index_or}
 use Rattle.rds_fields.specs.declared.message.Message.{Message}
 use Rattle.rds_world.specs.declared.event.Reception.{Reception}
-use Rattle.rds_world.specs.declared.event.Reception.TheVariants.{Got, Lost, Restart}
+use Rattle.rds_world.specs.declared.event.Reception.TheVariants.{Got, Lost, Wrong, Restart}
 use Rattle.rds_world.specs.Due.{AreDue, IsDue, last_named, named}
 use Rattle.rds_world.specs.Event.{Event}
-use Rattle.rds_safety.specs.Late.{CameFrom, HasEntry, Input, IsHeardLate, IsOfItsOrigin}
+use Rattle.rds_safety.specs.Late.{CameFrom, HasEntry, Input, SentIn}
+use Rattle.rds_safety.specs.Twice.{IsHeardWithWrong}
 use Rattle.rds_world.specs.Slots.{input_of, log, received, sent_at, sent_back}
-use Rattle.rds_safety.proofs.OnTime.{nothing_heard, one_more}
+use Rattle.rds_safety.proofs.Entries.{before_end}
+use Rattle.rds_safety.proofs.OnTime.{IsSoon}
+
+-- the entry with this origin is that of the log; without an origin it may be wrong
+abbrev IsSaid : List (Option Message) → Option ℕ → Option Message → Type 0
+IsSaid log None entry = Unit {0}
+IsSaid log (Some s) entry = SentIn log s entry
 
 -- a longer log has the entries of the shorter one
-says_longer : (log : List (Option Message)) (sent : Option Message) (origin : Option ℕ) (entry : Option Message) → IsOfItsOrigin log origin entry → IsOfItsOrigin (sent ∷ log) origin entry
-says_longer log sent None entry none = none
-says_longer log sent (Some s) entry is = inr is
-
-longer_log : (k : ℕ) (log : List (Option Message)) (sent : Option Message) (input : Input) → IsHeardLate k log input → IsHeardLate k (sent ∷ log) input
-longer_log k log sent input late = record {
-  order = record {
-    beside = late.order.beside;
-    each = λ t origin entry o a. says_longer log sent origin entry (late.order.each t origin entry o a);
-    rising = late.order.rising;
-  };
-  past = late.past;
-  late = late.late;
+longer_log : (k : ℕ) (log : List (Option Message)) (sent : Option Message) (input : Input) → IsHeardWithWrong k log input → IsHeardWithWrong k (sent ∷ log) input
+longer_log k log sent input heard = record {
+  beside = heard.beside;
+  each = λ t s entry o a. inr (heard.each t s entry o a);
+  rising = heard.rising;
+  past = heard.past;
+  late = heard.late;
 }
+
+nothing_heard : (k : ℕ) (log : List (Option Message)) (first : ℕ) → IsHeardWithWrong k log record { first = first; heard = []; origins = [] }
+nothing_heard k log first = record {
+  beside = refl;
+  each = λ t s entry o a. absurd o;
+  rising = λ t u r s p q h. absurd p;
+  past = λ t s p. absurd p;
+  late = λ t s p. absurd p;
+}
+
+-- one more entry: that of the log in its origin, which is later than all origins before, or one without an origin
+one_more : (k : ℕ) (log : List (Option Message)) (first : ℕ) (heard : List (Option Message)) (origins : List (Option ℕ)) (o : Option ℕ) (x : Option Message)
+    → IsHeardWithWrong k log record { first = first; heard = heard; origins = origins } → IsSaid log o x → IsSoon k (first + length heard) o
+    → ((r u s : ℕ) → o ≡ Some r → HasEntry first origins u (Some s) → s < r)
+    → IsHeardWithWrong k log record { first = first; heard = x ∷ heard; origins = o ∷ origins }
+one_more k log first heard origins o x old says soon after = record {
+  beside = (let beside = old.beside in omega arith);
+  each = each;
+  rising = rising;
+  past = λ t s p. (all_soon t s p).0;
+  late = λ t s p. (all_soon t s p).1;
+}
+  where
+    each : (t s : ℕ) (entry : Option Message) → HasEntry first (o ∷ origins) t (Some s) → HasEntry first (x ∷ heard) t entry → SentIn log s entry
+    each t s entry (inl p) (inl q) = subst (λ (y : Option ℕ). IsSaid log y entry) (sym p.1) (subst (λ (y : Option Message). IsSaid log o y) (sym q.1) says)
+    each t s entry (inl p) (inr q) = absurd (omega (arith, before_end first heard t entry q, old.beside))
+    each t s entry (inr p) (inl q) = absurd (omega (arith, before_end first origins t (Some s) p, old.beside))
+    each t s entry (inr p) (inr q) = old.each t s entry p q
+
+    rising : (t u r s : ℕ) → HasEntry first (o ∷ origins) t (Some r) → HasEntry first (o ∷ origins) u (Some s) → t < u → r < s
+    rising t u r s (inl p) (inl q) l = absurd (omega arith)
+    rising t u r s (inl p) (inr q) l = absurd (omega (arith, before_end first origins u (Some s) q))
+    rising t u r s (inr p) (inl q) l = after s t r (sym q.1) p
+    rising t u r s (inr p) (inr q) l = old.rising t u r s p q l
+
+    all_soon : (t s : ℕ) → HasEntry first (o ∷ origins) t (Some s) → (s ≤ t) × (t ≤ s + k)
+    all_soon t s (inl p) =
+        let here : t ≡ first + length heard = omega (arith, p.0, old.beside) in
+        subst (λ n. IsSoon k n (Some s)) (sym here) (subst (λ y. IsSoon k (first + length heard) y) (sym p.1) soon)
+    all_soon t s (inr p) = (old.past t s p, old.late t s p)
 
 -- the message sent so many slots before the last one of a log is its entry in that slot
 back_in_log : (back : ℕ) (newest : Option Message) (before : List (Option Message)) → back ≤ length before
@@ -55,10 +97,12 @@ up_to_with k (Got back) slot sent input last due upto u s (inl now) = (let same 
 up_to_with k (Got back) slot sent input last due upto u s (inr earlier) = (let less = up_to_next last (slot - back) s due.after (upto u s earlier) in omega (arith, less))
 up_to_with k Lost slot sent input last due upto u s (inl now) = absurd (let e = now.1 in cc)
 up_to_with k Lost slot sent input last due upto u s (inr earlier) = upto u s earlier
+up_to_with k (Wrong x) slot sent input last due upto u s (inl now) = absurd (let e = now.1 in cc)
+up_to_with k (Wrong x) slot sent input last due upto u s (inr earlier) = upto u s earlier
 up_to_with k Restart slot sent input last due upto u s h = absurd h
 
 in_time_with : (k : ℕ) (r : Reception) (slot : ℕ) (sent : Option Message) (log : List (Option Message)) (input : Input) (last : Option ℕ) → slot ≡ length log → input.first + length input.heard ≡ slot
-    → IsDue k slot last r → AreUpTo last input → IsHeardLate k log input → IsHeardLate k (sent ∷ log) (received r slot (sent ∷ log) input)
+    → IsDue k slot last r → AreUpTo last input → IsHeardWithWrong k log input → IsHeardWithWrong k (sent ∷ log) (received r slot (sent ∷ log) input)
 in_time_with k (Got back) slot sent log input last reached now due upto late =
     let there = due.there in
     let soon = due.soon in
@@ -72,12 +116,15 @@ in_time_with k (Got back) slot sent log input last reached now due upto late =
     omega (arith, here, less)
     ))
 in_time_with k Lost slot sent log input last reached now due upto late =
-    one_more k (sent ∷ log) input.first input.heard input.origins None None (longer_log k log sent input late) refl tt (λ r u s e o. absurd (cc))
+    one_more k (sent ∷ log) input.first input.heard input.origins None None (longer_log k log sent input late) tt tt (λ r u s e o. absurd (cc))
+in_time_with k (Wrong x) slot sent log input last reached now due upto late =
+    one_more k (sent ∷ log) input.first input.heard input.origins None (Some x) (longer_log k log sent input late) tt tt (λ r u s e o. absurd (cc))
 in_time_with k Restart slot sent log input last reached now due upto late = nothing_heard k (sent ∷ log) (slot + 1)
 
 reaches : (r : Reception) (slot : ℕ) (sent : List (Option Message)) (input : Input) → input.first + length input.heard ≡ slot → (received r slot sent input).first + length (received r slot sent input).heard ≡ slot + 1
 reaches (Got back) slot sent input now = omega (arith, now)
 reaches Lost slot sent input now = omega (arith, now)
+reaches (Wrong x) slot sent input now = omega (arith, now)
 reaches Restart slot sent input now = omega arith
 
 -- the input of a receiver has an entry up to the last slot
@@ -95,7 +142,7 @@ up_to d k i [] due u s h = absurd h
 up_to d k i (e ∷ before) due u s h =
     up_to_with k (slice_index_or e.receptions i Lost) (length before) (log d (e ∷ before)) (input_of d i before) (last_named i before) (due.0 i) (up_to d k i before due.1) u s h
 
-pub in_time : (d k i : ℕ) (events : List Event) → AreDue k events → IsHeardLate k (log d events) (input_of d i events)
+pub in_time : (d k i : ℕ) (events : List Event) → AreDue k events → IsHeardWithWrong k (log d events) (input_of d i events)
 in_time d k i [] due = nothing_heard k [] 0
 in_time d k i (e ∷ before) due =
     in_time_with k (slice_index_or e.receptions i Lost) (length before) (sent_at d e before) (log d before) (input_of d i before) (last_named i before) (logged d before) (input_reaches d i before)

@@ -5,6 +5,7 @@ pub mod LawfulStation
 pub mod WorldSlots
 pub mod InTime
 pub mod NoneWrong
+pub mod Pasts
 pub mod SafeWorld
 pub mod StationDelivered
 pub mod Delivered

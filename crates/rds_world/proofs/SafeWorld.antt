@@ -11,12 +11,12 @@ use Rattle.rds_world.specs.declared.any_receiver.AnyReceiver.{AnyReceiver}
 use Rattle.rds_world.specs.Due.{AreDue}
 use Rattle.rds_world.specs.Event.{Event}
 use Rattle.rds_world.specs.Premise.{counted_input, lateness_in}
-use Rattle.rds_safety.specs.Late.{Input, IsHeardLate}
+use Rattle.rds_safety.specs.Late.{Input}
 use Rattle.rds_safety.specs.Laws.{LawfulPlansAreSafe}
 use Rattle.rds_safety.specs.OwnClock.{next_slot}
 use Rattle.rds_safety.specs.Plans.{AreLawful, Plans}
 use Rattle.rds_safety.specs.Safe.{AreSafe, Listener, ListensTo}
-use Rattle.rds_safety.specs.Twice.{ListensTwice}
+use Rattle.rds_safety.specs.Twice.{IsHeardWithWrong, ListensTwice}
 use Rattle.rds_safety.specs.TwiceLaws.{LawfulPlansAreSafeTwice}
 use Rattle.rds_world.specs.SafeSlots.{OnlyWhatWasOnAirIsShown, input_that_counts, listeners}
 use Rattle.rds_world.specs.Slots.{input_of, log, plans_of}
@@ -24,7 +24,8 @@ use Rattle.rds_world.specs.StandsAt.{HasHeard, Shows, StandsAt, tuned_to}
 use Rattle.rds_world.specs.State.{WorldState, distance}
 use Rattle.rds_world.specs.declared.world.Config.{Config}
 use Rattle.rds_world.specs.Station.{TheEncoderIsLawful}
-use Rattle.rds_world.proofs.NoneWrong.{late_is_heard, late_has_none_wrong}
+use Rattle.rds_world.specs.Wrong.{AreFit}
+use Rattle.rds_world.proofs.NoneWrong.{KeepsPremise, each_is_late, keeps_premise}
 use Rattle.rds_world.proofs.WorldSlots.{events_are_lawful}
 use Rattle.rds_world.proofs.InTime.{in_time, input_reaches}
 
@@ -42,36 +43,37 @@ ListensIn None k m t log r = ListensTo k m t log r
 ListensIn (Some w) k m t log r = ListensTwice w k m t log r
 
 listens_in : (window : Option ℕ) (k m t : ℕ) (log : List (Option Message)) (input : Input) (view : ShownView)
-    → IsHeardLate k log input → next_slot input ≡ t + 1 → ShowsView m input.first (counted_in window m input.first input.heard) view
+    → IsHeardWithWrong k log input → KeepsPremise window input → next_slot input ≡ t + 1 → ShowsView m input.first (counted_in window m input.first input.heard) view
     → ListensIn window k m t log record { input = counted_input window m input; view = view }
-listens_in None k m t log input view late now shows = record { late = late; now = now; shows = shows }
-listens_in (Some w) k m t log input view late now shows = record {
+listens_in None k m t log input view heard keeps now shows = record { late = each_is_late k log input heard keeps; now = now; shows = shows }
+listens_in (Some w) k m t log input view heard keeps now shows = record {
   raw = input;
-  heard = late_is_heard k log input late;
-  once = late_has_none_wrong w k log input late;
+  heard = heard;
+  once = keeps;
   now = now;
   confirmed = refl;
   shows = shows;
 }
 
 pub listens : (config : Config) (e : Event) (before : List Event) (i : ℕ) (r : AnyReceiver) (view : ShownView)
-    → AreDue config.premise.late (e ∷ before) → HasHeard config (input_of (distance config) i (e ∷ before)) r → Shows r view
+    → AreDue config.premise.late (e ∷ before) → AreFit config.premise.window (e ∷ before) → HasHeard config (input_of (distance config) i (e ∷ before)) r → Shows r view
     → ListensIn config.premise.window config.premise.late config.dwell (length before) (log (distance config) (e ∷ before)) record { input = input_that_counts config i (e ∷ before); view = view }
-listens config e before i r view due has shows =
+listens config e before i r view due fit has shows =
     let input = input_of (distance config) i (e ∷ before) in
     listens_in config.premise.window config.premise.late config.dwell (length before) (log (distance config) (e ∷ before)) input view
-    (in_time (distance config) config.premise.late i (e ∷ before) due) (input_reaches (distance config) i (e ∷ before) ∙ omega arith) (shows_view config input r view has shows)
+    (in_time (distance config) config.premise.late i (e ∷ before) due) (keeps_premise (distance config) i config.premise.window (e ∷ before) fit) (input_reaches (distance config) i (e ∷ before) ∙ omega arith) (shows_view config input r view has shows)
 
 all_listen : (config : Config) (e : Event) (before : List Event) (i : ℕ) (receivers : List AnyReceiver) (views : List ShownView) → AreDue config.premise.late (e ∷ before)
+    → AreFit config.premise.window (e ∷ before)
     → ((n : ℕ) (r : AnyReceiver) → slice_get receivers n ≡ Some r → HasHeard config (input_of (distance config) (i + n) (e ∷ before)) r) → AllZip Shows receivers views
     → AllByRecursion (ListensIn config.premise.window config.premise.late config.dwell (length before) (log (distance config) (e ∷ before))) (listeners config (e ∷ before) i views)
-all_listen config e before i [] [] due has shows = tt
-all_listen config e before i [] (view ∷ views) due has shows = absurd shows
-all_listen config e before i (r ∷ receivers) [] due has shows = absurd shows
-all_listen config e before i (r ∷ receivers) (view ∷ views) due has shows =
+all_listen config e before i [] [] due fit has shows = tt
+all_listen config e before i [] (view ∷ views) due fit has shows = absurd shows
+all_listen config e before i (r ∷ receivers) [] due fit has shows = absurd shows
+all_listen config e before i (r ∷ receivers) (view ∷ views) due fit has shows =
     let here : i + 0 ≡ i = omega arith in (
-      listens config e before i r view due (subst (λ n. HasHeard config (input_of (distance config) n (e ∷ before)) r) here (has 0 r refl)) shows.0,
-      all_listen config e before (i + 1) receivers views due
+      listens config e before i r view due fit (subst (λ n. HasHeard config (input_of (distance config) n (e ∷ before)) r) here (has 0 r refl)) shows.0,
+      all_listen config e before (i + 1) receivers views due fit
           (λ n s at.
           let next : i + suc n ≡ i + 1 + n = omega arith in
           subst (λ n. HasHeard config (input_of (distance config) n (e ∷ before)) s) next (has (suc n) s at))
@@ -92,7 +94,7 @@ safe_world lawful safe twice config w (e ∷ before) st = λ views shows.
     let some = st.lasts in
     let p = config.premise in
     let all : AllByRecursion (ListensIn p.window p.late config.dwell (length before) (log d events)) (listeners config events 0 views) =
-    all_listen config e before 0 w.receivers views st.due
+    all_listen config e before 0 w.receivers views st.due st.fit
     (λ n r at. (let same : n ≡ 0 + n = omega arith in subst (λ i. HasHeard config (input_of d i events) r) same (st.receivers.each n r at))) shows in
     safe_in safe twice p.window p.late config.dwell (length before) (plans_of d events) (log d events) (listeners config events 0 views) (events_are_lawful lawful d events (omega (arith, some)) st.values)
     (All-from_recursion _ (listeners config events 0 views) all)

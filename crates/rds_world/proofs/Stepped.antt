@@ -13,8 +13,9 @@ use Rattle.rds_world.specs.declared.event.Reception.TheVariants.{Lost}
 use Rattle.rds_world.specs.Due.{IsDueToAll}
 use Rattle.rds_world.specs.Event.{Event}
 use Rattle.rds_world.specs.Slots.{SetsAValue, entries, input_of, log, received}
-use Rattle.rds_world.specs.StandsAt.{AllHaveHeard, AreLastSent, HaveReaches, IsViewOfInput, Shows, ShowsStill, StandsAt, tuned_to}
+use Rattle.rds_world.specs.StandsAt.{AllHaveHeard, AreLastSent, HavePasts, HaveReaches, IsViewOfInput, Shows, ShowsStill, StandsAt, tuned_to}
 use Rattle.rds_world.specs.State.{WorldState, distance}
+use Rattle.rds_world.specs.Wrong.{IsFitToAll}
 use Rattle.rds_world.specs.declared.world.Config.{Config}
 
 -- the first n of eight entries were written
@@ -29,22 +30,24 @@ by_own config w events st = subst (λ (c : Config). StandsAt c w events) (sym st
 
 -- the encoder and the receivers took the slot
 pub stepped : (config : Config) (old new : WorldState) (events : List Event) (e : Event) → StandsAt config old events → new.config ≡ old.config
-    → SetsAValue e.command → IsDueToAll old.config.premise.late e events
+    → SetsAValue e.command → IsDueToAll old.config.premise.late e events → IsFitToAll old.config.premise.window e events
     → encoder.StandsAt old.config.head (distance old.config) new.encoder (entries (e ∷ events))
     → AllHaveHeard old.config (λ i. received (slice_index_or e.receptions i Lost) (length events) (log (distance old.config) (e ∷ events)) (input_of (distance old.config) i events)) new.receivers
-    → HaveReaches old.config.premise.late (e ∷ events) new.reaches → AreLastSent old.config (log (distance old.config) (e ∷ events)) new.sent
+    → HaveReaches old.config.premise.late (e ∷ events) new.reaches → HavePasts old.config.premise.window (e ∷ events) new.pasts → AreLastSent old.config (log (distance old.config) (e ∷ events)) new.sent
     → ((i : ℕ) → slice_index_or new.stays i false ≡ true → ShowsStill old.config i (e ∷ events))
     → StandsAt config new (e ∷ events)
-stepped config old new events e st same value due told heard reaches sent stay =
+stepped config old new events e st same value due fit told heard reaches pasts sent stay =
     let own = by_own config old events st in
     subst (λ (c : Config). StandsAt c new (e ∷ events)) st.is_set record {
       is_set = same;
       lasts = own.lasts;
       values = (value, own.values);
       due = (due, own.due);
+      fit = (fit, own.fit);
       encoder = told;
       receivers = heard;
       reaches = reaches;
+      pasts = pasts;
       sent = sent;
       stay = stay;
     }

@@ -14,7 +14,7 @@ use Rattle.rds_safety.specs.Late.{CameFrom}
 use Rattle.rds_safety.specs.Safe.{Listener, ListensTo}
 use Rattle.rds_world.specs.declared.any_receiver.AnyReceiver.{AnyReceiver}
 use Rattle.rds_world.specs.declared.event.Reception.{Reception}
-use Rattle.rds_world.specs.declared.event.Reception.TheVariants.{Got, Lost, Restart}
+use Rattle.rds_world.specs.declared.event.Reception.TheVariants.{Got, Lost, Wrong, Restart}
 use Rattle.rds_world.specs.Event.{Event}
 use Rattle.rds_world.specs.Slots.{plans_of}
 use Rattle.rds_world.specs.StandsAt.{Shows, StandsAt}
@@ -27,13 +27,15 @@ abbrev pub free_slots : List Event → ℕ
 free_slots [] = 0
 free_slots (e ∷ before) = one_if e.free + free_slots before
 
--- if the slot is free, the receiver got it, and in its own slot; the receiver did not restart in it
+-- if the slot is free, the receiver got it, and in its own slot; the receiver got nothing wrong and did not restart in it
 abbrev pub GetsIfFree : Bool → Reception → Type 0
 GetsIfFree true (Got back) = back ≡ 0
 GetsIfFree true Lost = ⊥
+GetsIfFree true (Wrong message) = ⊥
 GetsIfFree true Restart = ⊥
 GetsIfFree false (Got back) = Unit {0}
 GetsIfFree false Lost = Unit {0}
+GetsIfFree false (Wrong message) = ⊥
 GetsIfFree false Restart = ⊥
 
 -- receiver i got each free one of these slots on time, and restarted in none

@@ -3,13 +3,14 @@
 use Rattle.std.specs.Prelude.{◌<◌, ◌≤◌, ◌+◌, ◌-◌, [], ◌∷◌}
 use Rattle.std.specs.Prelude.{ℕ, List, Option, Some, None, IfSome, length, min, slice_index_or}
 use Rattle.rds_world.specs.declared.event.Reception.{Reception}
-use Rattle.rds_world.specs.declared.event.Reception.TheVariants.{Got, Lost, Restart}
+use Rattle.rds_world.specs.declared.event.Reception.TheVariants.{Got, Lost, Wrong, Restart}
 use Rattle.rds_world.specs.Event.{Event}
 
 -- the slot whose message a receiver's last `Got` gave, after this reception in this slot
 abbrev pub named : Reception → ℕ → Option ℕ → Option ℕ
 named (Got d) slot last = Some (slot - d)
 named Lost slot last = last
+named (Wrong message) slot last = last
 named Restart slot last = last
 
 -- the slot whose message the last `Got` of receiver i gave, through all restarts
@@ -28,6 +29,7 @@ pub record IsDueBack (k slot : ℕ) (last : Option ℕ) (d : ℕ) : Type 0 where
 abbrev pub IsDue : ℕ → ℕ → Option ℕ → Reception → Type 0
 IsDue k slot last (Got d) = IsDueBack k slot last d
 IsDue k slot last Lost = Unit {0}
+IsDue k slot last (Wrong message) = Unit {0}
 IsDue k slot last Restart = Unit {0}
 
 -- the reception of receiver i in this event is due

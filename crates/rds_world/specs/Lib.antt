@@ -5,6 +5,7 @@ pub mod Event
 pub mod Premise
 pub mod AnyReceiver
 pub mod Due
+pub mod Wrong
 pub mod Slots
 pub mod State
 pub mod Replies

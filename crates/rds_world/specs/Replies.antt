@@ -1,5 +1,5 @@
 -- The replies of a world: to a command, to a slot, and to a list of slots (this project's own rule).
-use Rattle.std.specs.Prelude.{◌≡◌, ◌≢◌, ◌<◌, ◌≤◌, IfSome, ℕ, List, Ok, Err, length, reverse, slice_get, take}
+use Rattle.std.specs.Prelude.{◌≡◌, ◌≢◌, ◌<◌, ◌≤◌, IfSome, IsSome, ℕ, List, None, Option, Ok, Err, length, reverse, slice_get, take}
 use Rattle.rds_encoder.specs.Entries.{Entry, name_moves, text_moves}
 use Rattle.rds_encoder.specs.Reply.{reply_to}
 use Rattle.rds_encoder.specs.Reply as encoder
@@ -13,9 +13,11 @@ use Rattle.rds_world.specs.declared.reply.Reply.{Reply}
 use Rattle.rds_world.specs.declared.reply.Reply.TheVariants.{Restarted, Done, Refused}
 use Rattle.rds_world.specs.declared.reply.Reply.TheVariants as reply
 use Rattle.rds_world.specs.declared.slots.PlayRefused.{PlayRefused}
-use Rattle.rds_world.specs.declared.slots.PlayRefused.TheVariants.{TooManyReceivers, Memory, ReceiverCount, Late}
+use Rattle.rds_world.specs.declared.slots.PlayRefused.TheVariants.{TooManyReceivers, Memory, ReceiverCount, Late, Wrong, WrongTwice}
 use Rattle.rds_world.specs.Due.{IsDueToAll, IsFirstLate}
 use Rattle.rds_world.specs.Event.{Event}
+use Rattle.rds_world.specs.Premise.{Premise}
+use Rattle.rds_world.specs.Wrong.{IsFirstWrong, IsFitToAll}
 
 -- the encoder's reply as the reply of the world
 abbrev pub answered : encoder.Reply → Reply
@@ -30,41 +32,62 @@ reply_at d (SetText x) before = answered (reply_to d (text_moves before))
 reply_at d (SetName x) before = answered (reply_to d (name_moves before))
 reply_at d (SetTags pair) before = answered (tags_reply d pair before)
 
--- the slot can be taken after those before: it has one reception for each receiver, and each is due
-pub record CanBeTaken (k receivers : ℕ) (e : Event) (before : List Event) : Type 0 where
+-- the slot can be taken after those before: it has one reception for each receiver, each is due, and each keeps the
+-- premise about wrong groups
+pub record CanBeTaken (p : Premise) (receivers : ℕ) (e : Event) (before : List Event) : Type 0 where
   pub count : length e.receptions ≡ receivers
-  pub due : IsDueToAll k e before
+  pub due : IsDueToAll p.late e before
+  pub fit : IsFitToAll p.window e before
 
 -- the slot has one reception for each receiver, and r is the first receiver whose reception is not due
 pub record IsLateTo (k receivers : ℕ) (e : Event) (before : List Event) (r : ℕ) : Type 0 where
   pub count : length e.receptions ≡ receivers
   pub late : IsFirstLate k e before r
 
+-- why an event breaks the premise about wrong groups: r is the first receiver whose reception breaks it; with a window it
+-- gets a wrong message for a second time
+abbrev pub IsUnfit : Option ℕ → Event → List Event → StepRefused → Type 0
+IsUnfit window e before step.ReceiverCount = ⊥
+IsUnfit window e before (step.Late r) = ⊥
+IsUnfit window e before (step.Wrong r) = (window ≡ None) × IsFirstWrong window e before r
+IsUnfit window e before (step.WrongTwice r) = IsSome window × IsFirstWrong window e before r
+
+-- the slot has one reception for each receiver, each is due, and this is why it breaks the premise about wrong groups
+pub record IsWrong (p : Premise) (receivers : ℕ) (e : Event) (before : List Event) (why : StepRefused) : Type 0 where
+  pub count : length e.receptions ≡ receivers
+  pub due : IsDueToAll p.late e before
+  pub unfit : IsUnfit p.window e before why
+
 -- why a slot is refused after those before
-abbrev pub IsStepRefused : ℕ → ℕ → Event → List Event → StepRefused → Type 0
-IsStepRefused k receivers e before step.ReceiverCount = length e.receptions ≢ receivers
-IsStepRefused k receivers e before (step.Late r) = IsLateTo k receivers e before r
+abbrev pub IsStepRefused : Premise → ℕ → Event → List Event → StepRefused → Type 0
+IsStepRefused p receivers e before step.ReceiverCount = length e.receptions ≢ receivers
+IsStepRefused p receivers e before (step.Late r) = IsLateTo p.late receivers e before r
+IsStepRefused p receivers e before (step.Wrong r) = IsWrong p receivers e before (step.Wrong r)
+IsStepRefused p receivers e before (step.WrongTwice r) = IsWrong p receivers e before (step.WrongTwice r)
 
 -- the event at this place can be taken after those before it; the oldest event is the first of this list
-abbrev pub IsTaken : ℕ → ℕ → List Event → ℕ → Type 0
-IsTaken k receivers events place =
-    IfSome (slice_get events place) (λ e. CanBeTaken k receivers e (reverse (take place events)))
+abbrev pub IsTaken : Premise → ℕ → List Event → ℕ → Type 0
+IsTaken p receivers events place =
+    IfSome (slice_get events place) (λ e. CanBeTaken p receivers e (reverse (take place events)))
 
 -- the slots can be played: there are at most eight receivers, and each slot can be taken
-pub record CanBePlayed (k receivers : ℕ) (events : List Event) : Type 0 where
+pub record CanBePlayed (p : Premise) (receivers : ℕ) (events : List Event) : Type 0 where
   pub few : receivers ≤ MOST_RECEIVERS
-  pub each : (place : ℕ) → place < length events → IsTaken k receivers events place
+  pub each : (place : ℕ) → place < length events → IsTaken p receivers events place
 
 -- there are at most eight receivers, the event at this place is the first that is refused, and this is why
-pub record IsFirstRefused (k receivers : ℕ) (events : List Event) (place : ℕ) (why : StepRefused) : Type 0 where
+pub record IsFirstRefused (p : Premise) (receivers : ℕ) (events : List Event) (place : ℕ) (why : StepRefused)
+    : Type 0 where
   pub few : receivers ≤ MOST_RECEIVERS
-  pub refused : IfSome (slice_get events place) (λ e. IsStepRefused k receivers e (reverse (take place events)) why)
+  pub refused : IfSome (slice_get events place) (λ e. IsStepRefused p receivers e (reverse (take place events)) why)
   pub there : place < length events
-  pub first : (before : ℕ) → before < place → IsTaken k receivers events before
+  pub first : (before : ℕ) → before < place → IsTaken p receivers events before
 
 -- why slots cannot be played: for too many receivers exactly if there are more than eight
-abbrev pub IsPlayRefused : ℕ → ℕ → List Event → PlayRefused → Type 0
-IsPlayRefused k receivers events TooManyReceivers = MOST_RECEIVERS < receivers
-IsPlayRefused k receivers events Memory = receivers ≤ MOST_RECEIVERS
-IsPlayRefused k receivers events (ReceiverCount place) = IsFirstRefused k receivers events place step.ReceiverCount
-IsPlayRefused k receivers events (Late place r) = IsFirstRefused k receivers events place (step.Late r)
+abbrev pub IsPlayRefused : Premise → ℕ → List Event → PlayRefused → Type 0
+IsPlayRefused p receivers events TooManyReceivers = MOST_RECEIVERS < receivers
+IsPlayRefused p receivers events Memory = receivers ≤ MOST_RECEIVERS
+IsPlayRefused p receivers events (ReceiverCount place) = IsFirstRefused p receivers events place step.ReceiverCount
+IsPlayRefused p receivers events (Late place r) = IsFirstRefused p receivers events place (step.Late r)
+IsPlayRefused p receivers events (Wrong place r) = IsFirstRefused p receivers events place (step.Wrong r)
+IsPlayRefused p receivers events (WrongTwice place r) = IsFirstRefused p receivers events place (step.WrongTwice r)

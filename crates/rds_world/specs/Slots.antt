@@ -12,7 +12,7 @@ use Rattle.rds_encoder.specs.Sent.{sent_in}
 use Rattle.rds_world.specs.declared.event.Command.{Command}
 use Rattle.rds_world.specs.declared.event.Command.TheVariants.{Quiet, Restart, SetText, SetName, SetTags}
 use Rattle.rds_world.specs.declared.event.Reception.{Reception}
-use Rattle.rds_world.specs.declared.event.Reception.TheVariants.{Got, Lost}
+use Rattle.rds_world.specs.declared.event.Reception.TheVariants.{Got, Lost, Wrong}
 use Rattle.rds_world.specs.declared.event.Reception.TheVariants as reception
 use Rattle.rds_world.specs.Event.{Event}
 use Rattle.rds_safety.specs.Late.{Input}
@@ -63,7 +63,7 @@ abbrev pub sent_back : ℕ → List (Option Message) → Option Message
 sent_back back sent = slice_index_or sent back None
 
 -- the input of a receiver after one more slot, with the log up to this slot: it gets the message sent so many slots
--- before, or nothing; after a restart it is empty and begins in the next slot
+-- before, or nothing, or a wrong message, which has no origin; after a restart it is empty and begins in the next slot
 abbrev pub received : Reception → ℕ → List (Option Message) → Input → Input
 received (Got back) slot sent before =
     record {
@@ -73,6 +73,8 @@ received (Got back) slot sent before =
     }
 received Lost slot sent before =
     record { first = before.first; heard = None ∷ before.heard; origins = None ∷ before.origins }
+received (Wrong message) slot sent before =
+    record { first = before.first; heard = Some message ∷ before.heard; origins = None ∷ before.origins }
 received reception.Restart slot sent before = record { first = slot + 1; heard = []; origins = [] }
 
 -- the input of receiver i since its last restart

@@ -1,6 +1,7 @@
 -- The state of a world after a list of slots. Lists have the newest first.
 use Rattle.std.specs.Prelude.{◌≡◌, ◌<◌, ◌≤◌, ◌∷◌, []}
-use Rattle.std.specs.Prelude.{ℕ, List, Option, Some, None, false, length, slice_get, slice_index_or, true}
+use Rattle.std.specs.Prelude.{ℕ, List, Option, Some, None, false, length, slice_get, slice_index_or, take, true}
+use Rattle.circular_buffer.specs.Buffer.{Buffer, buffer}
 use Rattle.rds_block.specs.declared.group.Group.{Group}
 use Rattle.rds_fields.specs.declared.message.Message.{Message}
 use Rattle.rds_encoder.specs.StandsAt as encoder
@@ -16,6 +17,7 @@ use Rattle.rds_world.specs.Event.{Event}
 use Rattle.rds_safety.specs.Late.{Input}
 use Rattle.rds_world.specs.Slots.{SetValues, entries, input_of, log, received, sent_back}
 use Rattle.rds_world.specs.State.{WorldState, distance}
+use Rattle.rds_world.specs.Wrong.{AreFit, slots_back, wrong_of}
 use Rattle.rds_world.specs.declared.world.Config.{Config}
 
 -- the tuning to the station: its PI, its receivers' dwell and window, and the slot in which the input begins
@@ -66,6 +68,11 @@ WhereTheyListen config receptions kept receivers Holds =
 pub record HaveReaches (k : ℕ) (events : List Event) (reaches : List ℕ) : Type 0 where
   pub each : (i reach : ℕ) → slice_get reaches i ≡ Some reach → reach ≡ reach_of k (length events) (last_named i events)
 
+-- each ring has the last wrong messages of its receiver, as far back as the window goes
+pub record HavePasts (window : Option ℕ) (events : List Event) (pasts : List (Buffer (Option Message))) : Type 0 where
+  pub each : (i : ℕ) (past : Buffer (Option Message)) → slice_get pasts i ≡ Some past
+      → past ≡ buffer (take (slots_back window) (wrong_of i events)) (slots_back window)
+
 -- the view of groups whose messages are the input
 pub record IsViewOfInput (config : Config) (input : Input) (view : ShownView) : Type 0 where
   pub groups : List (Option Group)
@@ -89,9 +96,11 @@ pub record StandsAt (config : Config) (w : WorldState) (events : List Event) : T
   pub lasts : 0 < config.dwell
   pub values : SetValues events
   pub due : AreDue config.premise.late events
+  pub fit : AreFit config.premise.window events
   pub encoder : encoder.StandsAt config.head (distance config) w.encoder (entries events)
   pub receivers : AllHaveHeard config (λ i. input_of (distance config) i events) w.receivers
   pub reaches : HaveReaches config.premise.late events w.reaches
+  pub pasts : HavePasts config.premise.window events w.pasts
   pub sent : AreLastSent config (log (distance config) events) w.sent
   pub stay : (i : ℕ) → slice_index_or w.stays i false ≡ true → ShowsStill config i events
 

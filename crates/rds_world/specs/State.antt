@@ -1,7 +1,10 @@
--- The state of a world: its configuration, its encoder, its receivers with their reaches, a mark for each receiver
--- whose view did not change in the newest slot, and the groups of the last slots, the newest first.
+-- The state of a world: its configuration, its encoder, its receivers with their reaches and their last wrong messages, a
+-- mark for each receiver whose view did not change in the newest slot, and the groups of the last slots, the newest
+-- first.
 use Rattle.std.specs.Prelude.{ℕ, ◌+◌, Bool, List, Option}
+use Rattle.circular_buffer.specs.Buffer.{Buffer}
 use Rattle.rds_block.specs.declared.group.Group.{Group}
+use Rattle.rds_fields.specs.declared.message.Message.{Message}
 use Rattle.rds_encoder.specs.State.{EncoderState}
 use Rattle.rds_world.specs.Premise.{lateness}
 use Rattle.rds_world.specs.declared.any_receiver.AnyReceiver.{AnyReceiver}
@@ -18,4 +21,5 @@ pub record WorldState : Type 0 where
   pub receivers : List AnyReceiver
   pub stays : List Bool
   pub reaches : List ℕ
+  pub pasts : List (Buffer (Option Message))
   pub sent : List (Option Group)

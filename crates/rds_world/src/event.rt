@@ -4,7 +4,7 @@ ghost use Rattle.rds_world.specs.declared.event.Reception.TheVariants as recepti
 
 use arrayvec::ArrayVec;
 use rds_assembly::{Name, Text};
-use rds_fields::TagPair;
+use rds_fields::{Message, TagPair};
 use std::marker::Model;
 
 /// The most receivers of a world (this project's own rule).
@@ -32,6 +32,8 @@ pub enum Reception {
     Got(u16),
     /// Nothing.
     Lost,
+    /// A wrong group of the programme, which spells this message.
+    Wrong(Message),
     /// A new receiver in its place, which gets nothing in this slot.
     Restart,
 }

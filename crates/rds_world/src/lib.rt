@@ -1,5 +1,5 @@
 //! A world: a station and its receivers, slot by slot. It has one encoder and up to eight receivers. Each receiver gets
-//! a group that was sent, in its slot or some slots late, or nothing.
+//! a group that was sent, in its slot or some slots late, or nothing, or with a window a wrong group.
 //!
 //! Lists of slots have the newest first. Whatever the slots are, each text that a receiver shows was on air in one of
 //! the last d slots: M + K slots, or M + K + W - 1 if the receivers have a window of W slots.
@@ -7,6 +7,7 @@
 
 mod any_receiver;
 mod event;
+mod past;
 mod premise;
 mod reach;
 mod receivers;

@@ -36,7 +36,7 @@ impl Reach {
         Reach { slots: 1 }
     }
 
-    /// Returns the reach in the slot after this reception. A restart counts as `Lost`. `None` if the reception is not
+    /// Returns the reach in the slot after this reception. A restart or a wrong group counts as `Lost`. `None` if the reception is not
     /// due.
     pub(crate) fn after(self, reception: Reception, late: Late) -> Option<Reach>
         ensures due { (slot : ℕ) (last : Option ℕ) → self ≡ reach_of late slot last
@@ -48,7 +48,7 @@ impl Reach {
         let back = match reception {
             Reception::Got(back) if back < self.slots => back,
             Reception::Got(_) => return None,
-            Reception::Lost | Reception::Restart => self.slots,
+            Reception::Lost | Reception::Wrong(_) | Reception::Restart => self.slots,
         };
         Some(Reach {
             slots: back.min(late.get()) + 1,

@@ -1,18 +1,20 @@
 //! The receivers' part of a slot: hands out the groups, and marks the receivers whose view did not change.
-ghost use Rattle.std.specs.Prelude.{◌≡◌, ◌≤◌, ℕ, List, None, Option, IsTrue, false, length, slice_index_or, true};
+ghost use Rattle.std.specs.Prelude.{◌≡◌, ◌≤◌, ℕ, List, None, Option, Some, IsTrue, false, length, slice_index_or, true};
 ghost use Rattle.std.specs.List.{AllByRecursion};
 ghost use Rattle.rds_fields.specs.declared.message.Message.{Message};
 ghost use Rattle.rds_world.specs.declared.event.Reception.TheVariants.{Lost};
 ghost use Rattle.rds_world.specs.declared.event.TheConstants.{MOST_RECEIVERS};
 ghost use Rattle.rds_world.specs.Due.{IsDue};
 ghost use Rattle.rds_safety.specs.Late.{Input};
+ghost use Rattle.rds_receiver.specs.Receipts.{Hears};
 ghost use Rattle.rds_world.specs.Slots.{received};
 ghost use Rattle.rds_world.specs.StandsAt.{AllHaveHeard, AreLastSent, HasHeard, IsNew};
 ghost use Rattle.rds_world.specs.StandsAt.{StaysShown, WhereTheyListen, all_received};
 
 use crate::recent::Recent;
 use crate::{AnyReceiver, Config, MOST_RECEIVERS, Reception};
-use rds_block::Blocks;
+use rds_block::{Blocks, Group};
+use rds_fields::{Head, Message};
 use rds_receiver::Receive;
 
 /// Makes eight receivers that have heard nothing yet.
@@ -88,9 +90,21 @@ fn receive(
     match reception {
         Reception::Got(back) => !receiver.slot_blocks(recent.back_from(newest, back)),
         Reception::Lost => !receiver.slot_blocks(None),
+        Reception::Wrong(message) => !receiver.slot_blocks(Some(blocks_of(message, config.head))),
         Reception::Restart => {
             *receiver = new_receiver(config);
             false
         }
+    }
+}
+
+/// Returns a group with this head that spells the message.
+fn blocks_of(message: Message, head: Head) -> Blocks
+    ensures { Hears head.pi (Some result) (Some message) }
+{
+    let pi = head.pi;
+    match message.group(head) {
+        Some(group) => group.blocks(),
+        None => Group::from_blocks([pi, 0, 0, 0]).blocks(),
     }
 }

@@ -30,7 +30,7 @@ pub enum WorldRefused {
     /// There are more than 8 receivers.
     #[error("there are more than 8 receivers")]
     TooManyReceivers,
-    /// Out of memory for the groups of the last K + 1 slots.
+    /// Out of memory for the groups of the last K + 1 slots, or for the wrong messages of the last W - 1.
     #[error("out of memory")]
     Memory,
 }
@@ -45,4 +45,11 @@ pub enum StepRefused {
     /// what its last `Got` gave.
     #[error("receiver {0} was to get what is not due to it")]
     Late(usize),
+    /// The first receiver that was to get a wrong group although it has no window.
+    #[error("receiver {0} was to get a wrong group, and has no window")]
+    Wrong(usize),
+    /// The first receiver that was to get a text segment, a name segment or a pair of tags that was wrong before, less
+    /// than its window before.
+    #[error("receiver {0} was to get the same wrong group twice within its window")]
+    WrongTwice(usize),
 }

@@ -14,7 +14,7 @@ pub enum PlayRefused {
     /// There are more than 8 receivers.
     #[error("there are more than 8 receivers")]
     TooManyReceivers,
-    /// Out of memory for the groups of the last K + 1 slots.
+    /// Out of memory for the groups of the last K + 1 slots, or for the wrong messages of the last W - 1.
     #[error("out of memory")]
     Memory,
     /// The index of the first event that cannot be taken, if it has another number of receptions than there are
@@ -25,6 +25,14 @@ pub enum PlayRefused {
     /// reception.
     #[error("in slot {0} receiver {1} was to get what is not due to it")]
     Late(usize, usize),
+    /// The index of the first event that cannot be taken, if a receiver without a window was to get a wrong group, and
+    /// the first such receiver.
+    #[error("in slot {0} receiver {1} was to get a wrong group, and has no window")]
+    Wrong(usize, usize),
+    /// The index of the first event that cannot be taken, if a receiver was to get the same wrong group twice within its
+    /// window, and the first such receiver.
+    #[error("in slot {0} receiver {1} was to get the same wrong group twice within its window")]
+    WrongTwice(usize, usize),
 }
 
 /// Makes a world and plays these slots, the oldest first.
@@ -43,8 +51,8 @@ pub fn play(
     ensures count { IfOk result (λ w. length w.receivers ≡ receivers) }
     ensures safe { IfOk result (λ w.
         OnlyWhatWasOnAirIsShown config (reverse events.now) w.receivers) }
-    ensures taken { IsOk result → CanBePlayed config.premise.late receivers events.now }
-    ensures refused { IfErr result (IsPlayRefused config.premise.late receivers events.now) }
+    ensures taken { IsOk result → CanBePlayed config.premise receivers events.now }
+    ensures refused { IfErr result (IsPlayRefused config.premise receivers events.now) }
 {
     let mut world = match World::new(alloc, config, receivers) {
         Ok(world) => world,
@@ -56,6 +64,10 @@ pub fn play(
             Ok(_) => {}
             Err(StepRefused::ReceiverCount) => return Err(PlayRefused::ReceiverCount(i)),
             Err(StepRefused::Late(receiver)) => return Err(PlayRefused::Late(i, receiver)),
+            Err(StepRefused::Wrong(receiver)) => return Err(PlayRefused::Wrong(i, receiver)),
+            Err(StepRefused::WrongTwice(receiver)) => {
+                return Err(PlayRefused::WrongTwice(i, receiver));
+            }
         }
     }
     Ok(world)

@@ -14,6 +14,7 @@ ghost use Rattle.rds_world.specs.State.{distance};
 ghost use Rattle.rds_world.specs.StandsAt.{HasHeard, IsViewOfInput, Shows, ShowsStill, StandsAt, WhereItStands};
 ghost use Rattle.rds_world.specs.declared.event.TheConstants.{MOST_RECEIVERS};
 
+use crate::past::{Past, check_wrong, new_pasts, note_wrong};
 use crate::reach::{Reach, reaches_after};
 use crate::receivers::{eight_receivers, hand_out};
 use crate::recent::Recent;
@@ -48,6 +49,7 @@ pub struct World {
     receivers: [AnyReceiver; MOST_RECEIVERS],
     stays: [bool; MOST_RECEIVERS],
     reaches: [Reach; MOST_RECEIVERS],
+    pasts: Vec<Past>,
     count: usize,
     recent: Recent,
 }
@@ -69,17 +71,19 @@ impl Model for World {
       receivers = take w.count w.receivers;
       stays = w.stays;
       reaches = take w.count w.reaches;
+      pasts = w.pasts.items;
       sent = w.recent.items;
     } };
 
     ghost invariant = { λ w. (w.count ≤ MOST_RECEIVERS) × (length w.receivers ≡ MOST_RECEIVERS)
-        × (length w.reaches ≡ MOST_RECEIVERS) × (w.recent.capacity ≡ w.config.premise.late + 1) };
+        × (length w.reaches ≡ MOST_RECEIVERS) × (w.recent.capacity ≡ w.config.premise.late + 1)
+        × (length w.pasts.items ≡ w.count) };
 }
 
 impl World {
     /// Makes a world before its first slot: the encoder at a restart, and receivers that have heard nothing yet. Error
-    /// if there are more than 8 receivers, or if out of memory. It allocates memory for the groups of K + 1 slots; no
-    /// later call allocates.
+    /// if there are more than 8 receivers, or if out of memory. It allocates memory for the groups of K + 1 slots, and
+    /// with a window of W slots for the wrong messages of W - 1 slots; no later call allocates.
     pub fn new(alloc: Global, config: Config, receivers: usize) -> Result<World, WorldRefused>
         ensures refused { IsErrOf result WorldRefused.TooManyReceivers ↔ (MOST_RECEIVERS < receivers) }
         ensures few { IsOk result → receivers ≤ MOST_RECEIVERS }
@@ -93,12 +97,16 @@ impl World {
         let Ok(recent) = Recent::new(alloc, config.premise.late()) else {
             return Err(WorldRefused::Memory);
         };
+        let Ok(pasts) = new_pasts(alloc, config.premise.window(), receivers) else {
+            return Err(WorldRefused::Memory);
+        };
         Ok(World {
             config,
             encoder: new_encoder(&config),
             receivers: eight_receivers(&config),
             stays: [false; MOST_RECEIVERS],
             reaches: [Reach::new(); MOST_RECEIVERS],
+            pasts,
             count: receivers,
             recent,
         })
@@ -114,8 +122,8 @@ impl World {
         ensures counted { IsErrOf result StepRefused.ReceiverCount
             ↔ (length event.now.receptions ≢ length self.old.receivers) }
         ensures refused { WhereItStands self.old (λ config events. MatchResult result
-            (λ _. CanBeTaken config.premise.late (length self.old.receivers) event.now events)
-            (IsStepRefused config.premise.late (length self.old.receivers) event.now events)) }
+            (λ _. CanBeTaken config.premise (length self.old.receivers) event.now events)
+            (IsStepRefused config.premise (length self.old.receivers) event.now events)) }
         ensures kept { OnErr result (self.new ≡ self.old) }
         ensures count { length self.new.receivers ≡ length self.old.receivers }
         ensures reply { WhereItStands self.old (λ config events. IfOk result (λ answer.
@@ -141,6 +149,7 @@ impl World {
             Ok(reaches) => reaches,
             Err(receiver) => return Err(StepRefused::Late(receiver)),
         };
+        check_wrong(self.pasts.as_slice(), self.config.premise.window(), event)?;
         let reply = obey(&mut self.encoder, &self.config, &event.command);
         let sent = self.encoder.tick(event.free);
         // Prover: a `Copy` value is copied by a new name before its second use (docs/PROVER.md, "Workarounds").
@@ -153,6 +162,7 @@ impl World {
             &self.recent,
         );
         self.reaches = reaches;
+        note_wrong(self.pasts.as_mut_slice(), event);
         Ok(Answer { reply, sent })
     }
 

@@ -70,7 +70,7 @@ pub record PlayerStandsAt (p : Player) (played : Played) : Type 0 where
   pub config_is : p.config ≡ played.config
   pub allowed : IsAllowed played.form played.receivers
   pub events : List Event
-  pub rows : AreRows played.config.premise.late played.receivers played.records events
+  pub rows : AreRows played.config.premise played.receivers played.records events
   pub outcomes : List Outcome
   pub are : AreOutcomes played.config events outcomes
   pub slot : p.slot ≡ length outcomes
@@ -99,8 +99,8 @@ IsBegun config receivers (Some before) w = w ≡ before
 -- there is no memory for a world
 abbrev pub IsRowRefused : Played → Record → RowRefused → Type 0
 IsRowRefused played row (NoRow cause) =
-    AreNoRows played.config.premise.late played.form (row ∷ played.records)
-    × IsRowCause played.form played.config.premise.late played.records row cause
+    AreNoRows played.config.premise played.form (row ∷ played.records)
+    × IsRowCause played.form played.config.premise played.records row cause
 IsRowRefused played row refused.Memory = length played.records ≡ 0
 
 -- after the records that were played, this one, which is number n, is not a row, and its cause is noted
@@ -108,10 +108,10 @@ pub record IsBadRecord (known : Option (List ℕ)) (played : Played) (row : Reco
     (bad : Option BadRecord) : Type 0 where
   pub number_is : n ≡ number
   pub begins : HasRecords known (row ∷ played.records)
-  pub none : AreNoRows played.config.premise.late played.form (row ∷ played.records)
+  pub none : AreNoRows played.config.premise played.form (row ∷ played.records)
   pub note : BadRecord
   pub noted : bad ≡ Some note
-  pub cause : IsRowCause played.form played.config.premise.late played.records row note.cause
+  pub cause : IsRowCause played.form played.config.premise played.records row note.cause
 
 -- the next record of a script: true if it is a row and the player played it, false if the script has no more records.
 -- It has this number; ReadFailed says that a read of the reader failed

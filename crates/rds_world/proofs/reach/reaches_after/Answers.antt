@@ -23,7 +23,7 @@ returns-in_default-clause-due c before have =
     let exact = c.after.ensures.due (length before) (last_named i before) (have.each i c.index-reaches-i.result at) in
     record {
       there = omega (arith, c.loop-i-test.true, many);
-      late = λ due. (let some = rw c.in_default.is at (exact.1 (subst (λ (r : Reception). IsDue late (length before) (last_named i before) r) (sym (same_reception c.args.event.now c.as_slice-receptions.result.now i told c.loop-i-test.true)) due)) in cc);
+      late = λ due. (let some = rw c.in_default.is at (exact.1 (subst (λ (r : Reception). IsDue late (length before) (last_named i before) r) (sym (same_reception c.args.event.now c.as_slice-receptions.result.now i c.index-receptions-i.result told c.loop-i-test.true c.index-receptions-i.is)) due)) in cc);
       first = c.loop-i.invariant.due before have;
     }
 
@@ -34,7 +34,7 @@ loop-i-preserved c =
     let new = c.in-Some.reach in
     let told : c.as_slice-receptions.result.now ≡ c.args.event.now.receptions = c.as_slice-receptions.ensures.value ∙ ap (λ (e : Event). e.receptions) c.event.view_is in
     let many = ap (λ (xs : List Reception). length xs) told in
-    let same = same_reception c.args.event.now c.as_slice-receptions.result.now i told c.loop-i-test.true in
+    let same = same_reception c.args.event.now c.as_slice-receptions.result.now i c.index-receptions-i.result told c.loop-i-test.true c.index-receptions-i.is in
     let at : slice_get c.args.reaches.now i ≡ Some c.index-reaches-i.result = slice_get_read c.args.reaches.now (length c.args.reaches.now) i c.index-reaches-i.result refl (omega (arith, c.loop-i-test.true, c.requires.same, many)) c.index-reaches-i.is in
     record {
       due = λ before have k less. elim (cases_lt k i) [

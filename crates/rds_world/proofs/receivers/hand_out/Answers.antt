@@ -4,7 +4,7 @@ use Rattle.std.proofs.lemmas.Bool.{cases_lt}
 use Rattle.std.proofs.lemmas.List.{get_or_default, length-set}
 use Rattle.std.proofs.lemmas.Option.{slice_get_read, slice_get_within}
 use Rattle.rds_world.specs.declared.any_receiver.AnyReceiver.{AnyReceiver}
-use Rattle.rds_world.specs.declared.event.Reception.TheVariants.{Got, Lost}
+use Rattle.rds_world.specs.declared.event.Reception.TheVariants.{Lost}
 use Rattle.rds_world.specs.declared.event.Reception.{Reception}
 use Rattle.rds_world.specs.Due.{IsDue}
 use Rattle.rds_world.specs.Slots.{received}
@@ -41,7 +41,7 @@ loop-i-preserved c =
     let long : length rs ≡ length c.args.receivers.now = c.loop-i.invariant.count in
     let given : length c.args.receptions.now ≡ length c.args.receivers.now = c.requires.same in
     let at : slice_get rs i ≡ Some c.index-receivers-i.result = slice_get_read rs (length rs) i c.index-receivers-i.result refl (omega arith) c.index-receivers-i.is in
-    let told : slice_index_or c.args.receptions.now i Lost ≡ slice_index_or c.args.receptions.now i (Got 0) = get_or_default c.args.receptions.now i Lost (Got 0) (omega (arith, long, given)) in
+    let told : slice_index_or c.args.receptions.now i Lost ≡ c.index-receptions-i.result = get_or_default c.args.receptions.now i Lost c.index-receptions-i.result (omega (arith, long, given)) ∙ sym c.index-receptions-i.is in
     record {
       count = length-set _ _ _ ∙ c.loop-i.invariant.count;
       rest = λ k h. other_kept rs i k new (omega arith) ∙ c.loop-i.invariant.rest k (omega arith);

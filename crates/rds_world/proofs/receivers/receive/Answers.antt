@@ -33,3 +33,12 @@ pub returns-in-Lost-clause-stays : goal.returns-in-Lost-clause-stays
 returns-in-Lost-clause-stays c slot sent input last kept due has stays =
     let calm : c.slot_blocks-in-Lost.result ≡ false = search rules in
     rw c.in-Lost.is (stays_shown c.args.config.now input _ None None None refl (c.slot_blocks-in-Lost.ensures.same calm) has)
+
+pub returns-in-Wrong-clause-heard : goal.returns-in-Wrong-clause-heard
+returns-in-Wrong-clause-heard c slot sent input last kept due has =
+    rw c.in-Wrong.is (hears_more c.args.config.now input _ _ (Some c.blocks_of.result) (Some c.in-Wrong.message) None c.blocks_of.ensures c.slot_blocks-in-Wrong.ensures.stands has)
+
+pub returns-in-Wrong-clause-stays : goal.returns-in-Wrong-clause-stays
+returns-in-Wrong-clause-stays c slot sent input last kept due has stays =
+    let calm : c.slot_blocks-in-Wrong.result ≡ false = search rules in
+    rw c.in-Wrong.is (stays_shown c.args.config.now input _ (Some c.blocks_of.result) (Some c.in-Wrong.message) None c.blocks_of.ensures (c.slot_blocks-in-Wrong.ensures.same calm) has)

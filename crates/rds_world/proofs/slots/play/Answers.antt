@@ -22,8 +22,8 @@ loop-i-preserved c =
     let e = c.index-events-i.result in
     let later = one_later events i e c.loop-i-test.true c.index-events-i.is in
     let step = c.in-Ok-step.ensures in
-    let taken : CanBeTaken config.premise.late c.args.receivers e before =
-    subst (λ (n : ℕ). CanBeTaken config.premise.late n e before) c.loop-i.invariant.count (step.refused config before c.loop-i.invariant.stands) in
+    let taken : CanBeTaken config.premise c.args.receivers e before =
+    subst (λ (n : ℕ). CanBeTaken config.premise n e before) c.loop-i.invariant.count (step.refused config before c.loop-i.invariant.stands) in
     let at : slice_get events i ≡ Some e = slice_get_read events (length events) i e refl c.loop-i-test.true c.index-events-i.is in
     record {
       stands = subst (λ (xs : List Event). StandsAt config c.step.new.self xs) later (step.stands config before c.loop-i.invariant.stands);

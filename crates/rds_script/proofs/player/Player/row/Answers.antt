@@ -19,7 +19,7 @@ use Rattle.rds_script.proofs.player.Player.row.Goals as goal
 
 pub returns-then-not-read_event-clause-refused : goal.returns-then-not-read_event-clause-refused
 returns-then-not-read_event-clause-refused c played s =
-    (says_none played.config.premise.late played.form (fields_of c.args.row.now) played.records (c.read_event.ensures.none c.if-not-read_event.true), c.cause_of.ensures played.form played.config.premise.late played.records)
+    (says_none played.config.premise played.form (fields_of c.args.row.now) played.records (c.read_event.ensures.none c.if-not-read_event.true), c.cause_of.ensures played.form played.config.premise played.records)
 
 pub returns-then-not-allows-clause-refused : goal.returns-then-not-allows-clause-refused
 returns-then-not-allows-clause-refused c played s =
@@ -31,13 +31,13 @@ returns-then-not-allows-clause-refused c played s =
     let no = c.if-not-allows.true in
     cc in
     let (log, some) = not_allowed played.form (length c.read_event.new.event.receptions) (omega (arith, asked, c.len-receivers.ensures.fits)) none in
-    (names_receivers played.config.premise.late played.form (fields_of c.args.row.now) played.records c.read_event.new.event says none, inr (inr (log, c.read_event.new.event, says, asked, omega (arith, some, asked))))
+    (names_receivers played.config.premise played.form (fields_of c.args.row.now) played.records c.read_event.new.event says none, inr (inr (log, c.read_event.new.event, says, asked, omega (arith, some, asked))))
 
 pub returns-in_err-begin-clause-refused : goal.returns-in_err-begin-clause-refused
 returns-in_err-begin-clause-refused c played s =
     let memory = c.in_err-begin.ensures.memory in
     let none : HasWatched played.config played.receivers None s.events s.outcomes = subst (λ (w : Option Watched). HasWatched played.config played.receivers w s.events s.outcomes) memory.1 s.watched in
-    let counted : length played.records ≡ length s.events = as_many_rows played.config.premise.late played.receivers played.records s.events s.rows in
+    let counted : length played.records ≡ length s.events = as_many_rows played.config.premise played.receivers played.records s.events s.rows in
     let p = err_from_is_err_and c.from_residual.result c.from_residual.ensures.1 in
     rw (p.1, p.2, memory.0) (omega (arith, counted, ap length none))
 
@@ -74,9 +74,9 @@ returns-in-Err-clause-refused c played s =
     (is_ready c.args.self.now.watched w played c.len-receivers.result s.events s.outcomes s.allowed (rw s.form_is at allowed) s.rows s.are s.watched (rw s.config_is at begun)) in
     let kept : c.play.new.self ≡ c.in-Some.watched = c.in-Err.ensures.kept in
     let stands : WatchedStandsAt played.config r.receivers c.play.new.self s.events = subst (λ (x : Watched). WatchedStandsAt played.config r.receivers x s.events) (sym kept) r.stands in
-    let slots : c.args.self.now.slot ≡ length played.records = s.slot ∙ sym (as_many_outcomes played.config s.events s.outcomes s.are) ∙ sym (as_many_rows played.config.premise.late played.receivers played.records s.events s.rows) in
-    refused_on c.text_is_read_one_way.ensures played c.begin.new.self.config.premise.late c.receivers.result c.begin.new.self.slot r.receivers (fields_of c.args.row.now) c.read_event.new.event s.events c.in-Err.why c.refused_cause.result
-    (ap (λ (p : Player). p.config.premise.late) same ∙ ap (λ (x : Config). x.premise.late) s.config_is) (c.receivers.ensures played.config r.receivers s.events stands) (ap (λ (p : Player). p.slot) same ∙ slots)
+    let slots : c.args.self.now.slot ≡ length played.records = s.slot ∙ sym (as_many_outcomes played.config s.events s.outcomes s.are) ∙ sym (as_many_rows played.config.premise played.receivers played.records s.events s.rows) in
+    refused_on c.text_is_read_one_way.ensures played c.begin.new.self.config.premise c.receivers.result c.begin.new.self.slot r.receivers (fields_of c.args.row.now) c.read_event.new.event s.events c.in-Err.why c.refused_cause.result
+    (ap (λ (p : Player). p.config.premise) same ∙ ap (λ (x : Config). x.premise) s.config_is) (c.receivers.ensures played.config r.receivers s.events stands) (ap (λ (p : Player). p.slot) same ∙ slots)
     r.rows (c.read_event.ensures.some c.if-not-read_event.false) (rw (s.form_is, asked) at allowed) (subst (λ (n : ℕ). (0 < length played.records) ⊎ (r.receivers ≡ n)) asked r.how)
     (c.in-Err.ensures.refused played.config r.receivers s.events r.stands) c.refused_cause.ensures
 

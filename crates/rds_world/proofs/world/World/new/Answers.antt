@@ -1,7 +1,7 @@
-use Rattle.std.proofs.Common.{rules, ◌≡◌, ◌∙◌, [], Option, arith, refl, subst, sym}
+use Rattle.std.proofs.Common.{rules, ◌≡◌, ◌∙◌, ℕ, [], Option, arith, refl, subst, sym}
 use Rattle.circular_buffer.specs.Buffer.{Buffer}
 use Rattle.rds_block.specs.declared.group.Group.{Group}
-use Rattle.rds_world.specs.StandsAt.{AreLastSent, IsNew}
+use Rattle.rds_world.specs.StandsAt.{AreLastSent, HavePasts, IsNew}
 use Rattle.rds_world.proofs.DueSteps.{at_first}
 use Rattle.rds_world.proofs.Received.{heard_nothing, one_of_first, some_slots}
 use Rattle.rds_world.proofs.world.World.new.Goals as goal
@@ -16,6 +16,8 @@ returns-clause-stands c =
       lasts = some_slots config made c.eight_receivers.ensures (omega (arith, c.eight_receivers.type_inv));
       values = tt;
       due = tt;
+      fit = tt;
+      pasts = subst (λ (w : Option ℕ). HavePasts w [] c.in-Ok-new_pasts.pasts.items) c.window.ensures c.in-Ok-new_pasts.ensures.empty;
       encoder = c.new_encoder.ensures.first;
       receivers = record {
         each = λ i r e. heard_nothing config 0 r

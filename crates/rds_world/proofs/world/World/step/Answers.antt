@@ -1,7 +1,9 @@
-use Rattle.std.proofs.Common.{◌≡◌, ◌++◌, ◌∷◌, ℕ, List, Option, length, take, drop, sym, subst, refl, arith}
+use Rattle.std.proofs.Common.{◌≡◌, ◌++◌, ◌∷◌, ℕ, List, Option, length, take, drop, sym, ◌∙◌, subst, refl, arith}
 use Rattle.std.specs.Prelude.{slice_index_or}
 use Rattle.circular_buffer.specs.Buffer.{Buffer}
+use Rattle.std.proofs.Math.Seq.{take-append_seam}
 use Rattle.rds_block.specs.declared.group.Group.{Group}
+use Rattle.rds_fields.specs.declared.message.Message.{Message}
 use Rattle.rds_world.specs.declared.any_receiver.AnyReceiver.{AnyReceiver}
 use Rattle.rds_world.specs.declared.event.Reception.{Reception}
 use Rattle.rds_world.specs.declared.event.Reception.TheVariants.{Lost}
@@ -9,8 +11,9 @@ use Rattle.rds_world.specs.Due.{IsDue, IsDueToAll, last_named}
 use Rattle.rds_world.specs.Event.{Event}
 use Rattle.rds_safety.specs.Late.{Input}
 use Rattle.rds_world.specs.Slots.{commanded, entries, input_of, log, received, sent_at}
-use Rattle.rds_world.specs.StandsAt.{AllHaveHeard, AreLastSent, HaveReaches, StandsAt}
+use Rattle.rds_world.specs.StandsAt.{AllHaveHeard, AreLastSent, HavePasts, HaveReaches, StandsAt}
 use Rattle.rds_world.specs.State.{WorldState, distance}
+use Rattle.rds_world.specs.Wrong.{IsFitToAll}
 use Rattle.rds_world.proofs.DueSteps.{one_more_sent}
 use Rattle.rds_world.proofs.Stepped.{by_own, front_is, stepped}
 use Rattle.std.proofs.lemmas.List.{length-take-le}
@@ -42,13 +45,27 @@ returns-clause-stands c config events st =
     let told = sym c.as_slice-receptions.ensures.value in
     let due_told = subst (λ (xs : List Reception). (i : ℕ) → IsDue late (length events) (last_named i events) (slice_index_or xs i Lost)) told due_now in
     let heard = c.hand_out-self-inside.ensures.heard (length events) all_sent (λ i. input_of apart i events) (λ i. last_named i events) kept due_told own.receivers in
-    let old : WorldState = record { config = set; encoder = world.encoder; receivers = take world.count world.receivers; stays = world.stays; reaches = take world.count world.reaches; sent = world.recent.items } in
+    let window = set.premise.window in
+    let kept_wrong : HavePasts c.window.result events c.as_slice.result.now =
+    subst (λ (w : Option ℕ). HavePasts w events c.as_slice.result.now) (sym c.window.ensures) (subst (λ (xs : List (Buffer (Option Message))). HavePasts window events xs) (sym c.as_slice.ensures.value) own.pasts) in
+    let fit : IsFitToAll window now events =
+    subst (λ (x : Event). IsFitToAll window x events) (sym same) (subst (λ (w : Option ℕ). IsFitToAll w e events) c.window.ensures (c.in_ok-check_wrong.ensures.fit events kept_wrong)) in
+    let noted = c.note_wrong.new.pasts in
+    let rest = drop (length noted) world.pasts.items in
+    let as_many : length noted ≡ world.pasts.len = c.note_wrong.ensures.count ∙ c.as_mut_slice.ensures.len in
+    let all_noted : noted ≡ take world.pasts.len (noted ++ rest) = subst (λ (k : ℕ). noted ≡ take k (noted ++ rest)) as_many (sym (take-append_seam noted rest)) in
+    let pasts : HavePasts window (now ∷ events) (take world.pasts.len (noted ++ rest)) =
+    subst (λ (xs : List (Buffer (Option Message))). HavePasts window (now ∷ events) xs) all_noted
+    (subst (λ (x : Event). HavePasts window (x ∷ events) noted) (sym same)
+    (c.note_wrong.ensures.pasts window events (subst (λ (xs : List (Buffer (Option Message))). HavePasts window events xs) (sym c.as_mut_slice.ensures.value) own.pasts))) in
+    let old : WorldState = record { config = set; encoder = world.encoder; receivers = take world.count world.receivers; stays = world.stays; reaches = take world.count world.reaches; pasts = world.pasts.items; sent = world.recent.items } in
     let new : WorldState = record {
       config = set;
       encoder = c.tick-sent.new.self;
       receivers = take world.count (c.hand_out-self-inside.new.receivers ++ drop world.count world.receivers);
       stays = c.hand_out-self-inside.result;
       reaches = take world.count c.in-Ok.reaches;
+      pasts = take world.pasts.len (noted ++ rest);
       sent = c.push.new.self.items;
     } in
     let inputs : ℕ → Input = λ i. received (slice_index_or now.receptions i Lost) (length events) all_sent (input_of apart i events) in
@@ -63,7 +80,7 @@ returns-clause-stands c config events st =
     (subst (λ (n : ℕ). HaveReaches n (e ∷ events) (take (length (take world.count world.reaches)) c.in-Ok.reaches)) c.late.ensures (c.in-Ok.ensures.reaches events had))) in
     let stay = rw c.as_slice-receptions.ensures.value at (c.hand_out-self-inside.ensures.stays (length events) all_sent (λ i. input_of apart i events) (λ i. last_named i events) kept due_told own.receivers) in
     subst (λ (x : Event). StandsAt config new (x ∷ events)) same
-    (stepped config old new events now at refl c.obey-reply.ensures.value due_now ticked all reaches kept stay)
+    (stepped config old new events now at refl c.obey-reply.ensures.value due_now fit ticked all reaches pasts kept stay)
 
 pub returns-clause-safe : goal.returns-clause-safe
 returns-clause-safe c config events st = c.only_what_was_on_air_is_shown.ensures config _ _ (returns-clause-stands c config events st)
