@@ -73,6 +73,9 @@ const page = (() => {
     $("left-out").replaceChildren();
     return replaces(name, async () => {
       tab(name);
+      // the last answer may be below the fold, with the focus in it
+      document.activeElement?.blur();
+      scrollTo({ top: 0 });
       if (name === "script") scriptTab.open(decoder.decode(input), { ...how, input }); else await logTab.open(plain, { ...how, running: true, blob });
       return true;
     });

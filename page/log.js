@@ -11,6 +11,9 @@ const logTab = (() => {
   const NEAR = 4;
   /* How many slots after that are searched too, about a day: each takes some 41 bytes of memory. */
   const FAR = 1_000_000;
+  /* Why a text went: the page does not know it of a receiver with a window. */
+  const GONE = "gone";
+  const NO_SEARCH = { lost: null, shown: [], failure: "the search is for a receiver without a window" };
   const PARTS = [["name", "name (PTYN)"], ["tag1", "first tag"], ["tag2", "second tag"]];
   const KINDS = ["nothing", "text", "name", "tags", "other"];
   const CLOCK = /\d\d:\d\d:\d\d/, LONGEST_TIME = 80;
@@ -23,19 +26,18 @@ const logTab = (() => {
     log: NO_LOG, times: NO_TIMES, programmes: [], groups: 0, codes: new Uint8Array(0), view: new lines.View(), alone: new lines.View(),
     mixed: () => false, whole: null, known: {}, witness: null, result: null, audits: new Map(),
   });
-  const state = { text: "", bytes: new Uint8Array(0), lost: new Set(), number: 0, m: 1, opening: 0, turn: 0, judged: 0, drawn: 0, work: Promise.resolve(), ...empty() };
+  const state = { text: "", bytes: new Uint8Array(0), lost: new Set(), number: 0, m: 1, w: 0, opening: 0, turn: 0, judged: 0, drawn: 0, work: Promise.resolve(), ...empty() };
   const workers = {};
   const timeline = new Timeline($("log-time"), {
     label: "Slot of the log",
     onMove: showSlot,
     clock,
     line,
-    onPaint: (lane, from, to, e) => {
-      if (lane && from === to && (e.shiftKey || (lane.lost && $("log-click").checked))) lose([from]);
-      return false;
-    },
-    onKey: (key) => {
-      if (key !== "l") return false;
+    onPaint: brush,
+    onKey: (key, e) => {
+      const isControl = e.ctrlKey || e.metaKey;
+      if (isControl && (key === "z" || key === "y")) { back(key === "y" || e.shiftKey ? 1 : -1); return true; }
+      if (key !== "l" || isControl) return false;
       lose([timeline.cursor]);
       return true;
     },
@@ -48,22 +50,54 @@ const logTab = (() => {
   /* Keeps the work in progress, so that a test can wait for it. */
   const working = (promise) => { state.work = promise; return promise; };
 
-  /* Loses these slots, or gives back those that are lost. */
-  function lose(slots) {
-    for (const slot of slots) if (!state.lost.delete(slot)) state.lost.add(slot);
+  // ---- lost slots, and their undo
+
+  const undo = new Undo((it) => { $("log-undo").disabled = !it.has(-1); });
+  function lostChanged() {
+    undo.note(links.inLetters(state.lost));
     return look();
   }
 
+  /* Loses these slots, or gives back those that are lost. */
+  function lose(slots) {
+    for (const slot of slots) if (!state.lost.delete(slot)) state.lost.add(slot);
+    return lostChanged();
+  }
+
+  /* Loses the slots of a drag while it goes on, or gives them back if its first slot was lost. */
+  function brush(lane, from, to, e) {
+    if (!lane) {
+      if (state.brush) lostChanged();
+      state.brush = null;
+      return false;
+    }
+    if (!state.brush && !e.shiftKey && !(lane.lost && $("log-click").checked)) return false;
+    state.brush ??= state.lost.has(from) ? "delete" : "add";
+    for (let slot = from; slot <= to; slot++) state.lost[state.brush](slot);
+    timeline.draw();
+    return true;
+  }
+
+  /* Goes back (-1) or forth (1) over the changes of the lost slots. */
+  function back(by) {
+    const letters = undo.go(by);
+    if (letters === undefined) return;
+    state.lost = new Set(links.slotsOf(letters));
+    look();
+  }
+
   /* Opens a log: its text, or the bytes of its file, which is `blob`. Returns when its display and its verdict are shown. */
-  function open(content, { pi, m, k, running = false, lost = [], example = "", file = "", blob, isEdited = false } = {}) {
+  function open(content, { pi, m, k, w = "", running = false, lost = [], example = "", file = "", blob, isEdited = false } = {}) {
     const bytes = typeof content === "string" ? encoder.encode(content) : content;
     state.blob = blob ?? new Blob([bytes]);
     for (const worker of Object.values(workers)) worker.drop();
-    Object.assign(state, empty(), { bytes, isEdited, lost: new Set(lost) });
+    Object.assign(state, empty(), { bytes, isEdited, lost: new Set(lost), brush: null });
+    undo.begin(links.inLetters(state.lost));
     parts.nameFile("log", file);
     $("log-example").value = example;
     if (m) $("log-m").value = m;
     if (k !== undefined) $("log-k").value = k;
+    $("log-w").value = w;
     $("log-running").checked = running;
     state.text = bytes.length > links.MOST_PLAIN ? null : decoder.decode(bytes);
     logText.open(bytes, state.text);
@@ -85,7 +119,7 @@ const logTab = (() => {
     offerProgrammes(pi);
     await look({ fit: true });
     if (state.opening !== opening) return;
-    if (state.log.count > LONG && !state.lost.size) workers.lossy.ask("warm", { pi: $("log-pi").value, m: $("log-m").value });
+    if (state.log.count > LONG && !state.lost.size) workers.lossy.ask("warm", asking());
     const [shown, simple] = [state.view, state.alone].map((view) => view.parts.text.filter((run) => run.value !== null));
     const isMix = (run) => state.mixed("text", run.value), mix = shown.find(isMix) ?? simple.find(isMix) ?? shown.at(-1);
     timeline.move(mix ? mix.from : 0, { keep: true });
@@ -93,10 +127,10 @@ const logTab = (() => {
 
   /* The programmes of the log, to choose one of them. */
   function offerProgrammes(pi) {
-    const found = state.programmes.slice(0, MOST_PROGRAMMES), all = found.length ? found : [[parseInt(PI, 16), 0]];
-    const options = all.map(([p, n]) => new Option(`${parts.hex(p)} (${parts.counted(n, "group")})`, parts.hex(p)));
-    $("log-pi").replaceChildren(...options);
-    if (all.some(([p]) => parts.hex(p) === pi)) $("log-pi").value = pi;
+    const found = state.programmes.slice(0, MOST_PROGRAMMES);
+    const options = found.map(([p, n]) => new Option(`${parts.hex(p)} (${parts.counted(n, "group")})`, parts.hex(p)));
+    $("log-pi").replaceChildren(...(options.length ? options : [new Option("no group", PI)]));
+    if (found.some(([p]) => parts.hex(p) === pi)) $("log-pi").value = pi;
   }
 
   /* Shows after a while that the page waits; the answer ends this. */
@@ -119,15 +153,20 @@ const logTab = (() => {
     };
   }
 
+  /* What the form holds. A window makes what it shows later by its length less one. */
+  function asking() {
+    const [pi, m, k, w] = ["pi", "m", "k", "w"].map((name) => $(`log-${name}`).value);
+    return { pi, m, k: String(Number(k) + (w ? Number(w) - 1 : 0)), w, running: $("log-running").checked };
+  }
+
   /* Asks the workers for the display and for the verdict, with what the form holds now. */
   const look = (how = {}) => working(answer(how));
   async function answer({ fit = false }) {
     links.keep("log", { text: state.text, options: options() });
     const turn = ++state.turn, problem = parts.problemOf($("log-form"));
     if (problem) { showProblem(problem, { fit }); return; }
-    const [pi, m, k] = ["pi", "m", "k"].map((name) => $(`log-${name}`).value), running = $("log-running").checked;
-    const asked = { pi, m, k, running, lost: [...state.lost] };
-    const done = wait(`Decoding with M = ${Number(m).toLocaleString("en")}`);
+    const asked = { ...asking(), lost: [...state.lost] };
+    const done = wait(`Decoding with M = ${Number(asked.m).toLocaleString("en")}`);
     $("log-unlose").hidden = !state.lost.size;
     Object.assign(state, { no: null, witness: null });
     try {
@@ -141,7 +180,7 @@ const logTab = (() => {
 
   /* Returns the display over these slots. The display without lost slots is kept. */
   async function decode(asked) {
-    if (!asked.lost.length && state.whole?.pi === asked.pi && state.whole.m === asked.m) return state.whole;
+    if (!asked.lost.length && ["pi", "m", "w"].every((name) => state.whole?.[name] === asked[name])) return state.whole;
     const name = asked.lost.length ? "lossy" : "whole", got = await workers[name].askNewest("decode", asked);
     if (!got) return undefined;
     // what does not depend on M comes once
@@ -149,7 +188,7 @@ const logTab = (() => {
       state.known[name] = { alone: new lines.View(got.alone), codes: got.codes };
       Timeline.sums.set(got.codes, got.sums);
     }
-    const shown = { ...got, ...state.known[name], pi: asked.pi, m: asked.m, view: new lines.View(got.view) };
+    const shown = { ...got, ...state.known[name], pi: asked.pi, m: asked.m, w: asked.w, view: new lines.View(got.view) };
     if (!asked.lost.length) state.whole = shown;
     return shown;
   }
@@ -159,11 +198,11 @@ const logTab = (() => {
     if (state.turn !== turn || !whole || !shown) return;
     const { view, alone, codes, output, notes } = shown, { log } = state;
     const number = parseInt(asked.pi, 16), result = { ...state.result, decode: { output, notes } };
-    Object.assign(state, { view, alone, codes, number, m: Number(asked.m), result, drawn: turn });
+    Object.assign(state, { view, alone, codes, number, m: Number(asked.m), w: Number(asked.w), result, drawn: turn });
     // nobody sent what neither receiver shows that loses nothing
     const sent = asked.lost.length ? parts.allShown(whole.view, whole.alone) : null;
     state.mixed = sent ? (part, value) => !sent.has(parts.keyOf(part, value)) : () => false;
-    timeline.title = `rdsrt decode --pi ${asked.pi} --m ${asked.m}`;
+    timeline.title = `rdsrt decode --pi ${asked.pi} --m ${asked.m}${asked.w ? ` --confirm ${asked.w}` : ""}`;
     timeline.show(lanes(), log.count, { fit });
     $("log-limit").textContent = flagAlone.limit(log.count);
     $("log-limit").hidden = !flagAlone.limit(log.count);
@@ -188,7 +227,7 @@ const logTab = (() => {
     const got = await audit(asked);
     if (state.turn !== turn || !got) return;
     const { log, groups, times } = state, pi = parseInt(asked.pi, 16), m = Number(asked.m), k = Number(asked.k);
-    const { running } = asked, no = verdict.show({ audit: got, log, groups, pi, m, k, running, times }, does);
+    const { running } = asked, w = Number(asked.w), no = verdict.show({ audit: got, log, groups, pi, m, k, w, running, times }, does);
     Object.assign(state, { result: { ...state.result, audit: got }, no, judged: turn });
     tellLines("audit", `rdsrt audit --pi ${asked.pi} --m ${asked.m} --k ${asked.k}${running ? " --running" : ""}`, got.output);
     // the answer has a mark in the lane of events
@@ -199,6 +238,7 @@ const logTab = (() => {
   async function search(asked, turn) {
     const { no, log, bytes } = state, m = Number(asked.m);
     if (!no) return;
+    if (asked.w) { verdict.showWitness(NO_SEARCH, does); return; }
     const end = (slots) => ({ slots, bytes: slots < log.count ? log.starts[slots] : bytes.length });
     const near = end(Math.min(log.count, no.slot + NEAR * m)), far = end(Math.min(log.count, near.slots + FAR));
     const found = await workers.search.askNewest("witness", { pi: asked.pi, m, near, far })
@@ -232,7 +272,7 @@ const logTab = (() => {
     /* Loses these slots alone, and goes to the one in which the mix is shown. */
     async lose(slot, first, last) {
       state.lost = new Set(Array.from({ length: last - first + 1 }, (_, i) => first + i));
-      await look();
+      await lostChanged();
       does.goTo(slot);
     },
   };
@@ -241,8 +281,8 @@ const logTab = (() => {
   async function fill() {
     const name = $("log-file-name").textContent, m = $("log-m").value, pi = $("log-pi").value;
     const { bytes } = await workers.whole.ask("fill", { m });
-    const [k, running] = [$("log-k").value, $("log-running").checked];
-    await open(bytes, { pi, m, k, running, isEdited: state.isEdited, file: `${name || "log"}, with its lost slots` });
+    const [k, w, running] = [$("log-k").value, $("log-w").value, $("log-running").checked];
+    await open(bytes, { pi, m, k, w, running, isEdited: state.isEdited, file: `${name || "log"}, with its lost slots` });
   }
 
   /* Shows why nothing is decoded, and no result of what was there before. */
@@ -267,6 +307,7 @@ const logTab = (() => {
   /* Why the text or the name that was shown before this slot is shown no longer. */
   const KIND_OF = { text: lines.TEXT, name: lines.NAME };
   function whyGone(part, from, slot = from) {
+    if (state.w) return GONE;
     const isPart = (at) => (state.codes[at] & lines.KIND) === KIND_OF[part];
     return parts.whyNone(isPart, { from, slot, m: state.m });
   }
@@ -299,7 +340,8 @@ const logTab = (() => {
     const bars = (it, part) => parts.bars(it, part, tint, mixed);
     const lane = (name, short, runs, more) => ({ name, short, kind: "bars", runs, gap: 3, ...more });
     const all = [
-      { name: "received", kind: "ticks", codes, losses: true, lost },
+      // a slot without a group may have been silent: it is not red
+      { name: "received", kind: "ticks", codes, losses: true, nothing: "dim", lost },
       { name: "events", kind: "marks", marks: events() },
       lane("text", "text", bars(view, "text"), { strong: true, gap: 10 }),
     ];
@@ -325,9 +367,10 @@ const logTab = (() => {
   function showSlot(slot) {
     const group = logfile.groupAt(state.log, slot), sent = group ? `${KINDS[lines.codeOf(group, state.number)]} group` : "nothing received";
     const what = !state.result ? "" : state.lost.has(slot) ? "lost" : sent, run = state.view.at("text", slot);
-    const none = run && run.value === null && run.from > 0 ? whyGone("text", run.from, slot) : "no text";
+    const none = run && run.value === null && run.from > 0 && !state.w ? whyGone("text", run.from, slot) : "no text";
     const { mixed } = state, ours = { led: what, mixed, none }, simple = { mixed, none: flagAlone.noneAt(slot) };
-    parts.radio($("log-radio"), "The receiver, with the dwell", state.view, slot, ours);
+    const kind = state.w ? `The receiver, with the dwell and W = ${state.w}` : "The receiver, with the dwell";
+    parts.radio($("log-radio"), kind, state.view, slot, ours);
     parts.radio($("log-alone"), "Flag bit alone: decode --m 65535", state.alone, slot, simple);
     $("log-why").textContent = parts.whyNoMix(state.view, state.alone, slot, mixed);
     if (state.log.count) logText.move(state.log.starts[slot], state.log.numbers[slot]);
@@ -342,7 +385,8 @@ const logTab = (() => {
 
   const lostOptions = () => state.lost.size ? `&lost=${links.inLetters(state.lost)}` : "";
   const runningOption = () => $("log-running").checked ? "&running=1" : "";
-  const options = () => `pi=${$("log-pi").value}&m=${$("log-m").value}&k=${$("log-k").value}${runningOption()}${lostOptions()}`;
+  const windowOption = () => $("log-w").value ? `&w=${$("log-w").value}` : "";
+  const options = () => `pi=${$("log-pi").value}&m=${$("log-m").value}&k=${$("log-k").value}${windowOption()}${runningOption()}${lostOptions()}`;
   const isUnsaved = () => state.isEdited;
 
   function save() {
@@ -355,7 +399,8 @@ const logTab = (() => {
   async function openLink(hash, defaults) {
     const it = await links.read("log", hash), { text, given, within } = it, lost = links.slotsOf(given.get("lost"));
     const running = within("running", 0, 1) === 1;
-    await open(text, { pi: given.get("pi"), m: within("m", 1, 65535) ?? defaults.m, k: within("k", 0, 1024) ?? defaults.k, running, lost });
+    const [m, k, w] = [within("m", 1, 65535) ?? defaults.m, within("k", 0, 1024) ?? defaults.k, within("w", 2, 255)];
+    await open(text, { pi: given.get("pi"), m, k, w, running, lost });
     links.look(timeline, it);
     links.hold("log", { text, options: options() }, hash);
   }
@@ -370,13 +415,14 @@ const logTab = (() => {
   function begin(compiled) {
     $("log-share").onclick = link;
     for (const name of ["whole", "lossy", "audit", "search"]) workers[name] = new LogWorker(compiled);
-    for (const id of ["log-pi", "log-m", "log-k", "log-running"]) $(id).oninput = parts.soon(() => look());
+    for (const id of ["log-pi", "log-m", "log-k", "log-w", "log-running"]) $(id).oninput = parts.soon(() => look());
     $("log-save").onclick = save;
-    $("log-text").oninput = parts.soon(() => open($("log-text").value, { pi: $("log-pi").value, running: $("log-running").checked, isEdited: true }));
-    $("log-unlose").onclick = () => { state.lost.clear(); look(); };
+    $("log-text").oninput = parts.soon(() => open($("log-text").value, { pi: $("log-pi").value, w: $("log-w").value, running: $("log-running").checked, isEdited: true }));
+    $("log-unlose").onclick = () => { state.lost.clear(); lostChanged(); };
+    $("log-undo").onclick = () => back(-1);
     logText.begin();
     changes.begin();
   }
 
-  return { begin, isUnsaved, look, lose, open, openLink, refuse, state, timeline };
+  return { begin, isUnsaved, look, lose, open, openLink, options, refuse, state, timeline };
 })();

@@ -93,7 +93,7 @@ const painter = (() => {
     const first = Math.max(0, Math.floor(sight.from)), last = Math.min(lane.codes.length, Math.ceil(sight.from + sight.across));
     for (let s = first; s < last; s++) {
       const code = lane.codes[s], x = sight.x(s), w = Math.max(1, each - gap);
-      c.fillStyle = ink.codes[code] ?? ink.bad;
+      c.fillStyle = ink.codes[code] ?? ink[lane.nothing ?? "bad"];
       if (code > 0 || lane.losses) for (const [from, to] of SHAPES[code]) c.fillRect(x, y + 2 + from, w, to - from);
       if (!lane.lost?.has(s)) continue;
       c.strokeStyle = ink.bad;
@@ -137,7 +137,7 @@ const painter = (() => {
       }
     });
     if (!lane.losses) return;
-    c.fillStyle = ink.bad;
+    c.fillStyle = ink[lane.nothing ?? "bad"];
     strokes(({ none }) => none > 0.5, (_, x, w) => c.fillRect(x, y + h - 3, w, 2));
   }
 
@@ -363,7 +363,7 @@ const painter = (() => {
     c.fillStyle = ink.lane;
     c.fillRect(0, 0, w, TICKS);
     const sight = { from: 0, across: 1, room: w, gutter: 0, width: w, x: (slot) => slot * w };
-    const lane = { top: 0, height: TICKS, codes: [Number(shows)], losses: true };
+    const lane = { top: 0, height: TICKS, codes: [Number(shows)], losses: true, nothing: canvas.dataset.nothing };
     if (shows === "mix" || shows === "stale") ground(c, { mix: shows === "mix", old: true }, 0, w, lane, sight, ink);
     else wideTicks(c, lane, sight, ink);
   }

@@ -22,7 +22,9 @@ const parts = (() => {
 
   /* Why the program gets none of the form's numbers: the first that is no whole number within its bounds. Empty if all are. */
   function problemOf(form) {
-    const isBad = ({ value, min, max }) => !/^\d+$/.test(value) || Number(value) < Number(min) || Number(value) > Number(max);
+    const isOutside = ({ value, min, max }) => !/^\d+$/.test(value) || Number(value) < Number(min) || Number(value) > Number(max);
+    const isOff = ({ value, required, validity }) => value === "" && !required && !validity.badInput;
+    const isBad = (field) => !isOff(field) && isOutside(field);
     const bad = [...form.querySelectorAll("[type=number]")].find(isBad), number = (n) => Number(n).toLocaleString("en");
     if (!bad) return "";
     return `${bad.dataset.name ?? bad.labels[0].textContent.trim()} must be a whole number from ${number(bad.min)} to ${number(bad.max)}.`;

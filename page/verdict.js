@@ -80,10 +80,11 @@ const verdict = (() => {
 
   function faulty({ audit }, does) {
     const line = /^fault line (\d+)/.exec(audit.output), note = lines.noteOf(audit.notes, "fault ") || audit.output.trim();
+    const reason = note.replace(/^fault line \d+: b/, "B").replace(/^fault line \d+: /, "");
     if (!line) return [make("h2", { textContent: "No verdict" }), make("p", {}, ...parts.told(`${note}.`))];
     return [
       make("h2", { textContent: `Line ${number(Number(line[1]))} is malformed` }),
-      make("p", {}, ...parts.told(`${note}.`), " The page does not show the lines after it."),
+      make("p", {}, ...parts.told(`${reason}.`), " The page does not show the lines after it."),
       make("p", {}, button("Show the line", () => does.showLine(Number(line[1])))),
     ];
   }
@@ -130,16 +131,22 @@ const verdict = (() => {
     return no && { slot: Number(no[1]), fault: no[2] };
   }
 
+  /* Says the heading to screen readers: the card below it changes often. */
+  function tellHeading() { $("verdict-said").textContent = $("verdict").querySelector("h2").textContent; }
+
   /* Shows the answer over a log, which has so many whole groups. `does` is what its buttons do. */
-  function show({ audit, log, groups, pi, m, k, running, times }, does) {
+  function show({ audit, log, groups, pi, m, k, w, running, times }, does) {
     const given = { audit, log, groups, pi, m, times }, no = noOf(audit), isYes = audit.output.startsWith("yes ");
     const isEmpty = isYes && emptyNote(audit) !== "";
     const doubts = no || isYes ? [...absent(given, does), ...coarse(given), ...(isYes && !isEmpty ? few(given) : [])] : [];
     const before = running ? " The station was on air before the log began." : "";
-    const about = `The audit reads the log as sent, with M + K = ${m + k} slots (${lines.time(m + k)}).${before}`;
+    const sum = w ? "M + K + W - 1" : "M + K";
+    const about = `The audit reads the log as sent, with ${sum} = ${m + k} slots (${lines.time(m + k)}).${before}`;
     $("verdict").className = `verdict${kindOf(no, isYes, isEmpty || doubts.length)}`;
     $("verdict").replaceChildren(...answer(given, no, isYes, isEmpty, doubts, does), ...doubts,
-      make("p", { className: "dwells", id: "dwells", hidden: true }), make("p", { className: "small", textContent: about }));
+      make("p", { className: "dwells", id: "dwells", hidden: true }),
+      make("p", { className: "small", textContent: no || isYes ? about : "" }));
+    tellHeading();
     return no;
   }
 
@@ -159,6 +166,7 @@ const verdict = (() => {
   function showNone(heading, sentence, kind = "fault") {
     $("verdict").className = `verdict ${kind}`;
     $("verdict").replaceChildren(make("h2", { textContent: heading }), make("p", { textContent: sentence }));
+    tellHeading();
   }
 
   /* Shows the lost slots that make a mix, or why there are none. */

@@ -52,15 +52,18 @@
     return { alone, codes, sums: lines.sums(codes) };
   }
 
+  /* The words of `decode`, with a window if there is one. */
+  const decoding = ({ pi, m, w }) => ["decode", "--pi", pi, "--m", m, ...(w ? ["--confirm", w] : [])];
+
   /* Returns the views of a receiver that loses these slots, with the dwell and with the flag bit alone. */
-  function decode({ pi, m, lost }) {
+  function decode({ pi, m, w, lost }) {
     const { log } = state, bytes = logfile.received(state.bytes, log, lost);
-    const got = run(["decode", "--pi", pi, "--m", m], bytes), view = lines.read(got.output, log.count).views[0] ?? new lines.View();
+    const got = run(decoding({ pi, m, w }), bytes), view = lines.read(got.output, log.count).views[0] ?? new lines.View();
     return { ...got, view: view.parts, ...withoutDwell({ pi, lost }, bytes) };
   }
 
   /* Decodes once: the browser compiles the program better once it has run, and makes room for the log. */
-  const warm = ({ pi, m }) => { run(["decode", "--pi", pi, "--m", m], state.bytes); return null; };
+  const warm = (asked) => { run(decoding(asked), state.bytes); return null; };
 
   const audit = ({ pi, m, k, running }) => run(["audit", "--pi", pi, "--m", m, "--k", k, ...(running ? ["--running"] : [])], state.bytes);
   const find = (given) => witness.find(state.bytes, given);

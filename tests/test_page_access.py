@@ -19,12 +19,10 @@ class Access:
         """Arrows choose the tabs."""
         b = self.b
         wanted = {
-            "log": ["tab-log", "log-example", "log-file", "log-pi", "log-m", "log-k", "log-running", "log-share", "CANVAS",
-                    "log-click",
-                    "SUMMARY"],
+            "log": ["tab-log", "log-example", "log-file", "log-pi", "log-m", "log-k", "log-w", "log-running",
+                    "log-share", "CANVAS", "log-click", "SUMMARY"],
             "script": ["tab-script", "script-example", "script-file", "script-m", "script-n", "script-slots", "command",
-                       "free", "brush",
-                       "script-save", "script-share", "CANVAS", "SUMMARY"],
+                       "free", "brush", "script-save", "script-share", "CANVAS", "SUMMARY"],
             "dwell": ["tab-dwell", "m-range", "k-range", "f-range", "dwell-m", "dwell-k", "dwell-f", "dwell-s"],
         }
         first_examples(b)

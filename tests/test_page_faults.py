@@ -57,7 +57,7 @@ class Faults:
         b = self.b
         said = verdict_of(b, f"# note\n{HI}\nC201 <b>40 4849\n", 8)
         self.check("a bad line is named", said.partition("Show the line")[0],
-                   'Line 3 is malformedfault line 3: "C201 <b>40 4849": block 2 has 5 characters, expected 4; a log '
+                   'Line 3 is malformed"C201 <b>40 4849": block 2 has 5 characters, expected 4; a log '
                    f"line looks like {HI}. The page does not show the lines after it.")
         self.check("and its text is no HTML", b.run("document.querySelectorAll('#verdict b').length"), 0)
         b.run("[...document.querySelectorAll('#verdict button')].at(-1).click()")

@@ -109,6 +109,24 @@ class LogTab:
         self.check("a click loses a slot", lost(b), [2, 3, 0])
         click(b, "#log-click")
 
+    def test_a_drag_loses_a_range_and_undo_takes_it_back(self):
+        b = self.b
+        call(b, "logTab.open", f"{HI}\n" * 20, {"pi": "C201", "m": 8, "k": 0})
+        click(b, "#log-click")
+        self.check("nothing to undo", of(b, "#log-undo", "disabled"), True)
+        slots = [b.run(f"probe.place(logTab.timeline, {slot}, lane => lane.lost)") for slot in range(20)]
+        for first, last, left in ((3, 11, range(3, 12)), (9, 15, range(3, 9))):
+            b.drag(slots[first], slots[last])
+            idle(b)
+            self.check(f"a drag from slot {first} to {last}", sorted(lost(b)), list(left))
+        self.check("the display drops the text", text_of(b, "#log-lines"), '0 text "HI"\n')
+        click(b, "#log-undo")
+        self.check("an undo", (sorted(lost(b)), text_of(b, "#log-lines").split("\n")[1:]),
+                   (list(range(3, 12)), ["10 text none", '12 text "HI"', ""]))
+        click(b, "#log-undo")
+        self.check("another undo", (lost(b), of(b, "#log-undo", "disabled")), ([], True))
+        click(b, "#log-click")
+
     def test_the_dwells_that_pass_are_those_of_the_program(self):
         """The least and the greatest M that pass around the chosen one. Yes and no are not monotone in M, so this is as
         far as was tried: both bounds pass, and the dwells beyond them do not."""
@@ -138,6 +156,23 @@ class LogTab:
                    ("1", "✓ Passes wit"))
         call(b, "logTab.open", f"{NOTHING}\n", {"pi": "C201", "m": 8, "k": 0})
         self.check("no answers without a group", of(b, "#dwells", "hidden"), True)
+
+    def test_a_window_shows_what_was_heard_twice(self):
+        """Display, audit and link are those of the program with --confirm, and with W - 1 more slots of lateness."""
+        b = self.b
+        dice = random.Random(SEED)
+        for number, log in self.cases("".join(f"{dice.choice(GROUPS[:8])}\n" for _ in range(40)) for _ in range(12)):
+            m, k, w = dice.choice([4, 8, 64]), dice.choice([0, 3]), dice.choice([2, 9, 255])
+            call(b, "logTab.open", log, {"pi": "C201", "m": m, "k": k, "w": w})
+            words = ["decode", "--pi", "C201", "--m", str(m), "--confirm", str(w)]
+            shown_lines = program(words, log.encode())[1]
+            self.check(f"log {number}: display", text_of(b, "#log-lines"), shown_lines, log)
+            answer = program(["audit", "--pi", "C201", "--m", str(m), "--k", str(k + w - 1)], log.encode())[1]
+            self.check(f"log {number}: audit", text_of(b, "#audit-lines"), answer, log)
+            self.check(f"log {number}: link", f"&w={w}" in b.run("logTab.options()"), True)
+        call(b, "logTab.open", example("corrected.log").decode(), {"pi": "C201", "m": 8, "k": 0, "w": 1})
+        self.check("a window of 1", text_of(b, "#verdict"),
+                   "No verdictThe window W must be a whole number from 2 to 255.")
 
     def test_lost_slots_by_time_are_added_as_by_the_program(self):
         """Until then the verdict is not green."""
@@ -285,8 +320,8 @@ class LogTab:
         file = lambda: call(b, "probe.pick", "log-file", "own.log", EVERY_100)
         used = clicks(file)
         told = text_of(b, "#verdict")
-        wanted = ["✗ EarlyFlag with M = 128 (11.2 s)", "Keep each text on air for at least M + K slots", "64 ✓",
-                  "128 ✗"]
+        wanted = ["✗ EarlyFlag with M = 128 (11.2 s)", "Keep each text on air for at least M + K slots",
+                  "passes, as far as was tried"]
         self.check("is my encoder safe, and what to change", (used <= 4, [it for it in wanted if it not in told]),
                    (True, []))
         used = clicks(lambda: click(b, "#tab-dwell"), lambda: call(b, "probe.choose", "dwell-s", 15),

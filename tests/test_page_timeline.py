@@ -4,6 +4,7 @@ from tests.page_support import (GROUPS, HI, NOTHING, SCHEMES, YO, ChromiumCase, 
 
 # of texts, and of shapes without a text
 CONTRAST, GRAPHIC_CONTRAST = 4.5, 3
+LEGEND = ["text, flag A", "text, flag B", "name (PTYN)", "tags", "other", "no group", "never sent", "stale"]
 
 
 class Timeline:
@@ -120,8 +121,7 @@ class Chromium(Timeline, ChromiumCase):
             b.scheme(scheme)
             settle(b)
             legend = dict(call(b, "probe.swatches", "log"))
-            self.check(f"the legend, {scheme}", list(legend),
-                       ["text, flag A", "text, flag B", "name (PTYN)", "tags", "other", "lost", "never sent", "stale"])
+            self.check(f"the legend, {scheme}", list(legend), LEGEND)
             shapes = list(legend.values())[:6]
             self.check(f"shapes differ, {scheme}", (len(set(shapes)), [it for it in shapes if "#" not in it]), (6, []))
             self.check(f"the lane has the shapes of the legend, {scheme}", b.run("probe.ticks(logTab.timeline, 6)"),
@@ -145,7 +145,7 @@ class Chromium(Timeline, ChromiumCase):
             b.scheme(scheme)
             for tab in ("log", "script"):
                 call(b, "page.tab", tab)
-                call(b, "probe.choose", f"{tab}-example", 4 if tab == "log" else 0)
+                call(b, "probe.choose", f"{tab}-example", 5 if tab == "log" else 0)
                 settle(b)
                 shows = f"document.querySelectorAll('#{tab} .radio figcaption span, #{tab} .radio .text')"
                 displays = b.run(f"[...{shows}].map(it => it.textContent).filter(text => text)")
@@ -160,8 +160,8 @@ class Chromium(Timeline, ChromiumCase):
                 colours = {ink for _, _, ink in all_texts[-len(legend):]}
                 dim = b.run("getComputedStyle(document.documentElement).getPropertyValue('--dim').trim()")
                 self.check(f"{scheme} {tab}: its colour", colours, {dim})
-                self.check(f"{scheme} {tab}: a mix is marked", any(text.startswith("⚠ nobody sent") for text in texts),
-                           True)
+                is_marked = any(text.startswith("⚠ nobody sent") for text in texts)
+                self.check(f"{scheme} {tab}: a mix is marked", is_marked, True)
         b.scheme("light")
         first_examples(b)
 

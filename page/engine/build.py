@@ -26,6 +26,7 @@ LOGS = [
     ("An encoder turns its flag back too soon", "flags.log", {"pi": "C201", "m": 8, "lost": [2, 3, 4]}),
     ("A song with its artist and title", "accents.log", {"pi": "F201", "m": 128}),
     ("Our own encoder", "chanson.csv", {"from": ENCODE, "pi": "C201", "m": 8}),
+    ("A wrong group, heard twice", "corrected.log", {"pi": "C201", "m": 8, "w": 8}),
     ("Two letters", "hi.log", {"pi": "C201", "m": 128}),
 ]
 SCRIPTS = [
