@@ -197,7 +197,7 @@ quiet_in = flag_in (codes "quiet")
 abbrev pub has_value : Text → List Row → Bool
 has_value name rows = is_some (first_of name rows)
 
--- the window in slots, or none without `--confirm`
+-- the window in slots: `Some None` without `--confirm`, and `None` if its number is out of range
 abbrev pub window_in : List Row → Option (Option ℕ)
 window_in rows =
     if has_value (codes "confirm") rows

@@ -140,7 +140,7 @@ fn has_value(inner: &ArgMatches<'_>, name: &str) -> bool
     }
 }
 
-/// Reads the window, `None` if none is given.
+/// Reads the window. `Some(None)` if none is given, and `None` if the number is out of its range.
 fn window_of(inner: &ArgMatches<'_>) -> Option<Option<Window>>
     ensures { result ≡ window_in (rows_of (found_of inner.now)) }
 {
