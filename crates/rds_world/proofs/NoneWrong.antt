@@ -1,5 +1,5 @@
 -- Lemmas: what a receiver got keeps the premise about wrong messages, if its receptions do.
-use Rattle.std.proofs.Common.{◌≡◌, ◌⊎◌, ◌+◌, ◌-◌, ◌≤◌, ℕ, zero, suc, true, List, [], ◌∷◌, Option, Some, None, length, take, refl, sym, ap, subst, inl, inr, arith}
+use Rattle.std.proofs.Common.{◌≡◌, ◌⊎◌, ◌<◌, ◌≤◌, ◌+◌, ◌-◌, ℕ, zero, suc, true, List, [], ◌∷◌, Option, Some, None, length, take, refl, sym, ap, subst, inl, inr, arith}
 use Rattle.std.specs.Prelude.{Contains, slice_index_or}
 use Rattle.rds_fields.specs.declared.message.Message.{Message}
 use Rattle.rds_receiver.specs.Twice.{needs_two}
@@ -10,16 +10,7 @@ use Rattle.rds_world.specs.declared.event.Reception.{Reception}
 use Rattle.rds_world.specs.declared.event.Reception.TheVariants.{Got, Lost, Wrong, Restart}
 use Rattle.rds_world.specs.Event.{Event}
 use Rattle.rds_world.specs.Slots.{input_of, log, received}
-use Rattle.rds_world.specs.Wrong.{AreFit, IsFit, with_wrong, wrong_of}
-
--- each message was sent
-abbrev pub EachWasSent : Input → Type 0
-EachWasSent input = (t : ℕ) (message : Message) → HasEntry input.first input.heard t (Some message) → WasSent input t
-
--- without a window each message was sent; with one, none that needs two receipts is wrong twice
-abbrev pub KeepsPremise : Option ℕ → Input → Type 0
-KeepsPremise None input = EachWasSent input
-KeepsPremise (Some w) input = NoneWrongTwice w input
+use Rattle.rds_world.specs.Wrong.{AreFit, EachWasSent, IsFit, IsFitTo, KeepsPremise, TheFitKeepThePremise, with_wrong, wrong_of}
 
 -- each message was sent, or it is one of these wrong messages
 abbrev AreSentOrWrong : Input → List (Option Message) → Type 0
@@ -154,3 +145,78 @@ module _ (d i : ℕ) where
   pub keeps_premise : (window : Option ℕ) (events : List Event) → AreFit window events → KeepsPremise window (input_of d i events)
   keeps_premise None events fit = each_sent events fit
   keeps_premise (Some w) events fit = once w events fit
+
+-- one of the last n entries, by its slot
+pub record AmongLast (first : ℕ) (wrong : List (Option Message)) (n : ℕ) (x : Option Message) : Type 0 where
+  slot : ℕ
+  has : HasEntry first wrong slot x
+  soon : first + length wrong ≤ slot + n
+  some : 0 < n
+
+among_last : (first : ℕ) (wrong : List (Option Message)) (n : ℕ) (x : Option Message) → Contains (take n wrong) x → AmongLast first wrong n x
+among_last first wrong zero x (k, below, is) = absurd (omega (arith, below))
+among_last first [] (suc n) x (k, below, is) = absurd (omega (arith, below))
+among_last first (y ∷ before) (suc n) x (zero, below, is) = record { slot = first + length before; has = inl (refl, sym is); soon = omega arith; some = omega arith }
+among_last first (y ∷ before) (suc n) x (suc k, below, is) =
+    let rest = among_last first before n x (k, omega (arith, below), is) in
+    record { slot = rest.slot; has = inr rest.has; soon = (let soon = rest.soon in omega (arith, soon)); some = omega arith }
+
+-- each of these wrong messages was heard, and has no origin
+abbrev AreHeardWrong : Input → List (Option Message) → Type 0
+AreHeardWrong input wrong =
+    (t : ℕ) (message : Message) → HasEntry input.first wrong t (Some message)
+    → HasEntry input.first input.heard t (Some message) × HasEntry input.first input.origins t None
+
+heard_wrong_with : (r : Reception) (slot : ℕ) (sent : List (Option Message)) (input : Input) (wrong : List (Option Message)) → length input.origins ≡ length input.heard → length wrong ≡ length input.heard
+    → AreHeardWrong input wrong → AreHeardWrong (received r slot sent input) (with_wrong r wrong)
+heard_wrong_with (Got back) slot sent input wrong beside long old t m (inl now) = absurd (let none = now.1 in cc)
+heard_wrong_with (Got back) slot sent input wrong beside long old t m (inr earlier) = (let was = old t m earlier in (inr was.0, inr was.1))
+heard_wrong_with Lost slot sent input wrong beside long old t m (inl now) = absurd (let none = now.1 in cc)
+heard_wrong_with Lost slot sent input wrong beside long old t m (inr earlier) = (let was = old t m earlier in (inr was.0, inr was.1))
+heard_wrong_with (Wrong x) slot sent input wrong beside long old t m (inl now) = (inl (omega (arith, now.0, long), now.1), inl (omega (arith, now.0, long, beside), refl))
+heard_wrong_with (Wrong x) slot sent input wrong beside long old t m (inr earlier) = (let was = old t m earlier in (inr was.0, inr was.1))
+heard_wrong_with Restart slot sent input wrong beside long old t m h = absurd h
+
+heard_wrong : (d i : ℕ) (events : List Event) → AreHeardWrong (input_of d i events) (wrong_of i events)
+heard_wrong d i [] = λ t m h. absurd h
+heard_wrong d i (e ∷ before) =
+    heard_wrong_with (slice_index_or e.receptions i Lost) (length before) (log d (e ∷ before)) (input_of d i before) (wrong_of i before) (beside d i before) (long d i before) (heard_wrong d i before)
+
+-- an entry without an origin was not sent
+not_sent : (input : Input) (t : ℕ) → HasEntry input.first input.origins t None → WasSent input t → ⊥
+not_sent input t none was = (let two : None ≡ Some was.slot = one_entry input.first input.origins t None (Some was.slot) none was.from in cc)
+
+-- what keeps the premise is fit
+fit_with : (window : Option ℕ) (r : Reception) (slot : ℕ) (sent : List (Option Message)) (input : Input) (wrong : List (Option Message)) → length input.origins ≡ length input.heard
+    → length wrong ≡ length input.heard → AreHeardWrong input wrong → KeepsPremise window (received r slot sent input) → IsFit window wrong r
+fit_with window (Got back) slot sent input wrong beside long heard keeps = tt
+fit_with window Lost slot sent input wrong beside long heard keeps = tt
+fit_with window Restart slot sent input wrong beside long heard keeps = tt
+fit_with None (Wrong x) slot sent input wrong beside long heard keeps =
+    let now = input.first + length input.heard in
+    not_sent (received (Wrong x) slot sent input) now (inl (omega (arith, beside), refl)) (keeps now x (inl (refl, refl)))
+fit_with (Some w) (Wrong x) slot sent input wrong beside long heard keeps = λ two again.
+    let now = input.first + length input.heard in
+    let after = received (Wrong x) slot sent input in
+    let before = among_last input.first wrong (w - 1) (Some x) again in
+    let soon = before.soon in
+    let some = before.some in
+    let was = heard before.slot x before.has in
+    elim (keeps before.slot now x two (omega (arith, long, before_end input.first wrong before.slot (Some x) before.has)) (omega (arith, long, soon, some)) (inr was.0) (inl (refl, refl))) [
+      | inl sent ↦ not_sent after before.slot (inr was.1) sent
+      | inr sent ↦ not_sent after now (inl (omega (arith, beside), refl)) sent
+    ]
+
+-- what is fit keeps the premise
+keeps_with : (window : Option ℕ) (d i : ℕ) (e : Event) (before : List Event) → AreFit window before → IsFitTo window e before i → KeepsPremise window (input_of d i (e ∷ before))
+keeps_with None d i e before fit now =
+    each_with (slice_index_or e.receptions i Lost) (length before) (log d (e ∷ before)) (input_of d i before) (wrong_of i before) now (beside d i before) (each_sent d i before fit)
+keeps_with (Some w) d i e before fit now =
+    once_with w (slice_index_or e.receptions i Lost) (length before) (log d (e ∷ before)) (input_of d i before) (wrong_of i before) now (beside d i before) (long d i before) (said d i before)
+    (once d i w before fit)
+
+pub fit_keeps : TheFitKeepThePremise
+fit_keeps window d i e before fit = (
+  keeps_with window d i e before fit,
+  fit_with window (slice_index_or e.receptions i Lost) (length before) (log d (e ∷ before)) (input_of d i before) (wrong_of i before) (beside d i before) (long d i before) (heard_wrong d i before),
+)

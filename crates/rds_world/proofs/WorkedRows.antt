@@ -1,15 +1,18 @@
--- Worked examples of due receptions, of inputs, of what may come first after a restart and of the sets of a slot,
--- calculated by hand. Lists have the newest first.
-use Rattle.std.proofs.Common.{◌≡◌, ◌-◌, ◌<◌, ℕ, List, [], ◌∷◌, Option, Some, None, true, refl, ap, inl, inr, arith}
+-- Worked examples of due receptions, of wrong groups, of inputs, of what may come first after a restart and of the sets
+-- of a slot, calculated by hand. Lists have the newest first.
+use Rattle.std.proofs.Common.{◌≡◌, ◌-◌, ◌<◌, ℕ, zero, suc, List, [], ◌∷◌, Option, Some, None, true, false, refl, ap, inl, inr, arith}
 use Rattle.rds_encoder.specs.Entries.{Move, Begin, Set, End}
 use Rattle.rds_encoder.specs.Plan.{plan_of}
 use Rattle.rds_encoder.specs.Spaced.{RestartsComeFirst}
 use Rattle.rds_fields.specs.declared.message.Message.{Message}
+use Rattle.rds_fields.specs.declared.message.Message.TheVariants.{Text}
 use Rattle.rds_safety.specs.Late.{Input}
-use Rattle.rds_world.specs.declared.event.Reception.TheVariants.{Got}
+use Rattle.rds_world.specs.declared.event.Command.TheVariants.{Quiet}
+use Rattle.rds_world.specs.declared.event.Reception.TheVariants.{Got, Wrong, Restart}
 use Rattle.rds_world.specs.Due.{IsDueBack}
 use Rattle.rds_world.specs.FlagStation.{IsSafeAfter}
 use Rattle.rds_world.specs.Slots.{received}
+use Rattle.rds_world.specs.Wrong.{IsFit, wrong_of}
 
 -- zero slots late, a receiver hears what is sent in the slot, and its origin is the slot
 received_now : (slot : ℕ) (newest : Option Message) (before : List (Option Message)) (input : Input)
@@ -34,6 +37,22 @@ not_before_first due = (let there = due.there in omega (arith, there))
 
 not_so_late : IsDueBack 2 6 None 3 → ⊥
 not_so_late due = (let soon = due.soon in omega (arith, soon))
+
+-- with a window of three slots, a segment that was wrong two slots before is not fit
+abbrev wrong_segment : Message
+wrong_segment = Text false 0 (0x48 ∷ 0x4F ∷ 0x0D ∷ 0x20 ∷ [])
+
+after_two : IsFit (Some 3) (None ∷ Some wrong_segment ∷ []) (Wrong wrong_segment) → ⊥
+after_two fit = fit refl (1, omega arith, refl)
+
+-- one that was wrong three slots before is fit, and so is one that was wrong before a restart
+after_three : IsFit (Some 3) (None ∷ None ∷ Some wrong_segment ∷ []) (Wrong wrong_segment)
+after_three two (zero, below, is) = cc
+after_three two (suc zero, below, is) = cc
+after_three two (suc (suc k), below, is) = omega (arith, below)
+
+after_restart : wrong_of 0 (record { command = Quiet; free = true; receptions = Restart ∷ [] } ∷ record { command = Quiet; free = true; receptions = Wrong wrong_segment ∷ [] } ∷ []) ≡ []
+after_restart = refl
 
 -- with d = 1: a text in slot 1, and another one in slot 3, one slot before a restart
 abbrev one_slot_of_two : List Move

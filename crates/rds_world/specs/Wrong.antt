@@ -1,11 +1,14 @@
 -- Wrong groups (this project's own rule). A receiver with a window may get a wrong message, but none that needs two
 -- receipts twice within the window. A receiver without a window gets none. Lists have the newest first.
-use Rattle.std.specs.Prelude.{◌≡◌, ◌<◌, ◌-◌, ℕ, true, Contains, List, [], ◌∷◌, Option, Some, None, slice_index_or, take}
+use Rattle.std.specs.Prelude.{◌≡◌, ◌↔◌, ◌<◌, ◌-◌, ℕ, true, Contains, List, [], ◌∷◌, Option, Some, None, slice_index_or, take}
 use Rattle.rds_fields.specs.declared.message.Message.{Message}
 use Rattle.rds_receiver.specs.Twice.{needs_two}
 use Rattle.rds_world.specs.declared.event.Reception.{Reception}
 use Rattle.rds_world.specs.declared.event.Reception.TheVariants.{Got, Lost, Wrong, Restart}
 use Rattle.rds_world.specs.Event.{Event}
+use Rattle.rds_safety.specs.Late.{HasEntry, Input}
+use Rattle.rds_safety.specs.Twice.{NoneWrongTwice, WasSent}
+use Rattle.rds_world.specs.Slots.{input_of}
 
 -- slot by slot the wrong message that a receiver got, since its last restart, after one more reception
 abbrev pub with_wrong : Reception → List (Option Message) → List (Option Message)
@@ -53,3 +56,20 @@ pub record IsFirstWrong (window : Option ℕ) (e : Event) (before : List Event) 
   pub is : slice_index_or e.receptions r Lost ≡ Wrong message
   pub breaks : IsFitTo window e before r → ⊥
   pub first : (i : ℕ) → i < r → IsFitTo window e before i
+
+-- each message of the input was sent
+abbrev pub EachWasSent : Input → Type 0
+EachWasSent input =
+    (t : ℕ) (message : Message) → HasEntry input.first input.heard t (Some message) → WasSent input t
+
+-- the premise about the wrong messages of an input: without a window there are none; with one, no segment and no pair of
+-- tags is wrong twice within it
+abbrev pub KeepsPremise : Option ℕ → Input → Type 0
+KeepsPremise None input = EachWasSent input
+KeepsPremise (Some w) input = NoneWrongTwice w input
+
+-- a reception is fit exactly if the input with it keeps the premise, if all receptions before were fit
+abbrev pub TheFitKeepThePremise : Type 0
+TheFitKeepThePremise =
+    (window : Option ℕ) (d i : ℕ) (e : Event) (before : List Event) → AreFit window before
+    → IsFitTo window e before i ↔ KeepsPremise window (input_of d i (e ∷ before))

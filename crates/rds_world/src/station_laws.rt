@@ -11,6 +11,7 @@ ghost use Rattle.rds_world.specs.FlagStation.{WhoGetsSomeShowsTextsOfTheirSource
 ghost use Rattle.rds_world.specs.SafeSlots.{EveryWorldShowsOnlyWhatWasOnAir};
 ghost use Rattle.rds_world.specs.Station.{SlotsOfAWorldAreSlots, TheEncoderIsLawful, WhoHearsAStationIsSafe};
 ghost use Rattle.rds_world.specs.TwiceStation.{WhoHearsAStationTwiceIsSafe};
+ghost use Rattle.rds_world.specs.Wrong.{TheFitKeepThePremise};
 
 use rds_encoder::{
     broadcasts_are_spaced, even_turns_are_the_texts, numbers_name_broadcasts,
@@ -47,6 +48,12 @@ pub fn only_what_was_on_air_is_shown()
     safe_by_plans();
     safe_if_heard_twice();
 }
+
+/// States that a world refuses exactly the wrong groups that break the premise: any without a window; with a window of W
+/// slots a segment or a pair of tags that was wrong less than W slots before.
+pub fn what_is_fit_keeps_the_premise()
+    ensures { TheFitKeepThePremise }
+{}
 
 /// States the headline for receivers that get wrong groups and show only what they heard twice.
 pub fn a_station_heard_twice_is_safe()
