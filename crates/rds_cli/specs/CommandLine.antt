@@ -119,6 +119,10 @@ slots_app name = with_rule (with_rule (timed_app name) dwell_rule) quiet_rule
 unfoldable pub station_app : Text → App
 station_app name = with_rule (with_rule (late_app name) pty_rule) tp_rule
 
+-- the subcommand that simulates a station and its receivers
+unfoldable pub sim_app : Text → App
+sim_app name = with_rule (station_app name) confirm_rule
+
 -- `rdsrt`, which has a version and requires a subcommand
 abbrev pub top_app : App
 top_app = on_top (λ s. record s { has_version = true; subcommand_required = true }) (new_app (codes "rdsrt"))
@@ -140,7 +144,7 @@ without_sim_app = with_subcommand log_readers_app (station_app (codes "encode"))
 
 -- with all six subcommands
 abbrev pub whole_app : App
-whole_app = with_subcommand without_sim_app (station_app (codes "sim")).top
+whole_app = with_subcommand without_sim_app (sim_app (codes "sim")).top
 
 -- `clap`'s definition takes the arguments, the program's own name first
 abbrev pub TakesWords : List Text → Type 0
@@ -215,7 +219,8 @@ abbrev pub task_in : Text → List Row → Option Task
 task_in name rows =
     if bytes_eq name (codes "decode") then option_map Decode (window_in rows)
     else if bytes_eq name (codes "encode") then with_station Encode rows
-    else if bytes_eq name (codes "sim") then with_station Simulate rows
+    else if bytes_eq name (codes "sim")
+    then option_and_then (λ window. with_station (λ programme late. Simulate programme late window) rows) (window_in rows)
     else if bytes_eq name (codes "audit") then option_map (λ late. Audit late (running_in rows)) (late_in rows)
     else if bytes_eq name (codes "witness") then Some Witness
     else if bytes_eq name (codes "slots") then option_map (λ grain. Slots grain (has_value (codes "pi") rows)) (grain_in rows)

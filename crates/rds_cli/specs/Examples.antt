@@ -37,7 +37,16 @@ encoding dwell pty =
 
 abbrev pub simulating : ℕ → ℕ → Bool → ℕ → Requested
 simulating dwell pty tp late =
-    record { task = Simulate (record { pty = pty; tp = tp }) late; pi = codes "C201"; dwell = dwell; quiet = false }
+    record { task = Simulate (record { pty = pty; tp = tp }) late None; pi = codes "C201"; dwell = dwell; quiet = false }
+
+-- the same with a window, without these options
+abbrev pub simulating_twice : ℕ → ℕ → Requested
+simulating_twice dwell window = record {
+  task = Simulate (record { pty = 0; tp = false }) 0 (Some window);
+  pi = codes "C201";
+  dwell = dwell;
+  quiet = false;
+}
 
 abbrev pub witnessing : ℕ → Requested
 witnessing dwell = record { task = Witness; pi = codes "C201"; dwell = dwell; quiet = false }

@@ -5,7 +5,7 @@ ghost use Rattle.clap.specs.declared.builder.command.Command.TheViews.{out-Comma
 ghost use Rattle.rds_cli.specs.CommandLine.{audit_app, confirm_rule, decode_app, dwell_rule, flag_rule, grain_rule};
 ghost use Rattle.rds_cli.specs.CommandLine.{late_app, late_rule};
 ghost use Rattle.rds_cli.specs.CommandLine.{log_app, number_rule, own_pi_rule, pi_rule, pty_rule, quiet_rule};
-ghost use Rattle.rds_cli.specs.CommandLine.{running_rule, slots_app, station_app, timed_app, top_app, tp_rule, whole_app};
+ghost use Rattle.rds_cli.specs.CommandLine.{running_rule, sim_app, slots_app, station_app, timed_app, top_app, tp_rule, whole_app};
 
 use clap::builder::ValueParser;
 use clap::{Arg, ArgAction, Command, value_parser};
@@ -362,8 +362,9 @@ fn encode<'a>(alloc: Global) -> Result<Command<'a>, AllocError>
 }
 
 /// Makes the subcommand `sim`.
+#[tactic(auto, unfolding(crate::specs::CommandLine::sim_app))]
 fn simulate<'a>(alloc: Global) -> Result<Command<'a>, AllocError>
-    ensures app { IfOk result (λ c. app_of c ≡ station_app (codes "sim")) }
+    ensures app { IfOk result (λ c. app_of c ≡ sim_app (codes "sim")) }
     ensures local { IfOk result (λ c. (out-Command c).has_globals ≡ false) }
 {
     let page = Page {
@@ -371,8 +372,8 @@ fn simulate<'a>(alloc: Global) -> Result<Command<'a>, AllocError>
         ending: "A row of the script is one slot: COMMAND,ARGUMENT,FREE,RECEPTIONS, for example\n\
                  text,HI,1,GGL. RECEPTIONS has a letter for each receiver: G gets the group of this\n\
                  slot, G3 gets the group sent 3 slots before, L loses it, R restarts. The station is\n\
-                 silent in the first M + K rows. At the default M of 128, put 128 rows such as\n\
-                 -,,1,GGL before the first text.\n\
+                 silent in the first M + K rows, with --confirm in M + K + W - 1. At the default M of\n\
+                 128, put 128 rows such as -,,1,GGL before the first text.\n\
                  name: the programme type name (PTYN, group 10A); the station name (PS) is not handled.\n\n\
                  Example:\n  \
                    $ printf -- '-,,1,G\\ntext,HI,1,G\\n' | rdsrt sim --pi C201 --m 1\n  \
@@ -380,7 +381,7 @@ fn simulate<'a>(alloc: Global) -> Result<Command<'a>, AllocError>
                    1 sent C201 2000 4849 0D20\n  \
                    1 r0 text \"HI\"",
     };
-    station(alloc, "sim", page)
+    station(alloc, "sim", page)?.arg(confirm(alloc))
 }
 
 /// Makes the command `rdsrt` with its version and text.

@@ -31,8 +31,9 @@ pub enum Task {
     Decode(Option<Window>),
     /// Print the groups that a station sends.
     Encode(Programme, Late),
-    /// Print what a station sends and what its receivers show.
-    Simulate(Programme, Late),
+    /// Print what a station sends and what its receivers show. With a window they show only what they heard twice within
+    /// it.
+    Simulate(Programme, Late, Option<Window>),
     /// Print whether a log of all groups that were sent passes the audit. The flag: the station was on air before the
     /// log began.
     Audit(Late, bool),
@@ -112,7 +113,14 @@ fn task_of(name: &str, inner: &ArgMatches<'_>) -> Option<Task>
     match name {
         "decode" => Some(Task::Decode(window_of(inner)?)),
         "encode" => Some(Task::Encode(programme_of(inner)?, late_of(inner)?)),
-        "sim" => Some(Task::Simulate(programme_of(inner)?, late_of(inner)?)),
+        "sim" => {
+            let window = window_of(inner)?;
+            Some(Task::Simulate(
+                programme_of(inner)?,
+                late_of(inner)?,
+                window,
+            ))
+        }
         "audit" => Some(Task::Audit(late_of(inner)?, is_given(inner, "running"))),
         "witness" => Some(Task::Witness),
         "slots" => Some(Task::Slots(grain_of(inner)?, has_value(inner, "pi"))),

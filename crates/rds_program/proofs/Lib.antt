@@ -1,1 +1,2 @@
 pub mod ByWords
+pub mod Premises

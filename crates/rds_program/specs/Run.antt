@@ -1,7 +1,7 @@
 -- What the whole program does with its arguments. This is the project's own command line. r is the traffic of a call
 -- with the reader, w its traffic with the writer.
 use Rattle.std.specs.Prelude.{◌≡◌, ◌⊎◌, ◌+◌, ◌*◌, ◌^◌, ◌++◌, []}
-use Rattle.std.specs.Prelude.{ℕ, Bool, List, codes, decimal, None, Some, Option, Ok, Err, Result, if◌then◌else◌}
+use Rattle.std.specs.Prelude.{ℕ, Bool, List, codes, decimal, None, Some, Option, Ok, Err, Result, if◌then◌else◌, nat_le, option_map}
 use Rattle.clap.specs.Words.{kind_of}
 use Rattle.clap.specs.declared.error.Error.{Error}
 use Rattle.clap.specs.declared.error.kind.ErrorKind.{ErrorKind}
@@ -10,6 +10,7 @@ use Rattle.rds_io.specs.Puts.{Puts}
 use Rattle.rds_io.specs.Told.{HasFailed, PutsNothing, Traffic}
 use Rattle.rds_io.specs.declared.told.WriteFault.{WriteFault}
 use Rattle.rds_receiver.specs.Receipts.{Tuning}
+use Rattle.rds_world.specs.Premise.{Premise, lateness_in}
 use Rattle.rds_world.specs.declared.world.Config.{Config}
 use Rattle.rds_audit.specs.AuditState.{start_if}
 use Rattle.rds_log.specs.Audit.{Audits}
@@ -52,7 +53,7 @@ PutsLine line w = (r : Result (Unit {0}) WriteFault) × Puts w line r
 abbrev pub mark_of : Task → List ℕ
 mark_of (Decode window) = []
 mark_of (Encode programme late) = codes "# "
-mark_of (Simulate programme late) = []
+mark_of (Simulate programme late window) = []
 mark_of (Audit late running) = []
 mark_of Witness = []
 mark_of (Slots grain only) = codes "# "
@@ -101,13 +102,26 @@ pub record Runs {X : Type 0} (Engine : Traffic → Result X LogFault → Type 0)
   pub ran : Engine (record w { after = mid; failures_after = failures }) outcome
   pub ended : EndsWith status_of task outcome (record w { before = mid; failures_before = failures }) status
 
--- the station for receivers that are tuned so, for a programme and at most this lateness
-abbrev pub station_of : Tuning → Programme → ℕ → Config
-station_of t programme late = record {
+-- at most this lateness, for receivers without a window
+abbrev pub once : ℕ → Premise
+once late = record { late = late; window = None }
+
+-- the same for receivers with this window or none; there is none such if the lateness of what counts is above 1024 slots
+abbrev pub premise_of : ℕ → Option ℕ → Option Premise
+premise_of late window =
+    if nat_le (lateness_in window late) 1024 then Some (record { late = late; window = window }) else None
+
+-- the station for receivers that are tuned so, for a programme and this premise
+abbrev pub station_of : Tuning → Programme → Premise → Config
+station_of t programme premise = record {
   head = record { pi = t.programme; tp = programme.tp; pty = programme.pty };
   dwell = t.dwell;
-  premise = record { late = late; window = None };
+  premise = premise;
 }
+
+-- the station of a simulation, whose receivers have this window or none
+abbrev pub simulated_station : Tuning → Programme → ℕ → Option ℕ → Option Config
+simulated_station t programme late window = option_map (station_of t programme) (premise_of late window)
 
 -- how `slots` fills a log for receivers that are tuned so: by this grain in microseconds, and by the lines of their
 -- programme alone or of all
@@ -121,17 +135,28 @@ script_in r ReadFailed = record { known = r.before; Failed = ReadFailed }
 
 -- ---- the whole program
 
+-- the window of a simulation was refused: with it the lateness would be above 1024 slots
+pub record RefusesWindow (task : Task) (w : Traffic) (status : ℕ) : Type 0 where
+  pub status_is : status ≡ 2
+  pub told : TellsFault task (codes "fault confirm") w
+
+-- the simulation of this station ran; without a station its window was refused
+abbrev pub SimulationRuns : Option Config → Task → Reading → Traffic → ℕ → Type 0
+SimulationRuns None task reading w status = RefusesWindow task w status
+SimulationRuns (Some station) task reading w status =
+    Runs (Plays Simulation station (2 ^ 32) reading) done task w status
+
 -- the engine of the task ran, with receivers that are tuned so; the receiver of `decode` has the window of the task.
 -- ReadFailed says that a read of the reader failed
 abbrev pub TaskRuns : Task → Tuning → Traffic → Type 0 → Traffic → ℕ → Type 0
 TaskRuns (Decode window) t r ReadFailed w status =
     Runs (Decodes (record t { window = window }) (2 ^ 32) r) done (Decode window) w status
 TaskRuns (Encode programme late) t r ReadFailed w status =
-    Runs (Plays Log (station_of t programme late) (2 ^ 32) (script_in r ReadFailed)) done
+    Runs (Plays Log (station_of t programme (once late)) (2 ^ 32) (script_in r ReadFailed)) done
     (Encode programme late) w status
-TaskRuns (Simulate programme late) t r ReadFailed w status =
-    Runs (Plays Simulation (station_of t programme late) (2 ^ 32) (script_in r ReadFailed)) done
-    (Simulate programme late) w status
+TaskRuns (Simulate programme late window) t r ReadFailed w status =
+    SimulationRuns (simulated_station t programme late window) (Simulate programme late window)
+    (script_in r ReadFailed) w status
 TaskRuns (Audit late running) t r ReadFailed w status =
     Runs (Audits (start_if running) t.programme (t.dwell + late) (2 ^ 32) r) verdict_status (Audit late running) w status
 TaskRuns Witness t r ReadFailed w status = Runs (Witnesses t r) witness_status Witness w status

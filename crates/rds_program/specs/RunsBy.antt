@@ -1,7 +1,7 @@
 -- From what one program promises to a weaker promise: of other engines, or of a reader that never fails.
 use Rattle.std.proofs.Common.{◌^◌, arith, inl, inr}
 use Rattle.std.proofs.Math.Logic.{∥∥₁_elim}
-use Rattle.std.specs.Prelude.{ℕ, List, Option}
+use Rattle.std.specs.Prelude.{ℕ, List, None, Option, Some}
 use Rattle.rds_io.specs.Told.{Failed, Traffic}
 use Rattle.rds_receiver.specs.Receipts.{Tuning}
 use Rattle.rds_world.specs.declared.world.Config.{Config}
@@ -13,7 +13,7 @@ use Rattle.rds_script.specs.declared.form.Form.{Form}
 use Rattle.rds_script.specs.declared.form.Form.TheVariants.{Log, Simulation}
 use Rattle.rds_cli.specs.declared.request.Task.{Task}
 use Rattle.rds_cli.specs.declared.request.Task.TheVariants.{Audit, Decode, Encode, Simulate, Slots, Witness}
-use Rattle.rds_program.specs.Run.{NoMemory, Runs, RunsWords, TaskRuns, done, station_of}
+use Rattle.rds_program.specs.Run.{NoMemory, Runs, RunsWords, SimulationRuns, TaskRuns, done, once, simulated_station, station_of}
 
 -- a run of engines that do more, with another statement for the case that no engine ran
 pub runs_by : {Rests Rested : Type 0} (words : List (List ℕ)) (Engine Weaker : Task → Tuning → Type 0) (w : Traffic)
@@ -56,6 +56,15 @@ script_by says form config task known w status ran = record {
   ended = ran.ended;
 }
 
+-- the run of a simulation, with another statement about its reads
+simulation_by : {P Q : Type 0} → (P → Q) → (station : Option Config) (task : Task) (known : Option (List ℕ))
+    (w : Traffic) (status : ℕ)
+    → SimulationRuns station task record { known = known; Failed = P } w status
+    → SimulationRuns station task record { known = known; Failed = Q } w status
+simulation_by says None task known w status ran = ran
+simulation_by says (Some station) task known w status ran =
+    script_by says Simulation station task known w status ran
+
 -- the run of a task, with another statement about its reads
 pub task_by : {P Q : Type 0} → (P → Q) → (task : Task) (t : Tuning) (r w : Traffic) (status : ℕ)
     → TaskRuns task t r P w status → TaskRuns task t r Q w status
@@ -64,9 +73,9 @@ task_by says (Audit late running) t r w status ran = ran
 task_by says Witness t r w status ran = ran
 task_by says (Slots grain only) t r w status ran = ran
 task_by says (Encode programme late) t r w status ran =
-    script_by says Log (station_of t programme late) (Encode programme late) r.before w status ran
-task_by says (Simulate programme late) t r w status ran =
-    script_by says Simulation (station_of t programme late) (Simulate programme late) r.before w status ran
+    script_by says Log (station_of t programme (once late)) (Encode programme late) r.before w status ran
+task_by says (Simulate programme late window) t r w status ran =
+    simulation_by says (simulated_station t programme late window) (Simulate programme late window) r.before w status ran
 
 -- a reader whose count of failures is always 0 never fails
 pub never_fails : Failed 0 0 → ⊥

@@ -36,6 +36,7 @@ pub fn print_notes<N: TellingWrite>(notes: &RunNotes, reason: Option<&io::Error>
     match notes.end {
         End::NotRun | End::Done => {}
         End::BadPi => print_pi(notes.pi.as_slice(), screen),
+        End::BadWindow => print_window(screen),
         End::Fault(fault) => print_fault(options.task, fault, notes, reason, screen),
     }
 }
@@ -197,7 +198,7 @@ fn print_times<N: TellingWrite>(notes: &RunNotes, screen: &mut N) {
     let found = match notes.end {
         End::Done if notes.log.no.is_none() => times.lack(notes.log.slots),
         End::Done => times.early_lack(),
-        End::NotRun | End::BadPi | End::Fault(_) => None,
+        End::NotRun | End::BadPi | End::BadWindow | End::Fault(_) => None,
     };
     if let Some((slots, lines)) = found {
         print_lack(slots, lines, screen);
@@ -379,6 +380,16 @@ fn print_pi<N: TellingWrite>(given: &[u8], screen: &mut N) {
     let _ = write!(
         note,
         ": a PI code has four hexadecimal digits and no 0x, for example C201"
+    );
+    print(note, screen);
+}
+
+/// Prints why the window of `sim` is refused.
+fn print_window<N: TellingWrite>(screen: &mut N) {
+    let mut note = begun();
+    let _ = write!(
+        note,
+        "fault confirm: K + W - 1 is above 1024 slots, the longest lateness of a station"
     );
     print(note, screen);
 }

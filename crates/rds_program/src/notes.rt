@@ -21,6 +21,8 @@ pub enum End {
     NotRun,
     /// The PI code is not four hexadecimal digits.
     BadPi,
+    /// The window of `sim` is too long for the lateness.
+    BadWindow,
     /// The engine ran to the end of its input.
     Done,
     /// The engine stopped at this fault.

@@ -9,7 +9,7 @@ ghost use Rattle.rds_audit.specs.AuditState.{start_if};
 ghost use Rattle.rds_cli.specs.CommandLine.{IsPi};
 ghost use Rattle.rds_program.specs.Run as specs;
 ghost use Rattle.rds_program.specs.Run.{EndsWith, IsUntouched, PutsAfter, PutsLine, RefusesPi, RunsFrom, RunsRead, RunsWords};
-ghost use Rattle.rds_program.specs.Run.{TaskRuns, TellsFault, done, mark_of, reader_before, script_in, status_of};
+ghost use Rattle.rds_program.specs.Run.{SimulationRuns, TaskRuns, TellsFault, done, mark_of, reader_before, script_in, status_of};
 ghost use Rattle.rds_script.specs.Play.{Plays};
 
 use crate::notes::{End, Options, RunNotes};
@@ -22,6 +22,7 @@ use rds_cli::{Programme, Request, Task, identification_of, read_words};
 use rds_fields::{Dwell, Head, Late};
 use rds_io::{Lines, LogFault, TellingRead, TellingWrite, put};
 use rds_log::{Filling, MOST_READS, audit_with_notes, decode_with_notes, fill_with_notes};
+use rds_receiver::Window;
 use rds_script::{Form, MOST_RECORDS, play_script};
 use rds_witness::witness_with_notes;
 use rds_world::{Config, Premise};
@@ -181,14 +182,13 @@ fn run_task<R: TellingRead, W: TellingWrite>(
             end_with(asked, decoded, writer, &mut notes.end)
         }
         Task::Encode(programme, late) => {
-            let station = station_of(pi, dwell, programme, late);
+            let station = station_of(pi, dwell, programme, Premise::once(late));
             let encoded = run_script(Form::Log, alloc, station, reader, writer, notes);
             end_with(asked, encoded, writer, &mut notes.end)
         }
-        Task::Simulate(programme, late) => {
-            let station = station_of(pi, dwell, programme, late);
-            let simulated = run_script(Form::Simulation, alloc, station, reader, writer, notes);
-            end_with(asked, simulated, writer, &mut notes.end)
+        Task::Simulate(programme, late, window) => {
+            let station = simulated_station(pi, dwell, programme, late, window);
+            simulate(alloc, asked, station, reader, writer, notes)
         }
         Task::Audit(late, running) => {
             let start = start_of(running);
@@ -214,6 +214,28 @@ fn run_task<R: TellingRead, W: TellingWrite>(
     }
 }
 
+/// Simulates a station and its receivers. Without a station the window is refused.
+fn simulate<R: TellingRead, W: TellingWrite>(
+    alloc: Global,
+    task: Task,
+    station: Option<Config>,
+    reader: &mut R,
+    writer: &mut W,
+    notes: &mut RunNotes,
+) -> u8
+    ensures { SimulationRuns station task
+        (script_in (traffic R.remaining R.failures reader.old reader.new) (SomeReadFailed R.failures))
+        (traffic W.contents W.failures writer.old writer.new) result }
+{
+    let Some(station) = station else {
+        notes.end = End::BadWindow;
+        write_fault_text(task, b"fault confirm", writer);
+        return REFUSED;
+    };
+    let simulated = run_script(Form::Simulation, alloc, station, reader, writer, notes);
+    end_with(task, simulated, writer, &mut notes.end)
+}
+
 /// Plays a script.
 fn run_script<R: TellingRead, W: TellingWrite>(
     form: Form,
@@ -232,8 +254,8 @@ fn run_script<R: TellingRead, W: TellingWrite>(
 }
 
 /// Returns the station of these options.
-fn station_of(pi: u16, dwell: Dwell, programme: Programme, late: Late) -> Config
-    ensures { result ≡ specs.station_of (tuned pi dwell) programme late }
+fn station_of(pi: u16, dwell: Dwell, programme: Programme, premise: Premise) -> Config
+    ensures { result ≡ specs.station_of (tuned pi dwell) programme premise }
 {
     Config {
         head: Head {
@@ -242,8 +264,22 @@ fn station_of(pi: u16, dwell: Dwell, programme: Programme, late: Late) -> Config
             pty: programme.pty,
         },
         dwell,
-        premise: Premise::once(late),
+        premise,
     }
+}
+
+/// Returns the station of a simulation. `None` if K + W - 1 is above 1024 slots.
+fn simulated_station(
+    pi: u16,
+    dwell: Dwell,
+    programme: Programme,
+    late: Late,
+    window: Option<Window>,
+) -> Option<Config>
+    ensures { result ≡ specs.simulated_station (tuned pi dwell) programme late window }
+{
+    let premise = Premise::new(late, window)?;
+    Some(station_of(pi, dwell, programme, premise))
 }
 
 /// Returns how `slots` fills a log: with `only`, it leaves out the lines of other programmes.

@@ -1,6 +1,6 @@
 use Rattle.std.proofs.Common.{◌≡◌, ◌∙◌, IfOk, Ok, Result, ap, codes, subst}
 use Rattle.clap.specs.Words.{App, Shape, app_of, with_subcommand}
-use Rattle.rds_cli.specs.CommandLine.{audit_app, decode_app, log_app, log_readers_app, slots_app, station_app, with_decode_app, without_sim_app}
+use Rattle.rds_cli.specs.CommandLine.{audit_app, decode_app, log_app, log_readers_app, sim_app, slots_app, station_app, with_decode_app, without_sim_app}
 use Rattle.rds_cli.proofs.command_line.whole.Goals as goal
 
 -- a command that has one subcommand more than the one that was known
@@ -30,6 +30,6 @@ returns c =
     one_more app_of _ _ _ _ _ c.in_ok-with_encode.was
     (c.with-5.ensures (station_app (codes "encode")) c.encode.ensures.app c.encode.ensures.local) log_readers in
     record {
-      app = subst (λ a. IfOk c.with-6.result (λ m. app_of m ≡ with_subcommand a (station_app (codes "sim")).top)) without_sim
-          (c.with-6.ensures (station_app (codes "sim")) c.simulate.ensures.app c.simulate.ensures.local);
+      app = subst (λ a. IfOk c.with-6.result (λ m. app_of m ≡ with_subcommand a (sim_app (codes "sim")).top)) without_sim
+          (c.with-6.ensures (sim_app (codes "sim")) c.simulate.ensures.app c.simulate.ensures.local);
     }

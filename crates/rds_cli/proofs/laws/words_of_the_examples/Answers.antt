@@ -1,10 +1,10 @@
 use Rattle.std.proofs.Common.{refl}
 use Rattle.clap.proofs.OnLiterals.{clap_on_literals}
-use Rattle.rds_cli.specs.CommandLine.{audit_app, decode_app, late_app, log_app, log_readers_app, slots_app, station_app, timed_app}
+use Rattle.rds_cli.specs.CommandLine.{audit_app, decode_app, late_app, log_app, log_readers_app, sim_app, slots_app, station_app, timed_app}
 use Rattle.rds_cli.proofs.laws.words_of_the_examples.Goals as goal
 
 pub returns : goal.returns
-unfolding clap_on_literals log_app decode_app late_app station_app slots_app timed_app audit_app log_readers_app
+unfolding clap_on_literals log_app decode_app late_app station_app sim_app slots_app timed_app audit_app log_readers_app
 returns c = record {
   decode = record { taken = refl; ask = refl };
   decode_other = record { taken = refl; ask = refl };
@@ -30,6 +30,7 @@ returns c = record {
   small_window = record { taken = refl; refused = refl };
   large_window = record { taken = refl; refused = refl };
   audit_confirm = record { taken = refl; refused = refl };
+  sim_confirm = record { taken = refl; ask = refl };
   sim_quiet = record { taken = refl; ask = refl };
   help = refl;
   help_of_one = refl;

@@ -8,20 +8,13 @@ returns-in-Encode g c =
       outcome = engine.result;
       mid = g.W.Write.contents engine.new.writer;
       failures = g.W.TellingWrite.failures engine.new.writer;
-      ran = rw c.station_of-station.ensures at engine.ensures;
+      ran = rw (c.station_of-station.ensures, c.once.ensures) at engine.ensures;
       ended = rw c.in-Encode.is at c.end_with-in-Encode.ensures;
     }
 
 pub returns-in-Simulate : goal.returns-in-Simulate
 returns-in-Simulate g c =
-    let engine = c.run_script-simulated in
-    rw c.in-Simulate.is record {
-      outcome = engine.result;
-      mid = g.W.Write.contents engine.new.writer;
-      failures = g.W.TellingWrite.failures engine.new.writer;
-      ran = rw c.station_of-station-in-Simulate.ensures at engine.ensures;
-      ended = rw c.in-Simulate.is at c.end_with-in-Simulate.ensures;
-    }
+    rw c.in-Simulate.is (rw (c.simulated_station-station.ensures, c.in-Simulate.is) at c.simulate.ensures)
 
 pub returns-in-Decode : goal.returns-in-Decode
 returns-in-Decode g c = search rules
