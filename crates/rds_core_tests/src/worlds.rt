@@ -92,8 +92,20 @@ fn not_made(alloc: Global, config: Config, receivers: usize) -> Option<WorldRefu
 }
 
 /// Plays a slot in the world, and promises nothing either.
-pub(crate) fn play_slot(world: &mut World, slot: &SlotEvent) -> Result<Answer, StepRefused> {
+fn play_slot(world: &mut World, slot: &SlotEvent) -> Result<Answer, StepRefused> {
     world.step(slot)
+}
+
+/// Plays a slot in the world, and returns why it is refused. `None` if it is not.
+pub(crate) fn refused_slot(world: &mut World, slot: &SlotEvent) -> Option<StepRefused> {
+    match play_slot(world, slot) {
+        Ok(answer) => {
+            // Prover: a variable of the type in `Answer`, for the borrow checker (docs/PROVER.md, "Workarounds").
+            let _sent = answer.sent;
+            None
+        }
+        Err(why) => Some(why),
+    }
 }
 
 /// A new world of so many receivers, whose dwell is four slots, and which are on time.

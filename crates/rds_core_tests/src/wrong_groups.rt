@@ -2,7 +2,7 @@
 
 use crate::same::same;
 use crate::worlds::{
-    assert_text, config, not_played, play_slot, quiet, slot_event, step_rows, told, world_of,
+    assert_text, config, not_played, quiet, refused_slot, slot_event, step_rows, told, world_of,
 };
 use rds_assembly::Text;
 use rds_block::Place;
@@ -61,7 +61,7 @@ fn lateness_and_window(rt: HostRuntime) -> Result<(), Fail> {
 fn wrong_without_a_window(rt: HostRuntime) -> Result<(), Fail> {
     let event = slot_event(Command::Quiet, true, &[Reception::Lost, wrong()?])?;
     let mut world = world_of(rt.alloc(), config()?, 2)?;
-    let refused = play_slot(&mut world, &event).err();
+    let refused = refused_slot(&mut world, &event);
     same(&rt, refused, Some(StepRefused::Wrong(1)));
     let played = not_played(rt.alloc(), config()?, 2, &[event]);
     same(&rt, played, Some(PlayRefused::Wrong(0, 1)));
@@ -86,7 +86,7 @@ fn wrong_twice(rt: HostRuntime) -> Result<(), Fail> {
     let mut world = world_of(rt.alloc(), window_config()?, 1)?;
     for (reception, wanted) in rows {
         let event = slot_event(Command::Quiet, true, &[reception])?;
-        same(&rt, play_slot(&mut world, &event).err(), wanted);
+        same(&rt, refused_slot(&mut world, &event), wanted);
         assert_text(&rt, &world, 0, None)?;
     }
     Ok(())
@@ -115,7 +115,7 @@ fn wrong_announcements(rt: HostRuntime) -> Result<(), Fail> {
     let mut world = world_of(rt.alloc(), window_config()?, 1)?;
     for message in [announcement, announcement, Message::Other, Message::Other] {
         let event = slot_event(Command::Quiet, true, &[Reception::Wrong(message)])?;
-        same(&rt, play_slot(&mut world, &event).err(), None);
+        same(&rt, refused_slot(&mut world, &event), None);
     }
     Ok(())
 }

@@ -285,8 +285,8 @@ fn read_receptions(field: &[u8], receptions: &mut ArrayVec<Reception, MOST_RECEI
     ensures none { IsFalse result → (others : List Reception) → length others ≤ MOST_RECEIVERS
         → AreReceptions field.now others → ⊥ }
 {
-    // Prover: the borrow checker has to be told of the type in `Reception::Wrong` (docs/PROVER.md, "Workarounds").
-    let _told: Option<Message> = None;
+    // Prover: a variable of the type in `Reception::Wrong`, for the borrow checker (docs/PROVER.md, "Workarounds").
+    let _message: Option<Message> = None;
     let mut rest = field;
     while let Some((letter, after)) = rest.split_first() {
         let (digits, others) = after.split_at(digits_in_front(after));
