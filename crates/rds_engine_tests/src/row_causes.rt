@@ -9,6 +9,7 @@ use rds_io::{LogFault, Told};
 use rds_script::{
     BadRow, EarlySet, MOST_RECORDS, RowCause, ScriptNotes, Thing, encode, play_script, simulate,
 };
+use rds_world::Premise;
 use std::alloc::Global;
 use std::cell::Cell;
 use std::process::Abort;

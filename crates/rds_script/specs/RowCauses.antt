@@ -211,7 +211,8 @@ IsReceptionsCause field _ = ⊥
 
 -- this receiver is the first that asks for a group that is not due to it, `late` slots back; the number of receivers is
 -- good
-pub record AsksTooMuch (form : Form) (p : Premise) (before : List Record) (row : Record) (receiver late : ℕ) : Type 0 where
+pub record AsksTooMuch (form : Form) (p : Premise) (before : List Record) (row : Record)
+    (receiver late : ℕ) : Type 0 where
   pub event : Event
   pub says : SaysEvent row event
   pub allowed : IsAllowed form (length event.receptions)

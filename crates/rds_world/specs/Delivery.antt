@@ -27,7 +27,8 @@ abbrev pub free_slots : List Event → ℕ
 free_slots [] = 0
 free_slots (e ∷ before) = one_if e.free + free_slots before
 
--- if the slot is free, the receiver got it, and in its own slot; the receiver got nothing wrong and did not restart in it
+-- if the slot is free, the receiver got it, and in its own slot; the receiver got nothing wrong and did not restart in
+-- it
 abbrev pub GetsIfFree : Bool → Reception → Type 0
 GetsIfFree true (Got back) = back ≡ 0
 GetsIfFree true Lost = ⊥

@@ -44,8 +44,8 @@ pub record IsLateTo (k receivers : ℕ) (e : Event) (before : List Event) (r : �
   pub count : length e.receptions ≡ receivers
   pub late : IsFirstLate k e before r
 
--- why an event breaks the premise about wrong groups: r is the first receiver whose reception breaks it; with a window it
--- gets a wrong message for a second time
+-- why an event breaks the premise about wrong groups: r is the first receiver whose reception breaks it; with a window
+-- it gets a wrong message for a second time
 abbrev pub IsUnfit : Option ℕ → Event → List Event → StepRefused → Type 0
 IsUnfit window e before step.ReceiverCount = ⊥
 IsUnfit window e before (step.Late r) = ⊥

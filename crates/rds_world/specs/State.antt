@@ -1,5 +1,5 @@
--- The state of a world: its configuration, its encoder, its receivers with their reaches and their last wrong messages, a
--- mark for each receiver whose view did not change in the newest slot, and the groups of the last slots, the newest
+-- The state of a world: its configuration, its encoder, its receivers with their reaches and their last wrong messages,
+-- a mark for each receiver whose view did not change in the newest slot, and the groups of the last slots, the newest
 -- first.
 use Rattle.std.specs.Prelude.{ℕ, ◌+◌, Bool, List, Option}
 use Rattle.circular_buffer.specs.Buffer.{Buffer}

@@ -62,8 +62,8 @@ abbrev pub EachWasSent : Input → Type 0
 EachWasSent input =
     (t : ℕ) (message : Message) → HasEntry input.first input.heard t (Some message) → WasSent input t
 
--- the premise about the wrong messages of an input: without a window there are none; with one, no segment and no pair of
--- tags is wrong twice within it
+-- the premise about the wrong messages of an input: without a window there are none; with one, no segment and no pair
+-- of tags is wrong twice within it
 abbrev pub KeepsPremise : Option ℕ → Input → Type 0
 KeepsPremise None input = EachWasSent input
 KeepsPremise (Some w) input = NoneWrongTwice w input
