@@ -115,11 +115,7 @@ fn task_of(name: &str, inner: &ArgMatches<'_>) -> Option<Task>
         "encode" => Some(Task::Encode(programme_of(inner)?, late_of(inner)?)),
         "sim" => {
             let window = window_of(inner)?;
-            Some(Task::Simulate(
-                programme_of(inner)?,
-                late_of(inner)?,
-                window,
-            ))
+            Some(Task::Simulate(programme_of(inner)?, late_of(inner)?, window))
         }
         "audit" => Some(Task::Audit(late_of(inner)?, is_given(inner, "running"))),
         "witness" => Some(Task::Witness),
