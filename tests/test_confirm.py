@@ -6,7 +6,8 @@ the last pair was the same, came less than W slots before, and came later than t
 import collections
 import random
 
-from tests.calls import DECODE
+from tests import random_scripts
+from tests.calls import DECODE, ENCODE, SIM
 from tests.support import ProgramCase, ran
 from tests.worked_rows import NO_GROUP
 
@@ -111,6 +112,30 @@ class Confirm(ProgramCase):
         log = ran(["encode", "--pi", "C201"], b"-,,1,\n" * 128 + b"text,HI,1,\n" + b"-,,1,\n" * 4)[1]
         self.check("once", ran(DECODE, log), (0, b'128 text "HI"\n'))
         self.check("twice", ran([*DECODE, "-m", "64", "--confirm", "65"], log), (0, b'130 text "HI"\n'))
+
+    def test_sim(self):
+        """A receiver of `sim` shows what `decode` shows of the groups that it got, and the station keeps M + K + W - 1
+        slots apart: its log is that of `encode` for this sum."""
+        seen = 0
+        for number, _ in self.cases(range(60)):
+            rng = random.Random(f"{SEED} {number}")
+            dwell, window = rng.randrange(2, 10), rng.randrange(2, 6)
+            rows = [row for row, _ in random_scripts.rows(rng, 160, 2, 0)]
+            script = b"".join(map(random_scripts.line, rows))
+            of_station = b"".join(random_scripts.line(row._replace(receptions="")) for row in rows)
+            words, sums = ["--m", str(dwell)], ["--m", str(dwell + window - 1)]
+            status, output = ran([*SIM, *words, "--confirm", str(window)], script)
+            said = [line.split(" ", 2) for line in output.decode().splitlines()]
+            sent = {int(slot): group[0] for slot, what, *group in said if what == "sent"}
+            log = [sent.get(slot, LOST) for slot in range(160)]
+            encoded = ran([*ENCODE, *sums], of_station)[1].decode().splitlines()
+            self.check(f"script {number}: the log", (status, log), (0, [it for it in encoded if it[0] != "#"]),
+                       script.decode())
+            views = "".join(f"{slot} {what[0]}\n" for slot, who, *what in said if who == "r0")
+            self.check(f"script {number}: receiver 0", (0, views), shown(log, *words, "--confirm", str(window)),
+                       script.decode())
+            seen += ' text "' in views
+        self.check_all("texts: often", seen > 15, True)
 
     def test_random_logs(self):
         """The output is that of `decode` for the same log in which only the segments that count came."""

@@ -54,7 +54,7 @@ DECIDED = [
     (["slots", "--grain", "-1"], 2), (["slots", "--grain", "8", "--grain", "8"], 2), ([*DECODE, "--grain", "8"], 2),
     *(([*DECODE, "--confirm", given], 2) for given in ("0", "1", "256", "-2", "", "x")), ([*DECODE, "--confirm"], 2),
     ([*DECODE, "--confirm", "2", "--confirm", "2"], 2),
-    *(([name, "--pi", "C201", "--confirm", "65"], 2) for name in COMMANDS if name != "decode"),
+    *(([name, "--pi", "C201", "--confirm", "65"], 2) for name in COMMANDS if name not in ("decode", "sim")),
     ([*DECODE, "--running"], 2), (["audit", "--pi", "C201", "--running", "--running"], 2),
     *(([name, "--pi", given], 2) for name in OF_A_STATION for given in ("", "C20", " C201", "C2011", "C20G")),
 ]

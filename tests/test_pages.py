@@ -19,7 +19,8 @@ HELP = ["tests/shown/help.txt",
         *(f"tests/shown/help_of_{it}.txt" for it in ("decode", "audit", "witness", "slots", "encode", "sim"))]
 FAULTS = {"EarlyFlag", "Changed", "NotOneText", "EarlyTag", "TagOutside"}
 REPLIES = ("ok", "silent", "held", "notext", "outoftext")
-FAULT_LINES = ("fault line", "fault row", "fault read", "fault too long", "fault memory", "fault pi")
+FAULT_LINES = ("fault line", "fault row", "fault read", "fault too long", "fault memory", "fault pi",
+               "fault confirm")
 # each time is in one page
 TIMES = ("6 to 11 minutes", "20 to 30 minutes")
 

@@ -14,6 +14,8 @@ ARGUMENTS = [
     ("word that is not UTF-8", ["decode", "--pi", b"C201\xff"], HI, 2, b""),
     ("subcommand that is not UTF-8", [b"sim\xff", "--pi", "C201"], HI, 2, b""),
     ("letters of options", [*SIM, "-m", "1", "-k1"], b"-,,1,\n" * 2 + b"text,HI,1,\n", 0, LATE_TEXT),
+    ("window that is too long for the lateness", [*SIM, "--k", "1023", "--confirm", "3"], b"", 2, b"fault confirm\n"),
+    ("longest window for the lateness", [*SIM, "--k", "1023", "--confirm", "2"], b"", 0, b""),
     ("quiet", [*DECODE, "--quiet", "-m=1"], HI + NO_GROUP, 0, SHOWS_HI + b"1 text none\n"),
     ("quiet at a fault", [*DECODE, "--quiet"], HI + b"x\n", 1, SHOWS_HI + b"fault line 2\n"),
 ]

@@ -14,7 +14,8 @@ _rdsrt() {
         witness) offered='--pi --m --quiet --help' ;;
         audit) offered='--pi --m --k --running --quiet --help' ;;
         slots) offered='--pi --grain --m --quiet --help' ;;
-        *) offered='--pi --m --k --pty --tp --quiet --help' ;;
+        encode) offered='--pi --m --k --pty --tp --quiet --help' ;;
+        sim) offered='--pi --m --k --pty --tp --confirm --quiet --help' ;;
     esac
     mapfile -t COMPREPLY < <(compgen -W "$offered" -- "$word")
 }
