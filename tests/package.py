@@ -1,6 +1,10 @@
 """The Python package over the C library of this checkout: its shared library, and the environment that finds both."""
+import atexit
+import functools
 import os
+import shutil
 import subprocess
+import tempfile
 import unittest
 
 from tests.support import ARCHIVE, PROGRAM, Case, build_archive, missing, path, temporary_folder
@@ -22,6 +26,14 @@ def environment(library):
     """Returns the environment in which Python finds the package of this checkout and this library."""
     return {**os.environ, "PYTHONPATH": SOURCES, "RDSRT_LIBRARY": library, "RDSRT_PROGRAM": PROGRAM,
             "PYTHONDONTWRITEBYTECODE": "1"}
+
+
+@functools.cache
+def environment_of_process():
+    """Returns such an environment with a library that lives as long as this process."""
+    folder = tempfile.mkdtemp()
+    atexit.register(shutil.rmtree, folder)
+    return environment(shared_library(folder))
 
 
 class PackageCase(Case):

@@ -34,7 +34,8 @@ class PythonPackage(PackageCase):
     def test_its_own_tests_pass(self):
         words = [sys.executable, "-m", "unittest", "discover", "-v", "-s", path("python/tests")]
         _, printed = output(words, env=self.names)
-        found = re.findall(r"^(test_\w+) \(.*\.\.\. (.*)$", printed, re.M)
+        # a test with a description has its result in the next line
+        found = re.findall(r"^(test_\w+) \(.*\)(?:\n.*)? \.\.\. (.*)$", printed, re.M)
         for name, result in found:
             self.check(name, result, "ok")
         self.check("each test has a result", re.findall(r"^Ran (\d+) tests", printed, re.M), [str(len(found))])

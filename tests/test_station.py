@@ -12,8 +12,9 @@ import subprocess
 import tempfile
 import time
 
+from tests import package
 from tests.slot import SLOT
-from tests.support import PROGRAM, SECONDS, Case, bytes_of, path
+from tests.support import PROGRAM, SECONDS, Case, bytes_of, needs, path
 
 STATION = path("examples/station")
 SEED = 20261125
@@ -44,7 +45,8 @@ def fed(words, texts, folder=None, slots=40):
         name, state = (os.path.join(folder or own, it) for it in ("name.txt", "state"))
         words = words + ["--name", name, "--state", state] if folder else words
         call = [STATION, *words, "--one-in", "1", "--slots", str(slots), now]
-        with subprocess.Popen(call, stdout=subprocess.PIPE, text=True, bufsize=1) as station:
+        names = package.environment_of_process()
+        with subprocess.Popen(call, stdout=subprocess.PIPE, text=True, bufsize=1, env=names) as station:
             for row in station.stdout:
                 rows.append(row)
                 if len(rows) in texts:
@@ -200,6 +202,7 @@ class Rows(Case):
                            rows)
 
 
+@needs("cc")
 class Live(Case):
     def test_no_text_of_a_live_station_is_refused_and_the_newest_counts(self):
         """A row comes in the time of each slot."""
@@ -214,6 +217,7 @@ class Live(Case):
                     ['text,"",1,\n', 'text,"ONE",1,\n', 'text,"THREE",1,\n']))
 
 
+@needs("cc")
 class Restarts(Case):
     def test_a_radio_with_the_flag_bit_alone_shows_a_mix_only_without_the_empty_text(self):
         """A radio with the flag bit alone shows no mix of a station that is restarted, and some without the empty
