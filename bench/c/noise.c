@@ -1,8 +1,11 @@
 /* Plays a station over white noise, with a decoder that corrects bursts of wrong bits: how many wrong texts do two kinds of
  * receivers of the C library show, and when do they show the right one?
  *
- * usage: noise DECIBELS BITS HOURS SEED     the energy of a bit over the density of the noise; the longest burst that is
- *                                           corrected in a block, in bits
+ * usage: noise DECIBELS BITS HOURS SEED [fades|blocks|groups]
+ *
+ * DECIBELS is the energy of a bit over the density of the noise, and BITS the longest burst that is corrected in a block.
+ * fades: the signal is 6 dB weaker for 20 to 340 slots, after 30 to 400 slots. blocks: a block that is not decoded is
+ * replaced by the block at its place in the last group. groups: a group that is not decoded is replaced by the last one.
  *
  * Biphase symbols are decided one by one, and a bit says whether a symbol differs from the one before. The station is an
  * encoder with M = 128. It sets a text of 64 characters each 4000 slots. One slot in two is free, so a segment of the text
@@ -32,8 +35,10 @@ static uint64_t chosen(void) {
 /* ---- The channel and the decoder ---- */
 
 static struct {
-    double log_right;                       /* of the chance of a right symbol */
+    double decibels, log_right;             /* log_right: of the chance of a right symbol */
     long right;                             /* right symbols before the next wrong one */
+    long until;                             /* the slot in which a fade begins or ends */
+    int is_weak;
     int was_wrong;
     uint32_t error[1 << CHECK];             /* of each syndrome that is corrected */
     char corrects[1 << CHECK];
@@ -59,10 +64,27 @@ static void corrects_bursts(int longest) {
     }
 }
 
-static int next_is_wrong(void) {
-    if (channel.right-- > 0) return 0;
+static void draw_right(void) {
     double any = (double)((chosen() >> 11) + 1) * 0x1p-53;
     channel.right = (long)(log(any) / channel.log_right);
+}
+
+static void set_decibels(double decibels) {
+    channel.log_right = log1p(-erfc(sqrt(pow(10, decibels / 10))) / 2);
+    draw_right();
+}
+
+/* Begins or ends a fade in its slot. */
+static void fade(long slot) {
+    if (slot < channel.until) return;
+    channel.is_weak = slot > 0 && !channel.is_weak;
+    channel.until = slot + (long)(channel.is_weak ? 20 + chosen() % 321 : 30 + chosen() % 371);
+    set_decibels(channel.decibels - (channel.is_weak ? 6 : 0));
+}
+
+static int next_is_wrong(void) {
+    if (channel.right-- > 0) return 0;
+    draw_right();
     return 1;
 }
 
@@ -130,12 +152,15 @@ static void group_of(struct rdsrt_encoder *encoder, long slot, uint16_t blocks[4
 }
 
 int main(int count, char **words) {
-    if (count != 5) return 2;
-    double decibels = atof(words[1]), hours = atof(words[3]);
-    channel.log_right = log1p(-erfc(sqrt(pow(10, decibels / 10))) / 2);
+    if (count != 5 && count != 6) return 2;
+    double hours = atof(words[3]);
+    const char *how = count == 6 ? words[5] : "";
+    int has_fades = !strcmp(how, "fades"), old_blocks = !strcmp(how, "blocks"), old_groups = !strcmp(how, "groups");
+    channel.decibels = atof(words[1]);
     corrects_bursts(atoi(words[2]));
     seeds[0] = (uint64_t)atol(words[4]) * 7919 + 1;
     seeds[1] = UINT64_C(88172645463325252);
+    set_decibels(channel.decibels);
     struct rdsrt_encoder encoder;
     struct rdsrt_receiver once;
     struct rdsrt_twice twice;
@@ -144,6 +169,7 @@ int main(int count, char **words) {
     rdsrt_encoder_init(&encoder, PI, 0, 10, SPACING, 0);
     rdsrt_receiver_init(&once, PI, SPACING);
     rdsrt_twice_init(&twice, PI, 64, 65);
+    uint16_t last[4] = {0};
     long slots = (long)(hours * 3.6e12 / (double)rdsrt_slot_time(1000000) * 1000), received = 0, wrong = 0;
     for (long slot = 0; slot < slots; slot++) {
         uint16_t sent[4], blocks[4];
@@ -153,9 +179,16 @@ int main(int count, char **words) {
         }
         group_of(&encoder, slot, sent);
         memcpy(blocks, sent, sizeof sent);
+        if (has_fades) fade(slot);
         int is_whole = 1;
-        for (int at = 0; at < 4; at++) is_whole &= send(&blocks[at]);
-        is_whole = is_whole && blocks[0] == PI;
+        for (int at = 0; at < 4; at++) {
+            int is_decoded = send(&blocks[at]);
+            if (!is_decoded && old_blocks) blocks[at] = last[at];
+            is_whole &= is_decoded || old_blocks;
+        }
+        if (!is_whole && old_groups) memcpy(blocks, last, sizeof last);
+        is_whole = (is_whole || old_groups) && blocks[0] == PI;
+        if (is_whole) memcpy(last, blocks, sizeof last);
         received += is_whole;
         wrong += is_whole && memcmp(blocks, sent, sizeof sent) != 0;
         size_t words = is_whole ? 4 : 0;
