@@ -40,6 +40,12 @@ SET(rdsrt_encoder_set_name)
 SLOT(rdsrt_receiver_slot, rdsrt_receiver)
 SLOT(rdsrt_twice_slot, rdsrt_twice)
 SLOT(rdsrt_audit_slot, rdsrt_audit)
+
+uint32_t wide_rdsrt_time_in(const uint8_t *, uint64_t, uint64_t *);
+uint32_t rdsrt_time_in(const uint8_t *text, size_t length, uint64_t *time) {
+    return wide_rdsrt_time_in(text, length, time);
+}
+
 TEXT(rdsrt_text_to_display)
 TEXT(rdsrt_text_to_utf8)
 TEXT(rdsrt_text_from_utf8)

@@ -144,10 +144,15 @@ def narrowed(code, target_lines, header):
                   r"  \1.low = ptrtoaddr ptr \2 to i32\n  \1 = zext i32 \1.low to i64", code, flags=re.M)
     code = re.sub(r"^  (%\w+) = load \{ i8, ptr \}, ptr (%\w+), align \d+$", BYTE_AND_POINTER, code, flags=re.M)
     exported = re.findall(r"^define (?:noundef )?(i\d+|void|\{.*?\}) @(rdsrt_\w+)\((.*?)\)", code, re.M)
-    differing = {name for kind, name, given in exported if kind not in ("i32", "void") or "i64" in given}
-    declared = re.findall(r"^(struct|void|uint32_t)[ \w]* (rdsrt_\w+)\((.*?)\);", header, re.M | re.S)
+    declared = re.findall(r"^(struct|void|uint32_t|uint64_t)[ \w]* (rdsrt_\w+)\((.*?)\);", header, re.M | re.S)
     if {it[1] for it in declared} != {it[1] for it in exported}:
         stop("the header and the module have other calls")
+    # a uint64_t is passed and returned on 32 bits as i64 is
+    wide = {name: len(re.findall(r"uint64_t (?!\*)", given)) for _, name, given in declared}
+    numbers = {("i32", "uint32_t"), ("i64", "uint64_t"), ("void", "void")}
+    returned = {name: kind for kind, name, _ in declared}
+    differing = {name for kind, name, given in exported
+                 if (kind, returned[name]) not in numbers or given.count("i64") > wide[name]}
     if differing != {name for kind, name, given in declared if kind == "struct" or "size_t" in given}:
         stop("the header and the module differ in the calls with a size_t or a returned struct")
     code = re.sub(r"@(rdsrt_\w+)\(", lambda it: f"@wide_{it[1]}(" if it[1] in differing else it[0], code)
@@ -155,7 +160,7 @@ def narrowed(code, target_lines, header):
         if not KNOWN.fullmatch(line) or "x86" in line:
             stop(f"line {number} of the module has an unknown form: {line[:200]}")
     for kind, name, given in exported:
-        if kind not in ("i32", "void"):
+        if name in differing and kind not in ("i32", "void"):
             code += (f"\ndefine void @wide_{name}_into({', '.join(filter(None, ['ptr %into', given]))}) {{\n"
                      f"  %made = call {kind} @wide_{name}({given})\n"
                      "  store {kind} %made, ptr %into, align 4\n  ret void\n}\n".replace("{kind}", kind))
