@@ -163,13 +163,16 @@ fn refusal_of(has_window: bool, receiver: usize) -> StepRefused
     }
 }
 
-/// Adds the receptions of one more slot.
-pub(crate) fn note_wrong(pasts: &mut [Past], event: &SlotEvent)
+/// Adds the receptions of one more slot. Without a window the rings have no places, and stay as they are.
+pub(crate) fn note_wrong(pasts: &mut [Past], window: Option<Window>, event: &SlotEvent)
     requires same { length event.now.receptions ≡ length pasts.old }
     ensures count { length pasts.new ≡ length pasts.old }
-    ensures pasts { (window : Option ℕ) (before : List Event) → HavePasts window before pasts.old
+    ensures pasts { (before : List Event) → HavePasts window before pasts.old
         → HavePasts window (event.now ∷ before) pasts.new }
 {
+    if window.is_none() {
+        return;
+    }
     let receptions = event.receptions.as_slice();
     for i in 0..receptions.len() {
         pasts[i].push(receptions[i]);

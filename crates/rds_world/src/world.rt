@@ -162,7 +162,11 @@ impl World {
             &self.recent,
         );
         self.reaches = reaches;
-        note_wrong(self.pasts.as_mut_slice(), event);
+        note_wrong(
+            self.pasts.as_mut_slice(),
+            self.config.premise.window(),
+            event,
+        );
         Ok(Answer { reply, sent })
     }
 

@@ -57,7 +57,9 @@ returns-clause-stands c config events st =
     let pasts : HavePasts window (now ∷ events) (take world.pasts.len (noted ++ rest)) =
     subst (λ (xs : List (Buffer (Option Message))). HavePasts window (now ∷ events) xs) all_noted
     (subst (λ (x : Event). HavePasts window (x ∷ events) noted) (sym same)
-    (c.note_wrong.ensures.pasts window events (subst (λ (xs : List (Buffer (Option Message))). HavePasts window events xs) (sym c.as_mut_slice.ensures.value) own.pasts))) in
+    (subst (λ (w : Option ℕ). HavePasts w (e ∷ events) noted) c.window-2.ensures
+    (c.note_wrong.ensures.pasts events (subst (λ (w : Option ℕ). HavePasts w events c.as_mut_slice.result.now) (sym c.window-2.ensures)
+    (subst (λ (xs : List (Buffer (Option Message))). HavePasts window events xs) (sym c.as_mut_slice.ensures.value) own.pasts))))) in
     let old : WorldState = record { config = set; encoder = world.encoder; receivers = take world.count world.receivers; stays = world.stays; reaches = take world.count world.reaches; pasts = world.pasts.items; sent = world.recent.items } in
     let new : WorldState = record {
       config = set;
