@@ -59,8 +59,11 @@ pub(crate) fn hand_out(
         (λ slot sent inputs. (i : ℕ) → slice_index_or result i false ≡ true
         → StaysShown config.now (inputs i) (all_received receptions.now slot sent inputs i)) }
 {
-    let newest = recent.back(0);
     let mut stays = [false; MOST_RECEIVERS];
+    if receivers.is_empty() {
+        return stays;
+    }
+    let newest = recent.back(0);
     for i in 0..receivers.len() {
         stays[i] = receive(&mut receivers[i], config, receptions[i], recent, &newest);
     }
