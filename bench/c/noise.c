@@ -106,14 +106,13 @@ static int send(uint16_t *word) {
 /* The text on air, the one before, and when the one on air was set. */
 static struct {
     uint8_t now[TEXT], before[TEXT];
-    long since, count;
+    long since;
 } on_air = {.since = -SPACING};
 
 static void set_text(struct rdsrt_encoder *encoder, long slot) {
     memcpy(on_air.before, on_air.now, TEXT);
     for (int at = 0; at < TEXT; at++) on_air.now[at] = (uint8_t)('A' + chosen() % 26);
     on_air.since = slot;
-    on_air.count++;
     if (rdsrt_encoder_set_text(encoder, on_air.now, TEXT).code != RDSRT_OK) exit(1);
 }
 
