@@ -145,13 +145,13 @@ const links = (() => {
     return spans.map(([first, last]) => first === last ? first : `${first}-${last}`).join(".");
   }
 
-  /* The slots of these letters, at most MOST_LOST. Other letters give none. */
-  function slotsOf(letters) {
+  /* The slots of these letters, at most so many. Other letters give none. */
+  function slotsOf(letters, most = MOST_LOST) {
     const all = [];
     if (!/^\d{1,7}(-\d{1,7})?(\.\d{1,7}(-\d{1,7})?)*$/.test(letters ?? "")) return all;
     for (const span of letters.split(".")) {
       const [first, last = first] = span.split("-").map(Number);
-      for (let slot = first; slot <= last && all.length < MOST_LOST; slot++) all.push(slot);
+      for (let slot = first; slot <= last && all.length < most; slot++) all.push(slot);
     }
     return all;
   }

@@ -82,7 +82,8 @@ const logTab = (() => {
   function back(by) {
     const letters = undo.go(by);
     if (letters === undefined) return;
-    state.lost = new Set(links.slotsOf(letters));
+    // the page wrote these letters itself, so they need no bound
+    state.lost = new Set(links.slotsOf(letters, Infinity));
     look();
   }
 
