@@ -11,15 +11,19 @@
  *     struct rdsrt_receiver receiver;
  *     struct rdsrt_view view;
  *     rdsrt_receiver_init(&receiver, 0xC201, RDSRT_DEFAULT_DWELL);
- *     for (;;) {                                     // every 88 ms
- *         uint16_t blocks[4];                        // without their check bits
- *         bool all = next_group(blocks);             // yours: false if a block was lost, or if no group came
+ *     for (;;) {
+ *         uint16_t blocks[4];
+ *         bool all = next_group(blocks);
  *         if (rdsrt_receiver_slot(&receiver, all ? blocks : NULL, all ? 4 : 0) == RDSRT_CHANGED) {
  *             rdsrt_receiver_view(&receiver, &view);
- *             if (view.text.is_shown) show(view.text.bytes, view.text.length);   // rdsrt_text_to_display makes UTF-8
+ *             if (view.text.is_shown) show(view.text.bytes, view.text.length);
  *             else show_nothing();
  *         }
  *     }
+ *
+ * next_group and the two show functions are yours. next_group returns once in each slot, every 88 ms: false if a block was
+ * lost or if no group came. It writes the blocks without their check bits. rdsrt_text_to_display makes UTF-8 for show.
+ * examples/c/tuner.c has the loop behind a tuner chip that interrupts for each group.
  *
  * For example, C201 2140 4849 0D20 is a group of programme C201 with the whole text "HI". After one call with it the
  * view shows HI.

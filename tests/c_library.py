@@ -15,7 +15,7 @@ WARNINGS = ["-O1", "-Wall", "-Wextra", "-pedantic", "-Werror", "-pthread"]
 SANITIZED = ["-g", "-fsanitize=address,undefined", "-fno-sanitize-recover=all"]
 ABI = int(re.search(r"#define RDSRT_ABI (\d+)", text_of(HEADER)).group(1))
 PROGRAMS = ["examples/c/decode.c", "examples/c/encode.c", "examples/c/audit.c", "examples/c/receive.c",
-            "tests/c/calls.c", "tests/c/any_bytes.c", "tests/c/threads.c"]
+            "examples/c/tuner.c", "tests/c/calls.c", "tests/c/any_bytes.c", "tests/c/threads.c"]
 LIBC = {"memcpy", "memset", "memmove", "memcmp"}
 INSTALLED = {"bin/rdsrt", "include/rdsrt.h", "lib/librdsrt.a", "lib/librdsrt.so", f"lib/librdsrt.so.{ABI}",
              "lib/pkgconfig/rdsrt.pc", "lib/cmake/rdsrt/rdsrt-config.cmake",
@@ -33,7 +33,7 @@ target_link_libraries(static PRIVATE rdsrt::static)
 """
 ROWS, PIECES, ROUNDS = 100_000, 60, 3000
 DWELL, LATE = "16", "3"
-# microseconds of examples/c/receive.c's grain, of a day, and from 1970 to a day of 2023
+# microseconds of examples/c/radio.h's grain, of a day, and from 1970 to a day of 2023
 GRAIN, DAY, EPOCH = 20_000, 86_400_000_000, 1_700_000_000_000_000
 LOST = b"---- ---- ---- ----\n"
 
@@ -147,6 +147,29 @@ def timed(seed, log):
     return groups + b"%d\n" % time, slots + LOST * lost_slots(time - last)
 
 
+def interrupted(seed, log):
+    """Returns the groups of a log as interrupts of examples/c/tuner.c, with its calls of the main loop, and the log of
+    the slots that it counts. Some groups are lost, some have a block with an error, and the main loop is late now and
+    then, so that there is no place for a ninth group. The timer of 32 bits begins again on the way."""
+    roll = random.Random(seed)
+    # slots count from the first call of the main loop
+    start = last = 2 ** 32 - 60_000_000
+    interrupts, slots, waiting, late = b"%d\n" % start, b"", 0, 0
+    for slot, line in enumerate(it for it in log.splitlines() if not it.startswith(b"#")):
+        time = start + slot * NINETEEN_SLOTS // 19 + roll.randrange(60_000)
+        if b"-" not in line and roll.random() < 0.9:
+            errors = [roll.randrange(1, 4) if roll.random() < 0.02 else 0 for _ in range(4)]
+            interrupts += b"%d %s %d %d %d %d\n" % (time % 2 ** 32, line, *errors)
+            if not any(errors) and waiting < 8:
+                slots += LOST * lost_slots(time - last) + line + b"\n"
+                last, waiting = time, waiting + 1
+        late = roll.randrange(30) if late == 0 and roll.random() < 0.01 else max(late - 1, 0)
+        if late == 0:
+            interrupts, waiting = interrupts + b"%d\n" % ((time + roll.randrange(20_000)) % 2 ** 32), 0
+    time += 300 * NINETEEN_SLOTS // 19
+    return interrupts + b"%d\n" % (time % 2 ** 32), slots + LOST * lost_slots(time - last)
+
+
 def received():
     """Gives worked inputs of receive.c, each with its dwell and answer. ABCDEF is two groups, and HI is one."""
     one, two, whole = b"%d C201 2140 4142 4344\n", b"%d C201 2141 4546 0D20\n", b"%d C201 2140 4849 0D20\n"
@@ -167,6 +190,18 @@ def received():
             yield 20, whole % begins + (b"%d\n" % (begins + later)) * 2, shown
 
 
+def texts_of(slots, options):
+    """Returns the lines of `decode` on texts."""
+    return b"".join(re.findall(rb"^\d+ text .*\n", ran(["decode", *options], slots)[1], re.M))
+
+
+def tuner_input():
+    """Returns an input of tuner.c, whose dwell is 128, and its answer."""
+    rows = "".join(it.replace("é", "e") for it in script(4, 8000)).encode()
+    interrupts, slots = interrupted(5, ran(["encode", "--pi", "C201"], rows)[1])
+    return interrupts, (0, texts_of(slots, ["--pi", "C201"]))
+
+
 def inputs():
     """Returns inputs of the programs of C with the answers of the program rdsrt: arguments, input, status and
     output."""
@@ -176,9 +211,9 @@ def inputs():
     sent = ran(["encode", *station], rows)
     log = b"".join(heard(2, sent[1]))
     groups, slots = timed(3, sent[1][:200_000].rpartition(b"\n")[0])
-    shown = ran(["decode", *options], slots)[1]
     given = [("encode", ["C201", "10", DWELL, LATE], rows, sent),
-             ("receive", ["C201", DWELL], groups, (0, b"".join(re.findall(rb"^\d+ text .*\n", shown, re.M)))),
+             ("receive", ["C201", DWELL], groups, (0, texts_of(slots, options))),
+             ("tuner", ["C201"], *tuner_input()),
              *(("receive", ["C201", str(dwell)], text, (0, wanted)) for dwell, text, wanted in received())]
     for one in [log, *(hostile(seed, log) for seed in range(PIECES))]:
         given.append(("decode", ["C201", DWELL], one, ran(["decode", *options], one)))

@@ -15,6 +15,10 @@ TOOLS = ("arm-none-eabi-gcc", "arm-linux-gnueabihf-gcc", "qemu-system-arm", "qem
 # for each Cortex-M a board of the emulator, and the end of its RAM: 4 MB, and 16 KB
 BOARDS = {"cortex-m4": ("mps2-an386", 0x20400000), "cortex-m0plus": ("microbit", 0x20004000)}
 BARE = ["--specs=rdimon.specs", "-Wl,--section-start=.vectors=0", "-Wl,-Tdata=0x20000000", "-Wl,-z,noexecstack"]
+# each program of a board, its argument, input and output; a group of tuner.c, and its text a dwell later
+PROGRAMS = [("tests/c/calls.c", "", b"", b"ok\n"), ("tests/c/any_bytes.c", c_library.ROUNDS, b"", b"ok\n"),
+            ("examples/c/tuner.c", "C201", b"1664000 C201 2140 4849 0D20 0 0 0 0\n1700000\n14000000\n",
+             b'0 text "HI"\n128 text none\n')]
 # forms that differ on 32 bits, and one that LLVM does not have
 UNKNOWN = ["@other = global i32 0, align 4", "@static.9 = private constant [1 x ptr] [ptr @static.0], align 8",
            "  %x = alloca [2 x ptr], align 8", "  %x = load { i16, ptr }, ptr %y, align 8",
@@ -37,18 +41,19 @@ class Microcontrollers(Case):
         return [compiler, *machine, "-std=c11", "-I", os.path.join(FOLDER, "out/include")], library
 
     def on_a_board(self, target):
-        """Runs calls.c and any_bytes.c on a board without a system."""
+        """Runs calls.c, any_bytes.c and the example with an interrupt on a board without a system."""
         (compiler, library), (board, top) = self.built(target), BOARDS[target]
         folder = temporary_folder(self)
-        for name in ("calls", "any_bytes"):
+        for source, argument, given, wanted in PROGRAMS:
+            name = os.path.basename(source)[:-2]
             program = os.path.join(folder, name)
             words = [*compiler, *(it for it in WARNINGS if it != "-pthread"), *BARE, f"-Wl,--defsym=top_of_stack={top}",
-                     os.path.join(FOLDER, "board.c"), path(f"tests/c/{name}.c"), library, "-o", program]
+                     os.path.join(FOLDER, "board.c"), path(source), library, "-o", program]
             self.check(f"{name}.c is built", output(words), (0, b""))
-            given = f"enable=on,target=native,arg={name},arg={c_library.ROUNDS}"
+            arguments = f"enable=on,target=native,arg={name},arg={argument}"
             words = ["qemu-system-arm", "-M", board, "-display", "none", "-monitor", "none", "-serial", "none",
-                     "-semihosting-config", given, "-kernel", program]
-            self.check(name, output(words), (0, b"ok\n"))
+                     "-semihosting-config", arguments, "-kernel", program]
+            self.check(name, output(words, given), (0, wanted))
 
     def test_cortex_m4(self):
         self.on_a_board("cortex-m4")

@@ -1,0 +1,126 @@
+/* A receiver behind a tuner chip that interrupts for each group: two functions to copy, group_interrupt and take_groups.
+ *
+ * - The interrupt handler reads the timer, the four blocks and their error levels, and calls group_interrupt. It keeps
+ *   the group with its time if each block came without an error. It makes no call of the library.
+ * - The main loop calls take_groups, if possible in each slot (88 ms), and at least once an hour. It makes one call of
+ *   the library for each slot: the time between two groups says how many slots had none. So a lost group becomes a lost
+ *   slot by itself, and so does a group for which there was no place. If no group comes any more, the text still goes
+ *   after the dwell.
+ *
+ * The rest is a trial on a computer, with lines in place of the interrupt and the timer. A line has the timer in
+ * microseconds, alone for a call of take_groups. An interrupt has four blocks and four error levels after it (0 is no
+ * error). The timer has 32 bits: it begins again after 71 minutes.
+ *
+ *     cc tuner.c $(pkg-config --cflags --libs rdsrt) -o tuner
+ *     ./tuner C201 < interrupts */
+#include <rdsrt.h>
+
+#include "radio.h"
+
+#include <stdio.h>
+#include <stdlib.h>
+
+/* Groups that wait for the main loop. A power of two, at most 128. */
+enum { PLACES = 8 };
+
+/* One processor: the handler interrupts the main loop, and never the other way round. Each volatile access stays in its
+ * place, so a group is complete before `written` counts it. For two processors take atomics. */
+static volatile struct { uint32_t time; uint16_t blocks[4]; } waiting[PLACES];
+static volatile uint8_t written, taken;
+
+/* Keeps a group, from the interrupt handler. time: of the timer, in microseconds. errors: the level of each block; any
+ * other than 0 is a lost or a corrected block, and its group is lost. */
+static void group_interrupt(uint32_t time, const uint16_t blocks[4], const uint8_t errors[4]) {
+    const uint8_t place = written % PLACES;
+    int block;
+    if (errors[0] | errors[1] | errors[2] | errors[3]) return;
+    if ((uint8_t)(written - taken) == PLACES) return;
+    waiting[place].time = time;
+    for (block = 0; block < 4; block++) waiting[place].blocks[block] = blocks[block];
+    written = (uint8_t)(written + 1);
+}
+
+/* Returns a time of the timer with 64 bits. Times come in order, and less than 71 minutes apart. */
+static uint64_t long_time(uint32_t time) {
+    static uint64_t latest;
+    latest += (uint32_t)(time - (uint32_t)latest);
+    return latest;
+}
+
+/* Hands all groups that wait to the radio, and then the time, from the main loop. timer: returns the time now. A group
+ * that comes after the call of the timer has a later time, and waits for the next call. */
+static void take_groups(struct radio *radio, uint32_t (*timer)(void)) {
+    uint32_t now;
+    while (taken != written) {
+        const uint8_t place = taken % PLACES;
+        uint16_t blocks[4];
+        uint32_t time = waiting[place].time;
+        int block;
+        for (block = 0; block < 4; block++) blocks[block] = waiting[place].blocks[block];
+        taken = (uint8_t)(taken + 1);
+        radio_group(radio, long_time(time), blocks);
+    }
+    now = timer();
+    if (taken == written) radio_time(radio, long_time(now));
+}
+
+/* ---- The trial ---- */
+
+enum { NUMBERS = 9 }; /* in a line: the time, four blocks in hexadecimal, four levels */
+
+static uint32_t trial_time;
+
+static uint32_t trial_timer(void) { return trial_time; }
+
+static void show(const struct radio *radio) {
+    uint8_t utf8[192];
+    size_t count = 0;
+    printf("%lu text ", (unsigned long)radio->slot);
+    if (!radio->shown.is_shown) {
+        puts("none");
+        return;
+    }
+    if (rdsrt_text_to_display(radio->shown.bytes, radio->shown.length, utf8, sizeof utf8, &count) != RDSRT_OK) abort();
+    printf("\"%.*s\"\n", (int)count, (const char *)utf8);
+}
+
+/* Reads the numbers of a line. Returns how many there are. */
+static int read_numbers(char *line, unsigned long numbers[NUMBERS]) {
+    int found;
+    for (found = 0; found < NUMBERS; found++) {
+        char *end;
+        numbers[found] = strtoul(line, &end, found >= 1 && found <= 4 ? 16 : 10);
+        if (end == line) break;
+        line = end;
+    }
+    return found;
+}
+
+int main(int count, char **words) {
+    static struct radio radio;
+    char line[128];
+    unsigned long pi = count > 1 ? strtoul(words[1], NULL, 16) : 0x10000;
+
+    if (pi > 0xFFFF || !radio_init(&radio, (uint16_t)pi, RDSRT_DEFAULT_DWELL, show)) {
+        fputs("usage: tuner PI < interrupts\n", stderr);
+        return 2;
+    }
+    while (fgets(line, sizeof line, stdin)) {
+        unsigned long numbers[NUMBERS];
+        uint16_t blocks[4];
+        uint8_t errors[4];
+        int block, read = read_numbers(line, numbers);
+        if (read != 1 && read != NUMBERS) return 1;
+        trial_time = (uint32_t)numbers[0];
+        for (block = 0; read == NUMBERS && block < 4; block++) {
+            blocks[block] = (uint16_t)numbers[1 + block];
+            errors[block] = (uint8_t)numbers[5 + block];
+        }
+        if (read == 1) {
+            take_groups(&radio, trial_timer);
+        } else {
+            group_interrupt(trial_time, blocks, errors);
+        }
+    }
+    return 0;
+}
