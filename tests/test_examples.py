@@ -6,15 +6,15 @@ import subprocess
 
 from tests.support import PROGRAM, ROOT, SECONDS, Case, text_of
 
-# file, its point, command, status, line of the output
-ROW = re.compile(r"^\| `([^`]+)` \| [^|]+ \| `([^`|]+)` \| ([0-2]) \| `([^`|]+)` \|$", re.M)
+# file, its point, command, line of the output
+ROW = re.compile(r"^\| `([^`]+)` \| [^|]+ \| `([^`|]+)` \| `([^`|]+)` \|$", re.M)
 # a set that the encoder refuses for now, in the output of sim or as a comment of encode's log
 REFUSED = re.compile(r"^(?:# )?\d+ (?:text|name|tags) (?:silent|held) \d+$", re.M)
 FAULT = re.compile(r"^(?:# )?fault .*$", re.M)
 
 
 def rows():
-    """Returns the rows of the table as lines, and their parts: file, command, status and line."""
+    """Returns the rows of the table as lines, and their parts: file, command and line."""
     text = text_of("examples/README.md")
     lines = [it for it in text.splitlines() if it.startswith("| `")]
     found = [it.groups() for it in ROW.finditer(text)]
@@ -34,17 +34,18 @@ def ran(command):
 class Examples(Case):
     def test_the_table_has_each_file_and_is_whole(self):
         lines, found = rows()
-        self.check("each row of the table has a command, a status and a line", len(found), len(lines))
+        self.check("each row of the table has a command and a line", len(found), len(lines))
         files = {os.path.basename(it) for kind in ("csv",
                                                    "log") for it in glob.glob(os.path.join(ROOT, f"examples/*.{kind}"))}
         self.check("each file has a row", {name for name, *_ in found}, files)
 
     def test_each_command_plays_its_file_and_prints_the_line_to_look_for(self):
-        for name, command, status, line in rows()[1]:
+        for name, command, line in rows()[1]:
             got, output = ran(command)
+            status = 1 if line.startswith(("no ", "lose ")) else 0
             is_of_file = command.startswith("./rdsrt ") and command.endswith(f" < examples/{name}")
             self.check(f"{command}: its file", is_of_file, True)
-            self.check(f"{command}: status", got, int(status))
+            self.check(f"{command}: status", got, status)
             self.check(f"{command}: refused sets", REFUSED.findall(output), [])
             self.check(f"{command}: faults", FAULT.findall(output), [])
             self.check(f"{command}: the line to look for", output.splitlines().count(line), 1)

@@ -3,10 +3,7 @@ import os
 import re
 import subprocess
 
-from tests.support import PROGRAM, ROOT, SECONDS, Case, bytes_of, needs, temporary_folder, text_of
-
-# a station whose 11A is another application's: a text, that application announced, and its groups
-OTHER = "C201 2140 4849 0D20\nC201 3156 1234 ABCD\nC201 B140 2008 1234\n---- ---- ---- ----\n"
+from tests.support import PROGRAM, ROOT, SECONDS, Case, needs, temporary_folder, text_of
 
 LOST = "---- ---- ---- ----"
 HI, YO, HA = "C201 2140 4849 0D20", "C201 2150 594F 0D20", "C201 2140 4841 0D20"
@@ -63,16 +60,6 @@ class Guide(Case):
             self.check(f"{script} prints a table", len(printed) > 5, True)
             self.check(f"the tables of {script}", printed - rows, set())
 
-    def test_a_recording_with_times_becomes_a_log(self):
-        """The guide's line writes one slot line for each group, and the lost slots between them."""
-        call = re.search(r"^ +(./rdsrt slots) < spy.log > station.log$", self.text, re.M)[1]
-        recorded = bytes_of("examples/accents.log")
-        slots = [line for line in ran(call, recorded).splitlines() if line[:1] not in ("", "#", "%", "<")]
-        groups = [line for line in recorded.decode().splitlines() if line.startswith("F201") and "-" not in line]
-        self.check("a recording keeps its groups", [line for line in slots if line != LOST], groups)
-        self.check("it is a log", ran("./rdsrt audit --pi F201", "\n".join(slots).encode()).split()[0] in ("yes", "no"),
-                   True)
-
     def test_less_than_m_plus_k_slots_for_a_text_is_a_fault(self):
         for kept, answer in ((128, "yes 640\n"), (127, "yes 635\n"), (126, "no 252 EarlyFlag\n")):
             log = "".join(f"{it}\n" * kept for it in (HI, YO, HI, YO, HI))
@@ -83,11 +70,6 @@ class Guide(Case):
         self.check("no group of the programme", ran("./rdsrt audit --pi C202", f"{HI}\n".encode()), "yes 1\n")
         says = "A log without a group of the PI, or without a group 2A, 10A or 11A, gets a yes too"
         self.check("it says so", says in " ".join(self.text.split()), True)
-
-    def test_groups_11a_of_another_application_are_emptied(self):
-        call = re.search(r"^    (sed .*)station\.log (\| .*)$", self.text, re.M)
-        self.check("11A of another application", ran('./rdsrt audit --pi C201', OTHER.encode()), "no 2 EarlyTag\n")
-        self.check("and emptied", ran(call[1] + call[2], OTHER.encode()), "yes 4\n")
 
     def test_each_fault_has_a_cause_and_a_cure(self):
         """The audit names each fault of FORMATS over a log with its cause, and answers yes after the cure."""
@@ -130,12 +112,6 @@ class Guide(Case):
         for name in ("bad", "changed"):
             os.remove(os.path.join(folder, f"logs/{name}.log"))
         self.check("the others pass", done(audit, at=folder).returncode, 0)
-
-    @needs("jq", package="jq")
-    def test_the_line_of_jq(self):
-        call = re.search(r"^- \*\*jq\*\*: `(.*)`$", self.text, re.M)[1]
-        log = f"{HI}\n" + f"{LOST}\n" * 128
-        self.check("jq", ran(call.replace("< station.log ", ""), log.encode()), "HI\nnull\n")
 
     def test_each_example_program_has_help(self):
         """test_gnuradio asks the programs of GNU Radio."""

@@ -1,4 +1,4 @@
-"""The pages that people meet first: commands, links, pictures, and the one wording of the faults."""
+"""The pages that people meet first: links, pictures, and the one wording of the faults. test_commands has commands."""
 import glob
 import os
 import re
@@ -7,16 +7,10 @@ import subprocess
 
 from tests import c_library
 from tests.support import PROGRAM, ROOT, SECONDS, Case, text_of
+from tests.test_commands import MANUAL, manual
 
-PAGES = ("README.md", "docs/GUIDE.md", "docs/FORMATS.md", "docs/TRUST.md", "docs/DECISIONS.md", "docs/PROVER.md",
-         "docs/ARCHITECTURE.md", "docs/DEFINITIONS.md", "docs/PROMISES.md", "CONTRIBUTING.md", "CHANGELOG.md")
-# pages of which no command is shown
-WITHOUT_COMMANDS = ("docs/TRUST.md", "docs/DECISIONS.md", "docs/PROMISES.md", "docs/PROVER.md", "CONTRIBUTING.md",
-                    "CHANGELOG.md")
-MANUAL, HEADER, CURES = "docs/man/rdsrt.1", "include/rdsrt.h", "page/verdict.js"
+HEADER, CURES = "include/rdsrt.h", "page/verdict.js"
 PACKAGE = "python/src/rdsrt/__init__.py"
-HELP = ["tests/shown/help.txt",
-        *(f"tests/shown/help_of_{it}.txt" for it in ("decode", "audit", "witness", "slots", "encode", "sim"))]
 FAULTS = {"EarlyFlag", "Changed", "NotOneText", "EarlyTag", "TagOutside"}
 REPLIES = ("ok", "silent", "held", "notext", "outoftext")
 FAULT_LINES = ("fault line", "fault row", "fault read", "fault too long", "fault memory", "fault pi",
@@ -30,30 +24,6 @@ def all_pages():
     folders = ("", "docs", "crates", "examples", "python", "experiments/*")
     found = [it for at in folders for it in glob.glob(os.path.join(ROOT, at, "*.md"))]
     return sorted(os.path.relpath(it, ROOT) for it in found)
-
-
-def manual():
-    """Returns the man page as text, without its requests and escapes."""
-    lines = [re.sub(r"^\.[A-Za-z]{1,2} ?", "", line) for line in text_of(MANUAL).splitlines()]
-    return "\n".join(lines).replace(r"\e", "\\").replace(r"\-", "-")
-
-
-def shell_blocks(path):
-    """Returns the blocks of shell lines: the marked ones of a page, and the examples of the man page and of help."""
-    if path.endswith(".md"):
-        return re.findall(r"```sh\n(.*?)```", text_of(path), re.S)
-    if path == MANUAL:
-        return manual().split("EXAMPLES\n")[1].split("\nNOTES")[0].split("\n\n")
-    return re.findall(r"^Example:\n(.*?)(?:\n\n|\Z)", text_of(path), re.M | re.S)
-
-
-def commands_in(path):
-    """Gives each command that is shown, with the lines under it."""
-    for block in shell_blocks(path):
-        block = re.sub(r"^  ", "", block, flags=re.M).strip("\n") + "\n"
-        for shown in re.split(r"^\$ ", block, flags=re.M)[1:]:
-            command, _, output = shown.partition("\n")
-            yield command, output
 
 
 def slugs(path):
@@ -79,26 +49,6 @@ def plain(text):
 
 
 class Pages(Case):
-    def test_each_command_prints_the_lines_under_it(self):
-        """Each command of the pages, of the man page and of help prints the lines under it."""
-        environment = {**os.environ, "PATH": os.path.dirname(PROGRAM) + os.pathsep + os.environ["PATH"]}
-        played = set()
-        for path in [*PAGES, MANUAL, *HELP]:
-            shown = list(commands_in(path))
-            if path not in WITHOUT_COMMANDS:
-                self.check(f"{path} has commands", len(shown) > 0, True)
-            for command, output in shown:
-                # ./rdsrt is the program once it is built
-                call = command.replace("./rdsrt", "rdsrt")
-                done = subprocess.run(["bash", "-c", call], cwd=ROOT, stdout=subprocess.PIPE, stderr=subprocess.DEVNULL,
-                                      timeout=SECONDS, env=environment)
-                self.check(f"{path}: {command}", done.stdout.decode(), output)
-                if path.endswith(".md"):
-                    played |= set(re.findall(r"examples/[\w.]+\.(?:csv|log)", command))
-        files = {os.path.relpath(it, ROOT) for kind in ("csv", "log")
-                 for it in glob.glob(os.path.join(ROOT, f"examples/*.{kind}"))}
-        self.check("a page plays each example", files - played, set())
-
     def test_each_link_and_each_named_section_exists(self):
         """Each relative link leads to a file, and each anchor to a heading; each section that is named is there."""
         for path in all_pages():
@@ -139,6 +89,9 @@ class Pages(Case):
         for word in (*FAULTS, *REPLIES, "G3", "witness", *FAULT_LINES):
             self.check(f"the man page has {word}", word in text, True)
         formats = text_of("docs/FORMATS.md")
+        rows = re.findall(r"^\| (0x.*?) \| (.*) \|$", formats.split("## Characters\n")[1], re.M)
+        self.check("rows of characters", len(rows), 6)
+        self.check("the man page has them", [it for it in rows if "   ".join(it) not in text], [])
         for word in (*REPLIES, "`G3`", *FAULT_LINES):
             self.check(f"FORMATS has {word}", word in formats, True)
 

@@ -1,0 +1,197 @@
+"""Each command that a page, the man page or a help shows. What a page shows under a command is what it prints, on
+standard output and then on standard error. For each other command a table has what it does, or who else runs it, or why
+nothing does."""
+import glob
+import importlib
+import os
+import re
+import shutil
+import stat
+import subprocess
+
+from tests.support import PROGRAM, ROOT, SECONDS, Case, temporary_folder, text_of
+
+MANUAL = "docs/man/rdsrt.1"
+HELP = ["tests/shown/help.txt",
+        *(f"tests/shown/help_of_{it}.txt" for it in ("decode", "audit", "witness", "slots", "encode", "sim"))]
+PAGES = sorted(os.path.relpath(it, ROOT) for at in ("", "docs", "crates", "examples", "python", "experiments/*", "tools")
+               for it in glob.glob(os.path.join(ROOT, at, "*.md")))
+# programs that a command in a sentence begins with, beside the scripts of the repository
+PROGRAMS = ("rt", "rdsrt", "pip", "cc", "man", "parallel", "python3", "apt-get")
+HI, YO, HA = "C201 2140 4849 0D20", "C201 2150 594F 0D20", "C201 2140 4841 0D20"
+LOST = "---- ---- ---- ----"
+# groups 176 ms apart, with one lost between them
+SPY = f"{HI} @2024/06/01 07:58:12.000\n{YO} @2024/06/01 07:58:12.176\n"
+SLOTS = f"{HI} @2024/06/01 07:58:12.000\n{LOST}\n{YO} @2024/06/01 07:58:12.176\n"
+# 11A of another application: a text, that application announced, and its groups
+OTHER = f"{HI}\nC201 3156 1234 ABCD\nC201 B140 2008 1234\n{LOST}\n"
+# a station with three faults: a flag that comes back at once, a text without a flip, a flag that comes back again
+FAULTY = [HI, YO, HA, YO, *[LOST] * 200, HI, HA, *[LOST] * 200, YO, HI, YO.replace("594F", "4142")]
+# the first words of a command in a page, the files and programs of the reader, its output, and a file that it writes
+RUN = [
+    ("./rdsrt slots < spy.log > station.log", {"spy.log": SPY}, {}, "", ("station.log", SLOTS)),
+    ("capture | redsea ", {}, {"capture": "true", "redsea": f"printf '{SPY}'"}, "", ("station.log", SLOTS)),
+    ("sed -E 's/^([0-9A-F]{4} B", {"station.log": OTHER}, {},
+     "yes 4\nrdsrt: judged in 4 slots: 1 text, 0 names, 0 pairs of tags\n", None),
+    ("grep -E '^[0-9A-Fa-f-]{4} ' station.log",
+     {"station.log": "# time went back\n" + "".join(f"{it} @{at}\n" for at, it in enumerate(FAULTY))}, {},
+     "      1 Changed\n      2 EarlyFlag\n",
+     ("faults.log", f"{HA} @2 EarlyFlag\n{HA} @205 Changed\n{YO.replace('594F', '4142')} @408 EarlyFlag\n")),
+    ("./rdsrt decode --pi C201 < station.log | examples/json", {"station.log": f"{HI}\n" + f"{LOST}\n" * 128}, {},
+     "HI\nnull\n", None),
+]
+# a command, and the test or the script that runs it
+RUN_BY = [
+    (r"parallel -k --tag ", "test_guide.Guide.test_the_lines_of_parallel"),
+    (r"examples/station --m 128 ", "test_guide.Guide.test_the_pipe_of_a_station"),
+    (r"export PKG_CONFIG_PATH=~/rdsrt", "test_c_library.Install.test_pkg_config_finds_the_library"),
+    (r"\./install(?: PREFIX| ~/rdsrt|)$", "test_c_library.Install.test_it_has_all_files_and_writes_none_beside_the_prefix"),
+    (r"python/wheel ", "test_python_package.PythonPackage.test_a_wheel_made_twice_has_the_same_bytes_and_works_alone"),
+    (r"RDSRT_LIBRARY=PREFIX", "test_python_package"),
+    (r"experiments/microcontrollers/narrow.py", "test_microcontrollers.Microcontrollers.test_cortex_m4"),
+    (r"bench/(?:guide|corrected)$", "test_guide.Guide.test_its_tables_are_those_that_the_scripts_print"),
+    (r"bench/fades$", "test_fades"),
+    (r"page/build$", "test_page_build"),
+    (r"tools/static_library ", "test_c_library.Archive"),
+    (r"rt version$", "test_pages.Pages.test_the_kit_and_each_time_are_in_one_page"),
+    (r"\./rdsrt (?:decode|audit|witness|encode|sim) .* < examples/[\w.]+$", "test_examples"),
+    (r"\./rdsrt audit --running --pi C201 < station.log$", "test_guide.Guide.test_the_lines_of_parallel"),
+    (r"rdsrt slots$|rdsrt \.\. \| head$", "test_pipes"),
+]
+# a command that nothing runs here, and the reason
+NOT_HERE = [
+    (r"\./test$|python3 -m tests|python3 -m unittest ", "the tests themselves"),
+    (r"rt (?!version)", "a command of the kit: the gate runs `rt ci`, and that takes minutes"),
+    (r"\./install PREFIX --target aarch64$", "it proves again for another target; tests/release runs it"),
+    (r"tools/(?:release|build)$|tools/release OUT$|tests/release$", "makes or tries all packages, by hand: 30 minutes"),
+    (r"bin/rdsrt decode |export PKG_CONFIG_PATH=\$PWD|pip install ", "tests/release runs it in a fresh system"),
+    (r"bench/", "measures for minutes, and no page has its numbers to the digit"),
+    (r"split -n l/2 stations", "it needs two more machines"),
+    (r"apt-get install ", "installs packages"),
+    (r"\./rdsrt$", "the program without arguments, named in a sentence"),
+]
+
+
+def manual():
+    """Returns the man page as text, without its requests and escapes."""
+    lines = [re.sub(r"^\.[A-Za-z]{1,2} ?", "", line) for line in text_of(MANUAL).splitlines()]
+    return "\n".join(lines).replace(r"\e", "\\").replace(r"\-", "-")
+
+
+def shell_blocks(path):
+    """Returns the blocks of shell lines: those of a page, and the examples of the man page and of help."""
+    if path == MANUAL:
+        return manual().split("EXAMPLES\n")[1].split("\nNOTES")[0].split("\n\n")
+    if not path.endswith(".md"):
+        return re.findall(r"^Example:\n(.*?)(?:\n\n|\Z)", text_of(path), re.M | re.S)
+    text = text_of(path)
+    indented = re.findall(r"\n\n((?: {4,}\S.*\n)+)(?=\n|\Z)", re.sub(r"```.*?```", "", text, flags=re.S))
+    return re.findall(r"```sh\n(.*?)```", text, re.S) + [it for it in indented if not re.match(r" +[-*\d]", it)]
+
+
+def plain_blocks(path):
+    """Gives each block without the spaces before all of its lines."""
+    for block in shell_blocks(path):
+        spaces = min(len(it) - len(it.lstrip(" ")) for it in block.splitlines() if it.strip())
+        yield "".join(f"{it[spaces:]}\n" for it in block.strip("\n").splitlines())
+
+
+def commands_in(path):
+    """Gives each command after a dollar sign, with the lines under it. A line of standard error goes on in lines with
+    four spaces before them."""
+    for block in plain_blocks(path):
+        for shown in re.split(r"^\$ ", block, flags=re.M)[1:]:
+            command, _, output = shown.partition("\n")
+            yield command, re.sub(r"\n    (?=\S)", " ", output)
+
+
+def is_command(text):
+    """Returns whether words in a sentence are a command: a program with arguments, or a script. A program of examples/
+    without arguments is only named."""
+    first, _, more = text.partition(" ")
+    at = os.path.join(ROOT, first)
+    is_script = "/" in first and os.path.isfile(at) and os.access(at, os.X_OK)
+    return bool(more) and first in PROGRAMS or is_script and (bool(more) or not first.startswith("examples/"))
+
+
+def typed_in(path):
+    """Gives each command of a page without a dollar sign: blocks, and commands in a sentence."""
+    if path.endswith(".md"):
+        yield from (it for it in plain_blocks(path) if not it.startswith("$ "))
+        sentences = re.sub(r"```.*?```", "", text_of(path), flags=re.S)
+        yield from filter(is_command, re.findall(r"(?<!`)`([^`\n]+)`(?!`)", sentences))
+
+
+def is_there(name):
+    """Returns whether a test of this name exists: a module, a class or a method."""
+    module, _, rest = name.partition(".")
+    found = importlib.import_module(f"tests.{module}")
+    for it in rest.split(".") if rest else []:
+        found = getattr(found, it, None)
+    return found is not None
+
+
+def ran(call, folder=ROOT, errors=subprocess.STDOUT):
+    """Returns the output of lines of a page, with the built program as ./rdsrt and as rdsrt."""
+    environment = {**os.environ, "LC_ALL": "C.UTF-8",
+                   "PATH": os.pathsep.join([folder, os.path.dirname(PROGRAM), os.environ["PATH"]])}
+    done = subprocess.run(["bash", "-c", call.replace("./rdsrt", "rdsrt")], cwd=folder, stdin=subprocess.DEVNULL,
+                          stdout=subprocess.PIPE, stderr=errors, timeout=SECONDS, env=environment)
+    return done.stdout.decode()
+
+
+class Commands(Case):
+    def test_each_command_prints_the_lines_under_it(self):
+        """Each command with a dollar sign prints the lines under it. Help shows standard output alone."""
+        for path in [*PAGES, MANUAL, *HELP]:
+            errors = subprocess.DEVNULL if path in HELP else subprocess.STDOUT
+            for command, output in commands_in(path):
+                self.check(f"{path}: {command}", ran(command, errors=errors), output)
+
+    def test_these_pages_show_commands(self):
+        for path in ["README.md", "docs/GUIDE.md", "docs/FORMATS.md", "docs/ARCHITECTURE.md", "docs/DEFINITIONS.md",
+                     MANUAL, *HELP]:
+            self.check(f"{path} has commands", [*commands_in(path)] != [], True)
+
+    def test_each_other_command_does_what_the_table_says(self):
+        texts = {it for path in PAGES for it in typed_in(path)}
+        for begin, files, programs, output, written in RUN:
+            call = [it for it in texts if it.startswith(begin)]
+            self.check(f"'{begin}' is in one page", len(call), 1)
+            missing = [it for it in re.findall(r"\bjq\b", call[0]) if not shutil.which(it)]
+            if missing:
+                self.skipTest(f"no {missing[0]} here (apt-get install {missing[0]})")
+            self.check(call[0], *self.played(call[0], files, programs, written, output))
+
+    def played(self, call, files, programs, written, output):
+        """Runs the lines in a folder with these files and programs. Returns what they print and write, and what they
+        should."""
+        folder = temporary_folder(self)
+        os.symlink(os.path.join(ROOT, "examples"), os.path.join(folder, "examples"))
+        for name, text in {**files, **{it: f"#!/bin/sh\n{does}\n" for it, does in programs.items()}}.items():
+            with open(os.path.join(folder, name), "w", encoding="utf-8") as file:
+                file.write(text)
+            os.chmod(file.name, stat.S_IRWXU)
+        printed = ran(call, folder)
+        if not written:
+            return printed, output
+        with open(os.path.join(folder, written[0]), encoding="utf-8") as file:
+            return (printed, file.read()), (output, written[1])
+
+    def test_each_command_is_run_or_has_a_reason(self):
+        """Each command without a dollar sign is in one of the tables, and each row of a table is a command."""
+        texts = {it: path for path in PAGES for it in typed_in(path)}
+        begins, used = tuple(it[0] for it in RUN), set()
+        for text, path in texts.items():
+            rows = [row for row, _ in [*RUN_BY, *NOT_HERE] if re.match(row, text)]
+            used |= set(rows)
+            self.check(f"{path}: '{text}' is in a table", len(rows) > 0 or text.startswith(begins), True)
+        self.check("rows without a command", {row for row, _ in [*RUN_BY, *NOT_HERE]} - used, set())
+        self.check("tests that are not there", [name for _, name in RUN_BY if not is_there(name)], [])
+
+    def test_a_page_plays_each_example(self):
+        played = {it for path in PAGES for command, _ in commands_in(path)
+                  for it in re.findall(r"examples/[\w.]+\.(?:csv|log)", command)}
+        files = {os.path.relpath(it, ROOT) for kind in ("csv", "log")
+                 for it in glob.glob(os.path.join(ROOT, f"examples/*.{kind}"))}
+        self.check("a page plays each example", files - played, set())
