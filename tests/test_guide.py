@@ -1,5 +1,6 @@
 """docs/GUIDE.md beside the program: its tables are those that the scripts print, and its advice works."""
 import os
+import random
 import re
 import subprocess
 
@@ -49,6 +50,27 @@ def ran(call, given=b""):
     return done(call, given).stdout.decode()
 
 
+def careless(roll, slots):
+    """Gives the lines of a station that keeps no rule: any segments of three addresses, and a flag that turns now and
+    then. Half of the slots are lost."""
+    flag = 0
+    for _ in range(slots):
+        flag = 1 - flag if roll.random() < 0.05 else flag
+        words = roll.choice(["4142 4344", "4546 0D20", "0D20 2020", "4748 494A"])
+        yield f"C201 {0x2140 + 16 * flag + roll.randrange(3):04X} {words}" if roll.random() < 0.5 else LOST
+
+
+def shown_in(lines, dwell):
+    """Returns the text that `decode` with this dwell shows in each slot, or none."""
+    changes = dict(re.findall(r"^(\d+) text (.*)$", ran(f"./rdsrt decode --pi C201 --m {dwell}", "\n".join(lines).encode()),
+                              re.M))
+    texts, text = [], "none"
+    for slot in range(len(lines)):
+        text = changes.get(str(slot), text)
+        texts.append(text)
+    return texts
+
+
 class Guide(Case):
     def setUp(self):
         self.text = text_of("docs/GUIDE.md")
@@ -70,6 +92,16 @@ class Guide(Case):
         self.check("no group of the programme", ran("./rdsrt audit --pi C202", f"{HI}\n".encode()), "yes 1\n")
         says = "A log without a group of the PI, or without a group 2A, 10A or 11A, gets a yes too"
         self.check("it says so", says in " ".join(self.text.split()), True)
+
+    def test_a_dwell_only_takes_texts_away(self):
+        """Of any station, a receiver with a dwell shows a text only while a radio of today shows it."""
+        many = 0
+        for number, lines in self.cases([*careless(random.Random(seed), 300)] for seed in range(60)):
+            ours, todays = shown_in(lines, 8), shown_in(lines, 65535)
+            many += sum(it != "none" for it in ours)
+            self.check("texts that a radio of today does not show", [it for it in zip(ours, todays)
+                       if it[0] not in ("none", it[1])], [], "\n".join(lines))
+        self.check_all("texts are shown", many > 1000, True)
 
     def test_each_fault_has_a_cause_and_a_cure(self):
         """The audit names each fault of FORMATS over a log with its cause, and answers yes after the cure."""

@@ -19,6 +19,14 @@ BARE = ["--specs=rdimon.specs", "-Wl,--section-start=.vectors=0", "-Wl,-Tdata=0x
 PROGRAMS = [("tests/c/calls.c", "", b"", b"ok\n"), ("tests/c/any_bytes.c", c_library.ROUNDS, b"", b"ok\n"),
             ("examples/c/tuner.c", "C201", b"1664000 C201 2140 4849 0D20 0 0 0 0\n1700000\n14000000\n",
              b'0 text "HI"\n128 text none\n')]
+# a receiver alone
+RECEIVER = b"""#include <rdsrt.h>
+struct rdsrt_receiver receiver; struct rdsrt_view view; uint16_t blocks[4];
+void entry(void) {
+    rdsrt_receiver_init(&receiver, 0xC201, 128); rdsrt_receiver_slot(&receiver, blocks, 4);
+    rdsrt_receiver_view(&receiver, &view);
+}
+"""
 # forms that differ on 32 bits, and one that LLVM does not have
 UNKNOWN = ["@other = global i32 0, align 4", "@static.9 = private constant [1 x ptr] [ptr @static.0], align 8",
            "  %x = alloca [2 x ptr], align 8", "  %x = load { i16, ptr }, ptr %y, align 8",
@@ -54,6 +62,17 @@ class Microcontrollers(Case):
             words = ["qemu-system-arm", "-M", board, "-display", "none", "-monitor", "none", "-serial", "none",
                      "-semihosting-config", arguments, "-kernel", program]
             self.check(name, output(words, given), (0, wanted))
+
+        self.check(f"flash of a receiver alone for {target}, in KB", self.flash(compiler, library, folder), 5)
+
+    def flash(self, compiler, library, folder):
+        """Returns how much flash a receiver alone takes, as docs/GUIDE.md says it."""
+        program = os.path.join(folder, "alone")
+        words = [*compiler, "-Os", "-nostartfiles", "-Wl,-e,entry", "-Wl,--gc-sections", "-x", "c", "-", "-x", "none",
+                 library, "-o", program]
+        self.check("a receiver alone is built", output(words, RECEIVER)[0], 0)
+        text, data = output(["arm-none-eabi-size", program])[1].split()[6:8]
+        return round((int(text) + int(data)) / 1000)
 
     def test_cortex_m4(self):
         self.on_a_board("cortex-m4")
