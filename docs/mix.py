@@ -14,10 +14,10 @@ from xml.sax.saxutils import escape
 ROOT = os.path.dirname(os.path.dirname(os.path.abspath(__file__)))
 PROGRAM = os.path.join(ROOT, "crates/rdsrt/out/rdsrt")
 RECEIVER, DWELL, ENDLESS, LOST = 1, 8, 65535, "---- ---- ---- ----"
-WIDTH, HEIGHT, GUTTER, TOP, LANE, BAR = 960, 232, 150, 44, 44, 30
+WIDTH, HEIGHT, GUTTER, TOP, LANE, BAR = 960, 276, 150, 44, 44, 30
 STYLE = """
     text { font: 13px system-ui, 'DejaVu Sans', sans-serif; fill: #1f2328 } .dim { fill: #59636e; font-size: 12px }
-    .card { fill: #ffffff; stroke: #d1d9e0 } .lane { fill: #f0f2f5 } .lost { fill: #8c959f } .bar { fill: #1a7f37 }
+    .card { fill: #ffffff; stroke: #d1d9e0 } .lane { fill: #f0f2f5 } .lost { fill: #8c959f } .bar { fill: #1a7f37 } .flag { fill: #57606a }
     .mix { fill: #cf222e } .on { fill: #ffffff; font-weight: 600; font-size: 12px }
     @media (prefers-color-scheme: dark) { text { fill: #f0f6fc } .dim { fill: #9198a1 } .card { fill: #0d1117; stroke: #3d444d }
       .lane { fill: #1c2128 } .lost { fill: #6e7681 } .bar { fill: #238636 } .mix { fill: #da3633 } .on { fill: #ffffff } }
@@ -40,6 +40,12 @@ def shown(heard, dwell):
     return runs([(int(slot), None if rest == "none" else rest[1:-1]) for slot, _, rest in lines], len(heard))
 
 
+def flag_of(sent, start, to):
+    """The A/B flag of the first text segment from one slot to another."""
+    low = next(int(line.split()[1], 16) for line in sent[start:to] if line[5:6] == "2")
+    return "AB"[low >> 4 & 1]
+
+
 def main():
     with open(os.path.join(ROOT, "examples/mix.csv"), encoding="utf-8") as file:
         rows = list(csv.reader(file))
@@ -54,13 +60,15 @@ def main():
     out = [f'<svg xmlns="http://www.w3.org/2000/svg" viewBox="0 0 {WIDTH} {HEIGHT}" role="img" aria-label="Texts by slot">',
            f"  <style>{STYLE}  </style>", f'  <rect class="card" x="0.5" y="0.5" width="{WIDTH - 1}" height="{HEIGHT - 1}" rx="8"/>',
            f'  <text x="16" y="26">A car in two tunnels, M = {DWELL} slots. Red: a text that nobody sent.</text>']
-    lanes = [("on air", on_air), ("lost slots", lost), ("with the dwell", shown(heard, DWELL)), ("flag bit alone", shown(heard, ENDLESS))]
+    flags = [(start, to, flag_of(sent, start, to)) for start, to, _ in on_air]
+    lanes = [("on air", on_air), ("A/B flag", flags), ("lost slots", lost), ("with the dwell", shown(heard, DWELL)),
+             ("flag bit alone", shown(heard, ENDLESS))]
     for number, (name, bars) in enumerate(lanes):
         y = TOP + number * LANE
         out += [f'  <text x="16" y="{y + 20}">{name}</text>',
                 f'  <rect class="lane" x="{GUTTER}" y="{y}" width="{end * unit:.1f}" height="{BAR}"/>']
         for start, to, text in bars:
-            kind = "lost" if not text else "bar" if text in texts else "mix"
+            kind = "lost" if not text else "flag" if bars is flags else "bar" if text in texts else "mix"
             wide, room = (to - start) * unit - 1.5, int((to - start) * unit / 7.3)
             text = text if len(text) <= room else text[:room - 1].rstrip(" ,") + "…"
             out.append(f'  <rect class="{kind}" x="{GUTTER + start * unit:.1f}" y="{y}" width="{wide:.1f}" height="{BAR}"/>')
