@@ -16,6 +16,9 @@ HELP = ["tests/shown/help.txt",
         *(f"tests/shown/help_of_{it}.txt" for it in ("decode", "audit", "witness", "slots", "encode", "sim"))]
 PAGES = sorted(os.path.relpath(it, ROOT) for at in ("", "docs", "crates", "examples", "python", "experiments/*", "tools")
                for it in glob.glob(os.path.join(ROOT, at, "*.md")))
+# programs of examples/ that say at their start how they are called
+EXAMPLES = sorted(os.path.relpath(it, ROOT) for at in ("station", "json", "monitor", "gnuradio/*", "c/*.c")
+                  for it in glob.glob(os.path.join(ROOT, "examples", at)))
 # programs that a command in a sentence begins with, beside the scripts of the repository
 PROGRAMS = ("rt", "rdsrt", "pip", "cc", "man", "parallel", "python3", "apt-get")
 HI, YO, HA = "C201 2140 4849 0D20", "C201 2150 594F 0D20", "C201 2140 4841 0D20"
@@ -39,11 +42,16 @@ RUN = [
      ("faults.log", f"{HA} @2 EarlyFlag\n{HA} @205 Changed\n{YO.replace('594F', '4142')} @408 EarlyFlag\n")),
     ("./rdsrt decode --pi C201 < station.log | examples/json", {"station.log": f"{HI}\n" + f"{LOST}\n" * 128}, {},
      "HI\nnull\n", None),
+    ("rdsrt decode --pi C201 < received.log | json --pi C201", {"received.log": f"{HI}\n" + f"{LOST}\n" * 128}, {},
+     "HI\n", None),
 ]
 # a command, and the test or the script that runs it
 RUN_BY = [
     (r"parallel -k --tag ", "test_guide.Guide.test_the_lines_of_parallel"),
-    (r"examples/station --m 128 ", "test_guide.Guide.test_the_pipe_of_a_station"),
+    (r"(?:examples/)?station --m 128 ", "test_guide.Guide.test_the_pipe_of_a_station"),
+    (r"split -n l/2 stations|feed \| monitor ", "test_monitor"),
+    (r"rdsrt encode --pi C201 < script \| transmit ", "test_gnuradio"),
+    (r"cc \w+\.c \$\(pkg-config --cflags --libs rdsrt\) -o \w+\n\./\w+ C201", "test_c_library.Compilers"),
     (r"export PKG_CONFIG_PATH=~/rdsrt", "test_c_library.Install.test_pkg_config_finds_the_library"),
     (r"\./install(?: PREFIX| ~/rdsrt|)$", "test_c_library.Install.test_it_has_all_files_and_writes_none_beside_the_prefix"),
     (r"python/wheel ", "test_python_package.PythonPackage.test_a_wheel_made_twice_has_the_same_bytes_and_works_alone"),
@@ -65,8 +73,8 @@ NOT_HERE = [
     (r"\./install PREFIX --target aarch64$", "it proves again for another target; tests/release runs it"),
     (r"tools/(?:release|build)$|tools/release OUT$|tests/release$", "makes or tries all packages, by hand: 30 minutes"),
     (r"bin/rdsrt decode |export PKG_CONFIG_PATH=\$PWD|pip install ", "tests/release runs it in a fresh system"),
-    (r"bench/", "measures for minutes, and no page has its numbers to the digit"),
-    (r"split -n l/2 stations", "it needs two more machines"),
+    (r"bench/", "measures for minutes, by hand when the code has changed"),
+    (r"rtl_fm ", "it needs a tuner"),
     (r"apt-get install ", "installs packages"),
     (r"\./rdsrt$", "the program without arguments, named in a sentence"),
 ]
@@ -115,7 +123,11 @@ def is_command(text):
 
 
 def typed_in(path):
-    """Gives each command of a page without a dollar sign: blocks, and commands in a sentence."""
+    """Gives each command without a dollar sign: blocks of a page, commands in its sentences, and the lines at the start
+    of an example."""
+    if path in EXAMPLES:
+        head = re.split(r"^(?:import|#include) ", text_of(path), maxsplit=1, flags=re.M)[0]
+        yield "\n".join(re.findall(r"^(?: \* )? {4}(\S.*?)(?: \*/)?$", head, re.M))
     if path.endswith(".md"):
         yield from (it for it in plain_blocks(path) if not it.startswith("$ "))
         sentences = re.sub(r"```.*?```", "", text_of(path), flags=re.S)
@@ -134,7 +146,8 @@ def is_there(name):
 def ran(call, folder=ROOT, errors=subprocess.STDOUT):
     """Returns the output of lines of a page, with the built program as ./rdsrt and as rdsrt."""
     environment = {**os.environ, "LC_ALL": "C.UTF-8",
-                   "PATH": os.pathsep.join([folder, os.path.dirname(PROGRAM), os.environ["PATH"]])}
+                   "PATH": os.pathsep.join([folder, os.path.dirname(PROGRAM), os.path.join(ROOT, "examples"),
+                                            os.environ["PATH"]])}
     done = subprocess.run(["bash", "-c", call.replace("./rdsrt", "rdsrt")], cwd=folder, stdin=subprocess.DEVNULL,
                           stdout=subprocess.PIPE, stderr=errors, timeout=SECONDS, env=environment)
     return done.stdout.decode()
@@ -154,7 +167,7 @@ class Commands(Case):
             self.check(f"{path} has commands", [*commands_in(path)] != [], True)
 
     def test_each_other_command_does_what_the_table_says(self):
-        texts = {it for path in PAGES for it in typed_in(path)}
+        texts = {it for path in [*PAGES, *EXAMPLES] for it in typed_in(path)}
         for begin, files, programs, output, written in RUN:
             call = [it for it in texts if it.startswith(begin)]
             self.check(f"'{begin}' is in one page", len(call), 1)
@@ -180,7 +193,7 @@ class Commands(Case):
 
     def test_each_command_is_run_or_has_a_reason(self):
         """Each command without a dollar sign is in one of the tables, and each row of a table is a command."""
-        texts = {it: path for path in PAGES for it in typed_in(path)}
+        texts = {it: path for path in [*PAGES, *EXAMPLES] for it in typed_in(path)}
         begins, used = tuple(it[0] for it in RUN), set()
         for text, path in texts.items():
             rows = [row for row, _ in [*RUN_BY, *NOT_HERE] if re.match(row, text)]
