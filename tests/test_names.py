@@ -3,6 +3,7 @@
 test_pages checks the links.
 """
 import fnmatch
+import glob
 import os
 import re
 
@@ -73,7 +74,24 @@ def stale(sources, page):
     yield from (f"test {it}" for it in tests_in_tables(page) if it not in sources.tests)
 
 
+def theorems():
+    """Gives each crate in the table of theorems of TRUST, with a function or a clause of it."""
+    rows = text_of("docs/TRUST.md").split("| Theorem |")[1].split("\n\n")[0].splitlines()[2:]
+    for row in rows:
+        for crate, cited in re.findall(r"(rds_\w+)((?:(?!rds_).)*)", row.split("|")[1]):
+            yield from ((crate, name) for name in re.findall(r"`(?:\w+::)?(\w+)`", cited))
+
+
 class Names(Case):
+    def test_each_theorem_in_the_table_of_trust_is_a_function_or_a_clause(self):
+        cited = [*theorems()]
+        self.check("the table has theorems", len(cited) > 15, True)
+        for crate, name in cited:
+            paths = glob.glob(os.path.join(ROOT, f"crates/{crate}/src/*.rt"))
+            source = "".join(text_of(os.path.relpath(it, ROOT)) for it in paths)
+            found = re.search(rf"\b(?:pub (?:extern \"C\" )?fn|ensures) {name}\b", source)
+            self.check(f"{crate} `{name}`", found is not None, True)
+
     def test_each_name_in_a_page_exists(self):
         sources = Sources()
         for page in all_pages():
