@@ -21,9 +21,9 @@
  *         }
  *     }
  *
- * next_group and the two show functions are yours. next_group returns once in each slot, every 88 ms: false if a block was
- * lost or if no group came. It writes the blocks without their check bits. rdsrt_text_to_display makes UTF-8 for show.
- * examples/c/tuner.c has the loop behind a tuner chip that interrupts for each group.
+ * next_group and the two show functions are yours. next_group returns once in each slot, every 88 ms: false if a block
+ * was lost or if no group came. It writes the blocks without their check bits. rdsrt_text_to_display makes UTF-8 for
+ * show. examples/c/tuner.c has the loop behind a tuner chip that interrupts for each group.
  *
  * For example, C201 2140 4849 0D20 is a group of programme C201 with the whole text "HI". After one call with it the
  * view shows HI.

@@ -62,8 +62,8 @@ def careless(roll, slots):
 
 def shown_in(lines, dwell):
     """Returns the text that `decode` with this dwell shows in each slot, or none."""
-    changes = dict(re.findall(r"^(\d+) text (.*)$", ran(f"./rdsrt decode --pi C201 --m {dwell}", "\n".join(lines).encode()),
-                              re.M))
+    printed = ran(f"./rdsrt decode --pi C201 --m {dwell}", "\n".join(lines).encode())
+    changes = dict(re.findall(r"^(\d+) text (.*)$", printed, re.M))
     texts, text = [], "none"
     for slot in range(len(lines)):
         text = changes.get(str(slot), text)

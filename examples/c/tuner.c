@@ -1,4 +1,4 @@
-/* A receiver behind a tuner chip that interrupts for each group: two functions to copy, group_interrupt and take_groups.
+/* A receiver behind a tuner chip that interrupts for each group. Copy group_interrupt and take_groups.
  *
  * - The interrupt handler reads the timer, the four blocks and their error levels, and calls group_interrupt. It keeps
  *   the group with its time if each block came without an error. It makes no call of the library.
