@@ -82,16 +82,16 @@ NOT_HERE = [
 ]
 
 
-def manual():
+def manual(path=MANUAL):
     """Returns the man page as text, without its requests and escapes."""
-    lines = [re.sub(r"^\.[A-Za-z]{1,2} ?", "", line) for line in text_of(MANUAL).splitlines()]
+    lines = [re.sub(r"^\.[A-Za-z]{1,2} ?", "", line) for line in text_of(path).splitlines()]
     return "\n".join(lines).replace(r"\e", "\\").replace(r"\-", "-")
 
 
 def shell_blocks(path):
     """Returns the blocks of shell lines: those of a page, and the examples of the man page and of help."""
-    if path == MANUAL:
-        return manual().split("EXAMPLES\n")[1].split("\nNOTES")[0].split("\n\n")
+    if path.endswith(".1"):
+        return manual(path).split("EXAMPLES\n")[1].split("\nNOTES")[0].split("\n\n")
     if not path.endswith(".md"):
         return re.findall(r"^Example:\n(.*?)(?:\n\n|\Z)", text_of(path), re.M | re.S)
     text = text_of(path)

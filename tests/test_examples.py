@@ -21,6 +21,11 @@ def rows():
     return lines, found
 
 
+def status_of(line):
+    """Returns the status of a command that prints this line: 1 for a no and for a witness."""
+    return 1 if line.startswith(("no ", "lose ")) else 0
+
+
 def ran(command):
     """Returns the status and the output of the command, with the built program in place of ./rdsrt."""
     environment = {**os.environ, "RDSRT": PROGRAM}
@@ -42,10 +47,9 @@ class Examples(Case):
     def test_each_command_plays_its_file_and_prints_the_line_to_look_for(self):
         for name, command, line in rows()[1]:
             got, output = ran(command)
-            status = 1 if line.startswith(("no ", "lose ")) else 0
             is_of_file = command.startswith("./rdsrt ") and command.endswith(f" < examples/{name}")
             self.check(f"{command}: its file", is_of_file, True)
-            self.check(f"{command}: status", got, status)
+            self.check(f"{command}: status", got, status_of(line))
             self.check(f"{command}: refused sets", REFUSED.findall(output), [])
             self.check(f"{command}: faults", FAULT.findall(output), [])
             self.check(f"{command}: the line to look for", output.splitlines().count(line), 1)
