@@ -147,9 +147,9 @@ def is_there(name):
 
 def ran(call, folder=ROOT, errors=subprocess.STDOUT):
     """Returns the output of lines of a page, with the built program as ./rdsrt and as rdsrt."""
-    environment = {**os.environ, "LC_ALL": "C.UTF-8",
-                   "PATH": os.pathsep.join([folder, os.path.dirname(PROGRAM), os.path.join(ROOT, "examples"),
-                                            os.environ["PATH"]])}
+    # the built program comes before the script of the same name, which may prove it anew
+    paths = [os.path.dirname(PROGRAM), folder, os.path.join(ROOT, "examples"), os.environ["PATH"]]
+    environment = {**os.environ, "LC_ALL": "C.UTF-8", "PATH": os.pathsep.join(paths)}
     done = subprocess.run(["bash", "-c", call.replace("./rdsrt", "rdsrt")], cwd=folder, stdin=subprocess.DEVNULL,
                           stdout=subprocess.PIPE, stderr=errors, timeout=SECONDS, env=environment)
     return done.stdout.decode()
