@@ -76,7 +76,7 @@
  * WE PROVE for every call:
  *  - Whatever bytes a struct or an array holds, the call is memory-safe and returns, and it returns no length or place
  *    beyond its buffer. It returns only the codes that its comment lists. An error leaves every struct as it was.
- *  - If _init made the struct and only these calls wrote it since, every answer is the one of docs/DEFINITIONS.md for
+ *  - If _init made the struct and only these calls wrote it since, every answer is the one of DEFINITIONS.md for
  *    all calls since the _init. If anybody else wrote it, we promise nothing about texts, groups and verdicts.
  */
 #ifndef RDSRT_H
@@ -224,7 +224,7 @@ void rdsrt_twice_view(const struct rdsrt_twice *receiver, struct rdsrt_view *vie
 uint64_t rdsrt_slot_time(uint32_t slots);
 
 /* Reads the time that a text begins with, in microseconds: what follows the blocks and a space in a line of a log.
- * docs/FORMATS.md has the forms. The time ends within the first 40 bytes, at a space, a carriage return or the end.
+ * FORMATS.md has the forms. The time ends within the first 40 bytes, at a space, a carriage return or the end.
  * Returns RDSRT_OK, or RDSRT_UNKNOWN, and *time is unchanged, if the text does not begin with a time. */
 uint32_t rdsrt_time_in(const uint8_t *text, size_t length, uint64_t *time);
 

@@ -7,6 +7,7 @@ import subprocess
 
 from tests import c_library
 from tests.support import PROGRAM, ROOT, SECONDS, Case, text_of
+from shipped import anchors
 
 PAGES = ("README.md", "docs/GUIDE.md", "docs/FORMATS.md", "docs/TRUST.md", "docs/DECISIONS.md", "docs/PROVER.md",
          "docs/ARCHITECTURE.md", "docs/DEFINITIONS.md", "docs/PROMISES.md", "CONTRIBUTING.md", "CHANGELOG.md")
@@ -32,9 +33,9 @@ def all_pages():
     return sorted(os.path.relpath(it, ROOT) for it in found)
 
 
-def manual():
+def manual(path=MANUAL):
     """Returns the man page as text, without its requests and escapes."""
-    lines = [re.sub(r"^\.[A-Za-z]{1,2} ?", "", line) for line in text_of(MANUAL).splitlines()]
+    lines = [re.sub(r"^\.[A-Za-z]{1,2} ?", "", line) for line in text_of(path).splitlines()]
     return "\n".join(lines).replace(r"\e", "\\").replace(r"\-", "-")
 
 
@@ -42,8 +43,8 @@ def shell_blocks(path):
     """Returns the blocks of shell lines: the marked ones of a page, and the examples of the man page and of help."""
     if path.endswith(".md"):
         return re.findall(r"```sh\n(.*?)```", text_of(path), re.S)
-    if path == MANUAL:
-        return manual().split("EXAMPLES\n")[1].split("\nNOTES")[0].split("\n\n")
+    if path.endswith(".1"):
+        return manual(path).split("EXAMPLES\n")[1].split("\nNOTES")[0].split("\n\n")
     return re.findall(r"^Example:\n(.*?)(?:\n\n|\Z)", text_of(path), re.M | re.S)
 
 
@@ -56,18 +57,12 @@ def commands_in(path):
             yield command, output
 
 
-def slugs(path):
-    """Returns the anchors of a page's headings, as GitHub makes them."""
-    headings = re.findall(r"^#+ (.*)$", re.sub(r"```.*?```", "", text_of(path), flags=re.S), re.M)
-    return {re.sub(r"[^\w\- ]", "", it.lower()).replace(" ", "-") for it in headings}
-
-
 def broken_links(path, text):
     """Gives the relative links in the text of a page that lead to no file or to no heading."""
     for link in re.findall(r"\]\(([^)\s]+)\)", re.sub(r"```.*?```", "", text, flags=re.S)):
         name, _, anchor = link.partition("#")
         to = os.path.normpath(os.path.join(os.path.dirname(path), name)) if name else path
-        is_there = os.path.exists(os.path.join(ROOT, to)) and (not anchor or anchor in slugs(to))
+        is_there = os.path.exists(os.path.join(ROOT, to)) and (not anchor or anchor in anchors(to))
         if not link.startswith(("http:", "https:")) and not is_there:
             yield link
 
@@ -158,6 +153,7 @@ class Pages(Case):
         version = subprocess.run([PROGRAM, "--version"], capture_output=True, text=True,
                                  timeout=SECONDS).stdout.split()[1]
         found = {
+            "ABOUT": re.findall(r"^version: (.*)$", text_of("ABOUT"), re.M)[0],
             "CHANGELOG.md": re.findall(r"^## (\d\S+)", text_of("CHANGELOG.md"), re.M)[0],
             "README.md": re.findall(r"Version (\S+?):", text_of("README.md"))[0],
             MANUAL: re.findall(r'"rdsrt (\S+)"', text_of(MANUAL))[0],

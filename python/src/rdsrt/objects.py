@@ -13,7 +13,7 @@ _Key = TypeVar("_Key")
 
 
 class Fault(enum.IntEnum):
-    """The rule that a log breaks first. docs/FORMATS.md, "Faults of the audit", has the cause and the cure of each."""
+    """The rule that a log breaks first. FORMATS.md, "Faults of the audit", has the cause and the cure of each."""
     CHANGED, NOT_ONE_TEXT, EARLY_FLAG, EARLY_TAG, TAG_OUTSIDE = 17, 18, 19, 20, 21
 
     def __str__(self) -> str:
