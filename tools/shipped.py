@@ -46,7 +46,8 @@ LAYOUTS = {
          ("in the source folder", "in the top folder")]),
     # all commands run in any folder
     "debian": Layout(
-        {**docs_in("usr/share/doc/rdsrt"), MANUAL: "usr/share/man/man1/rdsrt.1",
+        {**docs_in("usr/share/doc/rdsrt"), "CHANGELOG.md": "usr/share/doc/rdsrt/changelog",
+         MANUAL: "usr/share/man/man1/rdsrt.1",
          "examples/README.md": "usr/share/doc/rdsrt/examples/README.md", "examples/monitor.service": UNIT,
          "python/README.md": "usr/share/doc/python3-rdsrt/README.md"},
         {"include/rdsrt.h": ("usr/include/rdsrt.h", "include/rdsrt.h")},
