@@ -1,11 +1,15 @@
 """The pages of the packages over the files of this checkout, and the file ABOUT."""
+import glob
+import gzip
 import os
 import re
 import shutil
 import subprocess
+import zipfile
 
 from tests import shipped
-from tests.support import PROGRAM, ROOT, SECONDS, Case, needs, output, path, temporary_folder, text_of
+from tests.support import (ARCHIVE, PROGRAM, ROOT, SECONDS, Case, build_archive, needs, output, path, temporary_folder,
+                           text_of)
 
 SHIPPED = path("tools/shipped.py")
 FIELDS = ("version", "homepage", "reports")
@@ -81,20 +85,61 @@ class Pages(Case):
 
 
 class About(Case):
-    def test_an_address_goes_into_the_packages(self):
-        """With an address in ABOUT the man page has BUGS, and without one it has not. tests/release looks at the others."""
+    """The man page, the Debian packages and the wheel of a repository whose file ABOUT has an address or has none."""
+    FILES = ("CHANGELOG.md", "docs", "examples", "include", "python", "tools")
+    ADDRESS = {"homepage": "https://example.org/rdsrt", "reports": "https://example.org/rdsrt/issues"}
+
+    def repository(self, address):
+        """Returns a folder with the files that packages are made of, for x86-64 as this machine's own."""
         tree = temporary_folder(self)
-        for name in ("tools", "docs"):
-            shutil.copytree(path(name), os.path.join(tree, name))
-        for homepage, reports in (("", ""), ("https://example.org/rdsrt", "https://example.org/rdsrt/issues")):
-            with open(os.path.join(tree, "ABOUT"), "w", encoding="utf-8") as file:
-                file.write(f"# a comment\nversion: 0.1.0\nhomepage: {homepage}\nreports: {reports}\n")
-            self.check("tools/about", [about(it, tree) for it in FIELDS], ["0.1.0", homepage, reports])
-            to = os.path.join(tree, "prefix")
-            self.check("the man page", output([os.path.join(tree, "tools/shipped.py"), "install", to]), (0, b""))
-            bugs = re.findall(r"\.SH BUGS\nReport bugs at (.*)\.\n", text_of(os.path.join(to, "share/man/man1/rdsrt.1")))
-            self.check("BUGS", bugs, [reports] if reports else [])
+        for name in self.FILES:
+            if os.path.isdir(path(name)):
+                shutil.copytree(path(name), os.path.join(tree, name), ignore=shutil.ignore_patterns("out", "__pycache__"))
+            else:
+                shutil.copy(path(name), tree)
+        with open(os.path.join(tree, "ABOUT"), "w", encoding="utf-8") as file:
+            file.write("# a comment\nversion: 0.1.0\n" + "".join(f"{it}: {address.get(it, '')}\n" for it in FIELDS[1:]))
+        for name, built in (("rdsrt/out/x86_64/rdsrt", PROGRAM), ("rds_ffi/out/x86_64/librds_ffi.a", ARCHIVE)):
+            at = os.path.join(tree, "crates", name)
+            os.makedirs(os.path.dirname(at))
+            shutil.copy(built, at)
+        for words in (["init", "-q"], ["add", "ABOUT"], ["commit", "-q", "-m", "ABOUT"]):
+            subprocess.run(["git", *words], cwd=tree, check=True)
+        return tree
+
+    @needs("dpkg-deb", "x86_64-linux-gnu-gcc", package="gcc binutils")
+    def test_the_packages_have_the_address_or_no_field(self):
+        build_archive()
+        for address in ({}, self.ADDRESS):
+            tree, out = self.repository(address), temporary_folder(self)
+            self.check("tools/about", [about(it, tree) for it in FIELDS], ["0.1.0", *(address.get(it, "") for it in FIELDS[1:])])
+            self.check("tools/deb", output([f"{tree}/tools/deb", "x86_64", out])[0], 0)
+            deb = os.path.join(out, "rdsrt_0.1.0-0upstream1_amd64.deb")
+            self.check("Homepage", output(["dpkg-deb", "-f", deb, "Homepage"])[1].decode().split(),
+                       [*address.values()][:1])
+            self.assertEqual(output(["dpkg-deb", "-x", deb, out])[0], 0)
+            with gzip.open(os.path.join(out, "usr/share/man/man1/rdsrt.1.gz"), "rt", encoding="utf-8") as file:
+                bugs = re.findall(r"\.SH BUGS\nReport bugs at (.*)\.\n", file.read())
+            self.check("BUGS", bugs, [*address.values()][1:])
+            found = dict(re.findall(r"^(Source|Upstream-Contact): (.*)$",
+                                    text_of(os.path.join(out, "usr/share/doc/rdsrt/copyright")), re.M))
+            self.check("copyright", [found.get(it) for it in ("Source", "Upstream-Contact")],
+                       [address.get("homepage"), address.get("reports")])
+
+    @needs("x86_64-linux-gnu-gcc", package="gcc")
+    def test_the_wheel_has_the_address_or_no_field(self):
+        build_archive()
+        if output([path("python/wheel"), "--python"])[0]:
+            self.skipTest("no Python that makes wheels here")
+        for address in ({}, self.ADDRESS):
+            tree, out = self.repository(address), temporary_folder(self)
+            words = [f"{tree}/python/wheel", f"{tree}/crates/rds_ffi/out/x86_64/librds_ffi.a", "x86_64", out]
+            self.check("python/wheel", output(words)[0], 0)
+            with zipfile.ZipFile(glob.glob(f"{out}/*.whl")[0]) as wheel:
+                metadata = wheel.read("rdsrt-0.1.0.dist-info/METADATA").decode()
+            urls = re.findall(r"^(?:Home-page|Project-URL): (?:\w+, )?(.*)$", metadata, re.M)
+            self.check("METADATA", urls, [*address.values()])
 
     def test_readme_has_the_address(self):
-        for field in ("homepage", "reports"):
+        for field in FIELDS[1:]:
             self.check(f"README has the {field} of ABOUT", about(field) in text_of("README.md"), True)

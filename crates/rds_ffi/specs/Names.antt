@@ -1,8 +1,8 @@
 -- The names of content types and of codes.
 use Rattle.std.specs.Prelude.{ℕ, List, [], ◌∷◌, codes, slice_index_or}
 
--- the names of the content types of RT+ (IEC 62106-6, content types of RadioText Plus). The names from 12 on are as we know
--- them; 54 to 58 have none
+-- the names of the content types of RT+ (IEC 62106-6, content types of RadioText Plus). The names from 12 on are as we
+-- know them; 54 to 58 have none
 abbrev pub type_names : List (List ℕ)
 type_names =
     codes "DUMMY_CLASS" ∷ codes "ITEM.TITLE" ∷ codes "ITEM.ALBUM" ∷ codes "ITEM.TRACKNUMBER"
