@@ -71,6 +71,8 @@
  *     rdsrt_encoder_set_tags           664  704    rdsrt_text_from_utf8             128  128
  *     rdsrt_encoder_tick               872  928    rdsrt_lost_slots                   8    0
  *     rdsrt_slot_time                    8    0    rdsrt_time_in                     88   80
+ *     rdsrt_receiver_held                8    0    rdsrt_twice_held                   8    0
+ *     rdsrt_type_name                   72   64    rdsrt_code_name                   72   64
  *
  * YOU PROMISE for every call:
  *  - a pointer to a struct, to a count or to blocks[4] is not NULL, is aligned, and points to all of it;
@@ -80,7 +82,7 @@
  * WE PROVE for every call:
  *  - Whatever bytes a struct or an array holds, the call is memory-safe and returns, and it returns no length or place
  *    beyond its buffer. It returns only the codes that its comment lists. An error leaves every struct as it was.
- *  - If _init made the struct and only these calls wrote it since, every answer is the one of docs/DEFINITIONS.md for
+ *  - If _init made the struct and only these calls wrote it since, every answer is the one of DEFINITIONS.md for
  *    all calls since the _init. If anybody else wrote it, we promise nothing about texts, groups and verdicts.
  */
 #ifndef RDSRT_H
@@ -206,6 +208,16 @@ uint32_t rdsrt_receiver_slot(struct rdsrt_receiver *receiver, const uint16_t *bl
 /* Writes all of *view: the display of the receiver at the end of its last slot. */
 void rdsrt_receiver_view(const struct rdsrt_receiver *receiver, struct rdsrt_view *view);
 
+/* The segments that a receiver holds of a text or a name: four characters each, two segments in a name. Bit a of `held`
+ * is 1 if segment a is held, that is characters 4a to 4a + 3. `age` is how many slots ago the newest one came, or the
+ * dwell if none is held. */
+struct rdsrt_segments { uint16_t held, age; };
+struct rdsrt_held { struct rdsrt_segments text, name; };
+
+/* Writes all of *held, at the end of the last slot. A display can show the progress of a text that is not complete, or
+ * grey out one whose last segment came long ago. It shows no text of these segments: the view has it once it is complete. */
+void rdsrt_receiver_held(const struct rdsrt_receiver *receiver, struct rdsrt_held *held);
+
 /* ---- Receiver that shows only what it received twice ---- */
 
 /* Makes a receiver of the programme `pi` that has heard nothing yet. dwell: M, 1 to 65535 slots; window: W, 2 to 255
@@ -222,13 +234,16 @@ uint32_t rdsrt_twice_slot(struct rdsrt_twice *receiver, const uint16_t *blocks, 
 /* Writes all of *view: the display of the receiver at the end of its last slot. */
 void rdsrt_twice_view(const struct rdsrt_twice *receiver, struct rdsrt_view *view);
 
+/* Does what rdsrt_receiver_held does, of the segments that counted. */
+void rdsrt_twice_held(const struct rdsrt_twice *receiver, struct rdsrt_held *held);
+
 /* ---- Times and slots ---- */
 
 /* Returns how long so many slots take, in microseconds, rounded down. 19 slots take 1.664 s. */
 uint64_t rdsrt_slot_time(uint32_t slots);
 
 /* Reads the time that a text begins with, in microseconds: what follows the blocks and a space in a line of a log.
- * docs/FORMATS.md has the forms. The time ends within the first 40 bytes, at a space, a carriage return or the end.
+ * FORMATS.md has the forms. The time ends within the first 40 bytes, at a space, a carriage return or the end.
  * Returns RDSRT_OK, or RDSRT_UNKNOWN, and *time is unchanged, if the text does not begin with a time. */
 uint32_t rdsrt_time_in(const uint8_t *text, size_t length, uint64_t *time);
 
@@ -326,6 +341,17 @@ uint32_t rdsrt_text_to_utf8(const uint8_t *text, size_t length, uint8_t *into, s
  * writes nothing at `into`. */
 uint32_t rdsrt_text_from_utf8(const uint8_t *utf8, size_t length, uint8_t *into, size_t room, size_t *count);
 
+/* ---- Names of numbers ---- */
+
+/* A name: `length` characters of ASCII, at most 30, and a 0 in each byte after them. */
+struct rdsrt_label { char bytes[31]; uint8_t length; };
+
+/* Writes the name of an RT+ content type: ITEM.ARTIST for 4. It is empty for 54 to 58 and from 64 on, which have none. */
+void rdsrt_type_name(uint8_t content_type, struct rdsrt_label *name);
+
+/* Writes the name of an error or a fault: RDSRT_HELD for 4. It is empty for every other code. */
+void rdsrt_code_name(uint32_t code, struct rdsrt_label *name);
+
 #ifdef __cplusplus
 }
 #define RDSRT_IS_(fact) static_assert(fact, "rdsrt.h: the layout is not the library's")
@@ -334,7 +360,6 @@ uint32_t rdsrt_text_from_utf8(const uint8_t *utf8, size_t length, uint8_t *into,
 #endif
 
 /* The layout that the library was built with. */
-RDSRT_IS_(sizeof(size_t) == 8);
 RDSRT_IS_(sizeof(struct rdsrt_version) == 16 && offsetof(struct rdsrt_version, major) == 4);
 RDSRT_IS_(offsetof(struct rdsrt_version, minor) == 8 && offsetof(struct rdsrt_version, patch) == 12);
 RDSRT_IS_(sizeof(struct rdsrt_receiver) == 154);
@@ -351,6 +376,9 @@ RDSRT_IS_(offsetof(struct rdsrt_tag, length) == 2);
 RDSRT_IS_(sizeof(struct rdsrt_view) == 84 && offsetof(struct rdsrt_view, name) == 66);
 RDSRT_IS_(offsetof(struct rdsrt_view, item) == 75 && offsetof(struct rdsrt_view, tag1) == 78);
 RDSRT_IS_(offsetof(struct rdsrt_view, tag2) == 81);
+RDSRT_IS_(sizeof(struct rdsrt_segments) == 4 && offsetof(struct rdsrt_segments, age) == 2);
+RDSRT_IS_(sizeof(struct rdsrt_held) == 8 && offsetof(struct rdsrt_held, name) == 4);
+RDSRT_IS_(sizeof(struct rdsrt_label) == 32 && offsetof(struct rdsrt_label, length) == 31);
 RDSRT_IS_(sizeof(struct rdsrt_on_air) == 75 && offsetof(struct rdsrt_on_air, name) == 66);
 RDSRT_IS_(sizeof(struct rdsrt_tags) == 8 && offsetof(struct rdsrt_tags, tag2) == 3);
 RDSRT_IS_(offsetof(struct rdsrt_tags, toggle) == 6 && offsetof(struct rdsrt_tags, running) == 7);

@@ -14,8 +14,7 @@ from tests.support import PROGRAM, ROOT, SECONDS, Case, temporary_folder, text_o
 MANUAL = "docs/man/rdsrt.1"
 HELP = ["tests/shown/help.txt",
         *(f"tests/shown/help_of_{it}.txt" for it in ("decode", "audit", "witness", "slots", "encode", "sim"))]
-PAGES = sorted(os.path.relpath(it, ROOT)
-               for at in ("", "docs", "crates", "examples", "python", "experiments/*", "tools")
+PAGES = sorted(os.path.relpath(it, ROOT) for at in ("", "docs", "crates", "examples", "python", "experiments/*")
                for it in glob.glob(os.path.join(ROOT, at, "*.md")))
 # programs of examples/ that say at their start how they are called
 EXAMPLES = sorted(os.path.relpath(it, ROOT) for at in ("station", "json", "monitor", "gnuradio/*", "c/*.c")
@@ -56,11 +55,11 @@ RUN_BY = [
     (r"export PKG_CONFIG_PATH=~/rdsrt", "test_c_library.Install.test_pkg_config_finds_the_library"),
     (r"\./install(?: PREFIX| ~/rdsrt|)$", "test_c_library.Install"),
     (r"python/wheel ", "test_python_package.PythonPackage.test_a_wheel_made_twice_has_the_same_bytes_and_works_alone"),
-    (r"RDSRT_LIBRARY=PREFIX", "test_python_package"),
     (r"experiments/microcontrollers/narrow.py", "test_microcontrollers.Microcontrollers.test_cortex_m4"),
     (r"bench/(?:guide|corrected)$", "test_guide.Guide.test_its_tables_are_those_that_the_scripts_print"),
     (r"bench/fades$", "test_fades"),
     (r"page/build$", "test_page_build"),
+    (r"tools/shipped.py$", "test_shipped"),
     (r"tools/static_library ", "test_c_library.Archive"),
     (r"rt version$", "test_pages.Pages.test_the_kit_and_each_time_are_in_one_page"),
     (r"\./rdsrt (?:decode|audit|witness|encode|sim) .* < examples/[\w.]+$", "test_examples"),
@@ -71,10 +70,9 @@ RUN_BY = [
 NOT_HERE = [
     (r"\./test$|python3 -m tests|python3 -m unittest ", "the tests themselves"),
     (r"rt (?!version)", "a command of the kit: the gate runs `rt ci`, and that takes minutes"),
-    (r"\./install PREFIX --target aarch64$", "it proves again for another target; tests/release runs it"),
+    (r"\./install PREFIX --target (?:aarch64|armv7)$", "it builds for another target; tests/release runs it"),
     (r"tools/(?:release|build)$|tools/release OUT$|tests/release$", "makes or tries all packages, by hand: 30 minutes"),
     (r"bin/rdsrt decode |pip install ", "tests/release runs it in a fresh system"),
-    (r"export PKG_CONFIG_PATH=\$PWD", "tests/release builds README's lines of C with the same files"),
     (r"bench/", "measures for minutes, by hand when the code has changed"),
     (r"rtl_fm ", "it needs a tuner"),
     (r"apt-get install ", "installs packages"),

@@ -5,7 +5,7 @@ import unittest
 
 from tests import c_library
 from tests.c_library import WARNINGS
-from tests.support import Case, missing, output, path, temporary_folder, text_of
+from tests.support import INSTALL, Case, bytes_of, missing, output, path, temporary_folder, text_of
 
 FOLDER = path("experiments/microcontrollers")
 sys.path.insert(1, FOLDER)
@@ -46,7 +46,7 @@ class Microcontrollers(Case):
             self.skipTest(f"no {libc} of {compiler} here")
         status, printed = output([os.path.join(FOLDER, "narrow.py"), target], seconds=3600)
         self.assertEqual((status, printed), (0, b""), f"{target}: the library is built")
-        return [compiler, *machine, "-std=c11", "-I", os.path.join(FOLDER, "out/include")], library
+        return [compiler, *machine, "-std=c11", "-I", path("include")], library
 
     def on_a_board(self, target):
         """Runs calls.c, any_bytes.c and the example with an interrupt on a board without a system."""
@@ -84,6 +84,13 @@ class Microcontrollers(Case):
         folder = temporary_folder(self)
         c_library.built(self.check, "armv7", compiler, [*language, "-static"], folder, library)
         c_library.run_all(self.check, "armv7", folder, c_library.inputs(), ["qemu-arm"])
+
+    def test_install_for_armv7(self):
+        _, library = self.built("armv7")
+        prefix = temporary_folder(self)
+        self.check("./install", output([INSTALL, prefix, "--target", "armv7"], seconds=3600), (0, b""))
+        self.check("what is installed", c_library.installed_in(prefix), {"include/rdsrt.h", "lib/librdsrt.a"})
+        self.check("the library", bytes_of(os.path.join(prefix, "lib/librdsrt.a")), bytes_of(library))
 
     def test_a_module_with_an_unknown_form_is_refused(self):
         os.makedirs(narrow.OUT, exist_ok=True)

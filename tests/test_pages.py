@@ -8,6 +8,7 @@ import subprocess
 from tests import c_library
 from tests.support import PROGRAM, ROOT, SECONDS, Case, text_of
 from tests.test_commands import MANUAL, manual
+from shipped import anchors
 
 HEADER, CURES = "include/rdsrt.h", "page/verdict.js"
 PACKAGE = "python/src/rdsrt/__init__.py"
@@ -26,18 +27,12 @@ def all_pages():
     return sorted(os.path.relpath(it, ROOT) for it in found)
 
 
-def slugs(path):
-    """Returns the anchors of a page's headings, as GitHub makes them."""
-    headings = re.findall(r"^#+ (.*)$", re.sub(r"```.*?```", "", text_of(path), flags=re.S), re.M)
-    return {re.sub(r"[^\w\- ]", "", it.lower()).replace(" ", "-") for it in headings}
-
-
 def broken_links(path, text):
     """Gives the relative links in the text of a page that lead to no file or to no heading."""
     for link in re.findall(r"\]\(([^)\s]+)\)", re.sub(r"```.*?```", "", text, flags=re.S)):
         name, _, anchor = link.partition("#")
         to = os.path.normpath(os.path.join(os.path.dirname(path), name)) if name else path
-        is_there = os.path.exists(os.path.join(ROOT, to)) and (not anchor or anchor in slugs(to))
+        is_there = os.path.exists(os.path.join(ROOT, to)) and (not anchor or anchor in anchors(to))
         if not link.startswith(("http:", "https:")) and not is_there:
             yield link
 
@@ -111,6 +106,7 @@ class Pages(Case):
         version = subprocess.run([PROGRAM, "--version"], capture_output=True, text=True,
                                  timeout=SECONDS).stdout.split()[1]
         found = {
+            "ABOUT": re.findall(r"^version: (.*)$", text_of("ABOUT"), re.M)[0],
             "CHANGELOG.md": re.findall(r"^## (\d\S+)", text_of("CHANGELOG.md"), re.M)[0],
             "README.md": re.findall(r"Version (\S+?):", text_of("README.md"))[0],
             MANUAL: re.findall(r'"rdsrt (\S+)"', text_of(MANUAL))[0],

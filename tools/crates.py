@@ -73,6 +73,19 @@ def newest_source(name, uses):
     return max(map(os.path.getmtime, changed))
 
 
+def verdict_of(made):
+    """Returns the file beside a built file with the last lines of the kit's check: the axioms that the code reaches, and
+    the verdict. That of a library is beside its folder, and goes with it."""
+    return f"{os.path.dirname(made) if os.path.basename(made) == 'format' else made}.verdict"
+
+
+def record_verdict(made, printed):
+    """Keeps these lines of what the kit printed. Of the axioms it keeps those that the code reaches."""
+    kept = [it for it in printed.splitlines() if it.startswith(("axioms ", "logic=")) or it.endswith(" reached")]
+    with open(verdict_of(made), "w", encoding="utf-8") as file:
+        file.writelines(f"{it}\n" for it in kept)
+
+
 def record_of(name, made):
     """Returns the file that lists the libraries of a built file. That of a library is its own `format`."""
     return made if made == library(name) else f"{made}.libraries"

@@ -8,10 +8,8 @@
 
 #include <stdlib.h>
 
-static const char *const content_types[] = {
-    "", "ITEM.TITLE", "ITEM.ALBUM", "ITEM.TRACKNUMBER", "ITEM.ARTIST", "ITEM.COMPOSITION", "ITEM.MOVEMENT",
-    "ITEM.CONDUCTOR", "ITEM.COMPOSER", "ITEM.BAND", "ITEM.COMMENT", "ITEM.GENRE",
-};
+/* decode prints the names up to ITEM.GENRE, and numbers of the others. */
+enum { LAST_NAMED = 11 };
 
 /* Prints bytes of the RDS table as UTF-8. At most 64 of them never take more than 256. */
 static void print_bytes(const uint8_t *bytes, size_t length) {
@@ -44,8 +42,10 @@ static void print_tag(unsigned long slot, const char *part, const struct rdsrt_t
         puts("none");
         return;
     }
-    if (tag->content_type < sizeof content_types / sizeof *content_types) {
-        printf("%s ", content_types[tag->content_type]);
+    if (tag->content_type <= LAST_NAMED) {
+        struct rdsrt_label name;
+        rdsrt_type_name(tag->content_type, &name);
+        printf("%s ", name.bytes);
     } else {
         printf("%d ", tag->content_type);
     }

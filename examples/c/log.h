@@ -1,4 +1,4 @@
-/* Reads a log of groups: docs/FORMATS.md, "Logs". */
+/* Reads a log of groups: FORMATS.md, "Logs". */
 #ifndef LOG_H
 #define LOG_H
 

@@ -3,7 +3,7 @@
 
 usage: experiments/microcontrollers/narrow.py cortex-m4|cortex-m0plus|armv7
 
-The result is out/TARGET/librdsrt.a in this folder, and its header out/include/rdsrt.h.
+The result is out/TARGET/librdsrt.a in this folder.
 
 The kit hands its clang an LLVM module for x86-64. This script keeps that module, changes the forms that differ on 32
 bits, and compiles it again. In the module a usize has 64 bits, and a pointer has a place of 8 bytes: on 32 bits the
@@ -171,9 +171,8 @@ def main():
     if sys.argv[1:] not in [[it] for it in TARGETS]:
         sys.exit(f"usage: experiments/microcontrollers/narrow.py {'|'.join(TARGETS)}")
     tools, machine = TARGETS[sys.argv[1]]
-    made, include = os.path.join(OUT, sys.argv[1]), os.path.join(OUT, "include")
-    for it in (made, include):
-        os.makedirs(it, exist_ok=True)
+    made = os.path.join(OUT, sys.argv[1])
+    os.makedirs(made, exist_ok=True)
     with open(HEADER, encoding="utf-8") as file:
         header = file.read()
     clang = [CLANG, "--no-default-config", f"--target={tools}", *machine]
@@ -183,11 +182,9 @@ def main():
         stop("the processor has other sizes")
     with open(f"{made}/module.ll", "w", encoding="latin-1") as file:
         file.write(narrowed(kept_module(), target_lines, header))
-    with open(f"{include}/rdsrt.h", "w", encoding="utf-8") as file:
-        file.write(header.replace("RDSRT_IS_(sizeof(size_t) == 8);", "RDSRT_IS_(sizeof(size_t) == 4);"))
     ran([*clang, *OF_THE_KIT, "-c", "-x", "ir", f"{made}/module.ll", "-o", f"{made}/module.o"])
     ran([f"{tools}-gcc", *machine, "-std=c11", "-ffreestanding", "-O2", "-Wall", "-Wextra", "-Werror",
-         "-ffunction-sections", "-I", include, "-c", f"{HERE}/narrow.c", "-o", f"{made}/narrow.o"])
+         "-ffunction-sections", "-I", os.path.dirname(HEADER), "-c", f"{HERE}/narrow.c", "-o", f"{made}/narrow.o"])
     ran([f"{tools}-ar", "rcsD", f"{made}/librdsrt.a", f"{made}/module.o", f"{made}/narrow.o"])
 
 

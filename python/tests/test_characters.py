@@ -2,8 +2,7 @@
 import ctypes
 import unittest
 
-from rdsrt import _library
-from rdsrt import ContentType, Encoder, InvalidText, closest, closest_name, type_name
+from rdsrt import ContentType, Encoder, Fault, InvalidText, _library, closest, closest_name, type_name
 from rdsrt.characters import BYTES, CHARACTERS, MORE, PRINTED, coded, shown
 
 # bytes of the basic table that stay escapes, with the backslash, and the bytes that it leaves empty
@@ -91,6 +90,19 @@ class Names(unittest.TestCase):
                              (33, "PROGRAMME.NOW"), (36, "PROGRAMME.HOST"), (50, "CHAT"), (51, "CHAT.CENTRE"),
                              (54, "54"), (59, "PLACE"), (63, "GET_DATA"), (0, "DUMMY_CLASS")):
             self.assertEqual(type_name(number), name)
+
+    def test_the_library_has_the_names_of_content_types(self):
+        for number in range(256):
+            label = _library.Label()
+            _library.library().rdsrt_type_name(number, ctypes.byref(label))
+            name = type_name(number)
+            self.assertEqual(label.bytes.decode(), "" if name.isdigit() else name)
+
+    def test_the_library_has_the_names_of_faults(self):
+        for fault in Fault:
+            label = _library.Label()
+            _library.library().rdsrt_code_name(fault, ctypes.byref(label))
+            self.assertEqual(label.bytes.decode(), f"RDSRT_FAULT_{fault.name}")
 
 
 if __name__ == "__main__":

@@ -4,14 +4,16 @@ import ctypes
 import inspect
 import os
 import pickle
+import random
 import re
 import sys
 import threading
 import unittest
 
+import by_chance
 import rdsrt
 from rdsrt import (Audit, ContentType, Encoder, Fault, Held, InvalidText, Item, MalformedLine, NoText, OutOfText,
-                   Receiver, Refused, Silent, Tag, View, Wait, closest)
+                   Receiver, Refused, Segments, Silent, Tag, View, Wait, closest)
 from rdsrt import _library
 
 HI = (0xC201, 0x2140, 0x4849, 0x0D20)
@@ -38,7 +40,50 @@ def on_air(text, dwell=1):
     return encoder
 
 
+class PlainSegments:
+    """The segments of a text or a name by the rules: those since the last change of the flag and the last M slots without
+    one."""
+
+    def __init__(self, dwell):
+        self.dwell, self.held, self.age, self.flag = dwell, set(), dwell, None
+
+    def slot(self, segment):
+        """Takes a slot, with the flag and the number of a segment or None."""
+        self.age = min(self.age + 1, self.dwell)
+        if self.age == self.dwell:
+            self.held = set()
+        if segment:
+            flag, address = segment
+            self.held = {address} | (self.held if flag == self.flag else set())
+            self.flag, self.age = flag, 0
+
+
+def segment_in(group, kind, bits):
+    """Returns the flag and the number of a segment in a group of this kind, or None."""
+    is_one = group is not None and group[0] == 0xC201 and group[1] >> 11 == kind
+    return (group[1] >> 4 & 1, group[1] & bits) if is_one else None
+
+
 class Receivers(unittest.TestCase):
+    def test_segments_are_those_of_the_rules(self):
+        rng = random.Random(6)
+        for dwell in (1, 2, 9, 40):
+            sent = by_chance.heard(rng, by_chance.groups(rng, dwell, 1500), 0.5)
+            receiver, text, name = Receiver(0xC201, dwell), PlainSegments(dwell), PlainSegments(dwell)
+            for slot, group in enumerate(sent):
+                receiver.slot(group)
+                text.slot(segment_in(group, 4, 15))
+                name.slot(segment_in(group, 20, 1))
+                wanted = tuple(Segments(tuple(sorted(it.held)), it.age) for it in (text, name))
+                self.assertEqual(receiver.segments, wanted, f"dwell {dwell}, slot {slot}")
+
+    def test_segments_with_a_window_are_those_that_came_twice(self):
+        receiver = Receiver(0xC201, 8, window=3)
+        receiver.slot(HI)
+        self.assertEqual(receiver.segments, (((), 8), ((), 8)))
+        receiver.slot(HI)
+        self.assertEqual(receiver.segments, (((0,), 0), ((), 8)))
+
     def test_shows_and_forgets(self):
         receiver = Receiver(0xC201, dwell=2)
         self.assertEqual(receiver.view, View())

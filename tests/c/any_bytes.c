@@ -57,6 +57,11 @@ static void check_view(const struct rdsrt_view *v) {
     CHECK(v->name.is_shown <= 1 && v->item.is_shown <= 1 && v->item.toggle <= 1 && v->item.running <= 1);
 }
 
+/* The call writes all of the struct, whatever the other bytes are. */
+static void check_held(const struct rdsrt_held *one, const struct rdsrt_held *other) {
+    CHECK(memcmp(one, other, sizeof *one) == 0);
+}
+
 static void receiver(void) {
     struct rdsrt_receiver *r = (struct rdsrt_receiver *)any(sizeof *r);
     struct rdsrt_view *v = (struct rdsrt_view *)any(sizeof *v);
@@ -71,6 +76,12 @@ static void receiver(void) {
         CHECK(code != RDSRT_BAD_ARGUMENT || memcmp(r, before, sizeof *r) == 0);
         rdsrt_receiver_view(r, v);
         check_view(v);
+        struct rdsrt_held *h = (struct rdsrt_held *)any(sizeof *h), *other = (struct rdsrt_held *)any(sizeof *h);
+        rdsrt_receiver_held(r, h);
+        rdsrt_receiver_held(r, other);
+        check_held(h, other);
+        free(h);
+        free(other);
         free(before);
         free(blocks);
     }
@@ -95,6 +106,12 @@ static void twice(void) {
         CHECK(code != RDSRT_BAD_ARGUMENT || memcmp(r, before, sizeof *r) == 0);
         rdsrt_twice_view(r, v);
         check_view(v);
+        struct rdsrt_held *h = (struct rdsrt_held *)any(sizeof *h), *other = (struct rdsrt_held *)any(sizeof *h);
+        rdsrt_twice_held(r, h);
+        rdsrt_twice_held(r, other);
+        check_held(h, other);
+        free(h);
+        free(other);
         free(before);
         free(blocks);
     }

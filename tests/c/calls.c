@@ -77,6 +77,61 @@ static void twice(void) {
     CHECK(view.item.is_shown == 1 && view.tag1.content_type == 4 && view.tag1.start == 0 && view.tag1.length == 2);
 }
 
+/* Which segments are held, and how long ago the newest one came. */
+static void held(void) {
+    static const uint16_t last[4] = {0xC201, 0x214F, 0x4142, 0x4344}, name[4] = {0xC201, 0xA141, 0x4142, 0x4344};
+    struct rdsrt_receiver it;
+    struct rdsrt_twice other;
+    struct rdsrt_held is;
+    CHECK(rdsrt_receiver_init(&it, 0xC201, 3) == RDSRT_OK);
+    rdsrt_receiver_held(&it, &is);
+    CHECK(is.text.held == 0 && is.text.age == 3 && is.name.held == 0 && is.name.age == 3);
+    rdsrt_receiver_slot(&it, hi, 4);
+    rdsrt_receiver_slot(&it, last, 4);
+    rdsrt_receiver_slot(&it, name, 4);
+    rdsrt_receiver_held(&it, &is);
+    CHECK(is.text.held == 0x8001 && is.text.age == 1 && is.name.held == 2 && is.name.age == 0);
+    /* the other flag drops the segments before it */
+    rdsrt_receiver_slot(&it, yo, 4);
+    rdsrt_receiver_held(&it, &is);
+    CHECK(is.text.held == 1 && is.text.age == 0 && is.name.held == 2 && is.name.age == 1);
+    rdsrt_receiver_slot(&it, NULL, 0);
+    rdsrt_receiver_slot(&it, NULL, 0);
+    rdsrt_receiver_held(&it, &is);
+    CHECK(is.text.held == 1 && is.text.age == 2 && is.name.held == 0 && is.name.age == 3);
+    CHECK(rdsrt_twice_init(&other, 0xC201, 8, 3) == RDSRT_OK);
+    rdsrt_twice_slot(&other, hi, 4);
+    rdsrt_twice_held(&other, &is);
+    CHECK(is.text.held == 0 && is.text.age == 8);
+    rdsrt_twice_slot(&other, hi, 4);
+    rdsrt_twice_held(&other, &is);
+    CHECK(is.text.held == 1 && is.text.age == 0 && is.name.held == 0 && is.name.age == 8);
+}
+
+/* The names of content types and of codes; the bytes after a name are 0. */
+static void names(void) {
+    static const struct rdsrt_label empty = {{0}, 0};
+    struct rdsrt_label it;
+    rdsrt_type_name(4, &it);
+    CHECK(it.length == 11 && strcmp(it.bytes, "ITEM.ARTIST") == 0);
+    rdsrt_type_name(37, &it);
+    CHECK(it.length == 25 && strcmp(it.bytes, "PROGRAMME.EDITORIAL_STAFF") == 0);
+    for (unsigned type = 0; type < 256; type++) {
+        rdsrt_type_name((uint8_t)type, &it);
+        CHECK((it.length == 0) == (type > 63 || (type >= 54 && type <= 58)));
+        CHECK(it.length == strlen(it.bytes) && (it.length > 0 || memcmp(&it, &empty, sizeof it) == 0));
+    }
+    rdsrt_code_name(RDSRT_HELD, &it);
+    CHECK(strcmp(it.bytes, "RDSRT_HELD") == 0);
+    rdsrt_code_name(RDSRT_FAULT_NOT_ONE_TEXT, &it);
+    CHECK(strcmp(it.bytes, "RDSRT_FAULT_NOT_ONE_TEXT") == 0);
+    static const uint32_t others[] = {RDSRT_OK, RDSRT_CHANGED, 15, 16, RDSRT_FAULT_TAG_OUTSIDE + 1, RDSRT_UNKNOWN};
+    for (size_t i = 0; i < sizeof others / sizeof *others; i++) {
+        rdsrt_code_name(others[i], &it);
+        CHECK(memcmp(&it, &empty, sizeof it) == 0);
+    }
+}
+
 /* An encoder of dwell 1 that has had its one slot of silence. */
 static struct rdsrt_encoder station(void) {
     struct rdsrt_encoder it;
@@ -255,6 +310,8 @@ int main(void) {
     receiver();
     tags_shown();
     twice();
+    held();
+    names();
     encoder();
     tags_set();
     audit();

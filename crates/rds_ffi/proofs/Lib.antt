@@ -1,3 +1,4 @@
 pub mod Bits
 pub mod InMemory
+pub mod HeldSegments
 pub mod Audits

@@ -1,6 +1,9 @@
 pub mod Codes
 pub mod Slots
 pub mod Viewed
+pub mod Held
+pub mod Names
+pub mod Labels
 pub mod ReceiverInMemory
 pub mod TwiceInMemory
 pub mod EncoderInMemory

@@ -8,6 +8,8 @@ mod arrivals;
 mod audit;
 mod codes;
 mod encoder;
+mod held;
+mod label;
 mod receiver;
 mod reply;
 mod slots;
@@ -27,6 +29,10 @@ const _: () = prove!(size_of::<rds_encoder::StoredEncoder>() == 116);
 const _: () = prove!(size_of::<rds_audit::StoredAudit>() == 208);
 
 const _: () = prove!(size_of::<view::RdsrtView>() == 84);
+
+const _: () = prove!(size_of::<held::RdsrtHeld>() == 8);
+
+const _: () = prove!(size_of::<label::RdsrtLabel>() == 32);
 
 const _: () = prove!(size_of::<encoder::RdsrtOnAir>() == 75);
 

@@ -55,21 +55,36 @@ class Wait(ctypes.Structure):
     _fields_ = [("silent", u32), ("text", u32), ("name", u32)]
 
 
+class Segments(ctypes.Structure):
+    _fields_ = [("held", u16), ("age", u16)]
+
+
+class HeldSegments(ctypes.Structure):
+    _fields_ = [("text", Segments), ("name", Segments)]
+
+
+class Label(ctypes.Structure):
+    _fields_ = [("bytes", ctypes.c_char * 31), ("length", u8)]
+
+
 class Version(ctypes.Structure):
     _fields_ = [("abi", u32), ("major", u32), ("minor", u32), ("patch", u32)]
 
 
 Receiver, Twice, Encoder, Audit = u16 * 77, u32 * 66, u32 * 29, u32 * 52
-SIZES: Dict[Any, int] = {Receiver: 154, Twice: 264, Encoder: 116, Audit: 208, View: 84, OnAir: 75, Tags: 8, Reply: 8, Wait: 12}
+SIZES: Dict[Any, int] = {Receiver: 154, Twice: 264, Encoder: 116, Audit: 208, View: 84, OnAir: 75, Tags: 8, Reply: 8, Wait: 12,
+                         HeldSegments: 8, Label: 32}
 ANY = ctypes.c_void_p
 CALLS: Dict[str, Tuple[Any, List[Any]]] = {
     "version": (Version, []),
     "receiver_init": (u32, [ANY, u16, u16]),
     "receiver_slot": (u32, [ANY, ANY, size_t]),
     "receiver_view": (None, [ANY, ANY]),
+    "receiver_held": (None, [ANY, ANY]),
     "twice_init": (u32, [ANY, u16, u16, u16]),
     "twice_slot": (u32, [ANY, ANY, size_t]),
     "twice_view": (None, [ANY, ANY]),
+    "twice_held": (None, [ANY, ANY]),
     "slot_time": (u64, [u32]),
     "time_in": (u32, [ANY, size_t, ANY]),
     "lost_slots": (u32, [u64, u64, u32]),
@@ -87,6 +102,8 @@ CALLS: Dict[str, Tuple[Any, List[Any]]] = {
     "audit_texts_turn_the_flag": (u32, [ANY]),
     "audit_names_turn_the_flag": (u32, [ANY]),
     "text_to_display": (u32, [ANY, size_t, ANY, size_t, ANY]),
+    "type_name": (None, [u8, ANY]),
+    "code_name": (None, [u32, ANY]),
 }
 
 

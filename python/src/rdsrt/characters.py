@@ -1,7 +1,7 @@
 """The characters of RDS texts.
 
 This is the table of `rdsrt_text_to_display` of the C library, byte by byte, so that no library is needed for it. A test
-compares them. `PRINTED` has the characters of the printed form (docs/FORMATS.md, "Characters"), which the program
+compares them. `PRINTED` has the characters of the printed form (FORMATS.md, "Characters"), which the program
 prints and scripts take. `MORE` has more characters of the basic table of IEC 62106 (annex E, code table G0).
 
 We had no copy of the standard. Most letters in `MORE` are the same in the table of DAB (ETSI TS 101 756). DAB has other

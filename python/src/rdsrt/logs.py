@@ -81,7 +81,7 @@ def _read(lines: Iterable[Union[str, bytes]], first: int) -> Iterator[Tuple[Opti
 
 
 def read_log(lines: Iterable[Union[str, bytes]], first: int = 1) -> Iterator[Optional[Group]]:
-    """Yields the slots of a log (docs/FORMATS.md): a group, or None if a block of it is lost. Raises MalformedLine.
+    """Yields the slots of a log (FORMATS.md): a group, or None if a block of it is lost. Raises MalformedLine.
 
     `lines` is an open file or a list, and `first` the number of its first line. Open the file with "rb", because Python
     ends a line of a text file at a lone carriage return too."""
@@ -102,7 +102,7 @@ def _year_1970() -> int:
 
 
 def read_timed(lines: Iterable[Union[str, bytes]], first: int = 1) -> Iterator[Tuple[float, Optional[Group]]]:
-    """Yields time and group of each line of a log that has a time (docs/FORMATS.md): RDS Spy's, ISO 8601 or seconds. A
+    """Yields time and group of each line of a log that has a time (FORMATS.md): RDS Spy's, ISO 8601 or seconds. A
     date is in seconds since the beginning of 1970. The group is None if a block of it is lost. Raises MalformedLine.
 
     `slots` and `Receiver.watch_timed` take such pairs. `rdsrt_time_in` of the C library reads the times."""

@@ -6,14 +6,14 @@ from typing import Any, Dict, Iterable, Iterator, List, NamedTuple, Optional, Se
 from . import _library as c
 from .characters import InvalidText, coded, require_str, shown, symbols
 from .logs import Group, blocks_of, in_range, timed_slots
-from .views import ContentType, Item, Tag, View, content_type_of
+from .views import ContentType, Item, Segments, Tag, View, content_type_of
 
 _Any = TypeVar("_Any", bound="_Plain")
 _Key = TypeVar("_Key")
 
 
 class Fault(enum.IntEnum):
-    """The rule that a log breaks first. docs/FORMATS.md, "Faults of the audit", has the cause and the cure of each."""
+    """The rule that a log breaks first. FORMATS.md, "Faults of the audit", has the cause and the cure of each."""
     CHANGED, NOT_ONE_TEXT, EARLY_FLAG, EARLY_TAG, TAG_OUTSIDE = 17, 18, 19, 20, 21
 
     def __str__(self) -> str:
@@ -185,6 +185,15 @@ class Receiver(_Plain):
                          tag.length) for tag in (it.tag1, it.tag2) if tag.length)
         item = Item(bool(it.item.toggle), bool(it.item.running)) if it.item.is_shown else None
         return View(_text_of(it.text), _name_of(it.name), item, tags)
+
+    @property
+    def segments(self) -> Tuple[Segments, Segments]:
+        """The segments that are held of the text and of the name, complete or not."""
+        it, library = c.HeldSegments(), c.library()
+        call = library.rdsrt_receiver_held if self._window is None else library.rdsrt_twice_held
+        call(self._its, ctypes.byref(it))
+        text, name = (Segments(tuple(a for a in range(16) if of.held >> a & 1), of.age) for of in (it.text, it.name))
+        return text, name
 
     def watch(self, groups: Iterable[Optional[Sequence[SupportsIndex]]]) -> Iterator[Tuple[int, View]]:
         """Takes these slots. Yields the number of each slot that changed the view, from 0, and the view."""

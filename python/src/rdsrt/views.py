@@ -51,6 +51,13 @@ class Tag:
     length: int
 
 
+class Segments(NamedTuple):
+    """The segments that a receiver holds of a text or a name (PTYN), by their numbers; segment a has the characters from
+    4a to 4a + 3. `age` is how many slots ago the newest one came, or the dwell if none is held."""
+    held: Tuple[int, ...]
+    age: int
+
+
 class Item(NamedTuple):
     """The item toggle and item running bits of RT+."""
     toggle: bool

@@ -1,0 +1,145 @@
+"""The pages of the packages over the files of this checkout, and the file ABOUT."""
+import glob
+import gzip
+import os
+import re
+import shutil
+import subprocess
+import zipfile
+
+from tests import shipped
+from tests.support import (ARCHIVE, PROGRAM, ROOT, SECONDS, Case, build_archive, needs, output, path, temporary_folder,
+                           text_of)
+
+SHIPPED = path("tools/shipped.py")
+FIELDS = ("version", "homepage", "reports")
+
+
+def played(tree):
+    """Returns a function that plays lines of sh at the top of the tree."""
+    def run(call):
+        done = subprocess.run(["sh", "-c", call], cwd=tree, stdout=subprocess.PIPE, stderr=subprocess.DEVNULL,
+                              timeout=SECONDS)
+        return done.stdout.decode()
+    return run
+
+
+def about(field, root=ROOT):
+    """Returns a field of the file ABOUT."""
+    return output([os.path.join(root, "tools/about"), field])[1].decode().strip()
+
+
+class Pages(Case):
+    def setUp(self):
+        self.tree = temporary_folder(self)
+
+    def lay(self, layout, places):
+        """Copies files of the checkout to where a kind of package has them, and writes its pages."""
+        for name, place in places.items():
+            to = os.path.join(self.tree, place)
+            os.makedirs(os.path.dirname(to), exist_ok=True)
+            if os.path.isdir(path(name)):
+                shutil.copytree(path(name), to)
+            else:
+                shutil.copy(path(name), to)
+        self.assertEqual(output([SHIPPED, layout, self.tree]), (0, b""))
+
+    def test_tarball(self):
+        """The pages but README, whose commands need the C library."""
+        self.lay("tarball", {"examples": "share/rdsrt/examples", "python/src": "share/rdsrt/python/src",
+                             "include/rdsrt.h": "include/rdsrt.h", "tools/tarball.md": "README.md",
+                             "page/index.html": "share/rdsrt/page/index.html"})
+        os.mkdir(os.path.join(self.tree, "bin"))
+        os.symlink(PROGRAM, os.path.join(self.tree, "bin/rdsrt"))
+        shipped.links(self.check, self.tree)
+        readme, *among = shipped.pages(self.tree)
+        self.check("the first page", os.path.basename(readme), "README.md")
+        shipped.names(self.check, self.tree, among)
+        self.check("it plays commands", shipped.commands(self.check, self.tree, among, played(self.tree)) > 15, True)
+        left = [page for page in shipped.pages(self.tree) if re.search(r"(?<![./])\./rdsrt", text_of(page))]
+        self.check("pages with the command of the repository", left, [])
+
+    def test_debian(self):
+        doc = "usr/share/doc/rdsrt"
+        self.lay("debian", {"examples": f"{doc}/examples", "include/rdsrt.h": "usr/include/rdsrt.h"})
+        shipped.links(self.check, self.tree)
+        guide = text_of(os.path.join(self.tree, doc, "GUIDE.md"))
+        for word in ("examples/json", "examples/monitor", "/opt/rdsrt", "./rdsrt"):
+            self.check(f"the guide of Debian has no {word}", word in guide, False)
+        for word in ("| rdsrt-json |", "| rdsrt-monitor {}"):
+            self.check(f"the guide of Debian has {word}", word in guide, True)
+
+    def test_wheel(self):
+        self.lay("wheel", {})
+        shipped.links(self.check, self.tree)
+
+    @needs("systemd-analyze", package="systemd")
+    def test_systemd_takes_the_unit_of_debian(self):
+        self.lay("debian", {})
+        unit = os.path.join(self.tree, "usr/lib/systemd/system/rdsrt-monitor.service")
+        text = text_of(unit)
+        self.check("the unit has no path of a checkout", re.findall("/opt|/usr/local|LIBRARY", text), [])
+        self.check("its words", "exec rdsrt-monitor --metrics /var/lib/rdsrt/rdsrt.prom /etc/rdsrt/stations" in text,
+                   True)
+        self.check("systemd-analyze", output(["systemd-analyze", "verify", unit]), (0, b""))
+
+
+class About(Case):
+    """The man page, the Debian packages and the wheel of a repository whose file ABOUT has an address or has none."""
+    FILES = ("CHANGELOG.md", "docs", "examples", "include", "python", "tools")
+    ADDRESS = {"homepage": "https://example.org/rdsrt", "reports": "https://example.org/rdsrt/issues"}
+
+    def repository(self, address):
+        """Returns a folder with the files that packages are made of, for x86-64 as this machine's own."""
+        tree = temporary_folder(self)
+        for name in self.FILES:
+            if os.path.isdir(path(name)):
+                shutil.copytree(path(name), os.path.join(tree, name), ignore=shutil.ignore_patterns("out", "__pycache__"))
+            else:
+                shutil.copy(path(name), tree)
+        with open(os.path.join(tree, "ABOUT"), "w", encoding="utf-8") as file:
+            file.write("# a comment\nversion: 0.1.0\n" + "".join(f"{it}: {address.get(it, '')}\n" for it in FIELDS[1:]))
+        for name, built in (("rdsrt/out/x86_64/rdsrt", PROGRAM), ("rds_ffi/out/x86_64/librds_ffi.a", ARCHIVE)):
+            at = os.path.join(tree, "crates", name)
+            os.makedirs(os.path.dirname(at))
+            shutil.copy(built, at)
+        for words in (["init", "-q"], ["add", "ABOUT"], ["commit", "-q", "-m", "ABOUT"]):
+            subprocess.run(["git", *words], cwd=tree, check=True)
+        return tree
+
+    @needs("dpkg-deb", "x86_64-linux-gnu-gcc", package="gcc binutils")
+    def test_the_packages_have_the_address_or_no_field(self):
+        build_archive()
+        for address in ({}, self.ADDRESS):
+            tree, out = self.repository(address), temporary_folder(self)
+            self.check("tools/about", [about(it, tree) for it in FIELDS], ["0.1.0", *(address.get(it, "") for it in FIELDS[1:])])
+            self.check("tools/deb", output([f"{tree}/tools/deb", "x86_64", out])[0], 0)
+            deb = os.path.join(out, "rdsrt_0.1.0-0upstream1_amd64.deb")
+            self.check("Homepage", output(["dpkg-deb", "-f", deb, "Homepage"])[1].decode().split(),
+                       [*address.values()][:1])
+            self.assertEqual(output(["dpkg-deb", "-x", deb, out])[0], 0)
+            with gzip.open(os.path.join(out, "usr/share/man/man1/rdsrt.1.gz"), "rt", encoding="utf-8") as file:
+                bugs = re.findall(r"\.SH BUGS\nReport bugs at (.*)\.\n", file.read())
+            self.check("BUGS", bugs, [*address.values()][1:])
+            found = dict(re.findall(r"^(Source|Upstream-Contact): (.*)$",
+                                    text_of(os.path.join(out, "usr/share/doc/rdsrt/copyright")), re.M))
+            self.check("copyright", [found.get(it) for it in ("Source", "Upstream-Contact")],
+                       [address.get("homepage"), address.get("reports")])
+
+    @needs("x86_64-linux-gnu-gcc", package="gcc")
+    def test_the_wheel_has_the_address_or_no_field(self):
+        build_archive()
+        if output([path("python/wheel"), "--python"])[0]:
+            self.skipTest("no Python that makes wheels here")
+        for address in ({}, self.ADDRESS):
+            tree, out = self.repository(address), temporary_folder(self)
+            words = [f"{tree}/python/wheel", f"{tree}/crates/rds_ffi/out/x86_64/librds_ffi.a", "x86_64", out]
+            self.check("python/wheel", output(words)[0], 0)
+            with zipfile.ZipFile(glob.glob(f"{out}/*.whl")[0]) as wheel:
+                metadata = wheel.read("rdsrt-0.1.0.dist-info/METADATA").decode()
+            urls = re.findall(r"^(?:Home-page|Project-URL): (?:\w+, )?(.*)$", metadata, re.M)
+            self.check("METADATA", urls, [*address.values()])
+
+    def test_readme_has_the_address(self):
+        for field in FIELDS[1:]:
+            self.check(f"README has the {field} of ABOUT", about(field) in text_of("README.md"), True)
