@@ -349,6 +349,14 @@ class WhereNotesGo(ProgramCase):
             self.check(f"a refusal on a terminal goes there alone: {words}", done.stderr, b"")
         self.check("help goes to standard output alone", noted("--help", b"")[2], "")
 
+    def test_a_name_of_a_file_gets_a_hint(self):
+        for words, command, name in (("audit spy.log", "audit", "spy.log"), ("sim --pi C201 ../a b.csv", "sim", "../a")):
+            got = noted(words, b"")
+            hint = f"rdsrt: {command} reads standard input: rdsrt {command} .. < {name}\n"
+            self.check(f"{words}: status and standard error", (got[0], got[2]), (2, got[1].decode() + hint))
+        for words in ("decode C201", "audit --runing.now", "sing spy.log"):
+            self.check(f"{words}: no hint", "reads standard input" in noted(words, b"")[2], False)
+
     def test_quiet_drops_warnings_and_standard_output_never_changes(self):
         """Warnings go, faults stay, and standard output does not change whatever becomes of standard error."""
         warned = [(AUDIT, LOST), (f"{AUDIT} --m 4", worked_rows.CHANGED), (DECODE, b""),

@@ -11,7 +11,7 @@ mod times;
 mod words;
 
 pub use breaks::Breaks;
-pub use note_lines::{print_notes, print_refusal};
+pub use note_lines::{print_input, print_notes, print_refusal};
 pub use notes::{End, Options, RunNotes};
 pub use program::{run, run_with_notes};
 pub use status::{FAULT, REFUSED, no_words, write_no_memory};

@@ -2,6 +2,7 @@
 
 use crate::notes::{End, RunNotes};
 use arrayvec::ArrayVec;
+use memchr::memchr;
 use rds_arrivals::Grain;
 use rds_audit::AuditFault;
 use rds_cli::Task;
@@ -17,12 +18,50 @@ const ROOM: usize = 1024;
 /// The beginning of a note.
 const BEGUN: &[u8] = b"rdsrt: ";
 
+/// The beginning of `clap`'s text on a word that no option takes.
+const NO_OPTION: &[u8] = b"error: unexpected argument '";
+
+/// The most bytes of such a word in a note.
+const LONGEST_NAME: usize = 200;
+
 /// The bytes of an unfinished note.
 type Note = ArrayVec<u8, ROOM>;
 
 /// Prints why the arguments were refused, as `clap` says it.
 pub fn print_refusal<N: TellingWrite>(notes: &RunNotes, screen: &mut N) {
     let _ = put(notes.refused.as_slice(), screen);
+}
+
+/// Prints how a command takes a file, if its arguments were refused because of the name of one.
+pub fn print_input<N: TellingWrite>(notes: &RunNotes, words: &[&str], screen: &mut N) {
+    let Some(command) = words.get(1) else {
+        return;
+    };
+    let refused = notes.refused.as_slice();
+    if !refused.starts_with(NO_OPTION) {
+        return;
+    }
+    let name = match refused.get(NO_OPTION.len()..) {
+        Some(rest) => name_in(rest),
+        None => return,
+    };
+    // a PI without its option, or an option that does not exist
+    if memchr(b'.', name).is_none() || name.starts_with(b"-") {
+        return;
+    }
+    let mut note = begun();
+    let _ = write!(
+        note,
+        "{command} reads standard input: rdsrt {command} .. < "
+    );
+    push(name, &mut note);
+    print(note, screen);
+}
+
+/// Returns the bytes before a quotation mark, up to `LONGEST_NAME` of them.
+fn name_in(quoted: &[u8]) -> &[u8] {
+    let end = memchr(b'\'', quoted).unwrap_or(quoted.len());
+    &quoted[..end.min(LONGEST_NAME)]
 }
 
 /// Prints the notes of a run: its warnings and its fault. `reason` is the system's error of a failed read or write.

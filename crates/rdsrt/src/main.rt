@@ -11,7 +11,8 @@
 
 use rds_io::{Prompting, Reasoned, Told, prompt_for};
 use rds_program::{
-    Breaks, RunNotes, Timing, no_words, print_notes, print_refusal, run_with_notes, texts, words_of,
+    Breaks, RunNotes, Timing, no_words, print_input, print_notes, print_refusal, run_with_notes,
+    texts, words_of,
 };
 use std::io::{ErrorKind, IsTerminal};
 use std::process::ExitCode;
@@ -50,6 +51,7 @@ fn run(rt: &HostRuntime, words: &[&str]) -> u8 {
     if !rt.stdout().is_terminal() {
         print_refusal(&notes, &mut screen);
     }
+    print_input(&notes, words, &mut screen);
     notes.times = input.take_times();
     let reason = output
         .inner()
