@@ -1,11 +1,10 @@
 -- How what is heard of a log's programmes goes on, line by line.
-use Rattle.std.proofs.Common.{◌≡◌, ◌+◌, ◌<◌, ◌≤◌, ℕ, Bool, List, [], ◌∷◌, Option, Some, None, cond, false, true, refl, sym, ◌∙◌, arith, inl, inr}
+use Rattle.std.proofs.Common.{◌≡◌, ◌+◌, ◌≤◌, ℕ, Bool, List, [], ◌∷◌, Option, Some, None, cond, false, true, refl, sym, ◌∙◌, arith, inl, inr}
 use Rattle.rds_block.specs.declared.group.Group.{Group}
 use Rattle.rds_log.specs.LogLines.{Line}
 use Rattle.rds_log.specs.LineSays.{LineSays}
 use Rattle.rds_log.specs.Heard.{HeardLines, IsHeard, groups_in, groups_of, is_of}
 use Rattle.rds_log.specs.declared.heard.Heard.{Heard}
-use Rattle.rds_log.specs.declared.log_line.LogLine.{LogLine}
 use Rattle.rds_log.specs.declared.log_line.LogLine.TheVariants.{Skip, Slot}
 
 -- a line that is no slot
@@ -17,36 +16,13 @@ pub heard_slot : (pi : ℕ) (lines : List Line) (line : Line) (slot : Option Gro
     → ((slots : List (Option Group)) → IsHeard pi slots h → IsHeard pi (slot ∷ slots) after) → HeardLines pi lines h → HeardLines pi (line ∷ lines) after
 heard_slot pi lines line slot h after says on s = record { slots = slot ∷ s.slots; say = inr (slot, s.slots, says, refl, s.say); heard = on s.slots s.heard }
 
-grows : (pi : ℕ) (slot : Option Group) (slots : List (Option Group)) → 0 < groups_of pi slots → 0 < groups_of pi (slot ∷ slots)
-grows pi slot slots some = by_test (is_of pi slot)
-  where
-    by_test : (b : Bool) → 0 < cond b (groups_of pi slots + 1) (groups_of pi slots)
-    by_test true = omega arith
-    by_test false = some
-
--- once the wanted programme was heard nothing changes that
-pub heard_still : (pi : ℕ) (slot : Option Group) (slots : List (Option Group)) (h : Heard) → h.wanted ≡ true → IsHeard pi slots h → IsHeard pi (slot ∷ slots) h
-heard_still pi slot slots h wanted is = record {
-  wanted = (λ _. grows pi slot slots (is.wanted.0 wanted), λ _. wanted);
-  counted = λ e. absurd (cc);
-}
-
-pub heard_line : (pi : ℕ) (lines : List Line) (line : Line) (said : LogLine) (h : Heard) → h.wanted ≡ true → LineSays line said → HeardLines pi lines h → HeardLines pi (line ∷ lines) h
-heard_line pi lines line Skip h wanted says s = heard_skip pi lines line h says s
-heard_line pi lines line (Slot slot) h wanted says s = heard_slot pi lines line slot h h says (λ slots is. heard_still pi slot slots h wanted is) s
-
 -- only these fields are heard
-pub same_heard : (pi : ℕ) (lines : List Line) (h after : Heard) → after.wanted ≡ h.wanted → after.groups ≡ h.groups → after.first ≡ h.first → after.of_first ≡ h.of_first
-    → HeardLines pi lines h → HeardLines pi lines after
-same_heard pi lines h after wanted groups first of_first s = record {
-  slots = s.slots;
-  say = s.say;
-  heard = record {
-    wanted = rw wanted s.heard.wanted;
-    counted = λ e.
-        let counted = s.heard.counted (sym wanted ∙ e) in
-        record { groups = groups ∙ counted.groups; oldest = first ∙ counted.oldest; first = rw (first, of_first) counted.first };
-  };
+pub same_heard : (pi : ℕ) (slots : List (Option Group)) (h after : Heard) → after.wanted ≡ h.wanted → after.groups ≡ h.groups → after.first ≡ h.first → after.of_first ≡ h.of_first → IsHeard pi slots h → IsHeard pi slots after
+same_heard pi slots h after wanted groups first of_first is = record {
+  wanted = rw wanted is.wanted;
+  counted = λ e.
+      let counted = is.counted (sym wanted ∙ e) in
+      record { groups = groups ∙ counted.groups; oldest = first ∙ counted.oldest; first = rw (first, of_first) counted.first };
 }
 
 -- groups of a programme are groups

@@ -75,63 +75,36 @@ impl Heard {
         ensures heard { (lines : List Line) (line : Line) → LineSays line said
             → HeardLines pi lines self.old → HeardLines pi (line ∷ lines) self.new }
     {
-        // Prover: a `Copy` value is copied by a new name before its second use (docs/PROVER.md, "Workarounds").
-        let handed = said;
-        self.tally(pi, handed);
-        if !self.wanted {
-            self.look(pi, said);
-        }
-    }
-
-    /// Counts the group of a line, if it is of the wanted programme.
-    #[inline(always)]
-    fn tally(&mut self, pi: u16, said: LogLine)
-        ensures wanted { self.new.wanted ≡ self.old.wanted }
-        ensures groups { self.new.groups ≡ self.old.groups }
-        ensures first { self.new.first ≡ self.old.first }
-        ensures of_first { self.new.of_first ≡ self.old.of_first }
-    {
-        let LogLine::Slot(Some(group)) = said else {
-            return;
-        };
-        if group.pi() == pi {
-            self.counts.add(group);
-        }
-    }
-
-    /// Takes the meaning of a line while no group of the wanted programme was read.
-    #[inline(always)]
-    fn look(&mut self, pi: u16, said: LogLine)
-        requires groups { self.old.groups < 2 ^ 64 - 1 }
-        requires none { self.old.wanted ≡ false }
-        ensures groups { self.new.groups ≤ self.old.groups + 1 }
-        ensures heard { (lines : List Line) (line : Line) → LineSays line said
-            → HeardLines pi lines self.old → HeardLines pi (line ∷ lines) self.new }
-    {
         match said {
             LogLine::Slot(slot) => self.slot(pi, slot),
             LogLine::Skip => {}
         }
     }
 
-    /// Counts the group of a slot.
+    /// Takes a slot. Counts its group, if it is of the wanted programme.
     #[inline(always)]
     fn slot(&mut self, pi: u16, slot: Option<Blocks>)
-        requires groups { self.old.groups < 2 ^ 64 - 1 }
-        requires none { self.old.wanted ≡ false }
+        requires { self.old.groups < 2 ^ 64 - 1 }
         ensures groups { self.new.groups ≤ self.old.groups + 1 }
         ensures heard { (slots : List (Option Group)) → IsHeard pi slots self.old
             → IsHeard pi (slot ∷ slots) self.new }
     {
-        if let Some(group) = slot {
-            self.count(pi, group.pi());
+        let Some(group) = slot else {
+            return;
+        };
+        let own = group.pi();
+        if own == pi {
+            self.counts.add(group);
+        }
+        if !self.wanted {
+            self.look(pi, own);
         }
     }
 
-    /// Counts a group of this programme.
+    /// Takes a group of this programme, while no group of the wanted programme was read.
     // Cold path.
     #[inline(never)]
-    fn count(&mut self, pi: u16, own: u16)
+    fn look(&mut self, pi: u16, own: u16)
         requires groups { self.old.groups < 2 ^ 64 - 1 }
         requires none { self.old.wanted ≡ false }
         ensures groups { self.new.groups ≤ self.old.groups + 1 }

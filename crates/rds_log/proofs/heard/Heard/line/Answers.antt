@@ -1,13 +1,9 @@
-use Rattle.std.proofs.Common.{rules}
-use Rattle.rds_log.proofs.Hearing.{heard_line, same_heard}
+use Rattle.rds_log.proofs.Hearing.{heard_skip, heard_slot}
 use Rattle.rds_log.proofs.heard.Heard.line.Goals as goal
 
-pub returns-then-not-self-clause-heard : goal.returns-then-not-self-clause-heard
-returns-then-not-self-clause-heard c lines line says s =
-    let t = c.tally.ensures in
-    c.look.ensures.heard lines line says (same_heard c.args.pi lines c.args.self.now c.tally.new.self t.wanted t.groups t.first t.of_first s)
+pub returns-in-Slot-clause-heard : goal.returns-in-Slot-clause-heard
+returns-in-Slot-clause-heard c lines line says s =
+    heard_slot c.args.pi lines line c.in-Slot.slot c.args.self.now c.slot.new.self (rw c.in-Slot.is at says) c.slot.ensures.heard s
 
-pub returns-else-not-self-clause-heard : goal.returns-else-not-self-clause-heard
-returns-else-not-self-clause-heard c lines line says s =
-    let t = c.tally.ensures in
-    heard_line c.args.pi lines line c.args.said c.tally.new.self (search rules) says (same_heard c.args.pi lines c.args.self.now c.tally.new.self t.wanted t.groups t.first t.of_first s)
+pub returns-in-Skip-clause-heard : goal.returns-in-Skip-clause-heard
+returns-in-Skip-clause-heard c lines line says s = heard_skip c.args.pi lines line c.args.self.now (rw c.in-Skip.is at says) s
