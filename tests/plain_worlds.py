@@ -19,13 +19,46 @@ CLASSES = {1: "ITEM.TITLE", 4: "ITEM.ARTIST", 63: "63"}
 TAGS = ((1, 0, 4), (4, 2, 2), (63, 0, 0), (0, 0, 0))
 
 
-def random_rows(rng):
+def random_rows(rng, slots=SLOTS):
     """Gives a command for each slot of a station, and whether the slot is free. No receiver is there."""
-    for _ in range(SLOTS):
+    for _ in range(slots):
         command = rng.choices(("restart", "text", "name", "tags", "-"), weights=(3, 21, 8, 12, 20))[0]
         tags = " ".join(str(it) for tag in rng.choices(TAGS, k=2) for it in tag)
         argument = {"text": rng.choice(TEXTS), "name": rng.choice(NAMES), "tags": f"1 1 {tags}"}.get(command, "")
         yield random_scripts.Row(command, argument, "1" if rng.random() < 7 / 8 else "0", "")
+
+
+def segments(text):
+    """Returns the segments of a text or a name with their addresses."""
+    body = text.encode() if text in NAMES else text.encode() + b"\r"
+    body += b" " * (-len(body) % 4)
+    return [(place // 4, body[place:place + 4]) for place in range(0, len(body), 4)]
+
+
+def wrong_group(rng):
+    """Returns blocks 2 to 4 of a group that the station may not have sent: a segment, or a pair of tags."""
+    flag, kind = rng.randrange(2), rng.random()
+    if kind < 0.8:
+        value = rng.choice(TEXTS if kind < 0.6 else NAMES)
+        address, body = rng.choice(segments(value))
+        return f"{2 if kind < 0.6 else 10:X}0{flag}{address}{body.hex()}".upper()
+    (class_, start, extra), _ = rng.sample(TAGS[:2], 2)
+    return f"B0{flag}{class_ >> 3}{(class_ & 7) << 13 | start << 7 | extra << 1:04X}0000"
+
+
+class Wrongs:
+    """Gives wrong groups that keep the premise: none comes twice less than a window apart."""
+
+    def __init__(self, rng, window):
+        self.rng, self.window, self.last = rng, window, {}
+
+    def reception(self, slot):
+        """Returns a reception with a wrong group, or a lost slot."""
+        group = wrong_group(self.rng)
+        if slot - self.last.get(group, -self.window) < self.window:
+            return "L"
+        self.last[group] = slot
+        return f"W{group}"
 
 
 def script(rows):

@@ -130,7 +130,8 @@ def bad_receptions(slot, late, lasts):
         # the first row fixes the number
         return ["GGGGGGGGG", "X", "1", " "] + (["G"] if slot else [])
     bad = ["", "G" * (len(lasts) + 1)] if slot else ["G" * 9]
-    bad += [it + "G" * (len(lasts) - 1) for it in ("g", "X", "-", "1", "G00000", f"G{late + 1}", f"G{slot + 1}")]
+    bad += [it + "G" * (len(lasts) - 1) for it in (
+        "g", "X", "-", "1", "G00000", "GA", "W", "W214048490D2", "W214048490D20", f"G{late + 1}", f"G{slot + 1}")]
     if slot and lasts[0] == slot - 1:
         bad.append("G1" + "G" * (len(lasts) - 1))
     return bad

@@ -51,7 +51,7 @@ ROWS = [
     (ENCODE, "text,HI,2,", "FREE is not 0 or 1"),
     (ENCODE, "text,HI,,", "FREE is not 0 or 1"),
     (ENCODE, "text,HI,1,GG", "RECEPTIONS: encode takes none; leave the field empty, but keep the comma before it"),
-    (SIM, "text,HI,1,X", "RECEPTIONS: character 1 is not G, L or R"),
+    (SIM, "text,HI,1,X", "RECEPTIONS: character 1 is not G, L, W or R"),
     (SIM, "text,HI,1,GGGGGGGGG", "RECEPTIONS: more than 8 receivers"),
     (SIM, "text,HI,1,G2", "RECEPTIONS: receiver 0: G2 is later than --k 0 allows"),
     (ENCODE, "tags,0 0 64 0 0 0 0 0,1,", "ARGUMENT: class of tag 1 is 64, at most 63 is allowed"),

@@ -371,9 +371,10 @@ fn simulate<'a>(alloc: Global) -> Result<Command<'a>, AllocError>
         about: "Reads a script and prints what a station sends and what up to eight receivers show",
         ending: "A row of the script is one slot: COMMAND,ARGUMENT,FREE,RECEPTIONS, for example\n\
                  text,HI,1,GGL. RECEPTIONS has a letter for each receiver: G gets the group of this\n\
-                 slot, G3 gets the group sent 3 slots before, L loses it, R restarts. The station is\n\
-                 silent in the first M + K rows, with --confirm in M + K + W - 1. At the default M of\n\
-                 128, put 128 rows such as -,,1,GGL before the first text.\n\
+                 slot, G3 gets the group sent 3 slots before, L loses it, R restarts. With --confirm,\n\
+                 W214048490D20 gets a wrong group: W and its blocks 2 to 4. The station is silent in\n\
+                 the first M + K rows, with --confirm in M + K + W - 1. At the default M of 128, put\n\
+                 128 rows such as -,,1,GGL before the first text.\n\
                  name: the programme type name (PTYN, group 10A); the station name (PS) is not handled.\n\n\
                  Example:\n  \
                    $ printf -- '-,,1,G\\ntext,HI,1,G\\n' | rdsrt sim --pi C201 --m 1\n  \

@@ -6,6 +6,7 @@ use crate::scripts::{ENCODED, ENCODED_LOG, SIMULATED, SIMULATED_OUTPUT, config};
 use rds_encoder::Refusal;
 use rds_fields::Late;
 use rds_io::{LogFault, Told};
+use rds_receiver::Window;
 use rds_script::{
     BadRow, EarlySet, MOST_RECORDS, RowCause, ScriptNotes, Thing, encode, play_script, simulate,
 };
@@ -22,6 +23,8 @@ enum Form {
     Log,
     /// With receivers, which a group may reach so many slots late.
     Receivers(u16),
+    /// With receivers that have a window of so many slots.
+    Confirming(u16),
 }
 
 /// The result of a script, and its notes.
@@ -47,6 +50,11 @@ fn played(alloc: Global, form: Form, script: &[u8]) -> Result<Ended, Fail> {
         Form::Log => rds_script::Form::Log,
         Form::Receivers(late) => {
             station.premise = Premise::once(Late::new(late).ok_or("late")?);
+            rds_script::Form::Simulation
+        }
+        Form::Confirming(slots) => {
+            let window = Some(Window::new(slots).ok_or("window")?);
+            station.premise = Premise::new(station.premise.late(), window).ok_or("premise")?;
             rds_script::Form::Simulation
         }
     };
@@ -319,42 +327,79 @@ fn tags(rt: HostRuntime) -> Result<(), Fail> {
 
 #[test]
 fn receptions(rt: HostRuntime) -> Result<(), Fail> {
-    let cases: [(&[u8], u64, &str); 16] = [
+    let cases: [(&[u8], u64, &str); 21] = [
         (b"-,,,L\n", 1, "FREE is not 0 or 1"),
         (b"-,,01,L\n", 1, "FREE is not 0 or 1"),
         (b"-,,true,L\n", 1, "FREE is not 0 or 1"),
-        (b"-,,1,X\n", 1, "RECEPTIONS: character 1 is not G, L or R"),
-        (b"-,,1,g\n", 1, "RECEPTIONS: character 1 is not G, L or R"),
-        (b"-,,1,1G\n", 1, "RECEPTIONS: character 1 is not G, L or R"),
+        (
+            b"-,,1,X\n",
+            1,
+            "RECEPTIONS: character 1 is not G, L, W or R",
+        ),
+        (
+            b"-,,1,g\n",
+            1,
+            "RECEPTIONS: character 1 is not G, L, W or R",
+        ),
+        (
+            b"-,,1,1G\n",
+            1,
+            "RECEPTIONS: character 1 is not G, L, W or R",
+        ),
         (
             b"-,,1,GL L\n",
             1,
-            "RECEPTIONS: character 3 is not G, L or R",
+            "RECEPTIONS: character 3 is not G, L, W or R",
         ),
         (
             b"-,,1,G12\xC3\xA9\n",
             1,
-            "RECEPTIONS: character 4 is not G, L or R",
+            "RECEPTIONS: character 4 is not G, L, W or R",
         ),
         (
             b"-,,1,L1\n",
             1,
-            "RECEPTIONS: digits after the L or R at character 1, only G takes digits",
+            "RECEPTIONS: digits after the L or R at character 1, only G and W take digits",
         ),
         (
             b"-,,1,GLR20X\n",
             1,
-            "RECEPTIONS: digits after the L or R at character 3, only G takes digits",
+            "RECEPTIONS: digits after the L or R at character 3, only G and W take digits",
         ),
         (
             b"-,,1,G00000\n",
             1,
-            "RECEPTIONS: more than 4 digits after the G at character 1",
+            "RECEPTIONS: the G at character 1 takes up to 4 decimal digits",
         ),
         (
             b"-,,1,LG0G12345\n",
             1,
-            "RECEPTIONS: more than 4 digits after the G at character 4",
+            "RECEPTIONS: the G at character 4 takes up to 4 decimal digits",
+        ),
+        (
+            b"-,,1,GA\n",
+            1,
+            "RECEPTIONS: the G at character 1 takes up to 4 decimal digits",
+        ),
+        (
+            b"-,,1,Lb\n",
+            1,
+            "RECEPTIONS: digits after the L or R at character 1, only G and W take digits",
+        ),
+        (
+            b"-,,1,GW\n",
+            1,
+            "RECEPTIONS: the W at character 2 takes 12 hexadecimal digits (blocks 2 to 4)",
+        ),
+        (
+            b"-,,1,W214048490D2G\n",
+            1,
+            "RECEPTIONS: the W at character 1 takes 12 hexadecimal digits (blocks 2 to 4)",
+        ),
+        (
+            b"-,,1,W214048490d200L\n",
+            1,
+            "RECEPTIONS: the W at character 1 takes 12 hexadecimal digits (blocks 2 to 4)",
         ),
         (b"-,,1,GGGGGGGGG\n", 1, "RECEPTIONS: more than 8 receivers"),
         (b"-,,1,LLLLLLLLX\n", 1, "RECEPTIONS: more than 8 receivers"),
@@ -376,7 +421,11 @@ fn receptions(rt: HostRuntime) -> Result<(), Fail> {
     let cases: [(&[u8], u64, &str); 3] = [
         (b"-,,1,G\n", 1, none),
         (b"-,,1,\ntext,HI,1,LLLLLLLL\n", 2, none),
-        (b"-,,1,GX\n", 1, "RECEPTIONS: character 2 is not G, L or R"),
+        (
+            b"-,,1,GX\n",
+            1,
+            "RECEPTIONS: character 2 is not G, L, W or R",
+        ),
     ];
     for case in cases {
         stops(&rt, rt.alloc(), Form::Log, case)?;
@@ -461,6 +510,57 @@ fn late_groups(rt: HostRuntime) -> Result<(), Fail> {
     Ok(())
 }
 
+#[test]
+fn wrong_groups(rt: HostRuntime) -> Result<(), Fail> {
+    let none = "receiver 1: a wrong group; only receivers with --confirm may get one";
+    let again = "receiver 0: the same wrong group again within the window of --confirm";
+    let cases: [(Form, &[u8], u64, &str); 6] = [
+        (
+            Form::Receivers(0),
+            b"-,,1,LL\n-,,1,GW214048490D20\n",
+            2,
+            none,
+        ),
+        (
+            Form::Confirming(2),
+            b"-,,1,W214048490D20\n-,,1,W214048490D20\n",
+            2,
+            again,
+        ),
+        // the last slot of the window, and other bits that no segment has
+        (
+            Form::Confirming(3),
+            b"-,,1,W214048490D20L\n-,,1,LL\n-,,1,w214048490D20\n",
+            3,
+            "character 1 is not G, L, W or R",
+        ),
+        (
+            Form::Confirming(3),
+            b"-,,1,W214048490D20L\n-,,1,LL\n-,,1,W250048490d20G\n",
+            3,
+            again,
+        ),
+        // a slot later it may come again, and tags may not
+        (
+            Form::Confirming(2),
+            b"-,,1,W214048490D20\n-,,1,L\n-,,1,W214048490D20\n-,,1,WB10800020000\n-,,1,WB10800020000\n",
+            5,
+            again,
+        ),
+        (
+            Form::Confirming(2),
+            b"-,,1,W214048490D20\n-,,1,R\n-,,1,W214048490D20\n-,,1,W214048490D20\n",
+            4,
+            again,
+        ),
+    ];
+    for (form, script, row, text) in cases {
+        let wanted = format!(in rt.alloc(); "RECEPTIONS: {text}")?;
+        stops(&rt, rt.alloc(), form, (script, row, wanted.as_str()))?;
+    }
+    Ok(())
+}
+
 /// Of two mistakes the one in the earlier field is noted.
 #[test]
 fn two_causes(rt: HostRuntime) -> Result<(), Fail> {
@@ -486,7 +586,7 @@ fn two_causes(rt: HostRuntime) -> Result<(), Fail> {
         (
             b"-,,1,G\n-,,1,G5G5X\n",
             2,
-            "RECEPTIONS: character 5 is not G, L or R",
+            "RECEPTIONS: character 5 is not G, L, W or R",
         ),
         (
             b"-,,1,G\n-,,1,G5G5\n",

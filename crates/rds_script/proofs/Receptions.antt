@@ -1,24 +1,26 @@
 -- A field spells one list of receptions: the digits after a letter end where the next letter stands.
-use Rattle.std.proofs.Common.{◌≡◌, ◌<◌, ◌≤◌, ◌∙◌, ◌++◌, ◌+◌, ◌-◌, ◌*◌, ◌^◌, ℕ, zero, suc, List, [], ◌∷◌, append_assoc, ap, ap₂, arith, drop, get_or, length, length-append, refl, subst, sym, take}
+use Rattle.std.proofs.Common.{◌≡◌, ◌<◌, ◌≤◌, ◌∙◌, ◌++◌, ◌+◌, ◌-◌, ◌*◌, ◌^◌, ℕ, zero, suc, List, [], ◌∷◌, append_assoc, ap, ap₂, arith, drop, get_or, length, inl, inr, length-append, refl, subst, sym, take, ◌⊎◌}
 use Rattle.std.proofs.lemmas.List.{append-nil, length-take-le, take-append-drop}
+use Rattle.std.proofs.lemmas.Bool.{cases_lt}
 use Rattle.std.proofs.lemmas.Bool.Decides.{nat_tests}
-use Rattle.std.proofs.lemmas.Int.Digits.{digits_value-lt, digits_value_more}
-use Rattle.std.proofs.lemmas.Str.{digit_value_digit}
-use Rattle.std.proofs.lemmas.Str.Parse.{digit_from_value}
+use Rattle.std.proofs.lemmas.Int.Digits.{digits_more, digits_value-lt, digits_value_more}
 use Rattle.std.proofs.Math.Nat.{pow-le-pow_right}
-use Rattle.std.specs.Char.{IsAsciiDigit, IsNotAsciiDigit, digit_value}
+use Rattle.std.specs.Char.{IsAsciiHexdigit, IsNotAsciiHexdigit, digit_value}
 use Rattle.std.specs.Str.Parse.{AllDigits, digits_value}
-use Rattle.std.specs.Prelude.{slice_index_or}
+use Rattle.rds_block.specs.SecondWord.{same_group}
+use Rattle.rds_block.specs.Words.{AreWordsOf}
+use Rattle.rds_fields.specs.OneMessage.{same_message}
+use Rattle.rds_fields.specs.Spells.{Spells}
 use Rattle.rds_fields.specs.declared.message.Message.{Message}
 use Rattle.rds_world.specs.declared.event.Reception.{Reception}
 use Rattle.rds_world.specs.declared.event.Reception.TheVariants.{Got, Lost, Wrong, Restart}
-use Rattle.rds_script.specs.Receptions.{AreReceptions, HasDigits, HasNoDigitFirst, IsDigitCut, letter}
+use Rattle.rds_script.specs.Receptions.{AreReceptions, HasDigits, HasNoDigitFirst, IsDigitCut, IsLateness, IsWrongGroup, letter}
 
 not_empty : (b : ℕ) (more : List ℕ) → b ∷ more ≡ [] → ⊥
 not_empty b more e = cc
 
 -- the digits that a text begins with are one list of them
-same_cut : (digits other rest others : List ℕ) → AllDigits 10 digits → AllDigits 10 other → HasNoDigitFirst rest → HasNoDigitFirst others → digits ++ rest ≡ other ++ others → (digits ≡ other) × (rest ≡ others)
+same_cut : (digits other rest others : List ℕ) → AllDigits 16 digits → AllDigits 16 other → HasNoDigitFirst rest → HasNoDigitFirst others → digits ++ rest ≡ other ++ others → (digits ≡ other) × (rest ≡ others)
 same_cut [] [] rest others p q h k e = (refl, e)
 same_cut [] (b ∷ other) [] others p q h k e = absurd (not_empty b (other ++ others) (sym e))
 same_cut [] (b ∷ other) (c ∷ rest) others p q h k e = (let head : c ≡ b = (cc) in absurd (omega (arith, h, q.0, ap digit_value head)))
@@ -32,7 +34,7 @@ same_cut (b ∷ digits) (c ∷ other) rest others p q h k e =
     (cc, same.1)
 
 -- a letter is no digit
-no_digit : (r : Reception) → 10 ≤ digit_value (letter r)
+no_digit : (r : Reception) → 16 ≤ digit_value (letter r)
 no_digit (Got late) = omega arith
 no_digit Lost = omega arith
 no_digit (Wrong message) = omega arith
@@ -43,11 +45,37 @@ unfolding AreReceptions
 begins_with_letter text [] none = subst HasNoDigitFirst (sym none) tt
 begins_with_letter text (r ∷ others) (digits, rest, spelled, has, are) = subst HasNoDigitFirst (sym spelled) (no_digit r)
 
-decimal : (r : Reception) (digits : List ℕ) → HasDigits r digits → AllDigits 10 digits
-decimal (Got late) digits has = has.decimal
-decimal Lost digits none = subst (AllDigits 10) (sym none) tt
-decimal (Wrong message) digits none = absurd none
-decimal Restart digits none = subst (AllDigits 10) (sym none) tt
+wider : (digits : List ℕ) → AllDigits 10 digits → AllDigits 16 digits
+wider [] all = tt
+wider (b ∷ digits) (first, others) = (omega (arith, first), wider digits others)
+
+four : {A B C D E : Type 0} → A → B → C → D → E → A × (B × (C × (D × E)))
+four a b c d others = (a, (b, (c, (d, others))))
+
+twelve : (digits : List ℕ) (message : Message) → IsWrongGroup digits message → AllDigits 16 digits
+twelve (a ∷ b ∷ c ∷ d ∷ e ∷ f ∷ g ∷ h ∷ i ∷ j ∷ k ∷ l ∷ []) message has =
+    four has.second.first has.second.second has.second.third has.second.fourth (
+    four has.third.first has.third.second has.third.third has.third.fourth (
+    four has.fourth.first has.fourth.second has.fourth.third has.fourth.fourth tt
+    )
+    )
+twelve digits message has = absurd (omega (arith, has.count))
+
+hexadecimal : (r : Reception) (digits : List ℕ) → HasDigits r digits → AllDigits 16 digits
+hexadecimal (Got late) digits has = wider digits has.decimal
+hexadecimal Lost digits none = subst (AllDigits 16) (sym none) tt
+hexadecimal (Wrong message) digits has = twelve digits message has
+hexadecimal Restart digits none = subst (AllDigits 16) (sym none) tt
+
+-- twelve digits are blocks of a group that spells one message
+same_wrong : (digits : List ℕ) (m n : Message) → IsWrongGroup digits m → IsWrongGroup digits n → m ≡ n
+same_wrong digits m n p q =
+    let second : p.b ≡ q.b = p.second.word ∙ sym q.second.word in
+    let third : p.c ≡ q.c = p.third.word ∙ sym q.third.word in
+    let fourth : p.d ≡ q.d = p.fourth.word ∙ sym q.fourth.word in
+    let words : 0 ∷ p.b ∷ p.c ∷ p.d ∷ [] ≡ 0 ∷ q.b ∷ q.c ∷ q.d ∷ [] = (cc) in
+    let group : p.group ≡ q.group = same_group _ p.group q.group p.words (subst (λ (w : List ℕ). AreWordsOf w q.group) (sym words) q.words) in
+    same_message m n p.group p.spells (subst (Spells n) (sym group) q.spells)
 
 -- a letter and its digits say one reception
 same_reception : (digits : List ℕ) (r s : Reception) → letter r ≡ letter s → HasDigits r digits → HasDigits s digits → r ≡ s
@@ -60,10 +88,13 @@ same_reception digits Lost Restart e p q = absurd (omega (arith, e))
 same_reception digits Restart (Got k) e p q = absurd (omega (arith, e))
 same_reception digits Restart Lost e p q = absurd (omega (arith, e))
 same_reception digits Restart Restart e p q = refl
-same_reception digits (Wrong message) s e p q = absurd p
-same_reception digits (Got d) (Wrong message) e p q = absurd q
-same_reception digits Lost (Wrong message) e p q = absurd q
-same_reception digits Restart (Wrong message) e p q = absurd q
+same_reception digits (Wrong m) (Wrong n) e p q = ap Wrong (same_wrong digits m n p q)
+same_reception digits (Wrong m) (Got k) e p q = absurd (omega (arith, e))
+same_reception digits (Wrong m) Lost e p q = absurd (omega (arith, e))
+same_reception digits (Wrong m) Restart e p q = absurd (omega (arith, e))
+same_reception digits (Got d) (Wrong n) e p q = absurd (omega (arith, e))
+same_reception digits Lost (Wrong n) e p q = absurd (omega (arith, e))
+same_reception digits Restart (Wrong n) e p q = absurd (omega (arith, e))
 
 -- the receptions of a text that a byte and the digits after it begin: the first of them, and those of the rest
 record IsFirst (b : ℕ) (digits : List ℕ) (all : List Reception) (rest : List ℕ) : Type 0 where
@@ -81,7 +112,7 @@ first_of text after b digits rest (r ∷ others) begins cut (digits', rest', spe
     let whole : b ∷ after ≡ letter r ∷ digits' ++ rest' = sym begins ∙ spelled in
     let head : b ≡ letter r = (cc) in
     let tail : after ≡ digits' ++ rest' = (cc) in
-    let same = same_cut digits' digits rest' rest (decimal r digits' has) cut.decimal (begins_with_letter rest' others are) cut.ends (sym tail ∙ cut.cut) in
+    let same = same_cut digits' digits rest' rest (hexadecimal r digits' has) cut.hexadecimal (begins_with_letter rest' others are) cut.ends (sym tail ∙ cut.cut) in
     record { first = r; others = others; split = refl; byte = head; has = subst (HasDigits r) same.0 has; are = subst (λ (x : List ℕ). AreReceptions x others) same.1 are }
 
 -- a text spells one list of receptions
@@ -90,7 +121,7 @@ unfolding AreReceptions
 same_receptions text [] [] p q = refl
 same_receptions text [] (s ∷ b) p (digits, rest, spelled, has, are) = absurd (not_empty (letter s) (digits ++ rest) (sym spelled ∙ p))
 same_receptions text (r ∷ a) b (digits, rest, spelled, has, are) q =
-    let there = first_of text (digits ++ rest) (letter r) digits rest b spelled (record { cut = refl; decimal = decimal r digits has; ends = begins_with_letter rest a are }) q in
+    let there = first_of text (digits ++ rest) (letter r) digits rest b spelled (record { cut = refl; hexadecimal = hexadecimal r digits has; ends = begins_with_letter rest a are }) q in
     let head : r ≡ there.first = same_reception digits r there.first there.byte has there.has in
     let tail : a ≡ there.others = same_receptions rest a there.others are there.are in
     let split : b ≡ there.first ∷ there.others = there.split in
@@ -139,54 +170,65 @@ too_many text rest after receptions b s begins full all few are = no_room (s.bac
     no_room (r ∷ more, is, left) = (let size : length all ≡ length (receptions ++ r ∷ more) = ap length is in omega (arith, length-append receptions (r ∷ more), size, full, few))
 
 -- a text is cut by the number of digits that it begins with
-pub digit_cut : (text digits rest : List ℕ) (n : ℕ) → n ≤ length text → ((k : ℕ) → k < n → IsAsciiDigit (get_or text k 0)) → (n < length text → IsNotAsciiDigit (get_or text n 0)) → digits ≡ take n text → rest ≡ drop n text
+digit_below : (b : ℕ) → IsAsciiHexdigit b → digit_value b < 16
+digit_below b is = grind (arith, nat_tests)
+
+digit_from : (b : ℕ) → IsNotAsciiHexdigit b → 16 ≤ digit_value b
+digit_from b out = grind (arith, nat_tests)
+
+pub digit_cut : (text digits rest : List ℕ) (n : ℕ) → n ≤ length text → ((k : ℕ) → k < n → IsAsciiHexdigit (get_or text k 0)) → (n < length text → IsNotAsciiHexdigit (get_or text n 0)) → digits ≡ take n text → rest ≡ drop n text
     → IsDigitCut text digits rest
 digit_cut text digits rest n within are ends first later = record {
   cut = sym (take-append-drop n text) ∙ sym (ap₂ (λ (x y : List ℕ). x ++ y) first later);
-  decimal = subst (AllDigits 10) (sym first) (front text n within are);
+  hexadecimal = subst (AllDigits 16) (sym first) (front text n within are);
   ends = subst HasNoDigitFirst (sym later) (back text n within ends);
 }
   where
-    front : (text : List ℕ) (n : ℕ) → n ≤ length text → ((k : ℕ) → k < n → IsAsciiDigit (get_or text k 0)) → AllDigits 10 (take n text)
+    front : (text : List ℕ) (n : ℕ) → n ≤ length text → ((k : ℕ) → k < n → IsAsciiHexdigit (get_or text k 0)) → AllDigits 16 (take n text)
     front text zero within digits = tt
     front [] (suc n) within digits = absurd (omega arith)
-    front (b ∷ text) (suc n) within digits = (let here = digits 0 (omega arith) in let value = digit_value_digit b here in omega (arith, here, value), front text n (omega arith) (λ k below. digits (suc k) (omega arith)))
+    front (b ∷ text) (suc n) within digits = (digit_below b (digits 0 (omega arith)), front text n (omega arith) (λ k below. digits (suc k) (omega arith)))
 
-    other : (b : ℕ) → IsNotAsciiDigit b → 10 ≤ digit_value b
-    other b out = grind (arith, nat_tests)
-
-    back : (text : List ℕ) (n : ℕ) → n ≤ length text → (n < length text → IsNotAsciiDigit (get_or text n 0)) → HasNoDigitFirst (drop n text)
+    back : (text : List ℕ) (n : ℕ) → n ≤ length text → (n < length text → IsNotAsciiHexdigit (get_or text n 0)) → HasNoDigitFirst (drop n text)
     back [] zero within ends = tt
-    back (b ∷ text) zero within ends = other b (ends (omega arith))
+    back (b ∷ text) zero within ends = digit_from b (ends (omega arith))
     back [] (suc n) within ends = absurd (omega arith)
     back (b ∷ text) (suc n) within ends = back text n (omega arith) (λ below. ends (omega arith))
 
-pub digit_at : (digits : List ℕ) (i : ℕ) → AllDigits 10 digits → i < length digits → IsAsciiDigit (get_or digits i 0)
-digit_at [] i all within = absurd (omega arith)
-digit_at (b ∷ digits) zero all within = digit_from_value b all.0
-digit_at (b ∷ digits) (suc i) all within = digit_at digits i all.1 (omega arith)
+-- a text has a cut
+pub some_cut : (text : List ℕ) → (digits : List ℕ) × (rest : List ℕ) × IsDigitCut text digits rest
+some_cut [] = ([], [], record { cut = refl; hexadecimal = tt; ends = tt })
+some_cut (b ∷ text) = by_test (cases_lt (digit_value b) 16) (some_cut text)
+  where
+    by_test : (digit_value b < 16) ⊎ (16 ≤ digit_value b) → (digits : List ℕ) × (rest : List ℕ) × IsDigitCut text digits rest → (digits : List ℕ) × (rest : List ℕ) × IsDigitCut (b ∷ text) digits rest
+    by_test (inl digit) (digits, rest, c) = (b ∷ digits, rest, record { cut = ap (λ (x : List ℕ). b ∷ x) c.cut; hexadecimal = (digit, c.hexadecimal); ends = c.ends })
+    by_test (inr other) more = ([], b ∷ text, record { cut = refl; hexadecimal = tt; ends = other })
+
+-- a byte and its digits that say no reception: no other digits do
+pub no_other : (byte : ℕ) (text digits rest : List ℕ) → IsDigitCut text digits rest → ((r : Reception) → byte ≡ letter r → HasDigits r digits → ⊥) → (other others : List ℕ) → IsDigitCut text other others → (r : Reception) → byte ≡ letter r → HasDigits r other → ⊥
+no_other byte text digits rest cut none other others c r e has =
+    let same = same_cut other digits others rest c.hexadecimal cut.hexadecimal c.ends cut.ends (sym c.cut ∙ cut.cut) in
+    none r e (subst (HasDigits r) same.0 has)
 
 -- less than four digits write less than a thousand
-pub three_digits : (digits : List ℕ) (i late : ℕ) → AllDigits 10 digits → i < length digits → length digits ≤ 4 → late ≡ digits_value 10 (take i digits) → late < 1000
+pub three_digits : (digits : List ℕ) (i late : ℕ) → AllDigits 10 (take i digits) → i < length digits → length digits ≤ 4 → late ≡ digits_value 10 (take i digits) → late < 1000
 three_digits digits i late all within short value =
     let size : length (take i digits) ≡ i = length-take-le i digits (omega arith) in
-    let small : digits_value 10 (take i digits) < 10 ^ length (take i digits) = digits_value-lt 10 (take i digits) (fewer digits i all) in
+    let small : digits_value 10 (take i digits) < 10 ^ length (take i digits) = digits_value-lt 10 (take i digits) all in
     let power : 10 ^ length (take i digits) ≤ 10 ^ 3 = pow-le-pow_right {n = 10} (omega arith) {i = length (take i digits)} {j = 3} (omega arith) in
     omega (arith, small, power, value)
+
+-- one digit more
+pub one_more_digit : (digits : List ℕ) (i late byte value : ℕ) → AllDigits 10 (take i digits) → i < length digits → late ≡ digits_value 10 (take i digits) → byte ≡ get_or digits i 0 → (digit_value byte < 10) × (value ≡ digit_value byte)
+    → AllDigits 10 (take (i + 1) digits) × (late * 10 + value ≡ digits_value 10 (take (i + 1) digits))
+one_more_digit digits i late byte value all within is at digit =
+    (digits_more 10 digits i within all (rw (← at) digit.0), rw (digits_value_more 10 digits i within, ← at, ← is, digit.1))
+
+-- a byte that is no digit
+pub no_lateness : (digits : List ℕ) (i byte : ℕ) → i < length digits → byte ≡ get_or digits i 0 → (digit_value byte < 10 → ⊥) → (late : ℕ) → IsLateness digits late → ⊥
+no_lateness digits i byte within at none late is = none (rw at (digit_of digits i is.decimal within))
   where
-    fewer : (digits : List ℕ) (i : ℕ) → AllDigits 10 digits → AllDigits 10 (take i digits)
-    fewer digits zero all = tt
-    fewer [] (suc i) all = tt
-    fewer (b ∷ digits) (suc i) all = (all.0, fewer digits i all.1)
-
-pub one_more_digit : (digits : List ℕ) (i late : ℕ) → AllDigits 10 digits → i < length digits → late ≡ digits_value 10 (take i digits) → late * 10 + (get_or digits i 0 - 48) ≡ digits_value 10 (take (i + 1) digits)
-one_more_digit digits i late all within value =
-    let digit : digit_value (get_or digits i 0) + 48 ≡ get_or digits i 0 = digit_value_digit (get_or digits i 0) (digit_at digits i all within) in
-    omega (arith, digit, value, digits_value_more 10 digits i within)
-
--- no reception that a text spells is wrong
-pub none_wrong : (text : List ℕ) (all : List Reception) (i : ℕ) (message : Message) → AreReceptions text all → slice_index_or all i Lost ≡ Wrong message → ⊥
-unfolding AreReceptions
-none_wrong text [] i message are e = cc
-none_wrong text (r ∷ others) zero message (digits, rest, spelled, has, are) e = subst (λ (s : Reception). HasDigits s digits) e has
-none_wrong text (r ∷ others) (suc i) message (digits, rest, spelled, has, are) e = none_wrong rest others i message are e
+    digit_of : (digits : List ℕ) (i : ℕ) → AllDigits 10 digits → i < length digits → digit_value (get_or digits i 0) < 10
+    digit_of [] i all within = absurd (omega arith)
+    digit_of (b ∷ digits) zero all within = all.0
+    digit_of (b ∷ digits) (suc i) all within = digit_of digits i all.1 (omega arith)

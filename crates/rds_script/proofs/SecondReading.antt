@@ -125,13 +125,7 @@ pub named_before : (k slot : ℕ) (last : Option ℕ) (d : ℕ) → (IsDue k slo
 named_before k slot None d late soon there = absurd (late record { soon = soon; there = there; after = tt })
 named_before k slot (Some s) d late soon there = (s, refl, not_after s (slot - d) (λ after. late record { soon = soon; there = there; after = after }))
 
--- a byte that is a letter, and digits that don't suit it
-pub not_short : (digits : List ℕ) → AllDigits 10 digits → ((r : Reception) → 71 ≡ letter r → HasDigits r digits → ⊥) → 4 < length digits
-not_short digits decimal none = more (length digits) (λ short. none (Got (digits_value 10 digits)) refl record { decimal = decimal; short = short; value = refl })
-  where
-    more : (n : ℕ) → (n ≤ 4 → ⊥) → 4 < n
-    more n none = grind arith
-
+-- digits where none may be
 pub not_bare : (digits : List ℕ) → (digits ≡ [] → ⊥) → 0 < length digits
 not_bare [] none = absurd (none refl)
 not_bare (b ∷ digits) none = omega arith

@@ -2,21 +2,24 @@
 -- in their order: a cause in one field requires that the fields before it are good. This is the project's own format.
 -- Lists of records and of events have the newest first. Places count from 1.
 use Rattle.std.specs.Prelude.{◌≡◌, ◌≢◌, ◌⊎◌, ◌<◌, ◌≤◌, ◌+◌, ◌-◌, ◌==◌, [], ◌∷◌}
-use Rattle.std.specs.Prelude.{ℕ, Bool, List, Some, IsUtf8, count_by, length, slice_index, slice_index_or}
+use Rattle.std.specs.Prelude.{ℕ, Bool, IsSome, List, None, Some, IsUtf8, count_by, length, slice_index, slice_index_or}
 use Rattle.rds_charset.specs.ReadAs.{IsReadAs}
 use Rattle.rds_charset.specs.Stops.{IsStop}
+use Rattle.rds_fields.specs.declared.message.Message.{Message}
+use Rattle.rds_fields.specs.declared.message.Message.TheVariants.{Other}
 use Rattle.rds_fields.specs.declared.pair.Which.{Which}
 use Rattle.rds_fields.specs.declared.pair.Which.TheVariants.{One, Two}
 use Rattle.rds_assembly.specs.Body.{space}
 use Rattle.rds_assembly.specs.Value.{IsFirstBad, is_name_byte, is_text_byte}
 use Rattle.rds_world.specs.declared.event.Command.{Command}
 use Rattle.rds_world.specs.declared.event.Reception.{Reception}
-use Rattle.rds_world.specs.declared.event.Reception.TheVariants.{Got, Lost, Restart}
+use Rattle.rds_world.specs.declared.event.Reception.TheVariants.{Got, Lost, Wrong, Restart}
 use Rattle.rds_world.specs.declared.event.TheConstants.{MOST_RECEIVERS}
 use Rattle.rds_world.specs.Due.{IsFirstLate, last_named}
 use Rattle.rds_world.specs.Event.{Event}
 use Rattle.rds_world.specs.Premise.{Premise}
-use Rattle.rds_script.specs.Receptions.{HasDigits, IsDigitCut, letter}
+use Rattle.rds_world.specs.Wrong.{IsFirstWrong}
+use Rattle.rds_script.specs.Receptions.{HasDigits, IsDigitCut, IsLateness, IsWrongGroup, letter}
 use Rattle.rds_script.specs.Rows.{AreNumbers, AreRows, HasNoSpace, IsAllowed, IsCut, IsNumber, Record, SaysCommand, SaysEvent}
 use Rattle.rds_script.specs.Rows.{free_field}
 use Rattle.rds_script.specs.Verbs.{verb_word}
@@ -200,8 +203,12 @@ IsReceptionsCause field (cause.NoReception place) =
 IsReceptionsCause field (cause.DigitsAfter place) =
     (byte : ℕ) × (digits : List ℕ) × ComesNext field place byte digits × (0 < length digits)
     × ((byte ≡ letter Lost) ⊎ (byte ≡ letter Restart))
-IsReceptionsCause field (cause.TooManyDigits place) =
-    (digits : List ℕ) × ComesNext field place (letter (Got 0)) digits × (4 < length digits)
+IsReceptionsCause field (cause.LatenessDigits place) =
+    (digits : List ℕ) × ComesNext field place (letter (Got 0)) digits
+    × ((late : ℕ) → IsLateness digits late → ⊥)
+IsReceptionsCause field (cause.GroupDigits place) =
+    (digits : List ℕ) × ComesNext field place (letter (Wrong Other)) digits
+    × ((message : Message) → IsWrongGroup digits message → ⊥)
 IsReceptionsCause field cause.TooManyReceivers =
     (receptions : List Reception) × (rest : List ℕ) × BeginsWith field receptions rest
     × (length receptions ≡ MOST_RECEIVERS) × (0 < length rest)
@@ -221,6 +228,16 @@ pub record AsksTooMuch (form : Form) (p : Premise) (before : List Record) (row :
   pub first : IsFirstLate p.late event events receiver
   pub got : slice_index_or event.receptions receiver Lost ≡ Got late
 
+-- this receiver is the first whose wrong group breaks the premise about wrong groups; the number of receivers is good
+pub record BreaksPremise (form : Form) (p : Premise) (before : List Record) (row : Record) (receiver : ℕ)
+    : Type 0 where
+  pub event : Event
+  pub says : SaysEvent row event
+  pub allowed : IsAllowed form (length event.receptions)
+  pub events : List Event
+  pub rows : AreRows p (length event.receptions) before events
+  pub first : IsFirstWrong p.window event events receiver
+
 -- the number of the rows before is the number of this slot
 abbrev pub IsEventCause : Form → Premise → List Record → Record → RowCause → Type 0
 IsEventCause form p before row (cause.EncodeTakesNone n) =
@@ -235,6 +252,10 @@ IsEventCause form p before row (cause.BeforeFirst receiver late) =
 IsEventCause form p before row (cause.AlreadyHanded receiver late) =
     (asks : AsksTooMuch form p before row receiver late) × (late ≤ p.late) × (late ≤ length before)
     × (s : ℕ) × (last_named receiver asks.events ≡ Some s) × (length before - late ≤ s)
+IsEventCause form p before row (cause.Wrong receiver) =
+    BreaksPremise form p before row receiver × (p.window ≡ None)
+IsEventCause form p before row (cause.WrongTwice receiver) =
+    BreaksPremise form p before row receiver × IsSome p.window
 IsEventCause form p before row _ = ⊥
 
 -- a cause in one of the four fields

@@ -1,12 +1,12 @@
 //! The event of a row.
 ghost use Rattle.std.specs.Prelude.{◌≡◌, ◌≢◌, ◌<◌, ◌≤◌, [], ◌∷◌};
 ghost use Rattle.std.specs.Prelude.{ℕ, Bool, List, IfNone, IfSome, IsFalse, IsTrue, IsUtf8, length, slice_index};
-ghost use Rattle.std.specs.Char.{IsAsciiDigit, IsNotAsciiDigit};
+ghost use Rattle.std.specs.Char.{IsAsciiHexdigit, IsNotAsciiHexdigit};
 ghost use Rattle.std.specs.Int.{from_bool};
-ghost use Rattle.std.specs.Str.Parse.{AllDigits};
 ghost use Rattle.csv.specs.Records.{fields_of};
 ghost use Rattle.rds_charset.specs.ReadAs.{IsReadAs};
 ghost use Rattle.rds_fields.specs.Tag.{IsPair, PairFields};
+ghost use Rattle.rds_fields.specs.declared.message.Message.{Message};
 ghost use Rattle.rds_assembly.specs.Value.{IsText};
 ghost use Rattle.rds_world.specs.Event.{Event};
 ghost use Rattle.rds_world.specs.declared.event.Command.{Command};
@@ -15,7 +15,7 @@ ghost use Rattle.rds_world.specs.declared.event.Reception.{Reception};
 ghost use Rattle.rds_world.specs.declared.event.TheConstants.{MOST_RECEIVERS};
 ghost use Rattle.rds_script.specs.declared.row.Verb.{Verb};
 ghost use Rattle.rds_script.specs.Verbs.{verb_word};
-ghost use Rattle.rds_script.specs.Receptions.{AreReceptions, HasDigits, IsLateness, letter};
+ghost use Rattle.rds_script.specs.Receptions.{AreReceptions, HasDigits, IsDigitCut, IsLateness, IsWrongGroup, letter};
 ghost use Rattle.rds_script.specs.Rows.{AreNumbers, HasNoSpace, IsCut, IsNameArgument, IsNumber};
 ghost use Rattle.rds_script.specs.Rows.{SaysCommand, SaysEvent, free_field, numbers_of_pair, numbers_of_tag};
 
@@ -23,8 +23,10 @@ use crate::row_cause::RowCause;
 use arrayvec::ArrayVec;
 use csv::ByteRecord;
 use rds_assembly::{LONGEST_TEXT, Name, Text};
+use rds_block::Blocks;
 use rds_charset::{read_text, text_is_read_one_way};
 use rds_fields::{Message, Tag, TagPair};
+use rds_io::word_at;
 use rds_world::{Command, MOST_RECEIVERS, Reception, SlotEvent};
 
 /// The command of a row, without its argument.
@@ -289,36 +291,55 @@ fn read_receptions(field: &[u8], receptions: &mut ArrayVec<Reception, MOST_RECEI
     let _message: Option<Message> = None;
     let mut rest = field;
     while let Some((letter, after)) = rest.split_first() {
-        let (digits, others) = after.split_at(digits_in_front(after));
-        let Some(reception) = reception_of(*letter, digits) else {
+        let Some((reception, others)) = next_reception(*letter, after) else {
             return false;
         };
-        if receptions.try_push(reception).is_err() {
+        if receptions.len() == MOST_RECEIVERS {
             return false;
         }
+        receptions.push(reception);
         rest = others;
     }
     true
 }
 
-/// Returns how many decimal digits the text begins with.
+/// Returns the reception of a letter and the digits after it, and what comes after them. Most letters have no digits, and
+/// pay for none.
+#[inline(always)]
+fn next_reception(byte: u8, after: &[u8]) -> Option<(Reception, &[u8])>
+    ensures some { IfSome result (λ next. (digits : List ℕ) × IsDigitCut after.now digits next.1.now
+        × (byte ≡ letter next.0) × HasDigits next.0 digits) }
+    ensures none { IfNone result ((digits rest : List ℕ) → IsDigitCut after.now digits rest
+        → (reception : Reception) → byte ≡ letter reception → HasDigits reception digits → ⊥) }
+{
+    let count = digits_in_front(after);
+    if count == 0 {
+        let reception = reception_of(byte, &[])?;
+        return Some((reception, after));
+    }
+    let (digits, rest) = after.split_at(count);
+    Some((reception_of(byte, digits)?, rest))
+}
+
+/// Returns how many hexadecimal digits the text begins with.
+#[inline(always)]
 pub(crate) fn digits_in_front(text: &[u8]) -> usize
     ensures within { result ≤ length text.now }
-    ensures digits { (k : ℕ) → k < result → IsAsciiDigit (slice_index text.now k) }
-    ensures ends { result < length text.now → IsNotAsciiDigit (slice_index text.now result) }
+    ensures digits { (k : ℕ) → k < result → IsAsciiHexdigit (slice_index text.now k) }
+    ensures ends { result < length text.now → IsNotAsciiHexdigit (slice_index text.now result) }
 {
     match text.first() {
-        Some(byte) if byte.is_ascii_digit() => text
+        None | Some(b'G'..=b'Z') => 0,
+        Some(_) => text
             .iter()
-            .position(|byte| !byte.is_ascii_digit())
+            .position(|byte| !byte.is_ascii_hexdigit())
             .unwrap_or(text.len()),
-        _ => 0,
     }
 }
 
 /// Returns the reception of a letter and the digits after it.
+#[inline(always)]
 pub(crate) fn reception_of(byte: u8, digits: &[u8]) -> Option<Reception>
-    requires { AllDigits 10 digits.now }
     ensures some { IfSome result (λ reception. (byte ≡ letter reception)
         × HasDigits reception digits.now) }
     ensures none { IfNone result ((reception : Reception) → byte ≡ letter reception
@@ -329,13 +350,30 @@ pub(crate) fn reception_of(byte: u8, digits: &[u8]) -> Option<Reception>
         b'G' => Some(Reception::Got(lateness_of(digits)?)),
         b'L' if digits.is_empty() => Some(Reception::Lost),
         b'R' if digits.is_empty() => Some(Reception::Restart),
+        b'W' => Some(Reception::Wrong(wrong_message(digits)?)),
         _ => None,
     }
 }
 
-/// Reads a number of slots of up to four digits. Returns 0 if there are none.
+/// Reads blocks 2 to 4 of a wrong group. Returns the message that the group spells.
+// Cold path.
+#[inline(never)]
+fn wrong_message(digits: &[u8]) -> Option<Message>
+    ensures some { IfSome result (IsWrongGroup digits.now) }
+    ensures none { IfNone result ((message : Message) → IsWrongGroup digits.now message → ⊥) }
+{
+    if digits.len() != 12 {
+        return None;
+    }
+    let second = word_at(digits, 0)?;
+    let third = word_at(digits, 4)?;
+    let fourth = word_at(digits, 8)?;
+    Some(Message::of_blocks(Blocks::new([0, second, third, fourth])))
+}
+
+/// Reads a number of slots of up to four decimal digits. Returns 0 if there are none.
+#[inline(never)]
 fn lateness_of(digits: &[u8]) -> Option<u16>
-    requires { AllDigits 10 digits.now }
     ensures some { IfSome result (IsLateness digits.now) }
     ensures none { IfNone result ((late : ℕ) → IsLateness digits.now late → ⊥) }
 {
@@ -344,7 +382,8 @@ fn lateness_of(digits: &[u8]) -> Option<u16>
     }
     let mut late = 0;
     for digit in digits {
-        late = late * 10 + u16::from(*digit - b'0');
+        let value = char::from(*digit).to_digit(10)?;
+        late = late * 10 + value as u16;
     }
     Some(late)
 }

@@ -64,14 +64,17 @@ pub enum RowCause {
     Free,
 
     /// The character at this place does not begin a reception.
-    #[error("RECEPTIONS: character {0} is not G, L or R")]
+    #[error("RECEPTIONS: character {0} is not G, L, W or R")]
     NoReception(usize),
     /// Digits follow the L or R at this place.
-    #[error("RECEPTIONS: digits after the L or R at character {0}, only G takes digits")]
+    #[error("RECEPTIONS: digits after the L or R at character {0}, only G and W take digits")]
     DigitsAfter(usize),
-    /// More than four digits follow the G at this place.
-    #[error("RECEPTIONS: more than 4 digits after the G at character {0}")]
-    TooManyDigits(usize),
+    /// What follows the G at this place is not up to four decimal digits.
+    #[error("RECEPTIONS: the G at character {0} takes up to 4 decimal digits")]
+    LatenessDigits(usize),
+    /// What follows the W at this place is not twelve hexadecimal digits.
+    #[error("RECEPTIONS: the W at character {0} takes 12 hexadecimal digits (blocks 2 to 4)")]
+    GroupDigits(usize),
     /// The field goes on after eight receptions.
     #[error("RECEPTIONS: more than 8 receivers")]
     TooManyReceivers,
@@ -103,6 +106,12 @@ pub enum RowCause {
         receiver: usize,
         late: u16,
     },
+    /// The receiver gets a wrong group, but the receivers have no window.
+    #[error("RECEPTIONS: receiver {0}: a wrong group; only receivers with --confirm may get one")]
+    Wrong(usize),
+    /// The receiver gets a segment or a pair of tags that was wrong in the same way less than W slots before.
+    #[error("RECEPTIONS: receiver {0}: the same wrong group again within the window of --confirm")]
+    WrongTwice(usize),
 }
 
 /// A number in the argument of `tags`. The variants have the order of the argument.

@@ -3,7 +3,6 @@
 //! Good rows are read once, and pay nothing for these functions.
 ghost use Rattle.std.specs.Prelude.{◌≡◌, ◌⊎◌, ◌<◌, ◌≤◌, ◌+◌, ◌^◌, ◌↔◌};
 ghost use Rattle.std.specs.Prelude.{ℕ, List, IfErr, IfNone, IfOk, IfSome, IsTrue, IsUtf8, length, slice_index_or, take};
-ghost use Rattle.std.specs.Str.Parse.{AllDigits};
 ghost use Rattle.csv.specs.Records.{fields_of};
 ghost use Rattle.rds_charset.specs.ReadAs.{IsReadAs};
 ghost use Rattle.rds_charset.specs.Stops.{IsStop};
@@ -322,15 +321,15 @@ fn receptions_cause(field: &[u8]) -> Option<RowCause>
 
 /// Returns why this letter with these digits is not a reception. `place` is the place of the letter.
 fn reception_cause(byte: u8, digits: &[u8], place: usize) -> RowCause
-    requires decimal { AllDigits 10 digits.now }
     requires none { (r : Reception) → byte ≡ letter r → HasDigits r digits.now → ⊥ }
     ensures { (field : List ℕ) → ComesNext field place byte digits.now
         → IsReceptionsCause field result }
 {
     match byte {
-        b'G' => RowCause::TooManyDigits(place),
+        b'G' => RowCause::LatenessDigits(place),
         b'L' => RowCause::DigitsAfter(place),
         b'R' => RowCause::DigitsAfter(place),
+        b'W' => RowCause::GroupDigits(place),
         _ => RowCause::NoReception(place),
     }
 }
@@ -360,9 +359,8 @@ pub(crate) fn refused_cause(
         StepRefused::Late(receiver) => {
             late_cause(receiver, lateness_at(receptions, receiver), premise, slot)
         }
-        // No row spells a wrong group, so these two do not come.
-        StepRefused::Wrong(_) => RowCause::NoReception(0),
-        StepRefused::WrongTwice(_) => RowCause::NoReception(0),
+        StepRefused::Wrong(receiver) => RowCause::Wrong(receiver),
+        StepRefused::WrongTwice(receiver) => RowCause::WrongTwice(receiver),
     }
 }
 

@@ -1,6 +1,7 @@
 use Rattle.std.proofs.Common.{◌≡◌, take}
-use Rattle.std.specs.Str.Parse.{digits_value}
+use Rattle.std.specs.Str.Parse.{AllDigits, digits_value}
 use Rattle.rds_script.proofs.row.lateness_of.Given as goal
 
 abbrev pub invariant-loop-digit : goal.invariant-loop-digit
-invariant-loop-digit l = l.late ≡ digits_value 10 (take l.digit-index l.digits)
+invariant-loop-digit l =
+    AllDigits 10 (take l.digit-index l.digits) × (l.late ≡ digits_value 10 (take l.digit-index l.digits))

@@ -10,22 +10,10 @@ pub loop-letter-init : goal.loop-letter-init
 unfolding BeginsWith
 loop-letter-init c = ([], refl, refl, omega arith)
 
-pub reception_of-requires : goal.reception_of-requires
-reception_of-requires c =
-    let cut = digit_cut c.in-Some.after.now c.split_at.result.0.now c.split_at.result.1.now c.digits_in_front.result c.digits_in_front.ensures.within c.digits_in_front.ensures.digits c.digits_in_front.ensures.ends
-    c.split_at.ensures.front c.split_at.ensures.back in
-    cut.decimal
-
 pub overflow_sub-field : goal.overflow_sub-field
 overflow_sub-field c =
     let (receptions, begins, count, few) = c.loop-letter.invariant in
     omega (arith, rest_within c.args.field.now c.loop-letter.rest.now receptions begins, ap length c.in-Some.ensures.cases.0)
-
-pub reception_cause-requires-clause-decimal : goal.reception_cause-requires-clause-decimal
-reception_cause-requires-clause-decimal c =
-    let cut = digit_cut c.in-Some.after.now c.split_at.result.0.now c.split_at.result.1.now c.digits_in_front.result c.digits_in_front.ensures.within c.digits_in_front.ensures.digits c.digits_in_front.ensures.ends
-    c.split_at.ensures.front c.split_at.ensures.back in
-    cut.decimal
 
 pub returns-in_default-reception_of-clause-some : goal.returns-in_default-reception_of-clause-some
 returns-in_default-reception_of-clause-some c =
