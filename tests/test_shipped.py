@@ -7,7 +7,7 @@ import shutil
 import subprocess
 import zipfile
 
-from tests import shipped
+from tests import shipped_pages
 from tests.support import (ARCHIVE, PROGRAM, ROOT, SECONDS, Case, build_archive, needs, output, path, temporary_folder,
                            text_of)
 
@@ -51,18 +51,18 @@ class Pages(Case):
                              "page/index.html": "share/rdsrt/page/index.html"})
         os.mkdir(os.path.join(self.tree, "bin"))
         os.symlink(PROGRAM, os.path.join(self.tree, "bin/rdsrt"))
-        shipped.links(self.check, self.tree)
-        readme, *among = shipped.pages(self.tree)
+        shipped_pages.links(self.check, self.tree)
+        readme, *among = shipped_pages.pages(self.tree)
         self.check("the first page", os.path.basename(readme), "README.md")
-        shipped.names(self.check, self.tree, among)
-        self.check("it plays commands", shipped.commands(self.check, self.tree, among, played(self.tree)) > 15, True)
-        left = [page for page in shipped.pages(self.tree) if re.search(r"(?<![./])\./rdsrt", text_of(page))]
+        shipped_pages.names(self.check, self.tree, among)
+        self.check("it plays commands", shipped_pages.commands(self.check, self.tree, among, played(self.tree)) > 15, True)
+        left = [page for page in shipped_pages.pages(self.tree) if re.search(r"(?<![./])\./rdsrt", text_of(page))]
         self.check("pages with the command of the repository", left, [])
 
     def test_debian(self):
         doc = "usr/share/doc/rdsrt"
         self.lay("debian", {"examples": f"{doc}/examples", "include/rdsrt.h": "usr/include/rdsrt.h"})
-        shipped.links(self.check, self.tree)
+        shipped_pages.links(self.check, self.tree)
         guide = text_of(os.path.join(self.tree, doc, "GUIDE.md"))
         for word in ("examples/json", "examples/monitor", "/opt/rdsrt", "./rdsrt"):
             self.check(f"the guide of Debian has no {word}", word in guide, False)
@@ -71,7 +71,7 @@ class Pages(Case):
 
     def test_wheel(self):
         self.lay("wheel", {})
-        shipped.links(self.check, self.tree)
+        shipped_pages.links(self.check, self.tree)
 
     @needs("systemd-analyze", package="systemd")
     def test_systemd_takes_the_unit_of_debian(self):
