@@ -18,7 +18,6 @@ DWELLS = [
 # each table of names: a file, and the pattern in front of the names between quotation marks
 NAMES = [
     ("page/lines.js", r"CLASSES = \["),
-    ("examples/c/decode.c", r"\{\s*(?=\"\", \"ITEM)"),
     ("bench/c/decode.c", r"classes\[12\] = \{"),
 ]
 
@@ -55,3 +54,6 @@ class Tables(ProgramCase):
             found = re.search(before + r"(.*?)[\]}]", text_of(path), re.S)
             names = re.findall(r'"([\w.]+)"', found[1] if found else "")
             self.check(path, [f"ITEM.{name.removeprefix('ITEM.')}" for name in names], wanted)
+        # the library has more names, and the one of the dummy before them
+        names = re.findall(r'codes "([\w.]+)"', text_of("crates/rds_ffi/specs/Names.antt"))
+        self.check("the names of the C library", names[1:12], wanted)
