@@ -60,6 +60,9 @@ const lines = (() => {
     return { kind: rest.slice(0, cut), text: rest.slice(cut + 2, -1) };
   }
 
+  /* The four blocks of a line. */
+  const groupIn = (line) => line.split(" ").map((word) => parseInt(word, 16));
+
   /* Reads the lines of `decode` and of `sim`: views, groups as words and as lines, replies, and a last line that is a
      fault. */
   function read(output, count) {
@@ -70,7 +73,7 @@ const lines = (() => {
       const slot = Number(m[1]), [, , receiver, what, rest] = m;
       if (what === "sent") {
         said.logged[slot] = rest;
-        said.sent[slot] = rest.split(" ").map((word) => parseInt(word, 16));
+        said.sent[slot] = groupIn(rest);
       } else if (receiver === undefined && !SHOWN.test(rest)) said.replies.push({ slot, what, reply: rest });
       else (said.views[Number(receiver ?? 0)] ??= new View()).change(what, slot, valueOf(what, rest));
     }
@@ -130,6 +133,6 @@ const lines = (() => {
   const CODES = { NOTHING, TEXT, NAME, TAGS, OTHER, KIND, FLAG };
   const BITS = { FLAG_BIT, NAME_SEGMENT, TEXT_SEGMENT };
   return {
-    ...BITS, ...CODES, LOST, View, classOf, codeOf, codesOf, markedCodeOf, noteOf, notes, read, seconds, SLOT, sums, time, typeOf,
+    ...BITS, ...CODES, LOST, View, classOf, codeOf, codesOf, groupIn, markedCodeOf, noteOf, notes, read, seconds, SLOT, sums, time, typeOf,
   };
 })();

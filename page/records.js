@@ -35,7 +35,7 @@ const records = (() => {
     return all;
   }
 
-  const letters = (receptions) => receptions.match(/G\d*|L|R/g) ?? [];
+  const letters = (receptions) => receptions.match(/G\d*|L|R|W[0-9A-Fa-f]{12}/g) ?? [];
   function rowOf({ fields, line, written }) {
     const [command = "", argument = "", free = "", receptions = ""] = fields;
     return { command, argument, free, receptions: letters(receptions), line, written };

@@ -48,7 +48,7 @@ const scriptTab = (() => {
     timeline.draw();
   }
 
-  const BRUSHES = { L: "lose", G: "get", R: "restart in" };
+  const BRUSHES = { L: "lose", G: "get", R: "restart in", W: "get a wrong group in" };
 
   /* Says how the brush works while it is on. */
   function showBrush() {
@@ -92,7 +92,13 @@ const scriptTab = (() => {
 
   function setReception(slot, receiver, letter) {
     const row = state.rows[slot];
-    if (row) records.editReception(row, receiver, letter);
+    if (row) records.editReception(row, receiver, letter === "W" ? wrongIn(slot) : letter);
+  }
+
+  /* A reception of the slot's group with the last bit wrong; a lost slot if none was sent. */
+  function wrongIn(slot) {
+    const [, second, third, fourth] = state.said.sent[slot] ?? [];
+    return second === undefined ? "L" : `W${[second, third, fourth ^ 1].map(parts.hex).join("")}`;
   }
 
   /* The rows were edited: plays them, and notes the script for the undo. */
@@ -155,9 +161,12 @@ const scriptTab = (() => {
   }
 
   /* Opens a script: its text, and the program's input for this text, which for a file is the file's bytes. */
-  function open(text, { m, k, pty = "10", isEdit = false, example = "", file = "", input = text } = {}) {
+  function open(text, { m, k, w = "", pty = "10", isEdit = false, example = "", file = "", input = text } = {}) {
     state.pty = pty;
-    if (!isEdit) Object.assign(state, { opened: { text, input, file, example }, saved: text });
+    if (!isEdit) {
+      Object.assign(state, { opened: { text, input, file, example }, saved: text });
+      $("script-w").value = w;
+    }
     if (m) $("script-m").value = m;
     if (k !== undefined) $("script-k").value = k;
     take(text);
@@ -185,8 +194,10 @@ const scriptTab = (() => {
     parts.fill("script-text", text);
     const problem = tooMuch() || parts.problemOf($("script-form"));
     if (problem) { showProblem(problem); return; }
-    const m = $("script-m").value, k = $("script-k").value, count = state.rows.length;
-    const words = ["sim", "--pi", PI, "--pty", state.pty, "--m", m, "--k", k], got = rdsrt.run(words, input);
+    const [m, k, w] = ["script-m", "script-k", "script-w"].map((id) => $(id).value), count = state.rows.length;
+    const words = ["sim", "--pi", PI, "--pty", state.pty, "--m", m, "--k", k, ...(w ? ["--confirm", w] : [])];
+    const got = rdsrt.run(words, input);
+    $("brush-wrong").hidden = !w;
     const played = playedOf(got.output, count), said = lines.read(got.output, played), tint = parts.tinter();
     const broadcast = onAir(said.replies, played, tint);
     const replies = new Map(said.replies.map((it) => [it.slot, it]));
@@ -285,20 +296,27 @@ const scriptTab = (() => {
   /* The slots in which a receiver restarts. */
   const restartsOf = (i) => [...state.rows.keys()].filter((slot) => state.rows[slot].receptions[i] === "R");
 
+  /* The line of a wrong group. */
+  const wrongLine = (letter) => `${PI} ${letter.slice(1).match(/.{4}/g).join(" ")}`;
+  const isWrong = (letter) => letter?.[0] === "W";
+
+  /* What a receiver gets in this slot: a group, and its line. */
+  const groupHeard = (letter, slot) => isWrong(letter) ? lines.groupIn(wrongLine(letter)) : state.said.sent[sourceOf(letter, slot)];
+  const lineHeard = (letter, slot) => isWrong(letter) ? wrongLine(letter) : state.said.logged[sourceOf(letter, slot)] ?? lines.LOST;
+
   /* Finds the groups of each receiver, and the view of one with the flag bit alone that gets them. */
   function hear() {
-    const { said } = state, rows = state.rows.slice(0, state.played);
-    const sourcesOf = (i) => rows.map((row, slot) => sourceOf(row.receptions[i], slot));
-    const all = Array.from({ length: receivers() }, (_, i) => sourcesOf(i));
-    state.heard = all.map((sources) => sources.map((slot) => said.sent[slot] ?? null));
-    const got = all.map((sources) => sources.map((slot) => said.logged[slot] ?? lines.LOST));
-    state.alone = got.map((each, i) => flagAlone.receive(PI, each, restartsOf(i)));
+    const rows = state.rows.slice(0, state.played);
+    const each = (heard) => Array.from({ length: receivers() }, (_, i) => rows.map((row, slot) => heard(row.receptions[i], slot)));
+    state.heard = each((letter, slot) => groupHeard(letter, slot) ?? null);
+    state.alone = each(lineHeard).map((got, i) => flagAlone.receive(PI, got, restartsOf(i)));
   }
 
   /* The colour of a slot in which a receiver does this. A group that has nothing to do with texts isn't printed. */
   function codeHeard(letter, slot) {
-    const source = sourceOf(letter, slot);
-    return source < 0 ? lines.NOTHING : lines.codeOf(state.said.sent[source], null) || lines.OTHER;
+    const group = groupHeard(letter, slot);
+    if (group) return lines.codeOf(group, null);
+    return sourceOf(letter, slot) < 0 ? lines.NOTHING : lines.OTHER;
   }
 
   function codesHeard(i, count) {
@@ -399,7 +417,7 @@ const scriptTab = (() => {
 
   /* Names what the receiver does in the slot. */
   function does(letter, slot) {
-    if (letter[0] !== "G") return { L: "loses", R: "restarts" }[letter[0]] ?? "";
+    if (letter[0] !== "G") return { L: "loses", R: "restarts", W: "gets a wrong group" }[letter[0]] ?? "";
     return letter.length > 1 ? `gets slot ${slot - Number(letter.slice(1))}` : "gets";
   }
 
@@ -465,7 +483,8 @@ const scriptTab = (() => {
     picture.saveAs("script.csv", new Blob([state.text], { type: "text/csv" }));
   }
 
-  const options = () => `m=${$("script-m").value}&k=${$("script-k").value}&pty=${state.pty}`;
+  const windowOption = () => $("script-w").value ? `&w=${$("script-w").value}` : "";
+  const options = () => `m=${$("script-m").value}&k=${$("script-k").value}${windowOption()}&pty=${state.pty}`;
 
   async function link() {
     playedSoon.now();
@@ -476,7 +495,8 @@ const scriptTab = (() => {
   /* Opens the script of a link. */
   async function openLink(hash, defaults) {
     const it = await links.read("script", hash), { text, within } = it;
-    open(text, { m: within("m", 1, 65535) ?? defaults.m, k: within("k", 0, 1024) ?? defaults.k, pty: within("pty", 0, 31) });
+    const [m, k, w] = [within("m", 1, 65535) ?? defaults.m, within("k", 0, 1024) ?? defaults.k, within("w", 2, 255)];
+    open(text, { m, k, w, pty: within("pty", 0, 31) });
     state.chosen = within("receiver", 0, receivers() - 1) ?? state.chosen;
     timeline.chosen = receivers() ? state.chosen : null;
     links.look(timeline, it);
@@ -490,7 +510,7 @@ const scriptTab = (() => {
   }
 
   function begin() {
-    for (const id of ["script-m", "script-k", "script-n", "script-slots"]) $(id).oninput = parts.soon(formChanged);
+    for (const id of ["script-m", "script-k", "script-w", "script-n", "script-slots"]) $(id).oninput = parts.soon(formChanged);
     $("script-text").oninput = parts.soon(() => {
       const area = $("script-text"), at = area.selectionStart;
       open(area.value, { pty: state.pty, isEdit: true });

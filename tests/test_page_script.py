@@ -107,6 +107,34 @@ class ScriptTab:
         self.check("announcements of tags have not", (got, "other" in got), (wanted, True))
 
 
+    def test_a_wrong_group_is_shown_only_without_a_window(self):
+        """The receiver with a window of 4 slots shows nothing of a wrong group. A second one within the window is refused."""
+        b = self.b
+        open_script(b, example("wrong.csv").decode(), m=8, k=0, w=8)
+        self.check("the command", text_of(b, "#script-command"), "rdsrt sim --pi C201 --pty 10 --m 8 --k 0 --confirm 8")
+        self.check("a radio shows a text that nobody sent", text_of(b, "#script-count"),
+                   "With the flag bit alone, receivers show a text that nobody sent. With the dwell none does.")
+        self.check("the brush for wrong groups", of(b, "#brush-wrong", "hidden"), False)
+        call(b, "probe.choose", "script-w", "")
+        settle(b)
+        self.check("without a window the row is refused", ("only receivers with --confirm may get one" in
+                   text_of(b, "#script-fault"), of(b, "#brush-wrong", "hidden")), (True, True))
+
+    def test_the_brush_makes_a_group_wrong(self):
+        b = self.b
+        open_script(b, "-,,1,G\n" * 7 + "text,HI,1,G\n" + "-,,1,G\n" * 8, m=4, k=0, w=4)
+        b.run("scriptTab.timeline.move(9)")
+        sent = text_of(b, "#script-lines").splitlines()[-1].split()
+        click(b, "[name=brush][value=W]")
+        place = b.run(f"probe.place(scriptTab.timeline, {sent[0]}, lane => lane.group === 0)")
+        b.drag(place, place)
+        settle(b)
+        click(b, "[name=brush][value=look]")
+        wrong = "".join(sent[3:5] + [f"{int(sent[5], 16) ^ 1:04X}"])
+        self.check("the row has the group with its last bit wrong",
+                   of(b, "#script-text", "value").splitlines()[int(sent[0])], f"-,,1,W{wrong}")
+
+
 class Chromium(ScriptTab, ChromiumCase):
     def test_a_stroke_of_the_brush_is_shown_at_once(self):
         """The lane shows it while the pointer is down, before the script is played. Escape ends the brush."""

@@ -33,6 +33,7 @@ SCRIPTS = [
     ("The mix: a long tunnel", "mix.csv", {"m": 8, "k": 0, "pty": "10"}),
     ("A short tunnel", "tunnel.csv", {"m": 8, "k": 0, "pty": "24"}),
     ("Groups that come late", "late.csv", {"m": 4, "k": 2, "pty": "10"}),
+    ("A wrong group, heard twice", "wrong.csv", {"m": 8, "k": 0, "w": 8, "pty": "10"}),
     ("A song with its tags", "chanson.csv", {"m": 8, "k": 0, "pty": "10"}),
 ]
 # After the first restart a text comes first, after the second the empty one: the commands by their slots.
