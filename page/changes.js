@@ -8,9 +8,9 @@ const changes = (() => {
   const state = { all: [], found: [], first: 0, now: -1, goTo: () => {}, clock: () => "", line: () => "" };
 
   /* Shows the changes of a view. `clock` gives the clock time of a slot, if the log has one, and `line` its line. */
-  function show(view, mixed, { goTo, clock, line }) {
+  function show(view, mixUntil, { goTo, clock, line }) {
     const rows = (part) => view.parts[part].filter((run) => run.value !== null).map((run) => ({
-      slot: run.from, part, text: parts.labelOf(run.value), isMix: mixed(part, run.value),
+      slot: run.from, part, text: parts.labelOf(run.value), isMix: run.from < mixUntil(part, run.value),
     }));
     const all = Object.keys(NAMES).flatMap(rows).sort((a, b) => a.slot - b.slot);
     Object.assign(state, { all, goTo, clock, line, now: -1 });

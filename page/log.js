@@ -24,7 +24,7 @@ const logTab = (() => {
   const NO_TIMES = { timed: 0, absent: 0, breaks: 0, coarse: "" };
   const empty = () => ({
     log: NO_LOG, times: NO_TIMES, programmes: [], groups: 0, codes: new Uint8Array(0), view: new lines.View(), alone: new lines.View(),
-    mixed: () => false, whole: null, known: {}, witness: null, result: null, audits: new Map(),
+    mixUntil: parts.noMix, whole: null, known: {}, witness: null, result: null, audits: new Map(),
   });
   const state = { text: "", bytes: new Uint8Array(0), lost: new Set(), number: 0, m: 1, w: 0, opening: 0, turn: 0, judged: 0, drawn: 0, work: Promise.resolve(), ...empty() };
   const workers = {};
@@ -122,7 +122,7 @@ const logTab = (() => {
     if (state.opening !== opening) return;
     if (state.log.count > LONG && !state.lost.size) workers.lossy.ask("warm", asking());
     const [shown, simple] = [state.view, state.alone].map((view) => view.parts.text.filter((run) => run.value !== null));
-    const isMix = (run) => state.mixed("text", run.value), mix = shown.find(isMix) ?? simple.find(isMix) ?? shown.at(-1);
+    const isMix = (run) => run.from < state.mixUntil("text", run.value), mix = shown.find(isMix) ?? simple.find(isMix) ?? shown.at(-1);
     timeline.move(mix ? mix.from : 0, { keep: true });
   }
 
@@ -200,9 +200,9 @@ const logTab = (() => {
     const { view, alone, codes, output, notes } = shown, { log } = state;
     const number = parseInt(asked.pi, 16), result = { ...state.result, decode: { output, notes } };
     Object.assign(state, { view, alone, codes, number, m: Number(asked.m), w: Number(asked.w), result, drawn: turn });
-    // nobody sent what neither receiver shows that loses nothing
-    const sent = asked.lost.length ? parts.allShown(whole.view, whole.alone) : null;
-    state.mixed = sent ? (part, value) => !sent.has(parts.keyOf(part, value)) : () => false;
+    tellWithoutLoss(turn);
+    // nobody sent what no receiver without losses shows before, or within M slots
+    state.mixUntil = asked.lost.length ? parts.mixUntilShown([whole.view, whole.alone], state.m - 1) : parts.noMix;
     timeline.title = `rdsrt decode --pi ${asked.pi} --m ${asked.m}${asked.w ? ` --confirm ${asked.w}` : ""}`;
     timeline.show(lanes(), log.count, { fit });
     $("log-limit").textContent = flagAlone.limit(log.count);
@@ -211,7 +211,7 @@ const logTab = (() => {
     // the list is laid out after the lanes are drawn
     await pause();
     if (state.turn !== turn) return;
-    changes.show(view, state.mixed, { goTo: does.goTo, clock, line });
+    changes.show(view, state.mixUntil, { goTo: does.goTo, clock, line });
     changes.move(timeline.cursor);
   }
 
@@ -233,6 +233,15 @@ const logTab = (() => {
     tellLines("audit", `rdsrt audit --pi ${asked.pi} --m ${asked.m} --k ${asked.k}${running ? " --running" : ""}`, got.output);
     // the answer has a mark in the lane of events
     if (no && state.drawn === turn) timeline.show(lanes(), log.count);
+    tellWithoutLoss(turn);
+  }
+
+  /* A text that changes without its flag is mixed even where nothing is lost. Waits for both, the answer and the view. */
+  function tellWithoutLoss(turn) {
+    const { no, whole, drawn, judged } = state;
+    if (no?.fault !== "Changed" || drawn !== turn || judged !== turn) return;
+    const text = whole.view.at("text", no.slot)?.value ?? null;
+    if (text !== null) verdict.showWithoutLoss(no, text);
   }
 
   /* Looks for a witness after a no. */
@@ -288,11 +297,11 @@ const logTab = (() => {
 
   /* Shows why nothing is decoded, and no result of what was there before. */
   function showProblem(problem, { fit = false } = {}) {
-    Object.assign(state, { view: new lines.View(), alone: new lines.View(), mixed: () => false, result: null, witness: null, no: null });
+    Object.assign(state, { view: new lines.View(), alone: new lines.View(), mixUntil: parts.noMix, result: null, witness: null, no: null });
     state.codes = new Uint8Array(0);
     timeline.title = "";
     timeline.show([], state.log.count, { fit });
-    changes.show(state.view, state.mixed, { goTo: does.goTo, clock, line });
+    changes.show(state.view, state.mixUntil, { goTo: does.goTo, clock, line });
     verdict.showNone("No verdict", problem);
     $("log-limit").hidden = true;
     for (const name of ["log", "audit"]) tellLines(name, "", "");
@@ -337,8 +346,8 @@ const logTab = (() => {
   }
 
   function lanes() {
-    const tint = parts.tinter(), { view, alone: other, mixed, codes, lost } = state;
-    const bars = (it, part) => parts.bars(it, part, tint, mixed);
+    const tint = parts.tinter(), { view, alone: other, mixUntil, codes, lost } = state;
+    const bars = (it, part) => parts.bars(it, part, tint, mixUntil);
     const lane = (name, short, runs, more) => ({ name, short, kind: "bars", runs, gap: 3, ...more });
     const all = [
       // a slot without a group may have been silent: it is not red
@@ -349,7 +358,7 @@ const logTab = (() => {
     for (const [part, name] of PARTS) if (parts.shows(view, part)) all.push(lane(name, name, bars(view, part)));
     all.push(lane("flag bit alone", "flag bit", aged(bars(other, "text")), { gap: 12 }));
     if (parts.shows(other, "name")) all.push(lane("  its name", " name", bars(other, "name")));
-    if (parts.showsTags(other)) all.push(lane("  its tags", " tags", parts.tagBars(other, tint, mixed)));
+    if (parts.showsTags(other)) all.push(lane("  its tags", " tags", parts.tagBars(other, tint, mixUntil)));
     return all;
   }
 
@@ -369,11 +378,11 @@ const logTab = (() => {
     const group = logfile.groupAt(state.log, slot), sent = group ? `${KINDS[lines.codeOf(group, state.number)]} group` : "nothing received";
     const what = !state.result ? "" : state.lost.has(slot) ? "lost" : sent, run = state.view.at("text", slot);
     const none = run && run.value === null && run.from > 0 && !state.w ? whyGone("text", run.from, slot) : "no text";
-    const { mixed } = state, ours = { led: what, mixed, none }, simple = { mixed, none: flagAlone.noneAt(slot) };
+    const { mixUntil } = state, ours = { led: what, mixUntil, none }, simple = { mixUntil, none: flagAlone.noneAt(slot) };
     const kind = state.w ? `The receiver, with the dwell and W = ${state.w}` : "The receiver, with the dwell";
     parts.radio($("log-radio"), kind, state.view, slot, ours);
     parts.radio($("log-alone"), "Flag bit alone: decode --m 65535", state.alone, slot, simple);
-    $("log-why").textContent = parts.whyNoMix(state.view, state.alone, slot, mixed);
+    $("log-why").textContent = parts.whyNoMix(state.view, state.alone, slot, mixUntil);
     if (state.log.count) logText.move(state.log.starts[slot], state.log.numbers[slot]);
     $("log-group").textContent = state.log.count ? groups.ofSlot(state.log, slot, state.number) : "";
     changes.move(slot);

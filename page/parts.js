@@ -64,19 +64,23 @@ const parts = (() => {
   const labelOf = (value) => value === null ? null : typeof value === "string" ? value || "(empty)" : saidOf(value);
   const keyOf = (part, value) => typeof value === "string" ? `${part} ${value}` : `tag ${value.kind} ${value.text}`;
 
+  /* A function `mixUntil` of a part and a value tells up to which slot the value, if a display shows it, is one that nobody
+     sent: 0 if it was sent from the start on. This one calls nothing a mix. */
+  const noMix = () => 0;
+
   /* The names of the parts of a display that nobody sent. */
   const NAMES = { text: "text", name: "name", tag1: "tag", tag2: "tag" };
-  function mixesAt(view, slot, mixed) {
+  function mixesAt(view, slot, mixUntil) {
     const isMix = (part) => {
       const value = view?.at(part, slot)?.value ?? null;
-      return value !== null && mixed(part, value);
+      return value !== null && slot < mixUntil(part, value);
     };
     return [...new Set(Object.keys(NAMES).filter(isMix).map((part) => NAMES[part]))];
   }
 
   /* A display as a car has it: the name, the text and its tags at a slot. Parts that nobody sent make it red. */
-  function radio(root, caption, view, slot, { led: calm = "", mixed = () => false, none = "no text" } = {}) {
-    const mixes = mixesAt(view, slot, mixed), bad = mixes.length > 0;
+  function radio(root, caption, view, slot, { led: calm = "", mixUntil = noMix, none = "no text" } = {}) {
+    const mixes = mixesAt(view, slot, mixUntil), bad = mixes.length > 0;
     const which = mixes.includes("text") ? "" : ` ${mixes.join(" and ")}`, led = bad ? `nobody sent this${which}` : calm;
     const at = (part) => view?.at(part, slot)?.value ?? null, text = at("text");
     const tags = [at("tag1"), at("tag2")].filter((tag) => tag !== null);
@@ -97,11 +101,11 @@ const parts = (() => {
 
   /* Puts a display into words. Each part that nobody sent has words of its own. */
   const WORDS = { text: (text) => `“${text}”`, name: (name) => `name ${name.trim()}`, tag1: saidOf, tag2: saidOf };
-  function inWords(view, slot, { mixed = () => false, none = "no text" } = {}) {
+  function inWords(view, slot, { mixUntil = noMix, none = "no text" } = {}) {
     const all = [];
     for (const [part, words] of Object.entries(WORDS)) {
       const value = view?.at(part, slot)?.value ?? null;
-      if (value !== null) all.push(`${words(value)}${mixed(part, value) ? ", which nobody sent" : ""}`);
+      if (value !== null) all.push(`${words(value)}${slot < mixUntil(part, value) ? ", which nobody sent" : ""}`);
       else if (part === "text") all.push(none);
     }
     return all.join(", ");
@@ -116,13 +120,17 @@ const parts = (() => {
     };
   }
 
-  /* The bars of a part of a view; `mixed` says which values nobody sent. */
-  const bars = (view, part, tint, mixed = () => false) => (view?.parts[part] ?? []).map(({ from, to, value }) => ({
-    from, to, value, label: labelOf(value), tint: value === null ? 0 : tint(value.text ?? value), mix: value !== null && mixed(part, value),
-  }));
+  /* The bars of a part of a view. A run is cut where its value is no mix any more. */
+  function bars(view, part, tint, mixUntil = noMix) {
+    return (view?.parts[part] ?? []).flatMap(({ from, to, value }) => {
+      const bar = { value, label: labelOf(value), tint: value === null ? 0 : tint(value.text ?? value) };
+      const until = value === null ? from : Math.min(to, Math.max(from, mixUntil(part, value)));
+      return [{ ...bar, from, to: until, mix: true }, { ...bar, from: until, to, mix: false }].filter((it) => it.from < it.to);
+    });
+  }
 
   /* The bars of both tags as one lane. */
-  function tagBars(view, tint, mixed = () => false) {
+  function tagBars(view, tint, mixUntil = noMix) {
     if (!view) return [];
     const from = [...new Set([...view.parts.tag1, ...view.parts.tag2].map((run) => run.from))].sort((a, b) => a - b);
     const ends = Math.max(0, ...["tag1", "tag2"].map((part) => view.parts[part].at(-1)?.to ?? 0));
@@ -130,7 +138,7 @@ const parts = (() => {
       const tags = ["tag1", "tag2"].map((part) => view.at(part, slot)?.value ?? null).filter((tag) => tag !== null);
       return {
         from: slot, to: from[i + 1] ?? ends, value: tags, label: tags.length ? tags.map(saidOf).join(" · ") : null,
-        tint: tags.length ? tint(tags[0].text) : 0, mix: tags.some((tag) => mixed("tag", tag)),
+        tint: tags.length ? tint(tags[0].text) : 0, mix: tags.some((tag) => slot < mixUntil("tag", tag)),
       };
     });
   }
@@ -139,10 +147,17 @@ const parts = (() => {
   const showsTags = (view) => shows(view, "tag1") || shows(view, "tag2");
   const mark = (at, label, bad = false) => ({ at, to: at + 1, label, bad });
 
-  /* All that a view ever shows, each as a key. */
-  function allShown(...views) {
-    const runs = (part) => views.flatMap((view) => view?.parts[part] ?? []).filter((run) => run.value !== null);
-    return new Set(["text", "name", "tag1", "tag2"].flatMap((part) => runs(part).map((run) => keyOf(part, run.value))));
+  /* Nobody sent a value before one of these views shows it. A receiver may show it so many slots earlier. */
+  function mixUntilShown(views, early = 0) {
+    const first = new Map();
+    for (const view of views) {
+      for (const [part, runs] of Object.entries(view?.parts ?? {})) {
+        for (const { from, value } of runs) {
+          if (value !== null && !(first.get(keyOf(part, value)) <= from)) first.set(keyOf(part, value), from);
+        }
+      }
+    }
+    return (part, value) => (first.get(keyOf(part, value)) ?? Infinity) - early;
   }
 
   const NEXT = "the next begins";
@@ -161,9 +176,9 @@ const parts = (() => {
   }
 
   /* Beside a mix of the receiver with the flag bit alone: why the one with the dwell shows no text. Empty in other slots. */
-  function whyNoMix(view, alone, slot, mixed) {
+  function whyNoMix(view, alone, slot, mixUntil) {
     const value = (it) => it?.at("text", slot)?.value ?? null;
-    if (value(alone) === null || !mixed("text", value(alone)) || value(view) !== null) return "";
+    if (value(alone) === null || slot >= mixUntil("text", value(alone)) || value(view) !== null) return "";
     const next = view?.parts.text.find((run) => run.from > slot && run.value !== null);
     const shows = next ? `It shows the next one when it is whole: in slot ${next.from.toLocaleString("en")}.` : "";
     return `The receiver with the dwell has dropped its segments of the old text. ${shows}`.trim();
@@ -197,7 +212,7 @@ const parts = (() => {
     area.scrollTop = Math.max(0, (number - 4) * parseFloat(getComputedStyle(area).lineHeight));
   }
 
-  const lanes = { allShown, bars, mark, shows, showsTags, tagBars, tinter };
+  const lanes = { bars, mark, mixUntilShown, noMix, shows, showsTags, tagBars, tinter };
   const texts = { counted, hex, inWords, isolated, keyOf, labelOf, told };
   const why = { NEXT, whyNoMix, whyNone };
   return {

@@ -9,7 +9,7 @@ const scriptTab = (() => {
   const LONG_ARGUMENT = 400;
   const state = {
     rows: [], played: 0, chosen: 0, pty: "10", air: new lines.View(), said: { views: [], sent: [] }, alone: [], heard: [],
-    replies: new Map(), spans: new Map(), mixed: () => false, text: "", opened: { text: "", input: "", file: "", example: "" }, saved: "",
+    replies: new Map(), spans: new Map(), mixUntil: parts.noMix, text: "", opened: { text: "", input: "", file: "", example: "" }, saved: "",
   };
   const timeline = new Timeline($("script-time"), {
     label: "Slot of the script",
@@ -201,9 +201,9 @@ const scriptTab = (() => {
     const played = playedOf(got.output, count), said = lines.read(got.output, played), tint = parts.tinter();
     const broadcast = onAir(said.replies, played, tint);
     const replies = new Map(said.replies.map((it) => [it.slot, it]));
-    Object.assign(state, { said, replies, played, air: broadcast.air, result: got, m: Number(m), spaced: Number(m) + Number(k) });
-    const sent = parts.allShown(state.air);
-    state.mixed = (part, value) => !sent.has(parts.keyOf(part, value));
+    const spaced = Number(m) + Number(k) + (w ? Number(w) - 1 : 0);
+    Object.assign(state, { said, replies, played, air: broadcast.air, result: got, m: Number(m), spaced });
+    state.mixUntil = parts.mixUntilShown([state.air]);
     state.spans = spans(state.air.parts.text);
     hear();
     timeline.chosen = receivers() ? state.chosen : null;
@@ -228,7 +228,7 @@ const scriptTab = (() => {
   /* Shows why nothing is played, and no result of what was there before. */
   function showProblem(problem) {
     const none = { played: 0, replies: new Map(), spans: new Map(), alone: [], heard: [], result: null, firstMix: null };
-    Object.assign(state, none, { said: { views: [], sent: [], logged: [] }, air: new lines.View(), mixed: () => false });
+    Object.assign(state, none, { said: { views: [], sent: [], logged: [] }, air: new lines.View(), mixUntil: parts.noMix });
     timeline.title = "";
     timeline.show([], state.rows.length);
     for (const id of ["script-count", "script-note", "script-command"]) $(id).textContent = "";
@@ -246,7 +246,24 @@ const scriptTab = (() => {
 
   /* The characters of a printed text: an escape is one. */
   const characters = (text) => [...text.matchAll(/\\x[0-9A-Fa-f]{2}|./gsu)].map(([c]) => c);
-  const asName = (text) => text + " ".repeat(Math.max(0, 8 - characters(text).length));
+
+  /* The printed form of each text and name so far, by command and argument. */
+  const printedForms = new Map();
+  const keyOfForm = ({ command, argument }) => `${command} ${argument}`;
+  /* A receiver that loses nothing shows any text or name within so many slots, if all of them are free. */
+  const ROUND = 64;
+
+  /* Asks the program for the printed forms of the texts and names of these rows: what a receiver shows that gets them. */
+  function askForms(rows) {
+    const news = new Map(rows.map((row) => [keyOfForm(row), row]).filter(([key]) => !printedForms.has(key)));
+    if (!news.size) return;
+    const idle = (count) => Array.from({ length: count }, () => records.empty(1));
+    const setting = ({ command, argument }) => [{ ...records.empty(1), command, argument }, ...idle(ROUND - 1)];
+    const asked = [...idle(ROUND), ...[...news.values()].flatMap(setting)];
+    const { output } = rdsrt.run(["sim", "--pi", PI, "--m", String(ROUND / 2)], records.write(asked));
+    const [view] = lines.read(output, asked.length).views;
+    [...news].forEach(([key, { command }], i) => printedForms.set(key, view.at(command, ROUND * (i + 2) - 1).value));
+  }
 
   /* The tags of a row as they cut the text: class and piece, or nothing. */
   function piecesOf(argument, text) {
@@ -260,6 +277,8 @@ const scriptTab = (() => {
   /* Finds the broadcasts by the replies and the rows, since the program does not print them. Marks the commands. */
   function onAir(replies, count, tint) {
     const air = new lines.View(), marks = [];
+    const isSet = ({ what, reply }) => reply === "ok" && what !== "tags";
+    askForms(replies.filter(isSet).map(({ slot }) => state.rows[slot]));
     const setTags = (slot, tags) => tags.forEach((tag, i) => air.change(`tag${i + 1}`, slot, tag));
     for (const { slot, what, reply } of replies) {
       const { argument = "" } = state.rows[slot] ?? {}, isDone = what === "restart" || reply === "ok";
@@ -268,17 +287,13 @@ const scriptTab = (() => {
       if (what === "restart") air.clear(slot);
       else if (what === "tags") setTags(slot, piecesOf(argument, air.at("text", slot)?.value ?? ""));
       else {
-        const value = printedForm(what === "name" ? asName(argument) : argument);
+        const value = printedForms.get(keyOfForm(state.rows[slot]));
         if (what === "text") { air.clear(slot, "tag1", "tag2"); tint(value); }
         air.change(what, slot, value);
       }
     }
     return { air: air.finish(count), marks };
   }
-
-  /* A row's argument as the program prints it: escapes in capitals, and the quotation mark as one. */
-  const inCapitals = (all, digits) => `\\x${digits.toUpperCase()}`;
-  const printedForm = (text) => text.replace(/\\x([0-9A-Fa-f]{2})/g, inCapitals).replaceAll('"', "\\x22");
 
   /* For each text the spans in which it was on air. */
   function spans(runs) {
@@ -354,9 +369,9 @@ const scriptTab = (() => {
     const all = [{ name: `receiver ${i}`, kind: "ticks", codes: codesHeard(i, count), losses: true, group: i, gap: 14 }];
     const add = (name, short, runs) => all.push(lane(`  ${name}`, ` ${short}`, runs, { group: i }));
     const addView = (name, short, view, old) => {
-      add(name, short, old(parts.bars(view, "text", tint, state.mixed)));
-      if (parts.shows(view, "name")) add("  its name", "  name", parts.bars(view, "name", tint, state.mixed));
-      if (parts.showsTags(view)) add("  its tags", "  tags", parts.tagBars(view, tint, state.mixed));
+      add(name, short, old(parts.bars(view, "text", tint, state.mixUntil)));
+      if (parts.shows(view, "name")) add("  its name", "  name", parts.bars(view, "name", tint, state.mixUntil));
+      if (parts.showsTags(view)) add("  its tags", "  tags", parts.tagBars(view, tint, state.mixUntil));
     };
     addView("with the dwell", "dwell", state.said.views[i], (runs) => runs);
     addView("flag bit alone", "flag bit", state.alone[i], aged);
@@ -366,7 +381,7 @@ const scriptTab = (() => {
   // ---- mixes and faults
 
   function mixesOf(view) {
-    const mixes = (part) => (view?.parts[part] ?? []).filter((run) => run.value !== null && state.mixed(part, run.value));
+    const mixes = (part) => (view?.parts[part] ?? []).filter((run) => run.value !== null && run.from < state.mixUntil(part, run.value));
     return ["text", "name", "tag1", "tag2"].flatMap((part) => mixes(part).map((run) => ({ ...run, part: part.replace(/[12]$/, "") })));
   }
 
@@ -438,16 +453,16 @@ const scriptTab = (() => {
     const none = orUnplayed(run?.value === null ? whyGone(run.from, slot, i) : "no text");
     const stale = other && isOld(other.value, slot) ? "long over" : "";
     const named = (what) => n ? `Receiver ${i}, ${what}` : "No receiver";
-    const airLed = reply ? `${reply.what} ${reply.reply}` : sent, { mixed } = state;
-    const ours = { led: got, mixed, none }, its = { led: orUnplayed(stale), mixed, none: orUnplayed(flagAlone.noneAt(slot)) };
+    const airLed = reply ? `${reply.what} ${reply.reply}` : sent, { mixUntil } = state;
+    const ours = { led: got, mixUntil, none }, its = { led: orUnplayed(stale), mixUntil, none: orUnplayed(flagAlone.noneAt(slot)) };
     parts.radio($("script-air"), "On air", state.air, slot, { led: airLed, none: orUnplayed("silence") });
     parts.radio($("script-radio"), named("with the dwell"), view, slot, ours);
     parts.radio($("script-alone"), named("flag bit alone"), simple, slot, its);
-    $("script-why").textContent = parts.whyNoMix(view, simple, slot, mixed);
+    $("script-why").textContent = parts.whyNoMix(view, simple, slot, mixUntil);
     showCommand(slot, row);
     if (!isPlayed) return `${UNPLAYED}.`;
     const air = `On air ${parts.inWords(state.air, slot)}.`;
-    const shown = parts.inWords(view, slot, { mixed }), otherShown = parts.inWords(simple, slot, its);
+    const shown = parts.inWords(view, slot, { mixUntil }), otherShown = parts.inWords(simple, slot, its);
     return n ? `${air} Receiver ${i} ${got}: ${shown}. With the flag bit alone: ${otherShown}.` : air;
   }
 

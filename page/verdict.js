@@ -74,6 +74,7 @@ const verdict = (() => {
       make("p", {}, "First in ", button(`slot ${number(slot)}`, () => does.goTo(slot)), `${rule}. `
         + `This slot is ${lines.time(slot)} after the first.`),
       says("What the encoder should do:", cure(given, fault, slot)),
+      make("p", { id: "without-loss", hidden: true }),
       about,
     ];
   }
@@ -169,6 +170,14 @@ const verdict = (() => {
     tellHeading();
   }
 
+  /* Says what a receiver that loses nothing shows in the slot of a no. */
+  function showWithoutLoss({ slot }, text) {
+    const element = $("without-loss");
+    if (!element) return;
+    element.hidden = false;
+    element.replaceChildren(`Even a receiver that loses nothing shows in slot ${number(slot)}: `, make("code", { textContent: text }), ".");
+  }
+
   /* Shows the lost slots that make a mix, or why there are none. */
   function showWitness({ slot, lost, shown, upto = null, failure = "" }, does) {
     const searched = upto === null ? NO_WITNESS : ` up to slot ${number(upto)}${STOPPED}`;
@@ -180,5 +189,5 @@ const verdict = (() => {
       ` a receiver that loses ${slots} shows what a receiver that loses nothing does not: `, what, ". ", doSo);
   }
 
-  return { noOf, show, showDwells, showNone, showWitness };
+  return { noOf, show, showDwells, showNone, showWithoutLoss, showWitness };
 })();
