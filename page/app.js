@@ -118,6 +118,13 @@ const page = (() => {
     };
   }
 
+  /* The key ? opens and closes the list of keys. */
+  function toggleKeys(e) {
+    if (e.key !== "?" || e.target.matches("input, select, textarea")) return;
+    const keys = document.querySelector("[role=tabpanel]:not([hidden]) .keys");
+    if (keys) keys.open = !keys.open;
+  }
+
   function noEngine(error) {
     $("no-engine").hidden = false;
     $("no-engine").textContent = "This browser cannot run the program. It needs WebAssembly with 64-bit memory: Chrome or Edge 133, "
@@ -149,6 +156,7 @@ const page = (() => {
     for (const form of document.forms) form.onsubmit = (e) => e.preventDefault();
     $("command-form").addEventListener("submit", scriptTab.commandChanged);
     drops();
+    document.addEventListener("keydown", toggleKeys);
     tab(await openAddress());
     window.onhashchange = async () => { if (links.tabOf(location.hash.slice(1))) tab(await openAddress()); };
     window.onbeforeunload = (e) => { if (Object.keys(WITH_INPUT).some(isUnsaved)) e.preventDefault(); };

@@ -335,7 +335,7 @@ const logTab = (() => {
 
   /* Bars of the receiver with the flag bit alone, pale from where the other forgot the text that it shows. */
   function aged(runs) {
-    const gone = state.view.parts.text.filter((run) => run.value === null && whyGone("text", run.from) === "forgotten");
+    const gone = state.view.parts.text.filter((run) => run.value === null && whyGone("text", run.from) === parts.DROPPED);
     let next = 0;
     return runs.flatMap((run) => {
       while (next < gone.length && gone[next].from <= run.from) next++;

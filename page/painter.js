@@ -355,7 +355,7 @@ const painter = (() => {
     outline(c, from - 1, 0.5, to - from + 2, OVERVIEW - 1, { color: ink.cursor });
   }
 
-  /* Draws a swatch of a legend: a tick by its code, or a bar that is a "mix" or "stale". */
+  /* Draws a swatch of a legend: a tick by its code, or a bar that is a "mix" or "old". */
   function swatch(canvas, ink) {
     const { shows } = canvas.dataset, w = 14, scale = 2, c = canvas.getContext("2d");
     Object.assign(canvas, { width: w * scale, height: TICKS * scale });
@@ -364,7 +364,7 @@ const painter = (() => {
     c.fillRect(0, 0, w, TICKS);
     const sight = { from: 0, across: 1, room: w, gutter: 0, width: w, x: (slot) => slot * w };
     const lane = { top: 0, height: TICKS, codes: [Number(shows)], losses: true, nothing: canvas.dataset.nothing };
-    if (shows === "mix" || shows === "stale") ground(c, { mix: shows === "mix", old: true }, 0, w, lane, sight, ink);
+    if (shows === "mix" || shows === "old") ground(c, { mix: shows === "mix", old: true }, 0, w, lane, sight, ink);
     else wideTicks(c, lane, sight, ink);
   }
 

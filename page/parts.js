@@ -160,7 +160,7 @@ const parts = (() => {
     return (part, value) => (first.get(keyOf(part, value)) ?? Infinity) - early;
   }
 
-  const NEXT = "the next begins";
+  const NEXT = "the next begins", DROPPED = "dropped";
 
   /* Why a text or a name is shown no longer in this slot, if it was shown up to the slot `from`. `isPart` says which slots brought
      a segment of it. The next begins if its segments came within the dwell: before that slot those of the last one, and then
@@ -172,7 +172,7 @@ const parts = (() => {
       return at;
     };
     const begins = isPart(from) && from - lastBefore(from) < m && slot - lastBefore(slot + 1) < m;
-    return begins ? NEXT : "forgotten";
+    return begins ? NEXT : DROPPED;
   }
 
   /* Beside a mix of the receiver with the flag bit alone: why the one with the dwell shows no text. Empty in other slots. */
@@ -214,7 +214,7 @@ const parts = (() => {
 
   const lanes = { bars, mark, mixUntilShown, noMix, shows, showsTags, tagBars, tinter };
   const texts = { counted, hex, inWords, isolated, keyOf, labelOf, told };
-  const why = { NEXT, whyNoMix, whyNone };
+  const why = { DROPPED, NEXT, whyNoMix, whyNone };
   return {
     $, ...lanes, ...texts, ...why, displays, entitle, fill, goToLine, make, nameFile, problemOf, radio, soon,
   };

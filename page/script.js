@@ -451,7 +451,7 @@ const scriptTab = (() => {
     const got = orUnplayed(does(row?.receptions[i] ?? "", slot)), sent = orUnplayed(state.said.sent[slot] ? "sends" : "");
     const view = state.said.views[i], run = view?.at("text", slot), simple = state.alone[i], other = simple?.at("text", slot);
     const none = orUnplayed(run?.value === null ? whyGone(run.from, slot, i) : "no text");
-    const stale = other && isOld(other.value, slot) ? "long over" : "";
+    const stale = other && isOld(other.value, slot) ? "old" : "";
     const named = (what) => n ? `Receiver ${i}, ${what}` : "No receiver";
     const airLed = reply ? `${reply.what} ${reply.reply}` : sent, { mixUntil } = state;
     const ours = { led: got, mixUntil, none }, its = { led: orUnplayed(stale), mixUntil, none: orUnplayed(flagAlone.noneAt(slot)) };

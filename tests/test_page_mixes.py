@@ -94,7 +94,7 @@ class Mixes:
         rows[8] = "text,HELLO WORLD,1,G"
         lost = "".join(f"{row}\n" for row in rows)
         begins, silence = "the next begins", "the encoder is silent"
-        for script, wanted in ((silent, {24: begins, 27: begins, 28: silence, 46: silence}), (lost, {28: "forgotten"})):
+        for script, wanted in ((silent, {24: begins, 27: begins, 28: silence, 46: silence}), (lost, {28: "dropped"})):
             open_script(b, script, m=8, k=0)
             for slot, word in wanted.items():
                 b.run(f"scriptTab.timeline.move({slot})")
