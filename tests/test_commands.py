@@ -65,6 +65,7 @@ RUN_BY = [
     (r"\./rdsrt (?:decode|audit|witness|encode|sim) .* < examples/[\w.]+$", "test_examples"),
     (r"\./rdsrt audit --running --pi C201 < station.log$", "test_guide.Guide.test_the_lines_of_parallel"),
     (r"rdsrt slots$|rdsrt \.\. \| head$", "test_pipes"),
+    (r"rdsrt audit spy.log$", "test_notes"),
 ]
 # a command that nothing runs here, and the reason
 NOT_HERE = [
