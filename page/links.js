@@ -163,5 +163,8 @@ const links = (() => {
     return `The link has no ${tab}.`;
   }
 
-  return { MOST_PLAIN, give, hold, inLetters, keep, look, putAddress, read, sightOf, slotsOf, tabOf, tell, whyNot };
+  /* The option of a tab for a window, if there is one. */
+  const windowOption = (tab) => $(`${tab}-w`).value ? `&w=${$(`${tab}-w`).value}` : "";
+
+  return { MOST_PLAIN, give, hold, inLetters, keep, look, putAddress, read, sightOf, slotsOf, tabOf, tell, whyNot, windowOption };
 })();

@@ -395,8 +395,7 @@ const logTab = (() => {
 
   const lostOptions = () => state.lost.size ? `&lost=${links.inLetters(state.lost)}` : "";
   const runningOption = () => $("log-running").checked ? "&running=1" : "";
-  const windowOption = () => $("log-w").value ? `&w=${$("log-w").value}` : "";
-  const options = () => `pi=${$("log-pi").value}&m=${$("log-m").value}&k=${$("log-k").value}${windowOption()}${runningOption()}${lostOptions()}`;
+  const options = () => `pi=${$("log-pi").value}&m=${$("log-m").value}&k=${$("log-k").value}${links.windowOption("log")}${runningOption()}${lostOptions()}`;
   const isUnsaved = () => state.isEdited;
 
   function save() {

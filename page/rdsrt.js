@@ -74,5 +74,8 @@ const rdsrt = (() => {
     }
   }
 
-  return { begin, layout, load, run };
+  /* The words for a window of W slots, if there is one. */
+  const windowWords = (w) => w ? ["--confirm", w] : [];
+
+  return { begin, layout, load, run, windowWords };
 })();

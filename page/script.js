@@ -195,7 +195,7 @@ const scriptTab = (() => {
     const problem = tooMuch() || parts.problemOf($("script-form"));
     if (problem) { showProblem(problem); return; }
     const [m, k, w] = ["script-m", "script-k", "script-w"].map((id) => $(id).value), count = state.rows.length;
-    const words = ["sim", "--pi", PI, "--pty", state.pty, "--m", m, "--k", k, ...(w ? ["--confirm", w] : [])];
+    const words = ["sim", "--pi", PI, "--pty", state.pty, "--m", m, "--k", k, ...rdsrt.windowWords(w)];
     const got = rdsrt.run(words, input);
     $("brush-wrong").hidden = !w;
     const played = playedOf(got.output, count), said = lines.read(got.output, played), tint = parts.tinter();
@@ -498,8 +498,7 @@ const scriptTab = (() => {
     picture.saveAs("script.csv", new Blob([state.text], { type: "text/csv" }));
   }
 
-  const windowOption = () => $("script-w").value ? `&w=${$("script-w").value}` : "";
-  const options = () => `m=${$("script-m").value}&k=${$("script-k").value}${windowOption()}&pty=${state.pty}`;
+  const options = () => `m=${$("script-m").value}&k=${$("script-k").value}${links.windowOption("script")}&pty=${state.pty}`;
 
   async function link() {
     playedSoon.now();

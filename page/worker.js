@@ -53,7 +53,7 @@
   }
 
   /* The words of `decode`, with a window if there is one. */
-  const decoding = ({ pi, m, w }) => ["decode", "--pi", pi, "--m", m, ...(w ? ["--confirm", w] : [])];
+  const decoding = ({ pi, m, w }) => ["decode", "--pi", pi, "--m", m, ...rdsrt.windowWords(w)];
 
   /* Returns the views of a receiver that loses these slots, with the dwell and with the flag bit alone. */
   function decode({ pi, m, w, lost }) {
