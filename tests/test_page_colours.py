@@ -2,6 +2,7 @@
 import random
 import re
 
+from tests import plain_worlds, random_scripts
 from tests.page_support import (ChromiumCase, FirefoxCase, call, click, example, of, open_script, program, settled_verdict,
                                 text_of, verdict_of)
 
@@ -15,11 +16,6 @@ BARS = ("scriptTab.timeline.lanes.filter(lane => lane.kind === 'bars' && lane.gr
         ".map(lane => lane.runs.map(run => [lane.name, run.from, run.to, run.value, Boolean(run.mix)]))")
 
 
-def field(text):
-    """Returns a field of a record."""
-    return '"' + text.replace('"', '""') + '"' if set(text) & set(',"') else text
-
-
 def random_script(rng):
     """Returns a script with two receivers that lose bursts, and the printed form of what each row sets."""
     rows, sets, lost = [], [], [0, 0]
@@ -27,9 +23,10 @@ def random_script(rng):
         kind = rng.choices(("text", "name", "-"), weights=(4, 1, 5))[0]
         argument, shown = rng.choice({"text": TEXTS, "name": NAMES, "-": (("", None),)}[kind])
         lost = [max(0, left - 1) if left else rng.choice((0, 0, 0, rng.randrange(1, 12))) for left in lost]
-        rows.append(f"{kind},{field(argument)},1,{''.join('L' if left else 'G' for left in lost)}\n")
+        receptions = "".join("L" if left else "G" for left in lost)
+        rows.append(random_scripts.Row(kind, argument, "1", receptions))
         sets.append((kind, shown))
-    return "".join(rows), sets
+    return plain_worlds.script(rows).decode(), sets
 
 
 def begun(script, sets, dwell):

@@ -8,10 +8,7 @@ from tests.plain_worlds import (DWELL, LOST, SLOTS, WORLDS, Diary, Wrongs, accep
                                 script, shown)
 from tests.support import ProgramCase, ran
 
-
 PARTS = ("text", "name", "item", "tag1", "tag2")
-
-
 # of a script with receivers that have a window, which show less
 LONG = 200
 
