@@ -4,6 +4,7 @@ use Rattle.std.specs.Borrow.{Bor}
 use Rattle.std.specs.Option.{ForSome}
 use Rattle.rds_block.specs.declared.group.Group.{Group}
 use Rattle.rds_fields.specs.declared.message.Message.{Message}
+use Rattle.rds_fields.specs.Tag.{PairFields}
 use Rattle.rds_fields.specs.declared.pair.Which.{Which}
 use Rattle.rds_fields.specs.declared.pair.Which.TheVariants.{One, Two}
 use Rattle.rds_assembly.specs.Cells.{Cells}
@@ -42,6 +43,16 @@ pub record ShownView : Type 0 where
   pub item : Option (Bool × Bool)
   pub one : Option (ℕ × List ℕ)
   pub two : Option (ℕ × List ℕ)
+
+-- the view of a text, a name and a pair of tags
+abbrev pub view_with : Option (List ℕ) → Option (List ℕ) → Option PairFields → ShownView
+view_with text name pair = record {
+  text = text;
+  name = name;
+  item = item_of text pair;
+  one = tag_of One text pair;
+  two = tag_of Two text pair;
+}
 
 -- the text or name has at most 64 bytes, if there is one
 abbrev pub IsShortText : Option (Bor (List ℕ)) → Type 0

@@ -2,7 +2,7 @@
 ghost use Rattle.std.specs.Prelude.{◌≡◌, ◌<◌, ◌≤◌, IfSome, length};
 ghost use Rattle.std.specs.Option.{option_copied};
 ghost use Rattle.rds_receiver.specs.Borrowed.{borrowed_tag, view_of};
-ghost use Rattle.rds_receiver.specs.Shown.{IsNameShown, IsShortText, IsTextShown, IsView};
+ghost use Rattle.rds_receiver.specs.Shown.{IsNameShown, IsShortText, IsTextShown, IsView, view_with};
 ghost use Rattle.rds_receiver.specs.StandsAt.{WhatItHeard, WhereItStands};
 ghost use Rattle.rds_receiver.specs.Stored.{IsStored, receiver_stored};
 ghost use Rattle.rds_receiver.specs.Tags.{item_of, tag_of};
@@ -12,21 +12,32 @@ use crate::stored::StoredReceiver;
 use rds_assembly::{RadioText, TypeName};
 use rds_fields::{TagPair, Which};
 
+impl<'a> View<'a> {
+    /// Returns the view of a text, a name and a pair of tags. Each of them may be missing.
+    pub fn of(text: Option<&'a [u8]>, name: Option<&'a [u8]>, pair: Option<TagPair>) -> View<'a>
+        requires text { IsShortText text }
+        requires name { IsShortText name }
+        ensures { view_of result ≡ view_with (option_copied text.entry) (option_copied name.entry) pair }
+    {
+        // Prover: a `Copy` value is copied by a new name before its second use (docs/PROVER.md, "Workarounds").
+        let (again, third) = (pair, pair);
+        View {
+            text,
+            name,
+            item: shown_item(text, pair),
+            one: shown_tag(text, again, Which::One),
+            two: shown_tag(text, third, Which::Two),
+        }
+    }
+}
+
 impl StoredReceiver {
     /// Returns all that is shown, borrowed from the numbers.
     pub(crate) fn view(&self) -> View<'_>
         ensures { IsStored self.now → WhereItStands (receiver_stored self.now)
             (λ t input. IsView t input (view_of result)) }
     {
-        let text = self.shown_text();
-        // Prover: the pair is asked for again in place of a copy (docs/PROVER.md, "Workarounds").
-        View {
-            text,
-            name: self.shown_name(),
-            item: shown_item(text, self.pair.pair()),
-            one: shown_tag(text, self.pair.pair(), Which::One),
-            two: shown_tag(text, self.pair.pair(), Which::Two),
-        }
+        View::of(self.shown_text(), self.shown_name(), self.pair.pair())
     }
 
     /// Returns the text shown, borrowed from the numbers. `None` if no text is shown.

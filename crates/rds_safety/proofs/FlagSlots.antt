@@ -1,6 +1,6 @@
 -- Lemmas in slots: a receiver that hears a segment in each n slots in a row hears one of each broadcast that lasts for
--- n slots. And a receiver with the flag bit alone shows the same as one whose dwell is longer than all that it heard.
-use Rattle.std.proofs.Common.{◌≡◌, ◌↔◌, ◌+◌, ◌<◌, ◌≤◌, ◌&&◌, ℕ, Bool, true, false, List, [], ◌∷◌, length, Option, Some, cond, refl, sym, ap, ◌∙◌, subst, arith, ◌⊎◌, ◌-◌, zero, suc, inl, inr}
+-- n slots. And a receiver with the flag bit alone shows the same as one with a dwell within which each segment followed the one before.
+use Rattle.std.proofs.Common.{◌≡◌, ◌+◌, ◌<◌, ◌≤◌, ◌&&◌, ℕ, Bool, true, false, List, [], ◌∷◌, length, Option, Some, cond, refl, sym, ap, ◌∙◌, subst, arith, ◌⊎◌, ◌-◌, zero, suc, inl, inr}
 use Rattle.std.specs.Prelude.{nat_lt}
 use Rattle.std.proofs.lemmas.Bool.{cases_eq, cases_lt, cond-true, lt-ltb}
 use Rattle.rds_fields.specs.declared.message.Message.{Message}
@@ -10,11 +10,13 @@ use Rattle.rds_encoder.specs.Plan.{Broadcast, Covers}
 use Rattle.rds_encoder.specs.Spaced.{IsSpaced}
 use Rattle.rds_receiver.specs.Receipts.{Fragment, Segment, name_fragment, segments, text_fragment}
 use Rattle.rds_receiver.specs.Run.{begins_in, cells_of, is_same, run, run_at, run_before}
-use Rattle.rds_receiver.specs.Shown.{IsShown, ShowsView, ShownView}
+use Rattle.rds_receiver.specs.Shown.{IsShown, ShowsView}
+use Rattle.rds_receiver.specs.StandsAt.{newest_slot}
+use Rattle.rds_receiver.proofs.Runs.{run_at_newest}
 use Rattle.rds_receiver.specs.Tags.{item_of, pair_from, pair_held, tag_of}
 use Rattle.rds_fields.specs.declared.pair.Which.TheVariants.{One, Two}
 use Rattle.rds_safety.specs.FlagAlone.{EachLasts, GetsInARow, HearsEach, HearsOneIn, HearsTextBeforeTags, IsFilled, IsNews, ListensByFlag, ShowsByFlag, flag_run, flag_run_before, pair_by_flag, run_by_flag}
-use Rattle.rds_safety.specs.FlagLaws.{WhoGetsSomeHearsOneIn, WhoHearsOneInHearsEach, WhoLosesFewGetsSome}
+use Rattle.rds_safety.specs.FlagLaws.{CameWithin, HearsWithin, TheFlagAloneIsADwellWhileHeard, TheFlagAloneIsALongDwell, WhoGetsSomeHearsOneIn, WhoHearsOneInHearsEach, WhoLosesFewGetsSome}
 use Rattle.rds_safety.specs.Late.{CameFrom, HasEntry, Input, IsHeardInOrder, SentIn}
 use Rattle.rds_safety.specs.Lawful.{IsLawful, texts}
 use Rattle.rds_safety.specs.Laws.{PlanLaws}
@@ -128,35 +130,50 @@ both : (a b : Bool) (x y : List Segment) → b ≡ true → x ≡ y → cond (a 
 both true b x y e same = cond-true b x [] e ∙ same
 both false b x y e same = refl
 
-long_before : (m : ℕ) (f : Bool) (s : ℕ) (gs : List Segment) → s < m → AreFalling s gs → run_before m f s gs ≡ flag_run_before f gs
-long_before m f s [] long falls = refl
-long_before m f s (g ∷ older) long falls =
-    let before = falls.0 in
-    both (is_same f g.fragment.flag) (nat_lt s (g.slot + m)) (g ∷ run_before m f g.slot older) (g ∷ flag_run_before f older) (lt-ltb s (g.slot + m) (omega arith))
-    (ap (λ (gs : List Segment). g ∷ gs) (long_before m f g.slot older (omega arith) falls.1))
+within_before : (m : ℕ) (f : Bool) (s : ℕ) (gs : List Segment) → CameWithin m s gs → run_before m f s gs ≡ flag_run_before f gs
+within_before m f s [] came = refl
+within_before m f s (g ∷ older) came =
+    both (is_same f g.fragment.flag) (nat_lt s (g.slot + m)) (g ∷ run_before m f g.slot older) (g ∷ flag_run_before f older) (lt-ltb s (g.slot + m) came.0)
+    (ap (λ (gs : List Segment). g ∷ gs) (within_before m f g.slot older came.1))
 
-long_run : (m t : ℕ) (gs : List Segment) → t < m → AreFalling (t + 1) gs → run m t gs ≡ flag_run gs
-long_run m t [] long falls = refl
-long_run m t (g ∷ older) long falls =
-    let before = falls.0 in
-    cond-true (nat_lt t (g.slot + m)) (g ∷ run_before m g.fragment.flag g.slot older) [] (lt-ltb t (g.slot + m) (omega arith))
-    ∙ ap (λ (gs : List Segment). g ∷ gs) (long_before m g.fragment.flag g.slot older (omega arith) falls.1)
+within_run : (m t : ℕ) (gs : List Segment) → CameWithin m t gs → run m t gs ≡ flag_run gs
+within_run m t [] came = refl
+within_run m t (g ∷ older) came =
+    cond-true (nat_lt t (g.slot + m)) (g ∷ run_before m g.fragment.flag g.slot older) [] (lt-ltb t (g.slot + m) came.0)
+    ∙ ap (λ (gs : List Segment). g ∷ gs) (within_before m g.fragment.flag g.slot older came.1)
 
-pub run_of_a_long_dwell : (pick : Message → Option Fragment) (m first : ℕ) (heard : List (Option Message)) → first + length heard ≤ m → run_at pick m first heard ≡ flag_run (segments pick first heard)
-run_of_a_long_dwell pick m first [] long = refl
-run_of_a_long_dwell pick m first (x ∷ before) long =
-    let next : first + length (x ∷ before) ≡ first + length before + 1 = omega arith in
-    long_run m (first + length before) (segments pick first (x ∷ before)) (omega (arith, long, next))
-    (subst (λ (n : ℕ). AreFalling n (segments pick first (x ∷ before))) next (segments_fall pick first (x ∷ before)))
+run_while_heard : (pick : Message → Option Fragment) (m : ℕ) (input : Input) → HearsWithin m pick input → run_at pick m input.first input.heard ≡ run_by_flag pick input
+run_while_heard pick m input came =
+    sym (run_at_newest pick m input.first input.heard) ∙ within_run m (newest_slot input.first input.heard) (segments pick input.first input.heard) came
 
-pub long_dwell : (m : ℕ) (input : Input) (view : ShownView) → next_slot input ≤ m → ShowsByFlag input view ↔ ShowsView m input.first input.heard view
-long_dwell m input view long = (to, from)
+-- segments that came in fewer than m slots came within m slots
+falls_within : (m t : ℕ) (gs : List Segment) → t < m → AreFalling (t + 1) gs → CameWithin m t gs
+falls_within m t [] long falls = tt
+falls_within m t (g ∷ older) long falls =
+    let before = falls.0 in (omega arith, falls_within m g.slot older (omega arith) (lower older falls.1))
+  where
+    lower : (gs : List Segment) → AreFalling g.slot gs → AreFalling (g.slot + 1) gs
+    lower [] falls = tt
+    lower (h ∷ older) falls = (let before = falls.0 in omega arith, falls.1)
+
+long_within : (pick : Message → Option Fragment) (m : ℕ) (input : Input) → next_slot input ≤ m → HearsWithin m pick input
+long_within pick m input long = by input.heard long
+  where
+    by : (heard : List (Option Message)) → input.first + length heard ≤ m → CameWithin m (newest_slot input.first heard) (segments pick input.first heard)
+    by [] long = tt
+    by (x ∷ before) long =
+        let next : input.first + length (x ∷ before) ≡ input.first + length before + 1 = omega arith in
+        falls_within m (input.first + length before) (segments pick input.first (x ∷ before)) (omega (arith, long, next))
+        (subst (λ (n : ℕ). AreFalling n (segments pick input.first (x ∷ before))) next (segments_fall pick input.first (x ∷ before)))
+
+pub while_heard : TheFlagAloneIsADwellWhileHeard
+while_heard m input view texts_came names_came = (to, from)
   where
     text_run : run_at text_fragment m input.first input.heard ≡ run_by_flag text_fragment input
-    text_run = run_of_a_long_dwell text_fragment m input.first input.heard long
+    text_run = run_while_heard text_fragment m input texts_came
 
     name_run : run_at name_fragment m input.first input.heard ≡ run_by_flag name_fragment input
-    name_run = run_of_a_long_dwell name_fragment m input.first input.heard long
+    name_run = run_while_heard name_fragment m input names_came
 
     pair : pair_held m input.first input.heard ≡ pair_by_flag input
     pair = ap (λ (gs : List Segment). pair_from input.first (begins_in gs) input.heard) text_run
@@ -178,3 +195,6 @@ long_dwell m input view long = (to, from)
       one = shows.one ∙ ap (tag_of One view.text) pair;
       two = shows.two ∙ ap (tag_of Two view.text) pair;
     }
+
+pub long_dwell : TheFlagAloneIsALongDwell
+long_dwell m input view long = while_heard m input view (long_within text_fragment m input long) (long_within name_fragment m input long)

@@ -1,12 +1,13 @@
 -- The laws about receivers with the flag bit alone (this project's own rule). Lists have the newest first.
-use Rattle.std.specs.Prelude.{◌≡◌, ◌+◌, ◌*◌, ◌≤◌, ◌⊎◌, ◌↔◌, ℕ, Bool, List, [], Option, Some, None, IfSome}
+use Rattle.std.specs.Prelude.{◌≡◌, ◌+◌, ◌*◌, ◌<◌, ◌≤◌, ◌⊎◌, ◌↔◌, ℕ, Bool, List, [], ◌∷◌, Option, Some, None, IfSome}
 use Rattle.std.specs.List.{AllByRecursion}
 use Rattle.rds_fields.specs.declared.message.Message.{Message}
 use Rattle.rds_fields.specs.Tag.{PairFields}
 use Rattle.rds_encoder.specs.Plan.{Broadcast, HasNumber}
 use Rattle.rds_encoder.specs.Spaced.{IsSpaced}
-use Rattle.rds_receiver.specs.Receipts.{Fragment, Segment, name_fragment, text_fragment}
+use Rattle.rds_receiver.specs.Receipts.{Fragment, Segment, name_fragment, segments, text_fragment}
 use Rattle.rds_receiver.specs.Shown.{ShowsView, ShownView}
+use Rattle.rds_receiver.specs.StandsAt.{newest_slot}
 use Rattle.rds_safety.specs.FlagAlone.{EachLasts, GetsSome, HearsEach, HearsOneIn, HearsTextBeforeTags, IsFilled}
 use Rattle.rds_safety.specs.FlagAlone.{IsNews, ListensByFlag, LosesInARow, SendsOneIn, ShowsByFlag, TurnsTheFlag}
 use Rattle.rds_safety.specs.FlagAlone.{run_by_flag}
@@ -22,6 +23,23 @@ use Rattle.rds_safety.specs.Source.{IsSource, name_run, text_run}
 abbrev pub TheFlagAloneIsALongDwell : Type 0
 TheFlagAloneIsALongDwell =
     (m : ℕ) (input : Input) (view : ShownView) → next_slot input ≤ m
+    → ShowsByFlag input view ↔ ShowsView m input.first input.heard view
+
+-- these segments came less than m slots one after the other, and the newest one less than m slots before slot t
+abbrev pub CameWithin : ℕ → ℕ → List Segment → Type 0
+CameWithin m t [] = Unit {0}
+CameWithin m t (g ∷ older) = (t < g.slot + m) × CameWithin m g.slot older
+
+-- the segments that a receiver heard came so, up to its newest slot
+abbrev pub HearsWithin : ℕ → (Message → Option Fragment) → Input → Type 0
+HearsWithin m pick input =
+    CameWithin m (newest_slot input.first input.heard) (segments pick input.first input.heard)
+
+-- it shows the same as a receiver with a dwell of m slots, if no m slots went by without a segment of a text, nor without
+-- one of a name, since the first one of each
+abbrev pub TheFlagAloneIsADwellWhileHeard : Type 0
+TheFlagAloneIsADwellWhileHeard =
+    (m : ℕ) (input : Input) (view : ShownView) → HearsWithin m text_fragment input → HearsWithin m name_fragment input
     → ShowsByFlag input view ↔ ShowsView m input.first input.heard view
 
 -- the value is that of the source of the run

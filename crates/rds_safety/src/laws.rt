@@ -6,7 +6,7 @@ ghost use Rattle.rds_safety.specs.FlagLaws.{NamesByFlagAreNew, NamesByFlagAreOfT
 ghost use Rattle.rds_safety.specs.FlagLaws.{NewSourcesAreNear, TextsWithADwellAreNew};
 ghost use Rattle.rds_safety.specs.FlagLaws.{TagsByFlagAreOfTheirText, TextsByFlagAreHeldAlone, TextsByFlagAreNew};
 ghost use Rattle.rds_safety.specs.FlagLaws.{TextsByFlagAreOfTheirSource};
-ghost use Rattle.rds_safety.specs.FlagLaws.{TheFlagAloneIsALongDwell, WhoGetsSomeHearsOneIn};
+ghost use Rattle.rds_safety.specs.FlagLaws.{TheFlagAloneIsADwellWhileHeard, TheFlagAloneIsALongDwell, WhoGetsSomeHearsOneIn};
 ghost use Rattle.rds_safety.specs.FlagLaws.{WhoHearsOneInHearsEach};
 ghost use Rattle.rds_safety.specs.FlagLaws.{WhoHearsOneInHearsTextBeforeTags, WhoLosesFewGetsSome};
 ghost use Rattle.rds_safety.specs.Laws.{ARunHasOneSource, ASlowClockIsAnOwnClock, LateGroupsAreLateMessages};
@@ -155,10 +155,11 @@ pub fn often_is_enough()
     plan_laws();
 }
 
-/// States that a receiver with the flag bit alone shows the same as one whose dwell is no less than the slot after its
-/// input.
+/// States that a receiver with the flag bit alone shows the same as one with a dwell of m slots, if no m slots went by
+/// without a segment of a text, nor without one of a name. This is so if m is no less than the slot after its input.
 pub fn the_flag_alone_is_a_long_dwell()
-    ensures { TheFlagAloneIsALongDwell }
+    ensures heard { TheFlagAloneIsADwellWhileHeard }
+    ensures long { TheFlagAloneIsALongDwell }
 {}
 
 /// States that each premise about receivers with the flag bit alone is needed. If the flag does not turn, or if each

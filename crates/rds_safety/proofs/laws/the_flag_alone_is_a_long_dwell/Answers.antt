@@ -1,5 +1,5 @@
-use Rattle.rds_safety.proofs.FlagSlots.{long_dwell}
+use Rattle.rds_safety.proofs.FlagSlots.{long_dwell, while_heard}
 use Rattle.rds_safety.proofs.laws.the_flag_alone_is_a_long_dwell.Goals as goal
 
 pub returns : goal.returns
-returns c = long_dwell
+returns c = record { heard = while_heard; long = long_dwell }
