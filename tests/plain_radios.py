@@ -184,8 +184,7 @@ class Radio:
 def pieces(text, pair):
     """Returns the pieces that the tags of a pair show of a text, by part."""
     tags = (pair >> 29 & 63, pair >> 23 & 63, pair >> 17 & 63), (pair >> 11 & 63, pair >> 5 & 63, pair & 31)
-    return {part: f'{plain_worlds.CLASSES[kind]} "{text[start:start + extra + 1]}"'
-            for part, (kind, start, extra) in zip(("tag1", "tag2"), tags) if kind and start + extra < len(text)}
+    return plain_worlds.pieces_by_part(tags, text)
 
 
 def decoded(log):

@@ -113,6 +113,12 @@ def pieces(argument, text):
     return {f'{CLASSES[kind]} "{text[start:start + extra + 1]}"' for kind, start, extra in tags if kind}
 
 
+def pieces_by_part(tags, text):
+    """Returns the pieces of a text that two tags show, by part: each a class, a start and a length less one."""
+    return {part: f'{CLASSES[kind]} "{text[start:start + extra + 1]}"'
+            for part, (kind, start, extra) in zip(("tag1", "tag2"), tags) if kind and start + extra < len(text)}
+
+
 def shown(lines, slots):
     """Returns the view at the end of each of so many slots, by lines of `decode`: part and value."""
     changes, view, views = collections.defaultdict(dict), {}, []

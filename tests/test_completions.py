@@ -13,7 +13,7 @@ BASH = """source "$1"; shift; COMP_WORDS=(rdsrt "$@"); COMP_CWORD=$#; _rdsrt; pr
 ZSH = """compdef() { : }
 _describe() { local -a its; its=(${(P)2}); print -l -- ${its%%:*} }
 _arguments() {
-    local it; for it in "$@"; do [[ $it = (#b)(|\\(*\\))(-##[a-zA-Z]##)\\[* ]] && print -- $match[2]; done
+    local it; for it in "$@"; do [[ $it = (#b)(|\\(*\\))(-##[-a-zA-Z]##)\\[* ]] && print -- $match[2]; done
     [[ $1 = -C ]] && state=$ASKED
     return 1
 }
@@ -43,7 +43,7 @@ def offered(command):
     """Returns the commands and options in the help of the program, or of a command."""
     if command == ["help"]:
         return {*summaries()}
-    options = re.findall(r"^ +(?:(-\w), )?(--\w+)", help_of(command).split("Options:\n")[1], re.M)
+    options = re.findall(r"^ +(?:(-\w), )?(--\w[\w-]*)", help_of(command).split("Options:\n")[1], re.M)
     return {it for both in options for it in both if it} | ({*summaries()} if not command else set())
 
 

@@ -562,6 +562,44 @@ def silent_and_held_for_late_groups():
     return "silent and held for late groups", SIM_TWO_LATE, 0, script, shown
 
 
+def radios_and_what_is_on_air():
+    """Returns a row with a radio that keeps its text after the station has another one, for a dwell of two slots. It loses
+    the groups of the new text up to slot 12. The station restarts in slot 16, and so does the radio."""
+    script = (b"-,,1,G\n" * 2 + b"text,HI,1,G\n-,,1,G\ntags,1 1 4 0 1 0 0 0,1,G\n" + b"-,,1,G\n" * 3
+              + b"text,HO,1,L\n" + b"-,,1,L\n" * 4 + b"name,POP,1,G\n" + b"-,,1,G\n" * 2 + b"restart,,1,R\n-,,1,G\n")
+    shown = b"""2 text ok
+2 sent C201 2140 4849 0D20
+2 r0 text "HI"
+2 air text "HI"
+4 tags ok
+4 sent C201 2140 4849 0D20
+4 air item 1 1
+4 air tag1 ITEM.ARTIST "HI"
+6 sent C201 2140 4849 0D20
+7 sent C201 3156 0000 4BD7
+8 text ok
+8 sent C201 2150 484F 0D20
+8 air text "HO"
+8 air item none
+8 air tag1 none
+9 r0 text off air
+10 sent C201 2150 484F 0D20
+12 sent C201 2150 484F 0D20
+13 name ok
+13 sent C201 A141 2020 2020
+13 air name "POP     "
+14 sent C201 2150 484F 0D20
+14 r0 text "HO"
+14 r0 text on air
+15 sent C201 3156 0000 4BD7
+16 restart
+16 r0 text none
+16 air text none
+16 air name none
+"""
+    return "radios and what is on air", "sim --m 2 --pi C201 --pty 10 --flag-alone", 0, script, shown
+
+
 def much_output():
     """Returns a row with more output for one read than the program writes at once."""
     shown = b"".join(b'%d text "%s"\n' % (slot, (b"HI", b"YO")[slot % 2]) for slot in range(2000))
@@ -612,6 +650,7 @@ def rows():
     yield from fitting_tags()
     yield from in_order()
     yield from (second_name(), tags_after_the_dwell(), longest_dwell(), silent_and_held_for_late_groups())
+    yield radios_and_what_is_on_air()
     yield much_output()
     yield from carriage_return_at_each_place()
     yield from decoded_classes()

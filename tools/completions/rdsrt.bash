@@ -15,7 +15,7 @@ _rdsrt() {
         audit) offered='--pi --m --k --running --quiet --help' ;;
         slots) offered='--pi --grain --m --quiet --help' ;;
         encode) offered='--pi --m --k --pty --tp --quiet --help' ;;
-        sim) offered='--pi --m --k --pty --tp --confirm --quiet --help' ;;
+        sim) offered='--pi --m --k --pty --tp --confirm --flag-alone --quiet --help' ;;
     esac
     mapfile -t COMPREPLY < <(compgen -W "$offered" -- "$word")
 }

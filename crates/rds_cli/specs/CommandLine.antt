@@ -75,6 +75,10 @@ tp_rule = flag_rule (codes "tp")
 abbrev pub running_rule : Rule
 running_rule = flag_rule (codes "running")
 
+-- `--flag-alone`
+abbrev pub flag_alone_rule : Rule
+flag_alone_rule = flag_rule (codes "flag-alone")
+
 -- `--quiet`
 abbrev pub quiet_rule : Rule
 quiet_rule = flag_rule (codes "quiet")
@@ -121,7 +125,7 @@ station_app name = with_rule (with_rule (late_app name) pty_rule) tp_rule
 
 -- the subcommand that simulates a station and its receivers
 unfoldable pub sim_app : Text → App
-sim_app name = with_rule (station_app name) confirm_rule
+sim_app name = with_rule (with_rule (station_app name) confirm_rule) flag_alone_rule
 
 -- `rdsrt`, which has a version and requires a subcommand
 abbrev pub top_app : App
@@ -194,6 +198,9 @@ tp_in = flag_in (codes "tp")
 abbrev pub running_in : List Row → Bool
 running_in = flag_in (codes "running")
 
+abbrev pub flag_alone_in : List Row → Bool
+flag_alone_in = flag_in (codes "flag-alone")
+
 abbrev pub quiet_in : List Row → Bool
 quiet_in = flag_in (codes "quiet")
 
@@ -220,7 +227,8 @@ task_in name rows =
     if bytes_eq name (codes "decode") then option_map Decode (window_in rows)
     else if bytes_eq name (codes "encode") then with_station Encode rows
     else if bytes_eq name (codes "sim")
-    then option_and_then (λ window. with_station (λ programme late. Simulate programme late window) rows) (window_in rows)
+    then option_and_then
+    (λ window. with_station (λ programme late. Simulate programme late window (flag_alone_in rows)) rows) (window_in rows)
     else if bytes_eq name (codes "audit") then option_map (λ late. Audit late (running_in rows)) (late_in rows)
     else if bytes_eq name (codes "witness") then Some Witness
     else if bytes_eq name (codes "slots") then option_map (λ grain. Slots grain (has_value (codes "pi") rows)) (grain_in rows)

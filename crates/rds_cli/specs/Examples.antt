@@ -37,12 +37,21 @@ encoding dwell pty =
 
 abbrev pub simulating : ℕ → ℕ → Bool → ℕ → Requested
 simulating dwell pty tp late =
-    record { task = Simulate (record { pty = pty; tp = tp }) late None; pi = codes "C201"; dwell = dwell; quiet = false }
+    record { task = Simulate (record { pty = pty; tp = tp }) late None false; pi = codes "C201"; dwell = dwell; quiet = false }
 
 -- the same with a window, without these options
 abbrev pub simulating_twice : ℕ → ℕ → Requested
 simulating_twice dwell window = record {
-  task = Simulate (record { pty = 0; tp = false }) 0 (Some window);
+  task = Simulate (record { pty = 0; tp = false }) 0 (Some window) false;
+  pi = codes "C201";
+  dwell = dwell;
+  quiet = false;
+}
+
+-- the simulation of radios that follow the flag bit alone
+abbrev pub simulating_flag_alone : ℕ → Requested
+simulating_flag_alone dwell = record {
+  task = Simulate (record { pty = 0; tp = false }) 0 None true;
   pi = codes "C201";
   dwell = dwell;
   quiet = false;

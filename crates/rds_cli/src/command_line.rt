@@ -3,7 +3,7 @@ ghost use Rattle.std.specs.Prelude.{◌≡◌, IfOk, codes, false};
 ghost use Rattle.clap.specs.Words.{App, app_of, rule_of, with_subcommand};
 ghost use Rattle.clap.specs.declared.builder.command.Command.TheViews.{out-Command};
 ghost use Rattle.rds_cli.specs.CommandLine.{audit_app, confirm_rule, decode_app, dwell_rule, flag_rule, grain_rule};
-ghost use Rattle.rds_cli.specs.CommandLine.{late_app, late_rule};
+ghost use Rattle.rds_cli.specs.CommandLine.{flag_alone_rule, late_app, late_rule};
 ghost use Rattle.rds_cli.specs.CommandLine.{log_app, number_rule, own_pi_rule, pi_rule, pty_rule, quiet_rule};
 ghost use Rattle.rds_cli.specs.CommandLine.{running_rule, sim_app, slots_app, station_app, timed_app, top_app, tp_rule, whole_app};
 
@@ -163,6 +163,21 @@ fn running<'a>(alloc: Global) -> Arg<'a>
         "The station was on air before the log began, as in a recording. The audit then\n\
          takes M + K lost slots before the first line. So the first text may have started\n\
          at any time, and RT+ tags before the first text segment are not judged.",
+    )
+}
+
+/// Makes the flag `--flag-alone`.
+fn flag_alone<'a>(alloc: Global) -> Arg<'a>
+    ensures rule { rule_of result ≡ flag_alone_rule }
+    ensures local { result.global ≡ false }
+{
+    let help = "The receivers follow the A/B flag alone, as radios without a dwell do";
+    flag(alloc, "flag-alone", help).long_help(
+        "The receivers follow the A/B flag alone, as radios without a dwell do. The station\n\
+         stays as it is: it keeps its M, and its W if there is one. Such a receiver shows\n\
+         what `decode --m 65535` shows of its groups. Prints too what is on air, as in\n\
+         `9 air text \"HI\"`, and `12 r0 text off air` if what a receiver shows was not on air\n\
+         in the last M + K slots, with --confirm in the last M + K + W - 1.",
     )
 }
 
@@ -382,7 +397,9 @@ fn simulate<'a>(alloc: Global) -> Result<Command<'a>, AllocError>
                    1 sent C201 2000 4849 0D20\n  \
                    1 r0 text \"HI\"",
     };
-    station(alloc, "sim", page)?.arg(confirm(alloc))
+    station(alloc, "sim", page)?
+        .arg(confirm(alloc))?
+        .arg(flag_alone(alloc))
 }
 
 /// Makes the command `rdsrt` with its version and text.

@@ -1,7 +1,7 @@
 //! What the definition of the command line says of written-out arguments.
 ghost use Rattle.std.specs.Prelude.{codes, false, true};
 ghost use Rattle.rds_cli.specs.CommandLine.{AskFor, AskForHelp, default_dwell};
-ghost use Rattle.rds_cli.specs.Examples.{AreNotTaken, CallForHelp, auditing, auditing_running, confirming, decoding, encoding, filling, filling_one, quietly, simulating, simulating_twice, typed, witnessing};
+ghost use Rattle.rds_cli.specs.Examples.{AreNotTaken, CallForHelp, auditing, auditing_running, confirming, decoding, encoding, filling, filling_one, quietly, simulating, simulating_flag_alone, simulating_twice, typed, witnessing};
 
 /// Shows the definition at work. The arguments of README's examples are taken and ask for these tasks. A dwell of 0
 /// slots, a window of 1 or 256 slots, a programme type of 32, an option of another subcommand, a subcommand without a
@@ -37,6 +37,7 @@ pub fn words_of_the_examples()
     ensures small_window { AreNotTaken (typed (codes "rdsrt decode --pi C201 --confirm 1")) }
     ensures large_window { AreNotTaken (typed (codes "rdsrt decode --pi C201 --confirm 256")) }
     ensures audit_confirm { AreNotTaken (typed (codes "rdsrt audit --pi C201 --confirm 65")) }
+    ensures sim_flag_alone { AskFor (typed (codes "rdsrt sim --pi C201 --m 8 --flag-alone")) (simulating_flag_alone 8) }
     ensures sim_confirm { AskFor (typed (codes "rdsrt sim --pi C201 -m 64 --confirm 65")) (simulating_twice 64 65) }
     ensures sim_quiet { AskFor (typed (codes "rdsrt sim --quiet --pi C201 --pty 10 --tp"))
         (quietly (simulating default_dwell 10 true 0)) }

@@ -32,8 +32,8 @@ pub enum Task {
     /// Print the groups that a station sends.
     Encode(Programme, Late),
     /// Print what a station sends and what its receivers show. With a window they show only what they heard twice within
-    /// it.
-    Simulate(Programme, Late, Option<Window>),
+    /// it. The flag: in place of such receivers, radios that follow the A/B flag bit alone.
+    Simulate(Programme, Late, Option<Window>, bool),
     /// Print whether a log of all groups that were sent passes the audit. The flag: the station was on air before the
     /// log began.
     Audit(Late, bool),
@@ -115,7 +115,8 @@ fn task_of(name: &str, inner: &ArgMatches<'_>) -> Option<Task>
         "encode" => Some(Task::Encode(programme_of(inner)?, late_of(inner)?)),
         "sim" => {
             let window = window_of(inner)?;
-            Some(Task::Simulate(programme_of(inner)?, late_of(inner)?, window))
+            let alone = is_given(inner, "flag-alone");
+            Some(Task::Simulate(programme_of(inner)?, late_of(inner)?, window, alone))
         }
         "audit" => Some(Task::Audit(late_of(inner)?, is_given(inner, "running"))),
         "witness" => Some(Task::Witness),

@@ -8,8 +8,8 @@ use rds_block::Place;
 use rds_fields::{Dwell, Head, Late};
 use rds_receiver::Receive;
 use rds_world::{
-    Answer, Command, Config, PlayRefused, Premise, Reception, Reply, SlotEvent, StepRefused, World,
-    WorldRefused, play,
+    Answer, Command, Config, PlayRefused, Premise, ReceiverKind, Reception, Reply, SlotEvent,
+    StepRefused, World, WorldRefused, play,
 };
 use std::alloc::Global;
 use std::process::Abort;
@@ -163,7 +163,8 @@ pub(crate) fn assert_text(
 
 /// Compares the text and the name on air with these.
 fn assert_on_air(rt: &impl Abort, world: &World, wanted: (Option<&[u8]>, Option<&[u8]>)) {
-    same(rt, world.on_air(), wanted);
+    let air = world.on_air();
+    same(rt, (air.text, air.name), wanted);
 }
 
 pub(crate) fn slot_event(
@@ -193,6 +194,7 @@ pub(crate) fn config() -> Result<Config, Fail> {
         head,
         dwell: Dwell::new(4).ok_or("dwell")?,
         premise: Premise::once(Late::new(0).ok_or("late")?),
+        kind: ReceiverKind::WithDwell,
     })
 }
 

@@ -7,7 +7,7 @@ use rds_block::Place;
 use rds_fields::{Dwell, Head, Late};
 use rds_io::{LogFault, Told};
 use rds_script::{encode, encode_within, simulate, simulate_within};
-use rds_world::{Config, Premise};
+use rds_world::{Config, Premise, ReceiverKind};
 use std::alloc::{AllocError, Global};
 use std::cell::Cell;
 use std::io::{self, ErrorKind, Read, Write};
@@ -38,6 +38,7 @@ pub(crate) fn config(dwell: u16) -> Result<Config, Fail> {
         },
         dwell: Dwell::new(dwell).ok_or("dwell")?,
         premise: Premise::once(Late::new(0).ok_or("late")?),
+        kind: ReceiverKind::WithDwell,
     })
 }
 

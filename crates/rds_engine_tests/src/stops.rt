@@ -6,7 +6,7 @@ use rds_fields::{Dwell, Head, Late};
 use rds_io::{LogFault, TellingRead, Told};
 use rds_log::audit;
 use rds_script::{encode, simulate};
-use rds_world::{Config, Premise};
+use rds_world::{Config, Premise, ReceiverKind};
 use std::alloc::Global;
 use std::cell::Cell;
 use std::io::{self, Read};
@@ -42,6 +42,7 @@ fn config(pi: u16, dwell: u16, late: u16) -> Result<Config, Fail> {
         },
         dwell: Dwell::new(dwell).ok_or("dwell")?,
         premise: Premise::once(Late::new(late).ok_or("late")?),
+        kind: ReceiverKind::WithDwell,
     })
 }
 

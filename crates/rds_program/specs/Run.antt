@@ -1,7 +1,7 @@
 -- What the whole program does with its arguments. This is the project's own command line. r is the traffic of a call
 -- with the reader, w its traffic with the writer.
 use Rattle.std.specs.Prelude.{◌≡◌, ◌⊎◌, ◌+◌, ◌*◌, ◌^◌, ◌++◌, []}
-use Rattle.std.specs.Prelude.{ℕ, Bool, List, codes, decimal, None, Some, Option, Ok, Err, Result, if◌then◌else◌, nat_le, option_map}
+use Rattle.std.specs.Prelude.{ℕ, Bool, false, true, List, codes, decimal, None, Some, Option, Ok, Err, Result, if◌then◌else◌, nat_le, option_map}
 use Rattle.clap.specs.Words.{kind_of}
 use Rattle.clap.specs.declared.error.Error.{Error}
 use Rattle.clap.specs.declared.error.kind.ErrorKind.{ErrorKind}
@@ -11,6 +11,8 @@ use Rattle.rds_io.specs.Told.{HasFailed, PutsNothing, Traffic}
 use Rattle.rds_io.specs.declared.told.WriteFault.{WriteFault}
 use Rattle.rds_receiver.specs.Receipts.{Tuning}
 use Rattle.rds_world.specs.Premise.{Premise, lateness_in}
+use Rattle.rds_world.specs.declared.any_receiver.ReceiverKind.{ReceiverKind}
+use Rattle.rds_world.specs.declared.any_receiver.ReceiverKind.TheVariants.{FlagAlone, WithDwell}
 use Rattle.rds_world.specs.declared.world.Config.{Config}
 use Rattle.rds_audit.specs.AuditState.{start_if}
 use Rattle.rds_log.specs.Audit.{Audits}
@@ -53,7 +55,7 @@ PutsLine line w = (r : Result (Unit {0}) WriteFault) × Puts w line r
 abbrev pub mark_of : Task → List ℕ
 mark_of (Decode window) = []
 mark_of (Encode programme late) = codes "# "
-mark_of (Simulate programme late window) = []
+mark_of (Simulate programme late window alone) = []
 mark_of (Audit late running) = []
 mark_of Witness = []
 mark_of (Slots grain only) = codes "# "
@@ -111,17 +113,24 @@ abbrev pub premise_of : ℕ → Option ℕ → Option Premise
 premise_of late window =
     if nat_le (lateness_in window late) 1024 then Some (record { late = late; window = window }) else None
 
--- the station for receivers that are tuned so, for a programme and this premise
-abbrev pub station_of : Tuning → Programme → Premise → Config
-station_of t programme premise = record {
+-- the receivers of a simulation have the dwell of the station, or follow the flag bit alone
+abbrev pub kind_for : Bool → ReceiverKind
+kind_for false = WithDwell
+kind_for true = FlagAlone
+
+-- the station for receivers that are tuned so, for a programme and this premise, and the kind of its receivers
+abbrev pub station_of : Tuning → Programme → Premise → ReceiverKind → Config
+station_of t programme premise kind = record {
   head = record { pi = t.programme; tp = programme.tp; pty = programme.pty };
   dwell = t.dwell;
   premise = premise;
+  kind = kind;
 }
 
--- the station of a simulation, whose receivers have this window or none
-abbrev pub simulated_station : Tuning → Programme → ℕ → Option ℕ → Option Config
-simulated_station t programme late window = option_map (station_of t programme) (premise_of late window)
+-- the station of a simulation, which serves receivers with this window or none; with the flag, others listen to it
+abbrev pub simulated_station : Tuning → Programme → ℕ → Option ℕ → Bool → Option Config
+simulated_station t programme late window alone =
+    option_map (λ premise. station_of t programme premise (kind_for alone)) (premise_of late window)
 
 -- how `slots` fills a log for receivers that are tuned so: by this grain in microseconds, and by the lines of their
 -- programme alone or of all
@@ -152,10 +161,10 @@ abbrev pub TaskRuns : Task → Tuning → Traffic → Type 0 → Traffic → ℕ
 TaskRuns (Decode window) t r ReadFailed w status =
     Runs (Decodes (record t { window = window }) (2 ^ 32) r) done (Decode window) w status
 TaskRuns (Encode programme late) t r ReadFailed w status =
-    Runs (Plays Log (station_of t programme (once late)) (2 ^ 32) (script_in r ReadFailed)) done
+    Runs (Plays Log (station_of t programme (once late) WithDwell) (2 ^ 32) (script_in r ReadFailed)) done
     (Encode programme late) w status
-TaskRuns (Simulate programme late window) t r ReadFailed w status =
-    SimulationRuns (simulated_station t programme late window) (Simulate programme late window)
+TaskRuns (Simulate programme late window alone) t r ReadFailed w status =
+    SimulationRuns (simulated_station t programme late window alone) (Simulate programme late window alone)
     (script_in r ReadFailed) w status
 TaskRuns (Audit late running) t r ReadFailed w status =
     Runs (Audits (start_if running) t.programme (t.dwell + late) (2 ^ 32) r) verdict_status (Audit late running) w status

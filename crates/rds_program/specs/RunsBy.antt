@@ -4,6 +4,7 @@ use Rattle.std.proofs.Math.Logic.{∥∥₁_elim}
 use Rattle.std.specs.Prelude.{ℕ, List, None, Option, Some}
 use Rattle.rds_io.specs.Told.{Failed, Traffic}
 use Rattle.rds_receiver.specs.Receipts.{Tuning}
+use Rattle.rds_world.specs.declared.any_receiver.ReceiverKind.TheVariants.{WithDwell}
 use Rattle.rds_world.specs.declared.world.Config.{Config}
 use Rattle.rds_log.specs.LogWrites.{tuned}
 use Rattle.rds_io.specs.ReadFailed.{SomeReadFailed}
@@ -73,9 +74,10 @@ task_by says (Audit late running) t r w status ran = ran
 task_by says Witness t r w status ran = ran
 task_by says (Slots grain only) t r w status ran = ran
 task_by says (Encode programme late) t r w status ran =
-    script_by says Log (station_of t programme (once late)) (Encode programme late) r.before w status ran
-task_by says (Simulate programme late window) t r w status ran =
-    simulation_by says (simulated_station t programme late window) (Simulate programme late window) r.before w status ran
+    script_by says Log (station_of t programme (once late) WithDwell) (Encode programme late) r.before w status ran
+task_by says (Simulate programme late window alone) t r w status ran =
+    simulation_by says (simulated_station t programme late window alone) (Simulate programme late window alone) r.before w
+    status ran
 
 -- a reader whose count of failures is always 0 never fails
 pub never_fails : Failed 0 0 → ⊥

@@ -25,7 +25,7 @@ use rds_log::{Filling, MOST_READS, audit_with_notes, decode_with_notes, fill_wit
 use rds_receiver::Window;
 use rds_script::{Form, MOST_RECORDS, play_script};
 use rds_witness::witness_with_notes;
-use rds_world::{Config, Premise};
+use rds_world::{Config, Premise, ReceiverKind};
 use std::alloc::Global;
 use std::io::Write;
 
@@ -182,12 +182,13 @@ fn run_task<R: TellingRead, W: TellingWrite>(
             end_with(asked, decoded, writer, &mut notes.end)
         }
         Task::Encode(programme, late) => {
-            let station = station_of(pi, dwell, programme, Premise::once(late));
+            let premise = Premise::once(late);
+            let station = station_of(pi, dwell, programme, premise, ReceiverKind::WithDwell);
             let encoded = run_script(Form::Log, alloc, station, reader, writer, notes);
             end_with(asked, encoded, writer, &mut notes.end)
         }
-        Task::Simulate(programme, late, window) => {
-            let station = simulated_station(pi, dwell, programme, late, window);
+        Task::Simulate(programme, late, window, alone) => {
+            let station = simulated_station(pi, dwell, programme, late, window, alone);
             simulate(alloc, asked, station, reader, writer, notes)
         }
         Task::Audit(late, running) => {
@@ -254,8 +255,14 @@ fn run_script<R: TellingRead, W: TellingWrite>(
 }
 
 /// Returns the station of these options.
-fn station_of(pi: u16, dwell: Dwell, programme: Programme, premise: Premise) -> Config
-    ensures { result ≡ specs.station_of (tuned pi dwell) programme premise }
+fn station_of(
+    pi: u16,
+    dwell: Dwell,
+    programme: Programme,
+    premise: Premise,
+    kind: ReceiverKind,
+) -> Config
+    ensures { result ≡ specs.station_of (tuned pi dwell) programme premise kind }
 {
     Config {
         head: Head {
@@ -265,6 +272,18 @@ fn station_of(pi: u16, dwell: Dwell, programme: Programme, premise: Premise) -> 
         },
         dwell,
         premise,
+        kind,
+    }
+}
+
+/// Returns the kind of the receivers of a simulation.
+fn kind_for(alone: bool) -> ReceiverKind
+    ensures { result ≡ specs.kind_for alone }
+{
+    if alone {
+        ReceiverKind::FlagAlone
+    } else {
+        ReceiverKind::WithDwell
     }
 }
 
@@ -275,11 +294,13 @@ fn simulated_station(
     programme: Programme,
     late: Late,
     window: Option<Window>,
+    alone: bool,
 ) -> Option<Config>
-    ensures { result ≡ specs.simulated_station (tuned pi dwell) programme late window }
+    ensures { result ≡ specs.simulated_station (tuned pi dwell) programme late window alone }
 {
     let premise = Premise::new(late, window)?;
-    Some(station_of(pi, dwell, programme, premise))
+    let kind = kind_for(alone);
+    Some(station_of(pi, dwell, programme, premise, kind))
 }
 
 /// Returns how `slots` fills a log: with `only`, it leaves out the lines of other programmes.

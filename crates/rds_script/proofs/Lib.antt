@@ -2,6 +2,7 @@ pub mod Numbers
 pub mod Commands
 pub mod ReadRecords
 pub mod Changes
+pub mod Lately
 pub mod Receptions
 pub mod SecondReading
 pub mod OneEvent

@@ -1,5 +1,5 @@
 -- The slots of a station come to one list of outcomes.
-use Rattle.std.proofs.Common.{◌≡◌, ◌≢◌, ◌<◌, ◌∙◌, ◌∷◌, [], ℕ, List, Option, Some, None, ap, get_or, length, refl, subst, sym, arith}
+use Rattle.std.proofs.Common.{◌≡◌, ◌≢◌, ◌<◌, ◌∙◌, ◌∷◌, [], ℕ, List, Option, Some, None, ap, ap₂, get_or, length, refl, subst, sym, arith}
 use Rattle.std.proofs.lemmas.Grind.{common_steps}
 use Rattle.std.proofs.lemmas.List.{same_lists}
 use Rattle.rds_block.specs.declared.group.Group.{Group}
@@ -42,7 +42,7 @@ same_view_of_input : (config : Config) (input : Input) (v w : ShownView) → IsV
 same_view_of_input config input v w p q =
     let (heard, are, shows) = q.is in
     let other : heard ≡ input.heard = same_heard config.head.pi q.groups heard input.heard are q.spelled in
-    same_view (tuned_to config input) p.groups v w p.is (input.heard, p.spelled, subst (λ (h : List (Option Message)). ShowsView config.dwell input.first (counted (tuned_to config input) h) w) other shows)
+    same_view (tuned_to config input) p.groups v w p.is (input.heard, p.spelled, subst (λ (h : List (Option Message)). ShowsView (tuned_to config input).dwell input.first (counted (tuned_to config input) h) w) other shows)
 
 sent_is_known : (d : ℕ) (e : Event) (before : List Event) → sent_at d e before ≢ Some Other
 sent_is_known d e before =
@@ -81,4 +81,4 @@ pub same_written : TextIsReadOneWay → OneGroup → (form : Form) (config : Con
 same_written text one form config records written other p q =
     let events : p.events ≡ q.events = same_events text config.premise p.say.receivers q.say.receivers records p.events q.events p.say.rows q.say.rows in
     let outcomes : p.write.outcomes ≡ q.write.outcomes = same_outcomes one config q.events p.write.outcomes q.write.outcomes (subst (λ (l : List Event). AreOutcomes config l p.write.outcomes) events p.write.are) q.write.are in
-    p.write.lines ∙ ap (lines_of form) outcomes ∙ sym q.write.lines
+    p.write.lines ∙ ap₂ (λ (l : List Event) (os : List Outcome). lines_of form config l os) events outcomes ∙ sym q.write.lines

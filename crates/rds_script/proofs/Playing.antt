@@ -6,10 +6,11 @@ use Rattle.rds_world.specs.Premise.{Premise}
 use Rattle.rds_world.specs.State.{distance}
 use Rattle.rds_receiver.specs.Shown.{ShownView}
 use Rattle.rds_script.proofs.Changes.{changes_same}
+use Rattle.rds_script.proofs.Lately.{compared_alike}
 use Rattle.rds_view_lines.specs.NoChange.{view_of_none}
 use Rattle.rds_world.specs.Slots.{entries, input_of}
 use Rattle.rds_world.specs.StandsAt.{IsViewOfInput, ShowsStill, tuned_to}
-use Rattle.rds_script.specs.Outcomes.{AreOutcomes, IsOutcome, Outcome, answer_lines, lines_of, newest_views, receiver_changes, slot_lines, view_at}
+use Rattle.rds_script.specs.Outcomes.{AreOutcomes, IsOutcome, Outcome, answer_lines, compared_lines, lines_of, newest_views, receiver_changes, slot_lines, view_at}
 use Rattle.rds_script.specs.Inside.Player.{AppendsRow, HasWatched, IsBegun, IsRowRefused, Played, PlayerStandsAt}
 use Rattle.rds_script.specs.Inside.Watched.{AreKept, WatchedStandsAt, WereShown, views_kept}
 use Rattle.rds_script.specs.Notes.{first_of, wait_of}
@@ -76,14 +77,16 @@ same_receivers k n other (row ∷ records) (e ∷ events) [] p q some = absurd q
 same_receivers k n other (row ∷ records) (e ∷ events) (f ∷ older) p q some = sym p.1.count ∙ same_count row e f p.0 q.0 ∙ q.1.count
 
 -- the lines of a slot come after those of the slots before
-pub slot_written : (form : Form) (slot : ℕ) (kept : List ShownView) (o : Outcome) (older : List Outcome) (written lines : List ℕ)
-    → written ≡ lines_of form older → slot ≡ length older → AreKept kept (newest_views older) → lines ≡ slot_lines form slot kept o
-    → written ++ lines ≡ lines_of form (o ∷ older)
-slot_written form slot kept o older written lines had now same gave =
+pub slot_written : (form : Form) (config : Config) (slot : ℕ) (kept : List ShownView) (e : Event) (events : List Event) (o : Outcome) (older : List Outcome) (written lines : List ℕ)
+    → written ≡ lines_of form config events older → slot ≡ length older → AreKept kept (newest_views older)
+    → lines ≡ slot_lines form slot kept o ++ compared_lines config slot (length o.views) e events kept o.views
+    → written ++ lines ≡ lines_of form config (e ∷ events) (o ∷ older)
+slot_written form config slot kept e events o older written lines had now same gave =
     let changes : receiver_changes slot (length o.views) kept o.views ≡ receiver_changes (length older) (length o.views) (newest_views older) o.views =
     changes_same slot (length o.views) kept (newest_views older) o.views o.views (λ i l. same i) (λ i l. refl) ∙ ap (λ (s : ℕ). receiver_changes s (length o.views) (newest_views older) o.views) now in
     let answer : answer_lines form slot o.command o.reply o.sent ≡ answer_lines form (length older) o.command o.reply o.sent = ap (λ (s : ℕ). answer_lines form s o.command o.reply o.sent) now in
-    ap₂ (λ (x y : List ℕ). x ++ y) had (gave ∙ ap₂ (λ (x y : List ℕ). x ++ y) answer changes)
+    let compared = compared_alike config slot (length older) (length o.views) e events kept (newest_views older) o.views now same in
+    ap₂ (λ (x y : List ℕ). x ++ y) had (gave ∙ ap₂ (λ (x y : List ℕ). x ++ y) (ap₂ (λ (x y : List ℕ). x ++ y) answer changes) compared)
 
 -- before the first slot any number of receivers will do, and no outcome shows a thing
 pub none_played : (k : Premise) (receivers other : ℕ) (records : List Record) (events : List Event) → AreRows k receivers records events → events ≡ [] → AreRows k other records events
@@ -138,12 +141,12 @@ pub plays_on : {T E : Type 0} (r : Result T E) (before now : Player) (played : P
     → now.form ≡ before.form → now.config ≡ before.config → now.slot ≡ before.slot + 1 → now.watched ≡ Some w → IsAllowed played.form receivers
     → AreRows played.config.premise receivers played.records s.events → SaysEvent row e → AreKept kept (newest_views s.outcomes)
     → OnOk r (CanBeTaken played.config.premise receivers e s.events) → OnOk r (WatchedStandsAt played.config receivers w (e ∷ s.events))
-    → OnOk r ((o : Outcome) × IsOutcome played.config e s.events o × (o.views ≡ views_kept w) × (new ≡ old ++ slot_lines played.form before.slot kept o))
+    → OnOk r ((o : Outcome) × IsOutcome played.config e s.events o × (o.views ≡ views_kept w) × (new ≡ old ++ (slot_lines played.form before.slot kept o ++ compared_lines played.config before.slot (length o.views) e s.events kept o.views)))
     → OnOk r (now.wait ≡ first_of (wait_of before.slot e.command (reply_at (distance played.config) e.command (entries s.events))) before.wait)
     → OnOk r (AppendsRow now row old new played)
 plays_on (Err why) before now played s receivers kept w row e old new form config slot watched allowed rows says same taken stands outcome wait = tt
 plays_on (Ok done) before now played s receivers kept w row e old new form config slot watched allowed rows says same taken stands (o, is, views, gave) wait = (
-  slot_lines played.form before.slot kept o,
+  slot_lines played.form before.slot kept o ++ compared_lines played.config before.slot (length o.views) e s.events kept o.views,
   gave,
   (
     receivers,
@@ -156,7 +159,7 @@ plays_on (Ok done) before now played s receivers kept w row e old new form confi
       outcomes = o ∷ s.outcomes;
       are = (is, s.are);
       slot = slot ∙ ap (λ (n : ℕ). n + 1) s.slot ∙ add-one (length s.outcomes);
-      lines = slot_written played.form before.slot kept o s.outcomes played.written _ s.lines s.slot same refl;
+      lines = slot_written played.form played.config before.slot kept e s.events o s.outcomes played.written _ s.lines s.slot same refl;
       wait =
           let slots : before.slot ≡ length s.events = s.slot ∙ sym (as_many_outcomes played.config s.events s.outcomes s.are) in
           wait ∙ ap₂ (λ (n : ℕ) (x : Option EarlySet). first_of (wait_of n e.command (reply_at (distance played.config) e.command (entries s.events))) x) slots s.wait;

@@ -1,5 +1,5 @@
 -- How a script is played on by a record, and what is left at each end.
-use Rattle.std.proofs.Common.{◌≡◌, ◌≢◌, ◌<◌, ◌≤◌, ◌+◌, ◌∙◌, ◌∷◌, ◌++◌, [], ℕ, Bool, List, None, Option, Some, ap, append_assoc, arith, false, length, sym, true}
+use Rattle.std.proofs.Common.{◌≡◌, ◌≢◌, ◌<◌, ◌≤◌, ◌+◌, ◌∙◌, ◌∷◌, ◌++◌, [], ℕ, Bool, List, None, Option, ap, append_assoc, arith, false, length, sym, true}
 use Rattle.std.proofs.lemmas.List.{append-nil}
 use Rattle.std.specs.Prelude.{Err, Ok, Result}
 use Rattle.std.specs.Io.KnownBytes.{Appends}

@@ -6,7 +6,6 @@ use Rattle.std.proofs.lemmas.List.Elements.{All-head, All-tail}
 use Rattle.std.proofs.lemmas.List.Sums.{sum_by-append, sum_by-cons}
 use Rattle.std.specs.Prelude.{◌==◌, IfNone, IsUtf8, cond, slice_index}
 use Rattle.std.specs.Int.{from_bool}
-use Rattle.std.specs.Str.Parse.{AllDigits, digits_value}
 use Rattle.rds_assembly.specs.Body.{space}
 use Rattle.rds_fields.specs.Tag.{IsPair, PairFields}
 use Rattle.rds_assembly.specs.Value.{IsText}

@@ -2,5 +2,6 @@
 -- reader to the lines that are written.
 pub mod FailureFlag
 pub mod Unread
+pub mod Compared
 pub mod Watched
 pub mod Player

@@ -1,8 +1,8 @@
 -- The outcomes of a station's slots, and their output. `sim` writes the reply, the group, and the changes of each
--- receiver's view. `encode` writes the reply as a comment, and the group as a line of a log. This is the project's own
--- format. Lists have the newest first, so the slot of an outcome is the number of outcomes behind it.
+-- receiver's view. For radios with the flag bit alone it also compares the views with what is on air. `encode` writes
+-- the reply as a comment, and the group as a line of a log. This is the project's own format. Lists have the newest first, so the slot of an outcome is the number of outcomes behind it.
 use Rattle.std.specs.Prelude.{◌≡◌, ◌<◌, ◌++◌, [], ◌∷◌}
-use Rattle.std.specs.Prelude.{ℕ, zero, suc, List, Option, Some, None, codes, decimal, length, slice_index_or}
+use Rattle.std.specs.Prelude.{ℕ, zero, suc, Bool, true, false, List, Option, Some, None, codes, decimal, length, slice_index_or}
 use Rattle.rds_block.specs.declared.group.Group.{Group}
 use Rattle.rds_block.specs.Words.{second_word_of}
 use Rattle.rds_world.specs.State.{distance}
@@ -23,7 +23,13 @@ use Rattle.rds_world.specs.Replies.{reply_at}
 use Rattle.rds_world.specs.Slots.{entries, input_of, sent_at}
 use Rattle.rds_world.specs.StandsAt.{IsViewOfInput}
 use Rattle.rds_io.specs.Digits.{word_digits}
-use Rattle.rds_view_lines.specs.Output.{change, line_of, nothing_shown, receiver_stamp, slot_stamp}
+use Rattle.rds_view_lines.specs.Output.{air_stamp, change, line_of, nothing_shown, receiver_stamp, slot_stamp, unless_same}
+use Rattle.rds_view_lines.specs.declared.parts.Parts.{Parts}
+use Rattle.rds_receiver.specs.Run.{is_same}
+use Rattle.rds_world.specs.OnAir.{air_of}
+use Rattle.rds_world.specs.declared.any_receiver.ReceiverKind.{ReceiverKind}
+use Rattle.rds_world.specs.declared.any_receiver.ReceiverKind.TheVariants.{FlagAlone, WithDwell}
+use Rattle.rds_script.specs.OnAir.{parts_lately}
 use Rattle.rds_script.specs.declared.form.Form.{Form}
 use Rattle.rds_script.specs.declared.form.Form.TheVariants.{Simulation, Log}
 
@@ -134,13 +140,54 @@ abbrev pub newest_views : List Outcome → List ShownView
 newest_views [] = []
 newest_views (o ∷ older) = o.views
 
+-- whether a part that is shown was on air lately
+abbrev pub air_content : Bool → List ℕ
+air_content true = codes " on air"
+air_content false = codes " off air"
+
+-- the line of a part that came on air or went off it
+abbrev pub part_moved : List ℕ → List ℕ → Bool → Bool → List ℕ
+part_moved stamp part before now = unless_same (is_same before now) (line_of stamp part (air_content now))
+
+abbrev pub parts_change : List ℕ → Parts → Parts → List ℕ
+parts_change stamp before now =
+    part_moved stamp (codes "text") before.text now.text ++ part_moved stamp (codes "name") before.name now.name
+    ++ part_moved stamp (codes "tag1") before.one now.one ++ part_moved stamp (codes "tag2") before.two now.two
+
+-- the lines of the first n receivers, by their numbers
+unfoldable pub parts_changes : ℕ → ℕ → (ℕ → Parts) → (ℕ → Parts) → List ℕ
+parts_changes slot zero before now = []
+parts_changes slot (suc i) before now =
+    parts_changes slot i before now ++ parts_change (receiver_stamp slot i) (before i) (now i)
+
+-- lines that are written for radios with the flag bit alone
+abbrev pub if_alone : ReceiverKind → List ℕ → List ℕ
+if_alone WithDwell lines = []
+if_alone FlagAlone lines = lines
+
+-- how n views of a slot compare with what is on air: what changed on air, and which parts of a view came on air or went
+-- off it. A part that was on air in one of the last d slots is on air, and so is one that is not shown
+abbrev pub air_lines : Config → ℕ → ℕ → Event → List Event → List ShownView → List ShownView → List ℕ
+air_lines config slot n e before shown_before shown =
+    change (air_stamp slot) (air_of config before) (air_of config (e ∷ before))
+    ++ parts_changes slot n (λ i. parts_lately config before (view_at shown_before i))
+    (λ i. parts_lately config (e ∷ before) (view_at shown i))
+
+abbrev pub compared_lines : Config → ℕ → ℕ → Event → List Event → List ShownView → List ShownView → List ℕ
+compared_lines config slot n e before shown_before shown =
+    if_alone config.kind (air_lines config slot n e before shown_before shown)
+
 -- the lines of all slots, the oldest first
-abbrev pub lines_of : Form → List Outcome → List ℕ
-lines_of form [] = []
-lines_of form (o ∷ older) = lines_of form older ++ slot_lines form (length older) (newest_views older) o
+abbrev pub lines_of : Form → Config → List Event → List Outcome → List ℕ
+lines_of form config [] outcomes = []
+lines_of form config (e ∷ before) [] = []
+lines_of form config (e ∷ before) (o ∷ older) =
+    lines_of form config before older
+    ++ (slot_lines form (length older) (newest_views older) o
+    ++ compared_lines config (length older) (length o.views) e before (newest_views older) o.views)
 
 -- the output of a station's slots is the lines of their outcomes
 pub record EventsWrite (form : Form) (config : Config) (events : List Event) (written : List ℕ) : Type 0 where
   pub outcomes : List Outcome
   pub are : AreOutcomes config events outcomes
-  pub lines : written ≡ lines_of form outcomes
+  pub lines : written ≡ lines_of form config events outcomes

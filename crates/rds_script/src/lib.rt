@@ -5,7 +5,9 @@
 //! record and for the world.
 #![tactic(auto)]
 
+mod airs;
 mod answer_lines;
+mod compared;
 mod failure_flag;
 mod form;
 mod laws;

@@ -8,12 +8,13 @@ ghost use Rattle.rds_world.specs.StandsAt.{IsViewOfInput, WhereItStands};
 ghost use Rattle.rds_view_lines.specs.KeptView.{view_kept};
 ghost use Rattle.rds_script.specs.Inside.Watched.{AreKept, WereShown};
 ghost use Rattle.rds_script.specs.Notes.{first_of, wait_of};
-ghost use Rattle.rds_script.specs.Outcomes.{IsOutcome, Outcome, receiver_changes, slot_lines, view_at};
+ghost use Rattle.rds_script.specs.Outcomes.{IsOutcome, Outcome, compared_lines, receiver_changes, slot_lines, view_at};
 ghost use Rattle.rds_script.specs.declared.row.RowRefused.TheVariants as refused;
 ghost use Rattle.rds_script.specs.declared.watched.TheConstants.{OUTPUT_ROOM, ROW_ROOM};
 ghost use Rattle.rds_view_lines.specs.declared.change.TheConstants.{SLOT_ROOM};
 
 use crate::answer_lines::{ANSWER_ROOM, push_answer};
+use crate::compared::{COMPARED_ROOM, Compared, compare, new_compared};
 use crate::form::Form;
 use crate::notes::{EarlySet, note_wait};
 use crate::row::RowRefused;
@@ -23,8 +24,9 @@ use rds_view_lines::{KeptView, SLOT_ROOM, Stamp, show};
 use rds_world::{Config, MOST_RECEIVERS, SlotEvent, StepRefused, World};
 use std::alloc::Global;
 
-/// The most bytes of the output of a row: the reply, the group, and the changes at each receiver.
-pub(crate) const ROW_ROOM: usize = MOST_RECEIVERS * SLOT_ROOM + ANSWER_ROOM;
+/// The most bytes of the output of a row: the reply, the group, the changes at each receiver, and how the views compare
+/// with what is on air.
+pub(crate) const ROW_ROOM: usize = MOST_RECEIVERS * SLOT_ROOM + ANSWER_ROOM + COMPARED_ROOM;
 
 /// The most bytes of output that wait to be written.
 pub(crate) const OUTPUT_ROOM: usize = 65536;
@@ -32,11 +34,13 @@ pub(crate) const OUTPUT_ROOM: usize = 65536;
 /// The output of rows that waits to be written.
 pub(crate) type RowLines = Lines<OUTPUT_ROOM>;
 
-/// A world, and the view of each of its receivers at the end of the last slot.
+/// A world, and the view of each of its receivers at the end of the last slot. The views of radios with the flag bit alone
+/// are compared with what is on air.
 #[derive(Drop)]
 pub(crate) struct Watched {
     world: World,
     shown: ArrayVec<KeptView, MOST_RECEIVERS>,
+    compared: Option<Compared>,
 }
 
 impl Watched {
@@ -53,10 +57,14 @@ impl Watched {
         ensures nothing { IfOk result (λ w. AreKept (views_kept w) []) }
         ensures memory { IfErr result (λ why. why ≡ refused.Memory) }
     {
+        let Ok(compared) = new_compared(alloc, &config, receivers) else {
+            return Err(RowRefused::Memory);
+        };
         match World::new(alloc, config, receivers) {
             Ok(world) => Ok(Watched {
                 world,
                 shown: nothing_shown(receivers),
+                compared,
             }),
             Err(_) => Err(RowRefused::Memory),
         }
@@ -78,7 +86,8 @@ impl Watched {
             OnOk result (CanBeTaken config.premise receivers event.now events)) }
         ensures outcome { WhereWatchedStands self.old (λ config receivers events.
             OnOk result ((o : Outcome) × IsOutcome config event.now events o × (o.views ≡ views_kept self.new)
-            × (lines.new ≡ lines.old ++ slot_lines form slot (views_kept self.old) o))) }
+            × (lines.new ≡ lines.old ++ (slot_lines form slot (views_kept self.old) o
+            ++ compared_lines config slot (length o.views) event.now events (views_kept self.old) o.views)))) }
         ensures wait { WhereWatchedStands self.old (λ config receivers events.
             OnOk result (wait.new ≡ first_of (wait_of slot event.now.command
             (reply_at (distance config) event.now.command (entries events))) wait.old)) }
@@ -93,6 +102,13 @@ impl Watched {
                 note_wait(wait, slot, &event.command, answer.reply);
                 push_answer(form, slot, &event.command, answer, lines);
                 push_views(slot, &self.world, self.shown.as_mut_slice(), lines);
+                compare(
+                    &mut self.compared,
+                    slot,
+                    &self.world,
+                    self.shown.as_slice(),
+                    lines,
+                );
                 Ok(())
             }
             Err(why) => Err(why),
@@ -133,6 +149,7 @@ fn push_views(slot: u64, world: &World, shown: &mut [KeptView], lines: &mut RowL
         → (i : ℕ) → i < length shown.old
         → IsViewOfInput config (input_of (distance config) i events) (view_at (map view_kept shown.new) i)) }
     ensures count { length shown.new ≡ length shown.old }
+    ensures room { length lines.new ≤ length lines.old + MOST_RECEIVERS * SLOT_ROOM }
 {
     for i in 0..shown.len() {
         if world.stays(i) {

@@ -54,6 +54,10 @@ slot_stamp slot = decimal slot ++ codes " "
 abbrev pub receiver_stamp : ℕ → ℕ → List ℕ
 receiver_stamp slot i = decimal slot ++ codes " r" ++ decimal i ++ codes " "
 
+-- the same for what a station has on air
+abbrev pub air_stamp : ℕ → List ℕ
+air_stamp slot = decimal slot ++ codes " air "
+
 -- the line of a part
 abbrev pub line_of : List ℕ → List ℕ → List ℕ → List ℕ
 line_of stamp part content = stamp ++ part ++ content ++ codes "\n"

@@ -1,15 +1,16 @@
--- The program's types for the beginning of an output line and for a part of a view, with the content of a part and its
+-- The program's types for the beginning of an output line and for the parts of a view, with the content of a part and its
 -- line.
-use Rattle.std.specs.Prelude.{◌≤◌, ℕ, Bool, false, List, length}
+use Rattle.std.specs.Prelude.{ℕ, Bool, false, List}
 use Rattle.std.specs.Option.{option_copied}
 use Rattle.rds_receiver.specs.Borrowed.{borrowed_tag}
-use Rattle.rds_receiver.specs.Shown.{IsShortTag, IsShortText}
-use Rattle.rds_view_lines.specs.Output.{is_same_item, is_same_tag, is_same_text, item_content, line_of}
+use Rattle.rds_receiver.specs.Shown.{IsShortTag, IsShortText, ShownView}
+use Rattle.rds_view_lines.specs.Output.{air_stamp, is_same_item, is_same_tag, is_same_text, item_content, line_of}
 use Rattle.rds_view_lines.specs.Output.{receiver_stamp, slot_stamp, tag_content, text_content, unless_same}
 use Rattle.rds_view_lines.specs.declared.change.Part.{Part}
 use Rattle.rds_view_lines.specs.declared.change.Part.TheVariants.{Text, Item, Tag}
 use Rattle.rds_view_lines.specs.declared.change.Stamp.{Stamp}
-use Rattle.rds_view_lines.specs.declared.change.Stamp.TheVariants.{Slot, Receiver}
+use Rattle.rds_view_lines.specs.declared.change.Stamp.TheVariants.{OnAir, Receiver, Slot}
+use Rattle.rds_view_lines.specs.declared.parts.Parts.{Parts}
 
 -- whether both parts show the same
 abbrev pub is_same_part : Part → Part → Bool
@@ -43,3 +44,13 @@ part_change stamp name before now = unless_same (is_same_part before now) (line_
 abbrev pub stamp_of : Stamp → List ℕ
 stamp_of (Slot slot) = slot_stamp slot
 stamp_of (Receiver slot i) = receiver_stamp slot i
+stamp_of (OnAir slot) = air_stamp slot
+
+-- which parts of two views are the same
+abbrev pub same_parts : ShownView → ShownView → Parts
+same_parts view other = record {
+  text = is_same_text view.text other.text;
+  name = is_same_text view.name other.name;
+  one = is_same_tag view.one other.one;
+  two = is_same_tag view.two other.two;
+}

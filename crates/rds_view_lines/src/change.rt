@@ -24,6 +24,8 @@ pub enum Stamp {
     Slot(u64),
     /// The slot, and the number of one of several receivers, counted from 0.
     Receiver(u64, usize),
+    /// The slot, for what a station has on air.
+    OnAir(u64),
 }
 
 impl Stamp {
@@ -41,6 +43,10 @@ impl Stamp {
                 lines.push_number(slot);
                 lines.push(b" r");
                 lines.push_number(receiver as u64);
+            }
+            Stamp::OnAir(slot) => {
+                lines.push_number(slot);
+                lines.push(b" air");
             }
         }
         lines.push(b" ");
@@ -63,7 +69,7 @@ impl Part<'_> {
     ghost use Rattle.rds_view_lines.specs.Part.{IsShortPart, is_same_part, part_content};
 
     /// Returns whether both parts show the same.
-    fn is_same(self, other: Part<'_>) -> bool
+    pub(crate) fn is_same(self, other: Part<'_>) -> bool
         ensures { result ≡ is_same_part self.entry other.entry }
     {
         match (self, other) {
@@ -177,7 +183,7 @@ fn push_change<const N: usize>(
 ghost use Rattle.rds_receiver.specs.Borrowed.{view_of};
 
 /// Appends the line of each part of a view that differs from the slot before.
-pub(crate) fn push_changes<const N: usize>(
+pub fn push_changes<const N: usize>(
     stamp: Stamp,
     before: View<'_>,
     now: View<'_>,

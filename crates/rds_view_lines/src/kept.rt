@@ -41,7 +41,7 @@ impl KeptView {
     }
 
     /// Copies a view.
-    pub(crate) fn of(view: View<'_>) -> KeptView
+    pub fn of(view: View<'_>) -> KeptView
         ensures { view_kept result ≡ view_of view.entry }
     {
         KeptView {
@@ -54,7 +54,7 @@ impl KeptView {
     }
 
     /// Returns the view that was copied.
-    pub(crate) fn view(&self) -> View<'_>
+    pub fn view(&self) -> View<'_>
         ensures { view_of result ≡ view_kept self.now }
     {
         View {

@@ -18,6 +18,7 @@ use Rattle.rds_world.specs.declared.event.Command.TheVariants as command
 use Rattle.rds_world.specs.declared.event.Reception.{Reception}
 use Rattle.rds_world.specs.declared.event.Reception.TheVariants.{Got, Lost, Wrong}
 use Rattle.rds_world.specs.declared.event.Reception.TheVariants as reception
+use Rattle.rds_world.specs.declared.any_receiver.ReceiverKind.TheVariants.{WithDwell}
 use Rattle.rds_world.specs.Delivery.{ANameIsDelivered, AStationDeliversAName, AStationDeliversAText, AStationDeliversAnyText, ATextIsDelivered, AnyTextIsDelivered, GetsEachFree, GetsIfFree, GotOfStation, GotRecently, LieIn, LieInBroadcast, free_slots}
 use Rattle.rds_world.specs.Event.{Event}
 use Rattle.rds_world.specs.Slots.{commanded, entries, input_of, log, plans_of, received}
@@ -118,10 +119,10 @@ came_in_own d i (e ∷ recent) before gets s since (inl here) =
 
 -- the configuration of a world without a window
 abbrev plain : Head → ℕ → ℕ → Config
-plain head m k = record { head = head; dwell = m; premise = record { late = k; window = None } }
+plain head m k = record { head = head; dwell = m; premise = record { late = k; window = None }; kind = WithDwell }
 
-is_plain : (config : Config) → config.premise.window ≡ None → plain config.head config.dwell config.premise.late ≡ config
-is_plain config once = sym (λ i. record { head = config.head; dwell = config.dwell; premise = record { late = config.premise.late; window = once i } })
+is_plain : (config : Config) → config.premise.window ≡ None → config.kind ≡ WithDwell → plain config.head config.dwell config.premise.late ≡ config
+is_plain config once kind = sym (λ i. record { head = config.head; dwell = config.dwell; premise = record { late = config.premise.late; window = once i }; kind = kind i })
 
 module _ (head : Head) (m k : ℕ) (e : Event) (recent before : List Event) (view : ShownView) (gets : GotRecently (plain head m k) (e ∷ recent) before view) where
   abbrev config : Config
@@ -148,7 +149,7 @@ module _ (head : Head) (m k : ℕ) (e : Event) (recent before : List Event) (vie
       let same = slots_of_a_world d events due.values in
       subst (λ (t : ℕ). ListensTo k m t (sent_log d (entries events)) receiver) last
       (subst (λ (sent : List (Option Message)). ListensTo k m (length (recent ++ before)) sent receiver) (sym same.log)
-      (listens config e (recent ++ before) gets.number gets.receiver view due.due due.fit (due.receivers.each gets.number gets.receiver gets.there) gets.shows))
+      (listens config e (recent ++ before) gets.number gets.receiver view refl due.due due.fit (due.receivers.each gets.number gets.receiver gets.there) gets.shows))
 
   got_of_station : GotOfStation k m told.later (entries before) receiver
   got_of_station = record {
@@ -180,7 +181,7 @@ IsShownIn plan part recent before view b config =
 for_each : (plan : Plans → List Broadcast) (part : ShownView → Option (List ℕ)) (recent before : List Event) (view : ShownView) (b : Broadcast)
     → ((head : Head) (m k : ℕ) → IsShownIn plan part recent before view b (plain head m k)) → (config : Config) → IsShownIn plan part recent before view b config
 for_each plan part recent before view b shown config gets lies =
-    subst (IsShownIn plan part recent before view b) (is_plain config gets.once) (shown config.head config.dwell config.premise.late) gets lies
+    subst (IsShownIn plan part recent before view b) (is_plain config gets.once gets.kind) (shown config.head config.dwell config.premise.late) gets lies
 
 -- a broadcast of texts has segments, so some slots are recent
 pub text_delivered : AStationDeliversAText → ATextIsDelivered

@@ -1,5 +1,5 @@
 -- Lemmas: the input of a receiver after one more slot, and one entry of a list after it was written.
-use Rattle.std.proofs.Common.{◌≡◌, ◌≢◌, ◌<◌, ℕ, zero, suc, Bool, true, false, List, [], ◌∷◌, Option, Some, None, refl, ap, subst, inl, take, length, arith}
+use Rattle.std.proofs.Common.{◌≡◌, ◌≢◌, ◌<◌, ℕ, zero, suc, Bool, true, false, List, [], ◌∷◌, Option, Some, None, refl, ap, subst, inl, take, arith}
 use Rattle.std.specs.List.{AllByRecursion}
 use Rattle.std.specs.Prelude.{slice_get, slice_index_or, slice_set}
 use Rattle.rds_block.specs.declared.group.Group.{Group}
@@ -11,9 +11,8 @@ use Rattle.rds_receiver.specs.Shown.{IsView, ShowsView}
 use Rattle.rds_receiver.specs.Receive.{GoesOn, KeepsViews}
 use Rattle.rds_receiver.specs.Twice.{counted}
 use Rattle.rds_safety.specs.Late.{Input}
-use Rattle.rds_world.specs.AnyReceiver.{StandsAny}
+use Rattle.rds_world.specs.AnyReceiver.{StandsAny, dwell_of}
 use Rattle.rds_world.specs.declared.any_receiver.AnyReceiver.{AnyReceiver}
-use Rattle.rds_world.specs.declared.any_receiver.AnyReceiver.TheVariants.{Once, Twice}
 use Rattle.rds_world.specs.StandsAt.{HasHeard, IsNew, StaysShown, tuned_to}
 use Rattle.rds_world.specs.declared.world.Config.{Config}
 
@@ -44,7 +43,7 @@ pub stays_shown : (config : Config) (input : Input) (old : AnyReceiver) (group :
 stays_shown config input old group heard origin hears stays has view shown =
     let (other, are, shows) = shown.is in
     let same : other ≡ input.heard = same_heard config.head.pi shown.groups other input.heard are shown.spelled in
-    let by_own : IsView (tuned_to config input) has.groups view = (input.heard, has.spelled, subst (λ (x : List (Option Message)). ShowsView config.dwell input.first (counted (tuned_to config input) x) view) same shows) in
+    let by_own : IsView (tuned_to config input) has.groups view = (input.heard, has.spelled, subst (λ (x : List (Option Message)). ShowsView (dwell_of config.kind config.dwell) input.first (counted (tuned_to config input) x) view) same shows) in
     record {
       groups = group ∷ has.groups;
       spelled = (hears, has.spelled);
@@ -80,15 +79,6 @@ of_first zero xs i x e = absurd (cc)
 of_first (suc n) [] i x e = absurd (cc)
 of_first (suc n) (y ∷ xs) zero x e = (omega arith, e)
 of_first (suc n) (y ∷ xs) (suc i) x e = (let later = of_first n xs i x e in (omega (arith, later.0), later.1))
-
--- a receiver that stands at an input has a dwell above 0
-pub some_slots : (config : Config) (rs : List AnyReceiver) → AllByRecursion (IsNew config) rs → 0 < length rs → 0 < config.dwell
-some_slots config [] all some = absurd (omega (arith, some))
-some_slots config (r ∷ rs) all some = lasts r (all.0 0)
-  where
-    lasts : (r : AnyReceiver) → StandsAny (tuned_to config (input_from 0 [] [])) r [] → 0 < config.dwell
-    lasts (Once r) stands = stands.holds.lasts
-    lasts (Twice s) stands = stands.holds.receiver.lasts
 
 -- writing one mark of a list keeps the others
 pub other_marked : {X : Type 0} (xs : List X) (i k : ℕ) (x d : X) → k ≢ i → slice_index_or (slice_set xs i x) k d ≡ slice_index_or xs k d

@@ -5,9 +5,12 @@ use Rattle.std.specs.Prelude.{slice_get}
 use Rattle.std.proofs.lemmas.List.Elements.{All-from_recursion}
 use Rattle.rds_fields.specs.declared.message.Message.{Message}
 use Rattle.rds_receiver.specs.OneView.{same_heard}
-use Rattle.rds_receiver.specs.Shown.{ShowsView, ShownView}
+use Rattle.rds_receiver.specs.Receipts.{Tuning}
+use Rattle.rds_receiver.specs.Shown.{IsView, ShowsView, ShownView}
 use Rattle.rds_receiver.specs.Twice.{counted_in}
+use Rattle.rds_world.specs.AnyReceiver.{dwell_of, window_of}
 use Rattle.rds_world.specs.declared.any_receiver.AnyReceiver.{AnyReceiver}
+use Rattle.rds_world.specs.declared.any_receiver.ReceiverKind.TheVariants.{WithDwell}
 use Rattle.rds_world.specs.Due.{AreDue}
 use Rattle.rds_world.specs.Event.{Event}
 use Rattle.rds_world.specs.Premise.{counted_input, lateness_in}
@@ -29,11 +32,21 @@ use Rattle.rds_world.proofs.NoneWrong.{each_is_late, keeps_premise}
 use Rattle.rds_world.proofs.WorldSlots.{events_are_lawful}
 use Rattle.rds_world.proofs.InTime.{in_time, input_reaches}
 
+-- receivers with the dwell are tuned to that of the station, and to its window
+tuned_alike : (config : Config) (input : Input) → config.kind ≡ WithDwell
+    → tuned_to config input ≡ record { programme = config.head.pi; dwell = config.dwell; window = config.premise.window; first = input.first }
+tuned_alike config input kind = λ i. record {
+  programme = config.head.pi;
+  dwell = dwell_of (kind i) config.dwell;
+  window = window_of (kind i) config.premise.window;
+  first = input.first;
+}
+
 -- the view of a receiver is that of what counts of its input
-pub shows_view : (config : Config) (input : Input) (r : AnyReceiver) (view : ShownView) → HasHeard config input r → Shows r view
+pub shows_view : (config : Config) (input : Input) (r : AnyReceiver) (view : ShownView) → config.kind ≡ WithDwell → HasHeard config input r → Shows r view
     → ShowsView config.dwell input.first (counted_in config.premise.window config.dwell input.first input.heard) view
-shows_view config input r view has shows =
-    let v = shows (tuned_to config input) has.groups has.stands in
+shows_view config input r view kind has shows =
+    let v = subst (λ (t : Tuning). IsView t has.groups view) (tuned_alike config input kind) (shows (tuned_to config input) has.groups has.stands) in
     subst (λ (heard : List (Option Message)). ShowsView config.dwell input.first (counted_in config.premise.window config.dwell input.first heard) view)
     (same_heard config.head.pi has.groups v.0 input.heard v.1 has.spelled) v.2
 
@@ -56,24 +69,24 @@ listens_in (Some w) k m t log input view heard keeps now shows = record {
 }
 
 pub listens : (config : Config) (e : Event) (before : List Event) (i : ℕ) (r : AnyReceiver) (view : ShownView)
-    → AreDue config.premise.late (e ∷ before) → AreFit config.premise.window (e ∷ before) → HasHeard config (input_of (distance config) i (e ∷ before)) r → Shows r view
+    → config.kind ≡ WithDwell → AreDue config.premise.late (e ∷ before) → AreFit config.premise.window (e ∷ before) → HasHeard config (input_of (distance config) i (e ∷ before)) r → Shows r view
     → ListensIn config.premise.window config.premise.late config.dwell (length before) (log (distance config) (e ∷ before)) record { input = input_that_counts config i (e ∷ before); view = view }
-listens config e before i r view due fit has shows =
+listens config e before i r view kind due fit has shows =
     let input = input_of (distance config) i (e ∷ before) in
     listens_in config.premise.window config.premise.late config.dwell (length before) (log (distance config) (e ∷ before)) input view
-    (in_time (distance config) config.premise.late i (e ∷ before) due) (keeps_premise (distance config) i config.premise.window (e ∷ before) fit) (input_reaches (distance config) i (e ∷ before) ∙ omega arith) (shows_view config input r view has shows)
+    (in_time (distance config) config.premise.late i (e ∷ before) due) (keeps_premise (distance config) i config.premise.window (e ∷ before) fit) (input_reaches (distance config) i (e ∷ before) ∙ omega arith) (shows_view config input r view kind has shows)
 
-all_listen : (config : Config) (e : Event) (before : List Event) (i : ℕ) (receivers : List AnyReceiver) (views : List ShownView) → AreDue config.premise.late (e ∷ before)
+all_listen : (config : Config) (e : Event) (before : List Event) (i : ℕ) (receivers : List AnyReceiver) (views : List ShownView) → config.kind ≡ WithDwell → AreDue config.premise.late (e ∷ before)
     → AreFit config.premise.window (e ∷ before)
     → ((n : ℕ) (r : AnyReceiver) → slice_get receivers n ≡ Some r → HasHeard config (input_of (distance config) (i + n) (e ∷ before)) r) → AllZip Shows receivers views
     → AllByRecursion (ListensIn config.premise.window config.premise.late config.dwell (length before) (log (distance config) (e ∷ before))) (listeners config (e ∷ before) i views)
-all_listen config e before i [] [] due fit has shows = tt
-all_listen config e before i [] (view ∷ views) due fit has shows = absurd shows
-all_listen config e before i (r ∷ receivers) [] due fit has shows = absurd shows
-all_listen config e before i (r ∷ receivers) (view ∷ views) due fit has shows =
+all_listen config e before i [] [] kind due fit has shows = tt
+all_listen config e before i [] (view ∷ views) kind due fit has shows = absurd shows
+all_listen config e before i (r ∷ receivers) [] kind due fit has shows = absurd shows
+all_listen config e before i (r ∷ receivers) (view ∷ views) kind due fit has shows =
     let here : i + 0 ≡ i = omega arith in (
-      listens config e before i r view due fit (subst (λ n. HasHeard config (input_of (distance config) n (e ∷ before)) r) here (has 0 r refl)) shows.0,
-      all_listen config e before (i + 1) receivers views due fit
+      listens config e before i r view kind due fit (subst (λ n. HasHeard config (input_of (distance config) n (e ∷ before)) r) here (has 0 r refl)) shows.0,
+      all_listen config e before (i + 1) receivers views kind due fit
           (λ n s at.
           let next : i + suc n ≡ i + 1 + n = omega arith in
           subst (λ n. HasHeard config (input_of (distance config) n (e ∷ before)) s) next (has (suc n) s at))
@@ -88,13 +101,13 @@ safe_in safe twice (Some w) k m t plans log receivers lawful all = twice w k m t
 
 pub safe_world : TheEncoderIsLawful → LawfulPlansAreSafe → LawfulPlansAreSafeTwice → (config : Config) (w : WorldState) (events : List Event) → StandsAt config w events → OnlyWhatWasOnAirIsShown config events w.receivers
 safe_world lawful safe twice config w [] st = tt
-safe_world lawful safe twice config w (e ∷ before) st = λ views shows.
+safe_world lawful safe twice config w (e ∷ before) st = λ kind views shows.
     let events = e ∷ before in
     let d = distance config in
     let some = st.lasts in
     let p = config.premise in
     let all : AllByRecursion (ListensIn p.window p.late config.dwell (length before) (log d events)) (listeners config events 0 views) =
-    all_listen config e before 0 w.receivers views st.due st.fit
+    all_listen config e before 0 w.receivers views kind st.due st.fit
     (λ n r at. (let same : n ≡ 0 + n = omega arith in subst (λ i. HasHeard config (input_of d i events) r) same (st.receivers.each n r at))) shows in
     safe_in safe twice p.window p.late config.dwell (length before) (plans_of d events) (log d events) (listeners config events 0 views) (events_are_lawful lawful d events (omega (arith, some)) st.values)
     (All-from_recursion _ (listeners config events 0 views) all)

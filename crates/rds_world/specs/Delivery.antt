@@ -12,6 +12,7 @@ use Rattle.rds_encoder.specs.Sent.{one_if, sent_log}
 use Rattle.rds_receiver.specs.Shown.{ShownView}
 use Rattle.rds_safety.specs.Late.{CameFrom}
 use Rattle.rds_safety.specs.Safe.{Listener, ListensTo}
+use Rattle.rds_world.specs.declared.any_receiver.ReceiverKind.TheVariants.{WithDwell}
 use Rattle.rds_world.specs.declared.any_receiver.AnyReceiver.{AnyReceiver}
 use Rattle.rds_world.specs.declared.event.Reception.{Reception}
 use Rattle.rds_world.specs.declared.event.Reception.TheVariants.{Got, Lost, Wrong, Restart}
@@ -50,10 +51,11 @@ pub record LieIn (plan : List Broadcast) (recent before : List Event) (b : Broad
   pub from : b.start ≤ length before
   pub to : length (recent ++ before) ≤ b.end + 1
 
--- in a world without a window that stands at the slots before and the recent ones, a receiver got on time each free one
--- of the recent slots, at most M, and shows this view
+-- in a world of receivers with the dwell and without a window, which stands at the slots before and the recent ones, a
+-- receiver got on time each free one of the recent slots, at most M, and shows this view
 pub record GotRecently (config : Config) (recent before : List Event) (view : ShownView) : Type 0 where
   pub once : config.premise.window ≡ None
+  pub kind : config.kind ≡ WithDwell
   pub world : WorldState
   pub stands : StandsAt config world (recent ++ before)
   pub within : length recent ≤ config.dwell

@@ -12,6 +12,7 @@ pub mod Replies
 pub mod StandsAt
 pub mod Station
 pub mod TwiceStation
+pub mod OnAir
 pub mod SafeSlots
 pub mod Delivery
 pub mod FlagStation

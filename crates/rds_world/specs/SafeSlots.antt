@@ -1,10 +1,11 @@
 -- The headline (this project's own rule): receivers show only what was on air. Lists have the newest first.
-use Rattle.std.specs.Prelude.{ℕ, ◌+◌, List, [], ◌∷◌, length}
+use Rattle.std.specs.Prelude.{◌≡◌, ℕ, ◌+◌, List, [], ◌∷◌, length}
 use Rattle.std.specs.List.{AllZip}
 use Rattle.rds_receiver.specs.Shown.{ShownView}
 use Rattle.rds_world.specs.Event.{Event}
 use Rattle.rds_world.specs.Premise.{counted_input}
 use Rattle.rds_world.specs.declared.any_receiver.AnyReceiver.{AnyReceiver}
+use Rattle.rds_world.specs.declared.any_receiver.ReceiverKind.TheVariants.{WithDwell}
 use Rattle.rds_safety.specs.Late.{Input}
 use Rattle.rds_safety.specs.Safe.{AreSafe, Listener}
 use Rattle.rds_world.specs.Slots.{input_of, log, plans_of}
@@ -23,7 +24,7 @@ listeners config events i [] = []
 listeners config events i (view ∷ views) =
     record { input = input_that_counts config i events; view = view } ∷ listeners config events (i + 1) views
 
--- The headline, for each list of slots. In each slot the encoder and any receiver may restart. Each receiver gets what
+-- The headline, for receivers with the dwell, and for each list of slots. In each slot the encoder and any receiver may restart. Each receiver gets what
 -- was sent at most K slots before, in the order of sending, or nothing. With a window of W slots it may also get a
 -- wrong message, but none that needs two receipts twice within W slots. At the end of the newest slot, each text or name
 -- that these receivers show was on air in one of the last d slots, the tags shown were sent for the text shown, and any
@@ -32,7 +33,7 @@ listeners config events i (view ∷ views) =
 abbrev pub OnlyWhatWasOnAirIsShown : Config → List Event → List AnyReceiver → Type 0
 OnlyWhatWasOnAirIsShown config [] receivers = Unit {0}
 OnlyWhatWasOnAirIsShown config (newest ∷ before) receivers =
-    (views : List ShownView) → AllZip Shows receivers views
+    config.kind ≡ WithDwell → (views : List ShownView) → AllZip Shows receivers views
     → AreSafe (distance config) config.dwell (length before) (plans_of (distance config) (newest ∷ before))
     (log (distance config) (newest ∷ before)) (listeners config (newest ∷ before) 0 views)
 

@@ -10,7 +10,7 @@ use Rattle.rds_receiver.specs.Shown.{IsView, ShownView}
 use Rattle.rds_receiver.specs.Receive.{WhereStands}
 use Rattle.rds_world.specs.declared.event.Reception.{Reception}
 use Rattle.rds_world.specs.declared.event.Reception.TheVariants.{Lost}
-use Rattle.rds_world.specs.AnyReceiver.{StandsAny}
+use Rattle.rds_world.specs.AnyReceiver.{StandsAny, dwell_of, window_of}
 use Rattle.rds_world.specs.declared.any_receiver.AnyReceiver.{AnyReceiver}
 use Rattle.rds_world.specs.Due.{AreDue, IsDue, last_named, reach_of}
 use Rattle.rds_world.specs.Event.{Event}
@@ -20,12 +20,13 @@ use Rattle.rds_world.specs.State.{WorldState, distance}
 use Rattle.rds_world.specs.Wrong.{AreFit, slots_back, wrong_of}
 use Rattle.rds_world.specs.declared.world.Config.{Config}
 
--- the tuning to the station: its PI, its receivers' dwell and window, and the slot in which the input begins
+-- the tuning to the station: its PI, the dwell and the window of its kind of receivers, and the slot in which the input
+-- begins
 abbrev pub tuned_to : Config → Input → Tuning
 tuned_to config input = record {
   programme = config.head.pi;
-  dwell = config.dwell;
-  window = config.premise.window;
+  dwell = dwell_of config.kind config.dwell;
+  window = window_of config.kind config.premise.window;
   first = input.first;
 }
 

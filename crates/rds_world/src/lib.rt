@@ -18,7 +18,7 @@ mod station;
 mod station_laws;
 mod world;
 
-pub use any_receiver::AnyReceiver;
+pub use any_receiver::{AnyReceiver, ReceiverKind};
 pub use event::{Command, MOST_RECEIVERS, Reception, SlotEvent};
 pub use premise::Premise;
 pub use reply::{Answer, Reply, StepRefused, WorldRefused};

@@ -1,5 +1,5 @@
 //! The receivers' part of a slot: hands out the groups, and marks the receivers whose view did not change.
-ghost use Rattle.std.specs.Prelude.{◌≡◌, ◌≤◌, ℕ, List, None, Option, Some, IsTrue, false, length, slice_index_or, true};
+ghost use Rattle.std.specs.Prelude.{◌≡◌, ◌≤◌, ◌<◌, ℕ, List, None, Option, Some, IsTrue, false, length, slice_index_or, true};
 ghost use Rattle.std.specs.List.{AllByRecursion};
 ghost use Rattle.rds_fields.specs.declared.message.Message.{Message};
 ghost use Rattle.rds_world.specs.declared.event.Reception.TheVariants.{Lost};
@@ -20,7 +20,8 @@ use rds_receiver::Receive;
 /// Makes eight receivers that have heard nothing yet.
 // Prover: all eight are written out, without `array::from_fn` (docs/PROVER.md, "Workarounds").
 pub(crate) fn eight_receivers(config: &Config) -> [AnyReceiver; MOST_RECEIVERS]
-    ensures { AllByRecursion (IsNew config.now) result }
+    ensures new { AllByRecursion (IsNew config.now) result }
+    ensures some { 0 < config.now.dwell }
 {
     [
         new_receiver(config),
@@ -36,9 +37,12 @@ pub(crate) fn eight_receivers(config: &Config) -> [AnyReceiver; MOST_RECEIVERS]
 
 /// Makes a receiver that has heard nothing yet.
 fn new_receiver(config: &Config) -> AnyReceiver
-    ensures { IsNew config.now result }
+    ensures new { IsNew config.now result }
+    ensures some { 0 < config.now.dwell }
 {
-    AnyReceiver::new(config.head.pi, config.dwell, config.premise.window())
+    let kind = config.kind;
+    let dwell = kind.dwell(config.dwell);
+    AnyReceiver::new(config.head.pi, dwell, kind.window(config.premise.window()))
 }
 
 /// Gives each receiver its reception of a slot from the recent groups. Returns a mark for each: if it is true, the

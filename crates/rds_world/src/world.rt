@@ -1,12 +1,12 @@
 //! The world: a station and its receivers, slot by slot.
 ghost use Rattle.std.specs.Prelude.{◌≡◌, ◌≢◌, ◌+◌, ◌<◌, ◌≤◌, ◌↔◌, [], ◌∷◌};
 ghost use Rattle.std.specs.Prelude.{IsErrOf, IsOk, IsSome, IsTrue, IfOk, IfSome};
-ghost use Rattle.std.specs.Prelude.{MatchResult, OnErr, OnOk, length, option_map, slice_get};
+ghost use Rattle.std.specs.Prelude.{MatchResult, OnErr, OnOk, length, slice_get};
 ghost use Rattle.std.specs.Option.{option_copied};
-ghost use Rattle.rds_encoder.specs.Entries.{name_moves, text_moves};
-ghost use Rattle.rds_encoder.specs.Plan.{bytes_of, on_air};
 ghost use Rattle.rds_encoder.specs.Sent.{IsSent};
+ghost use Rattle.rds_receiver.specs.Borrowed.{view_of};
 ghost use Rattle.rds_receiver.specs.Shown.{ShownView};
+ghost use Rattle.rds_world.specs.OnAir.{air_of};
 ghost use Rattle.rds_world.specs.Replies.{CanBeTaken, IsStepRefused, reply_at};
 ghost use Rattle.rds_world.specs.SafeSlots.{OnlyWhatWasOnAirIsShown};
 ghost use Rattle.rds_world.specs.Slots.{entries, input_of, sent_at};
@@ -20,22 +20,24 @@ use crate::receivers::{eight_receivers, hand_out};
 use crate::recent::Recent;
 use crate::station::{new_encoder, obey};
 use crate::{
-    Answer, AnyReceiver, MOST_RECEIVERS, Premise, SlotEvent, StepRefused, WorldRefused,
-    only_what_was_on_air_is_shown,
+    Answer, AnyReceiver, MOST_RECEIVERS, Premise, ReceiverKind, SlotEvent, StepRefused,
+    WorldRefused, only_what_was_on_air_is_shown,
 };
 use rds_block::Blocks;
 use rds_encoder::Encoder;
 use rds_fields::{Dwell, Head};
+use rds_receiver::View;
 use std::alloc::Global;
 use std::marker::Model;
 
-/// The configuration of a world: the head of each group that the station sends, the dwell M of the receivers in slots,
-/// and how groups may reach them.
+/// The configuration of a world: the head of each group that the station sends, the dwell M of the receivers that it
+/// serves, in slots, how groups may reach them, and which kind of receivers listens.
 #[derive(Clone, Copy)]
 pub struct Config {
     pub head: Head,
     pub dwell: Dwell,
     pub premise: Premise,
+    pub kind: ReceiverKind,
 }
 
 /// One encoder and up to eight receivers of its programme.
@@ -170,15 +172,16 @@ impl World {
         Ok(Answer { reply, sent })
     }
 
-    /// Returns the text on air, at most 64 bytes, and the name on air, eight bytes, borrowed from the encoder. `None`
-    /// for each that is not on air.
-    pub fn on_air(&self) -> (Option<&[u8]>, Option<&[u8]>)
-        ensures text { WhereItStands self.now (λ config events. option_copied result.0
-            ≡ option_map bytes_of (on_air (distance config) (text_moves (entries events)))) }
-        ensures name { WhereItStands self.now (λ config events. option_copied result.1
-            ≡ option_map bytes_of (on_air (distance config) (name_moves (entries events)))) }
+    /// Returns what is on air, borrowed from the encoder: the text, the name, and the tags of the text, even if they have
+    /// not been sent yet.
+    pub fn on_air(&self) -> View<'_>
+        ensures { WhereItStands self.now (λ config events. view_of result ≡ air_of config events) }
     {
-        (self.encoder.text(), self.encoder.name())
+        View::of(
+            self.encoder.text(),
+            self.encoder.name(),
+            self.encoder.tags(),
+        )
     }
 
     /// Returns receiver i, counted from 0, borrowed from the world. `None` if there are no more than i receivers.

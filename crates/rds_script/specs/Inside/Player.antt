@@ -75,7 +75,7 @@ pub record PlayerStandsAt (p : Player) (played : Played) : Type 0 where
   pub are : AreOutcomes played.config events outcomes
   pub slot : p.slot ≡ length outcomes
   pub watched : HasWatched played.config played.receivers p.watched events outcomes
-  pub lines : played.written ≡ lines_of played.form outcomes
+  pub lines : played.written ≡ lines_of played.form played.config events outcomes
   pub wait : p.wait ≡ first_wait played.config events
 
 -- for each state of the player: this holds of its history

@@ -7,6 +7,7 @@ use Rattle.rds_world.specs.StandsAt as station
 use Rattle.rds_world.specs.State.{distance}
 use Rattle.rds_receiver.specs.Shown.{ShownView}
 use Rattle.rds_view_lines.specs.KeptView.{view_kept}
+use Rattle.rds_script.specs.Inside.Compared.{IsCompared}
 use Rattle.rds_script.specs.Outcomes.{view_at}
 use Rattle.rds_script.specs.declared.watched.Watched.{Watched}
 
@@ -31,6 +32,7 @@ pub record WatchedStandsAt (config : Config) (receivers : ℕ) (w : Watched) (ev
   pub kept : length w.shown.items ≡ receivers
   pub shown : (i : ℕ) → i < receivers
       → station.IsViewOfInput config (input_of (distance config) i events) (view_at (views_kept w) i)
+  pub compared : IsCompared config receivers events (views_kept w) w.compared
 
 -- for each state: this holds of its station, of the number of its receivers and of its slots
 abbrev pub WhereWatchedStands : Watched → (Config → ℕ → List Event → Type 0) → Type 0

@@ -30,6 +30,7 @@ returns c = record {
   small_window = record { taken = refl; refused = refl };
   large_window = record { taken = refl; refused = refl };
   audit_confirm = record { taken = refl; refused = refl };
+  sim_flag_alone = record { taken = refl; ask = refl };
   sim_confirm = record { taken = refl; ask = refl };
   sim_quiet = record { taken = refl; ask = refl };
   help = refl;

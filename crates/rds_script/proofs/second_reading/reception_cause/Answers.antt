@@ -1,4 +1,4 @@
-use Rattle.std.proofs.Common.{◌≡◌, ℕ, inl, inr, subst}
+use Rattle.std.proofs.Common.{ℕ, inl, inr, subst}
 use Rattle.rds_world.specs.declared.event.Reception.TheVariants.{Got, Lost, Restart, Wrong}
 use Rattle.rds_script.specs.RowCauses.{ComesNext}
 use Rattle.rds_script.proofs.SecondReading.{not_bare}

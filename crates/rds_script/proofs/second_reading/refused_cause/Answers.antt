@@ -1,1 +1,0 @@
-use Rattle.rds_script.proofs.second_reading.refused_cause.Goals as goal

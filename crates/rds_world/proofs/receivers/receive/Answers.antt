@@ -18,7 +18,7 @@ pub returns-in-Lost-clause-heard : goal.returns-in-Lost-clause-heard
 returns-in-Lost-clause-heard c slot sent input last kept due has = rw c.in-Lost.is (hears_more c.args.config.now input _ _ None None None refl c.slot_blocks-in-Lost.ensures.stands has)
 
 pub returns-in-Restart-clause-heard : goal.returns-in-Restart-clause-heard
-returns-in-Restart-clause-heard c slot sent input last kept due has = rw c.in-Restart.is (heard_nothing c.args.config.now (slot + 1) _ c.new_receiver.ensures)
+returns-in-Restart-clause-heard c slot sent input last kept due has = rw c.in-Restart.is (heard_nothing c.args.config.now (slot + 1) _ c.new_receiver.ensures.new)
 
 pub returns-in-Got-clause-stays : goal.returns-in-Got-clause-stays
 returns-in-Got-clause-stays c slot sent input last kept due has stays =

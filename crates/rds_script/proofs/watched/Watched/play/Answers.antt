@@ -1,11 +1,33 @@
-use Rattle.std.proofs.Common.{◌≡◌, ◌∙◌, ◌∷◌, ◌++◌, ℕ, List, ap, ap₂, append_assoc, arith, drop, length, map, rules, sym}
+use Rattle.std.proofs.Common.{◌≡◌, ◌∙◌, ◌∷◌, ◌++◌, ℕ, List, ap, ap₂, append_assoc, arith, drop, length, map, rules, subst, sym}
 use Rattle.std.proofs.lemmas.List.{length-map, take_at}
 use Rattle.rds_world.specs.Event.{Event}
+use Rattle.rds_world.specs.declared.world.Config.{Config}
 use Rattle.rds_view_lines.specs.KeptView.{view_kept}
-use Rattle.rds_script.specs.Inside.Watched.{WereShown}
-use Rattle.rds_script.specs.Outcomes.{answer_lines, receiver_changes}
+use Rattle.rds_script.specs.Inside.Watched.{WatchedStandsAt, WereShown, views_kept}
+use Rattle.rds_script.specs.Inside.Compared.{IsCompared}
+use Rattle.rds_script.specs.Outcomes.{answer_lines, compared_lines, receiver_changes}
 use Rattle.rds_view_lines.specs.declared.kept.KeptView.{KeptView}
 use Rattle.rds_script.proofs.watched.Watched.play.Goals as goal
+
+-- the views of this slot are compared with what is on air
+comparing : (c : goal.After-compare) (config : Config) (receivers : ℕ) (events : List Event) → WatchedStandsAt config receivers c.args.self.now events
+    → IsCompared config receivers (c.args.event.now ∷ events) (map view_kept c.push_views.new.shown) c.compare.new.compared
+    × (c.compare.new.lines ≡ c.push_views.new.lines
+    ++ compared_lines config c.args.slot (length (map view_kept c.push_views.new.shown)) c.args.event.now events (views_kept c.args.self.now) (map view_kept c.push_views.new.shown))
+comparing c config receivers events s =
+    let old = c.args.self.now.shown.items in
+    let new = c.push_views.new.shown in
+    let world = c.in-Ok.ensures.stands config events s.world in
+    let kept : length new ≡ length old = c.push_views.ensures.count ∙ ap length c.as_mut_slice.ensures.value in
+    let told : c.as_slice.result.now ≡ new = c.as_slice.ensures.value ∙ take_at new (drop (length new) old) (length old) kept in
+    let many : length (map view_kept c.as_slice.result.now) ≡ receivers = length-map c.as_slice.result.now view_kept ∙ ap length told ∙ kept ∙ s.kept in
+    let had = subst (λ (n : ℕ). IsCompared config n events (views_kept c.args.self.now) c.args.self.now.compared) (sym many) s.compared in
+    let (is, lines) = c.compare.ensures config (c.args.event.now ∷ events) world (views_kept c.args.self.now) had in (
+      subst (λ (l : List KeptView). IsCompared config receivers (c.args.event.now ∷ events) (map view_kept l) c.compare.new.compared) told
+          (subst (λ (n : ℕ). IsCompared config n (c.args.event.now ∷ events) (map view_kept c.as_slice.result.now) c.compare.new.compared) many is),
+      subst (λ (l : List KeptView). c.compare.new.lines ≡ c.push_views.new.lines
+          ++ compared_lines config c.args.slot (length (map view_kept l)) c.args.event.now events (views_kept c.args.self.now) (map view_kept l)) told lines,
+    )
 
 pub returns-in-Ok-clause-stands : goal.returns-in-Ok-clause-stands
 returns-in-Ok-clause-stands c config receivers events s =
@@ -23,6 +45,7 @@ returns-in-Ok-clause-stands c config receivers events s =
       count = world_count ∙ s.count;
       kept = ap length back ∙ kept ∙ s.kept;
       shown = λ i within. rw (← back) at (c.push_views.ensures.views (ap length shared ∙ as_many) config (c.args.event.now ∷ events) world (rw shared were) i (omega (arith, within, s.kept, ap length shared)));
+      compared = subst (λ (l : List KeptView). IsCompared config receivers (c.args.event.now ∷ events) (map view_kept l) c.compare.new.compared) (sym back) (comparing c config receivers events s).0;
     }
 
 pub returns-in-Ok-clause-taken : goal.returns-in-Ok-clause-taken
@@ -43,7 +66,9 @@ returns-in-Ok-clause-outcome c config receivers events s =
     let shown : length views ≡ length old = length-map new view_kept ∙ kept in
     let were : WereShown config (length old) (c.args.event.now ∷ events) (map view_kept old) = λ i within. s.shown i (omega (arith, within, s.kept)) in
     let back = take_at new (drop (length new) old) (length old) kept in
-    let answered : c.push_answer.new.lines ≡ c.args.lines.now ++ answer_lines c.args.form c.args.slot c.event.inside.command c.in-Ok.answer.reply c.in-Ok.answer.sent = search rules in (
+    let answer = answer_lines c.args.form c.args.slot c.event.inside.command c.in-Ok.answer.reply c.in-Ok.answer.sent in
+    let compared = compared_lines config c.args.slot (length views) c.args.event.now events (views_kept c.args.self.now) views in
+    let answered : c.push_answer.new.lines ≡ c.args.lines.now ++ answer = search rules in (
       record { command = c.event.inside.command; reply = c.in-Ok.answer.reply; sent = c.in-Ok.answer.sent; views = views },
       record {
         command = command;
@@ -53,6 +78,9 @@ returns-in-Ok-clause-outcome c config receivers events s =
         views = λ i within. c.push_views.ensures.views (ap length shared ∙ as_many) config (c.args.event.now ∷ events) world (rw shared were) i (omega (arith, within, shown, ap length shared));
       },
       ap (λ (l : List KeptView). map view_kept l) (sym back),
-      rw shared at (c.push_views.ensures.lines (ap length shared ∙ as_many)) ∙ ap₂ (λ (x y : List ℕ). x ++ y) answered (ap (λ n. receiver_changes c.args.slot n (map view_kept old) views) (sym shown))
-          ∙ append_assoc c.args.lines.now (answer_lines c.args.form c.args.slot c.event.inside.command c.in-Ok.answer.reply c.in-Ok.answer.sent) (receiver_changes c.args.slot (length views) (map view_kept old) views),
+      (comparing c config receivers events s).1
+          ∙ ap (λ (l : List ℕ). l ++ compared)
+          (rw shared at (c.push_views.ensures.lines (ap length shared ∙ as_many)) ∙ ap₂ (λ (x y : List ℕ). x ++ y) answered (ap (λ n. receiver_changes c.args.slot n (map view_kept old) views) (sym shown))
+          ∙ append_assoc c.args.lines.now answer (receiver_changes c.args.slot (length views) (map view_kept old) views))
+          ∙ append_assoc c.args.lines.now (answer ++ receiver_changes c.args.slot (length views) (map view_kept old) views) compared,
     )

@@ -1,9 +1,9 @@
-use Rattle.std.proofs.Common.{rules, ◌≡◌, ◌∙◌, ℕ, [], Option, arith, refl, subst, sym}
+use Rattle.std.proofs.Common.{rules, ◌≡◌, ◌∙◌, ℕ, [], Option, refl, subst, sym}
 use Rattle.circular_buffer.specs.Buffer.{Buffer}
 use Rattle.rds_block.specs.declared.group.Group.{Group}
 use Rattle.rds_world.specs.StandsAt.{AreLastSent, HavePasts, IsNew}
 use Rattle.rds_world.proofs.DueSteps.{at_first}
-use Rattle.rds_world.proofs.Received.{heard_nothing, one_of_first, some_slots}
+use Rattle.rds_world.proofs.Received.{heard_nothing, one_of_first}
 use Rattle.rds_world.proofs.world.World.new.Goals as goal
 
 pub returns-clause-stands : goal.returns-clause-stands
@@ -13,7 +13,7 @@ returns-clause-stands c =
     let one = c.new-2.ensures in
     record {
       is_set = refl;
-      lasts = some_slots config made c.eight_receivers.ensures (omega (arith, c.eight_receivers.type_inv));
+      lasts = c.eight_receivers.ensures.some;
       values = tt;
       due = tt;
       fit = tt;
@@ -21,7 +21,7 @@ returns-clause-stands c =
       encoder = c.new_encoder.ensures.first;
       receivers = record {
         each = λ i r e. heard_nothing config 0 r
-            (one_of_first (IsNew config) c.args.receivers made i r c.eight_receivers.ensures e);
+            (one_of_first (IsNew config) c.args.receivers made i r c.eight_receivers.ensures.new e);
       };
       reaches = record {
         each = λ i reach e. one_of_first (λ n. n ≡ 1) c.args.receivers _ i reach (one, (one, (one, (one, (one, (one, (one, (one, tt)))))))) e ∙ at_first config.premise.late;
