@@ -1,7 +1,8 @@
 "use strict";
 /* The page: its tabs, the files that are dropped on it, and its begin. */
 const page = (() => {
-  const { $ } = parts, TABS = ["log", "script", "dwell"];
+  const { $ } = parts;
+  const TABS = ["log", "script", "dwell"];
   const state = { ready: false };
   /* The M and the K of a file: those that the program takes without options. */
   const DEFAULTS = { m: 128, k: 0 };
@@ -10,33 +11,38 @@ const page = (() => {
   const BEGIN = 10_000;
 
   function tab(name, focus = false) {
-    for (const it of TABS) {
-      const isOn = it === name, button = $(`tab-${it}`);
-      $(it).hidden = !isOn;
-      button.setAttribute("aria-selected", isOn);
-      button.tabIndex = isOn ? 0 : -1;
-      if (isOn && focus) button.focus();
+    for (const other of TABS) {
+      const button = $(`tab-${other}`);
+      const isOpen = other === name;
+      $(other).hidden = !isOpen;
+      button.setAttribute("aria-selected", isOpen);
+      button.tabIndex = isOpen ? 0 : -1;
+      if (isOpen && focus) button.focus();
     }
+    // both tabs with a timeline share one legend
+    $(name).querySelector(".explains")?.append($("legend"));
+    $("legend").hidden = false;
     links.putAddress(name);
     parts.entitle();
-    for (const it of [logTab, scriptTab]) it.timeline.draw();
+    for (const { timeline } of [logTab, scriptTab]) timeline.draw();
   }
 
   function tabKeys() {
     TABS.forEach((name, i) => {
       const moves = { ArrowRight: (i + 1) % 3, ArrowLeft: (i + 2) % 3, Home: 0, End: 2 };
       $(`tab-${name}`).onclick = () => tab(name);
-      $(`tab-${name}`).onkeydown = (e) => {
-        if (!(e.key in moves)) return;
-        e.preventDefault();
-        tab(TABS[moves[e.key]], true);
+      $(`tab-${name}`).onkeydown = (event) => {
+        if (!(event.key in moves)) return;
+        event.preventDefault();
+        tab(TABS[moves[event.key]], true);
       };
     });
   }
 
-  /* A script has a comma in its first line; no line of a log has one before its 20th byte. The content decides before the
-     extension does. */
-  const SCRIPT = /^\uFEFF?(?:\r?\n)*(?:-|text|name|tags|restart|"[a-z-]+"),/, LOG = /^\uFEFF?(?:[<#%].*|\s*?)*^(?:[\dA-Fa-f]{4}|----) (?:[\dA-Fa-f]{4}|----) /m;
+  /* A script has a comma in its first line. No line of a log has one before its 20th byte. The content decides before
+     the extension does. */
+  const SCRIPT = /^\uFEFF?(?:\r?\n)*(?:-|text|name|tags|restart|"[a-z-]+"),/;
+  const LOG = /^\uFEFF?(?:[<#%].*|\s*?)*^(?:[\dA-Fa-f]{4}|----) (?:[\dA-Fa-f]{4}|----) /m;
   const isScript = (name, text) => SCRIPT.test(text) || (/\.csv$/i.test(name) && !LOG.test(text));
 
   /* The bytes of a log without a byte-order mark. Windows writes some text in UTF-16: it becomes UTF-8. */
@@ -51,7 +57,7 @@ const page = (() => {
   const isUnsaved = (name) => WITH_INPUT[name].isUnsaved();
 
   /* Asks whether edits that nobody saved may go. Until it is answered, another question gets a no. */
-  function asks(name) {
+  function ask(name) {
     const dialog = $("ask");
     if (dialog.open) return Promise.resolve(false);
     dialog.returnValue = "";
@@ -60,23 +66,26 @@ const page = (() => {
     return new Promise((answer) => { dialog.onclose = () => answer(dialog.returnValue === "yes"); });
   }
 
-  /* Does it at once if the tab has no unsaved edits, and else after a yes. Without a yes it does the other thing. */
-  function replaces(name, does, otherwise = () => {}) {
-    return isUnsaved(name) ? asks(name).then((isYes) => isYes ? does() : otherwise()) : does();
+  /* Opens something in a tab: at once if the tab has no unsaved edits, or else after a yes. */
+  async function replace(name, open, keep = () => {}) {
+    return !isUnsaved(name) || await ask(name) ? open() : keep();
   }
 
   /* Opens a file. The program gets its bytes as they are. The text that the page shows keeps a byte-order mark. */
   async function openFile(file) {
-    const input = new Uint8Array(await file.arrayBuffer()), how = { ...DEFAULTS, file: file.name };
-    const plain = plainLog(input), begin = decoder.decode(plain.subarray(0, BEGIN));
-    const name = isScript(file.name, begin) ? "script" : "log", blob = plain === input ? file : undefined;
+    const input = new Uint8Array(await file.arrayBuffer());
+    const plain = plainLog(input);
+    const begin = decoder.decode(plain.subarray(0, BEGIN));
+    const name = isScript(file.name, begin) ? "script" : "log";
+    const options = { ...DEFAULTS, file: file.name };
     $("left-out").replaceChildren();
-    return replaces(name, async () => {
+    return replace(name, async () => {
       tab(name);
       // the last answer may be below the fold, with the focus in it
       document.activeElement?.blur();
       scrollTo({ top: 0 });
-      if (name === "script") scriptTab.open(decoder.decode(input), { ...how, input }); else await logTab.open(plain, { ...how, running: true, blob });
+      if (name === "script") await scriptTab.open(decoder.decode(input), { ...options, input });
+      else await logTab.open(plain, { ...options, running: true, blob: plain === input ? file : undefined });
       return true;
     });
   }
@@ -88,78 +97,110 @@ const page = (() => {
     $("left-out").replaceChildren("The page shows one file at a time. It opened ", parts.isolated(first.name), left);
   }
 
-  function examples(what, open) {
-    const all = RDSRT_EXAMPLES[what], select = $(`${what}-example`);
-    const use = () => {
-      $("left-out").replaceChildren();
-      const it = all[select.value];
-      return it && open(it.from ? rdsrt.run(it.from, it.text).output : it.text, { ...it, example: select.value });
-    };
-    select.replaceChildren(...all.map((it, i) => new Option(it.name, i)), new Option("your own", ""));
-    select.onchange = () => { if (select.value) replaces(what, use, () => { select.value = ""; }); };
-    select.value = Math.max(0, all.findIndex((it) => it.isFirst));
-    // an empty field hears the choice of the same file again
-    $(`${what}-file`).onchange = ({ target }) => {
-      const [file] = target.files;
-      target.value = "";
+  /* Opens an example by its number. */
+  function openExample(name, number) {
+    const example = RDSRT_EXAMPLES[name][number];
+    const text = example.from ? rdsrt.run(example.from, example.text).output : example.text;
+    $("left-out").replaceChildren();
+    return WITH_INPUT[name].open(text, { ...example, example: number });
+  }
+
+  /* Opens the file that is chosen in a field. An empty field hears the choice of the same file again. */
+  function takeFile(field) {
+    field.onchange = () => {
+      const [file] = field.files;
+      field.value = "";
       if (file) openFile(file);
     };
-    return use();
+  }
+
+  /* The examples of a tab in its field, and its field for a file. */
+  function beginInput(name) {
+    const select = $(`${name}-example`);
+    const options = RDSRT_EXAMPLES[name].map((example, i) => new Option(example.name, i));
+    const openChosen = () => openExample(name, select.value);
+    select.replaceChildren(...options, new Option("your own", ""));
+    select.onchange = () => { if (select.value) replace(name, openChosen, () => { select.value = ""; }); };
+    takeFile($(`${name}-file`));
+  }
+
+  /* The start of the log tab: a field for a file, and the examples as buttons. */
+  function beginStart() {
+    const exampleButton = (example, i) => {
+      const button = parts.make("button", { type: "button", textContent: example.name });
+      // the start is hidden then, so the focus goes to the same examples in the bar
+      button.onclick = () => { openExample("log", i); $("log-example").focus(); };
+      return parts.make("li", {}, button);
+    };
+    takeFile($("log-start-file"));
+    $("log-start-examples").replaceChildren(...RDSRT_EXAMPLES.log.map(exampleButton));
   }
 
   function drops() {
-    const over = (is) => document.body.classList.toggle("over", is);
-    document.ondragover = (e) => { e.preventDefault(); over(true); };
-    document.ondragleave = (e) => { if (!e.relatedTarget) over(false); };
-    document.ondrop = (e) => {
-      e.preventDefault();
-      over(false);
-      openDropped(e.dataTransfer.files);
+    const showOver = (isOver) => document.body.classList.toggle("over", isOver);
+    document.ondragover = (event) => {
+      event.preventDefault();
+      showOver(true);
+    };
+    document.ondragleave = (event) => { if (!event.relatedTarget) showOver(false); };
+    document.ondrop = (event) => {
+      event.preventDefault();
+      showOver(false);
+      openDropped(event.dataTransfer.files);
     };
   }
 
   /* The key ? opens and closes the list of keys. */
-  function toggleKeys(e) {
-    if (e.key !== "?" || e.target.matches("input, select, textarea")) return;
+  function toggleKeys(event) {
+    if (event.key !== "?" || event.target.matches("input, select, textarea")) return;
     const keys = document.querySelector("[role=tabpanel]:not([hidden]) .keys");
     if (keys) keys.open = !keys.open;
   }
 
   function noEngine(error) {
     $("no-engine").hidden = false;
-    $("no-engine").textContent = "This browser cannot run the program. It needs WebAssembly with 64-bit memory: Chrome or Edge 133, "
-      + `Firefox 134, or later. (${error.message})`;
+    $("no-engine").textContent = "This browser cannot run the program. It needs WebAssembly with 64-bit memory: "
+      + `Chrome or Edge 133, Firefox 134, or later. (${error.message})`;
   }
 
   /* Opens the link of the address, if it has one. Returns the tab that the address names. */
   async function openAddress() {
-    const hash = location.hash.slice(1), name = links.tabOf(hash);
+    const hash = location.hash.slice(1);
+    const name = links.tabOf(hash);
     if (!name) return TABS.includes(hash) ? hash : "log";
     const open = () => WITH_INPUT[name].openLink(hash, DEFAULTS).catch(async (error) => {
       const why = links.whyNot(name, error);
       await WITH_INPUT[name].refuse(why, DEFAULTS);
       links.tell(name, why);
     });
-    await replaces(name, open);
+    await replace(name, open);
     return name;
   }
 
   async function begin() {
     let compiled;
-    try { compiled = await rdsrt.load(); } catch (error) { noEngine(error); return; } finally { $("loading").hidden = true; }
+    try {
+      compiled = await rdsrt.load();
+    } catch (error) {
+      noEngine(error);
+      return;
+    } finally {
+      $("loading").hidden = true;
+    }
     document.querySelector("main").hidden = false;
     tabKeys();
-    for (const it of [logTab, scriptTab, dwellTab]) it.begin(compiled);
-    examples("script", scriptTab.open);
-    await examples("log", logTab.open);
+    for (const opened of [logTab, scriptTab, dwellTab]) opened.begin(compiled);
+    for (const name of Object.keys(WITH_INPUT)) beginInput(name);
+    beginStart();
+    await openExample("script", 0);
     for (const answer of ["yes", "no"]) $(`ask-${answer}`).onclick = () => $("ask").close(answer);
-    for (const form of document.forms) form.onsubmit = (e) => e.preventDefault();
+    for (const form of document.forms) form.onsubmit = (event) => event.preventDefault();
     $("command-form").addEventListener("submit", scriptTab.commandChanged);
     drops();
     document.addEventListener("keydown", toggleKeys);
     tab(await openAddress());
     window.onhashchange = async () => { if (links.tabOf(location.hash.slice(1))) tab(await openAddress()); };
-    window.onbeforeunload = (e) => { if (Object.keys(WITH_INPUT).some(isUnsaved)) e.preventDefault(); };
+    window.onbeforeunload = (event) => { if (Object.keys(WITH_INPUT).some(isUnsaved)) event.preventDefault(); };
     state.ready = true;
   }
   begin();

@@ -1,81 +1,76 @@
 "use strict";
-/* The tab of the dwell: M, K and the share of free slots in seconds, and the M for texts that change every so many seconds. */
+/* The tab of the dwell: M, K and the share of free slots in seconds, and the M for texts that change every so often. */
 const dwellTab = (() => {
   const { $, make } = parts;
-  const LONGEST = 32, HOUR = 3600, WIDTH = 960, MOST = 65535;
+  /* The groups of the longest text, the largest M, and the seconds of an hour. */
+  const LONGEST = 32;
+  const MOST = 65535;
+  const HOUR = 3600;
   /* The number at a place of a slider. The slider of M counts tenths of a power of two. */
-  const OF_SLIDER = { m: (at) => Math.min(MOST, Math.round(2 ** (at / 10))), k: Number, f: Number };
-  const TO_SLIDER = { m: (number) => Math.round(10 * Math.log2(number)), k: Number, f: Number };
+  const NUMBER_AT = { m: (place) => Math.min(MOST, Math.round(2 ** (place / 10))), k: Number, f: Number };
+  const PLACE_OF = { m: (number) => Math.round(10 * Math.log2(number)), k: Number, f: Number };
 
-  const rate = (n) => n >= 10 ? Math.floor(n).toLocaleString("en") : n.toFixed(1);
-  const card = (big, small, first) =>
-    make("div", { className: `card${first ? " first" : ""}` }, make("strong", { textContent: big }), make("span", { textContent: small }));
+  const format = (number) => number.toLocaleString("en");
+  const percent = (share) => `${Math.round(share * 100)} %`;
 
-  function cards({ m, d, free }) {
-    const each = 2 * d, full = Math.ceil(LONGEST / free), percent = `${Math.round(free * 100)} %`, often = rate(HOUR / lines.seconds(each));
-    const within = "A receiver that gets every free slot shows a text of 64 characters within this time";
-    const shown = full <= m
-      ? card(lines.time(full), `${within} (32 free slots at ${percent}).`)
-      : card("not always", `The longest text may need 32 free slots. At ${percent} they take ${lines.time(full)}: longer than the dwell.`);
-    const safe = `Safe spacing: a text may change every M + K = ${d.toLocaleString("en")} slots, ${rate(HOUR / lines.seconds(d))} times an hour. `
-      + "Tags may start this long after their text. A station is silent this long after a restart.";
-    const kept = `Our own encoder keeps each text this long, 2 (M + K) = ${each.toLocaleString("en")} slots, so that tags fit. `
-      + `That is ${often} texts an hour.`;
-    return [
-      card(lines.time(d), safe, true),
-      card(lines.time(each), kept),
-      card(lines.time(m), "A receiver that gets nothing drops the text and the name after this long."),
-      shown,
-    ];
+  /* How often so many slots fit into an hour. */
+  function timesAnHour(slots) {
+    const times = HOUR / lines.seconds(slots);
+    return times >= 10 ? format(Math.floor(times)) : times.toFixed(1);
   }
 
-  /* Draws two texts in turn, each on air for 2 (M + K) slots as our own encoder keeps them. */
-  function ladder(d) {
-    const x = (t) => 20 + t / (4 * d) * (WIDTH - 40);
-    const bar = (from, to, y, fill, said) => `<rect x="${x(from)}" y="${y}" width="${x(to) - x(from) - 2}" height="34" rx="7" fill="${fill}"/>`
-      + `<text x="${x(from) + 12}" y="${y + 22}" fill="#fff" font-size="15" font-weight="600">${said}</text>`;
-    const rows = [
-      [[0, 2, "--c0", "Text one"], [2, 4, "--c3", "Text two"]],
-      [[1, 2, "--c2", "its tags may be sent"], [3, 4, "--c2", "its tags may be sent"]],
-      [[0, 1, "--c7", "the last may still show"], [2, 3, "--c7", "one may still show"]],
-    ];
-    const bars = rows.flatMap((row, i) => row.map(([from, to, ink, said]) => bar(from * d, to * d, 20 + 42 * i, `var(${ink})`, said)));
-    const ends = { 0: "start", 4: "end" };
-    const times = [0, 1, 2, 3, 4].map((i) => `<line x1="${x(i * d)}" x2="${x(i * d)}" y1="14" y2="152" stroke="var(--line)"/>`
-      + `<text x="${x(i * d)}" y="172" fill="var(--dim)" font-size="14" text-anchor="${ends[i] ?? "middle"}">`
-      + `${i ? lines.time(i * d) : "0"}</text>`);
-    const said = "Two texts of our own encoder, each on air for 2 (M + K): tags in the second half, the text before may show in the first";
-    return `<svg viewBox="0 0 ${WIDTH} 190" role="img" aria-label="${said}">${bars.join("")}${times.join("")}</svg>`;
+  /* How long a receiver needs for the longest text. */
+  function longestText(m, free) {
+    const slots = Math.ceil(LONGEST / free);
+    const share = percent(free);
+    const time = lines.time(slots);
+    return slots <= m
+      ? [time, "A receiver that gets every free slot shows a text of 64 characters within this time "
+        + `(32 free slots at ${share}).`]
+      : ["not always",
+        `The longest text may need 32 free slots. At ${share} they take ${time}: longer than the dwell.`];
   }
 
-  /* The whole slots in so many whole seconds. */
-  const slotsIn = (seconds) => Math.floor(seconds / lines.SLOT);
-
-  /* Which M the longest text needs at this share of free slots, up to the largest one. */
-  function range(free, best) {
-    const least = Math.ceil(LONGEST / free), share = `at ${Math.round(free * 100)} % free slots`;
-    return best < least
-      ? `A text of 64 characters needs M = ${least} ${share}: send shorter texts, free more slots, or change texts less often.`
-      : `A text of 64 characters needs M = ${least} ${share}, so M can be from ${least} to ${best.toLocaleString("en")}.`;
+  /* Shows the times of these numbers, each in the elements that name it. */
+  function showTimes({ m, k, free }) {
+    const spacing = m + k;
+    const [longest, longestWords] = longestText(m, free);
+    const values = {
+      spacing: lines.time(spacing), spacingSlots: format(spacing), spacingTimes: timesAnHour(spacing),
+      kept: lines.time(2 * spacing), keptSlots: format(2 * spacing), keptTimes: timesAnHour(2 * spacing),
+      three: lines.time(3 * spacing), four: lines.time(4 * spacing), dropped: lines.time(m), longest, longestWords,
+    };
+    for (const element of document.querySelectorAll("#dwell-times [data-value]")) {
+      element.textContent = values[element.dataset.value];
+    }
   }
 
-  /* One answer: the largest M + K, whether the chosen one fits, and a button that sets the largest M for the chosen K. */
-  function answer(whose, because, most, { m, k, free }) {
-    const best = Math.min(MOST, most - k), fits = m + k <= most ? "fits" : "is too large";
-    const chosen = `The chosen M + K = ${(m + k).toLocaleString("en")} ${fits}.`, bounds = best > 0 ? ` ${range(free, best)}` : "";
-    const text = ` M + K can be at most ${parts.counted(most, "slot")} (${lines.time(most)}). ${because}${bounds} ${chosen} `;
-    const set = make("button", { type: "button", textContent: `Set M = ${best.toLocaleString("en")}` });
-    set.onclick = () => {
-      $("dwell-m").value = best;
+  /* Which M the longest text needs at this share of free slots, up to the greatest one. */
+  function range(free, greatest) {
+    const least = Math.ceil(LONGEST / free);
+    const needs = `A text of 64 characters needs M = ${least} at ${percent(free)} free slots`;
+    return greatest < least
+      ? `${needs}: send shorter texts, free more slots, or change texts less often. `
+      : `${needs}, so M can be from ${least} to ${format(greatest)}. `;
+  }
+
+  /* An answer: the largest M + K, whether the chosen one fits, and a button for the largest M with the chosen K. */
+  function answer(title, reason, most, { m, k, free }) {
+    const greatest = Math.min(MOST, most - k);
+    const words = ` M + K can be at most ${parts.counted(most, "slot")} (${lines.time(most)}). ${reason} `
+      + (greatest > 0 ? range(free, greatest) : "")
+      + `The chosen M + K = ${format(m + k)} ${m + k <= most ? "fits" : "is too large"}. `;
+    const set = () => {
+      $("dwell-m").value = greatest;
       choose();
       $("dwell-m").focus();
     };
-    return make("p", {}, make("b", { textContent: whose }), text, best > 0 ? set : `With K = ${k} no M fits.`);
+    const button = make("button", { type: "button", textContent: `Set M = ${format(greatest)}`, onclick: set });
+    return make("p", {}, make("b", { textContent: title }), words, greatest > 0 ? button : `With K = ${k} no M fits.`);
   }
 
-  /* The M for texts that change every so many seconds: by safety alone, and with our own encoder. */
   function answers(seconds, chosen) {
-    const slots = slotsIn(seconds);
+    const slots = Math.floor(seconds / lines.SLOT);
     return [
       answer("Safe:", "Each text must stay on air for at least M + K slots.", slots, chosen),
       answer("With our own encoder:", "It keeps each text on air for 2 (M + K) slots.", Math.floor(slots / 2), chosen),
@@ -84,41 +79,39 @@ const dwellTab = (() => {
 
   /* Shows why the numbers have no result, and no result of other numbers. */
   function showProblem(problem) {
-    for (const id of ["cards", "ladder", "answers"]) $(id).replaceChildren();
-    for (const name of ["m", "k", "f"]) $(`${name}-said`).textContent = "";
-    $("ladder").hidden = true;
+    for (const id of ["answers", "m-words", "k-words", "f-words"]) $(id).replaceChildren();
+    $("dwell-times").hidden = problem !== "";
     $("dwell-fault").textContent = problem;
-    $("dwell-fault").hidden = false;
+    $("dwell-fault").hidden = problem === "";
   }
 
-  /* Puts a slider where its number is, and says the number in words. */
-  function say(name, number, text) {
+  /* Puts a slider where its number is, and shows the number in words. */
+  function showNumber(name, number, words) {
     const slider = $(`${name}-range`);
-    if (OF_SLIDER[name](slider.value) !== number) slider.value = TO_SLIDER[name](number);
-    slider.setAttribute("aria-valuetext", `${number} ${text}`);
-    $(`${name}-said`).textContent = text;
+    if (NUMBER_AT[name](slider.value) !== number) slider.value = PLACE_OF[name](number);
+    slider.setAttribute("aria-valuetext", `${number} ${words}`);
+    $(`${name}-words`).textContent = words;
   }
 
   const inTime = (slots) => `${slots === 1 ? "slot" : "slots"}, ${lines.time(slots)}`;
 
   function choose() {
     const problem = parts.problemOf($("dwell-form"));
-    if (problem) { showProblem(problem); return; }
+    showProblem(problem);
+    if (problem) return;
     const [m, k, f, seconds] = ["m", "k", "f", "s"].map((name) => Number($(`dwell-${name}`).value));
-    say("m", m, inTime(m));
-    say("k", k, k ? inTime(k) : "slots: no buffer between");
-    say("f", f, "%");
-    $("dwell-fault").hidden = true;
-    $("ladder").hidden = false;
-    $("answers").replaceChildren(...answers(seconds, { m, k, free: f / 100 }));
-    $("cards").replaceChildren(...cards({ m, d: m + k, free: f / 100 }));
-    $("ladder").innerHTML = ladder(m + k);
+    const chosen = { m, k, free: f / 100 };
+    showNumber("m", m, inTime(m));
+    showNumber("k", k, k ? inTime(k) : "slots: no buffer between");
+    showNumber("f", f, "%");
+    $("answers").replaceChildren(...answers(seconds, chosen));
+    showTimes(chosen);
   }
 
   function begin() {
     for (const name of ["m", "k", "f"]) {
-      $(`${name}-range`).oninput = () => {
-        $(`dwell-${name}`).value = OF_SLIDER[name]($(`${name}-range`).value);
+      $(`${name}-range`).oninput = ({ target }) => {
+        $(`dwell-${name}`).value = NUMBER_AT[name](target.value);
         choose();
       };
     }

@@ -2,7 +2,8 @@
 /* A group in words: its type, flag and segment, its blocks, and its characters as the program reads them. */
 const groups = (() => {
   const TYPES = {
-    "0A": "station name (PS), not read", "0B": "station name (PS), not read", "2A": "RadioText", "3A": "announcement of a data service",
+    "0A": "station name (PS), not read", "0B": "station name (PS), not read", "2A": "RadioText",
+    "3A": "announcement of a data service",
     "4A": "clock time", "10A": "programme type name (PTYN)", "11A": "data service (RadioText Plus, if announced)",
   };
   const SERVICE = 0x1F, RADIOTEXT_PLUS = 0x4BD7;
@@ -15,8 +16,8 @@ const groups = (() => {
   }
 
   function ofText(words, segment) {
-    const flag = words[1] & lines.FLAG_BIT ? "B" : "A", said = characters(parts.hex(words[0]), words[2], words[3]);
-    return [`flag ${flag}`, `segment ${words[1] & segment}`, ...said ? [`“${said}”`] : []];
+    const flag = words[1] & lines.FLAG_BIT ? "B" : "A", shown = characters(parts.hex(words[0]), words[2], words[3]);
+    return [`flag ${flag}`, `segment ${words[1] & segment}`, ...shown ? [`“${shown}”`] : []];
   }
 
   /* Names the data service that the group announces, by its number (AID), and the group type that carries it. */

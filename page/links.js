@@ -1,31 +1,31 @@
 "use strict";
-/* Links that hold a log or a script, and the address of the page. A link has the letters of the text, the options, the slot,
-   the zoom and an end mark. */
+/* Links that hold a log or a script, and the address of the page. A link has the letters of the text, the options, the
+   slot, the zoom and an end mark. */
 const links = (() => {
   const { $, make } = parts;
   /* A few letters can hold many bytes, so both ways have a bound of bytes. */
-  const MOST = 8000, MOST_PLAIN = 4_000_000, MOST_LOST = 100_000, TOO_LARGE = "too large", CUT = "cut";
+  const MOST = 8000;
+  const MOST_PLAIN = 4_000_000;
+  const MOST_LOST = 100_000;
+  const TOO_LARGE = "too large";
+  const CUT = "cut";
   /* A link without it at its end was cut, and may have lost options. */
   const END = "&end";
-  const FROM_DISK = "This page was opened from a disk, so its links are of no use to others. Save the file and share it. ";
+  const FROM_DISK = "This page was opened from a disk, so its links are of no use to others. Save the file and share "
+    + "it. ";
   /* The link of each tab: the text and the options that it holds, its hash, and whether the tab still holds them. */
-  const held = {};
+  const made = {};
 
   // ---- a text as letters
 
   /* Reads the stream up to a bound, and no further; throws beyond it. */
   async function squeezed(bytes, by, most = Infinity) {
-    const reader = new Blob([bytes]).stream().pipeThrough(by).getReader(), pieces = [];
+    const pieces = [];
     let length = 0;
-    for (;;) {
-      const { done, value } = await reader.read();
-      if (done) break;
-      length += value.length;
-      if (length > most) {
-        await reader.cancel();
-        throw new RangeError(TOO_LARGE);
-      }
-      pieces.push(value);
+    for await (const piece of new Blob([bytes]).stream().pipeThrough(by)) {
+      length += piece.length;
+      if (length > most) throw new RangeError(TOO_LARGE);
+      pieces.push(piece);
     }
     return new Uint8Array(await new Blob(pieces).arrayBuffer());
   }
@@ -50,7 +50,7 @@ const links = (() => {
   // ---- the address
 
   /* The hash of the address while a tab is open: its link, or its name if the tab holds another input by now. */
-  const hashOf = (tab) => held[tab]?.isNow ? held[tab].hash : tab;
+  const hashOf = (tab) => made[tab]?.isNow ? made[tab].hash : tab;
 
   function putAddress(tab) {
     try { history.replaceState(null, "", `#${hashOf(tab)}`); } catch { /* some browsers refuse it to a file */ }
@@ -60,13 +60,14 @@ const links = (() => {
 
   /* Notes the link of a tab. */
   function hold(tab, { text, options }, hash) {
-    held[tab] = { text, options, hash, isNow: true };
+    made[tab] = { text, options, hash, isNow: true };
     if (isOpen(tab)) putAddress(tab);
   }
 
   /* Drops the link of a tab if the tab holds another input by now. */
   function keep(tab, { text, options }) {
-    const link = held[tab], isNow = link?.text === text && link.options === options;
+    const link = made[tab];
+    const isNow = link?.text === text && link.options === options;
     if (link && link.isNow !== isNow) {
       link.isNow = isNow;
       if (isOpen(tab)) putAddress(tab);
@@ -88,7 +89,8 @@ const links = (() => {
 
   /* Makes the link of a tab, and shows and copies it; answers whether it does. `save` saves the text as a file. */
   async function give(tab, { text, options, sight }, save) {
-    const packed = await pack(text), field = $(`${tab}-link`);
+    const packed = await pack(text);
+    const field = $(`${tab}-link`);
     const isShown = packed !== null && location.protocol !== "file:";
     field.hidden = !isShown;
     if (packed === null) { tell(tab, `This ${tab} is too long for a link: save it as a file.`); return false; }
@@ -125,9 +127,11 @@ const links = (() => {
 
   /* Shows the slot and the zoom of a link. */
   function look(timeline, { within }) {
-    const { count } = timeline, slot = within("slot", 0, count - 1), from = within("from", 0, count - 1);
+    const { count } = timeline;
+    const slot = within("slot", 0, count - 1);
+    const from = within("from", 0, count - 1);
     const across = within("across", 1, count);
-    if (across !== undefined) timeline.across = Math.max(Math.min(8, count), across);
+    if (across !== undefined) timeline.across = Math.max(Math.min(Timeline.LEAST, count), across);
     if (from !== undefined) timeline.from = timeline.within(from);
     if (slot !== undefined) timeline.move(slot, { keep: true });
     else timeline.draw();
@@ -166,5 +170,8 @@ const links = (() => {
   /* The option of a tab for a window, if there is one. */
   const windowOption = (tab) => $(`${tab}-w`).value ? `&w=${$(`${tab}-w`).value}` : "";
 
-  return { MOST_PLAIN, give, hold, inLetters, keep, look, putAddress, read, sightOf, slotsOf, tabOf, tell, whyNot, windowOption };
+  return {
+    MOST_PLAIN, give, hold, inLetters, keep, look, putAddress, read, sightOf, slotsOf, tabOf, tell, whyNot,
+    windowOption,
+  };
 })();

@@ -2,9 +2,12 @@
 /* The log itself: all of a short log, to be edited, and the lines around the chosen slot of a long one. */
 const logText = (() => {
   const { $ } = parts;
-  /* A log of up to MOST bytes is shown whole. Of a longer one the page shows AROUND lines before and after, and BYTES at most. */
-  const MOST = 400_000, AROUND = 100, BYTES = 50_000, NEWLINE = 10;
+  /* A log of up to MOST bytes is shown whole, a longer one by AROUND bytes before the chosen line and from it on. */
+  const MOST = 400_000;
+  const AROUND = 4000;
+  const NEWLINE = 10;
   const decoder = new TextDecoder("utf-8", { ignoreBOM: true });
+  /* The chosen line begins at the byte `at`. */
   const state = { bytes: new Uint8Array(0), at: 0, number: 1, isLong: false };
 
   /* Shows a log of these bytes. A short one has this text. */
@@ -17,55 +20,41 @@ const logText = (() => {
     layOut();
   }
 
-  /* Returns where the window begins, and the number of its first line. */
-  function beginOf({ bytes, at, number }) {
-    let from = at, first = number;
-    while (first > Math.max(1, number - AROUND) && at - from < BYTES) {
-      from = from < 2 ? 0 : bytes.lastIndexOf(NEWLINE, from - 2) + 1;
-      first--;
-    }
-    return { from: Math.max(from, at - BYTES), first };
-  }
-
-  /* Returns where the window ends, and the number of its last line. */
-  function endOf({ bytes, at, number }) {
-    let to = at, last = number - 1;
-    while (last < number + AROUND && to < bytes.length && to - at < BYTES) {
-      const newline = bytes.indexOf(NEWLINE, to);
-      to = newline < 0 ? bytes.length : newline + 1;
-      last++;
-    }
-    return { to: Math.min(to, at + BYTES), last };
-  }
-
-  /* Lays out the window, if it can be seen; chooses its line, if it was asked for. */
-  function layOut({ choose = false } = {}) {
+  /* Lays out the lines around the chosen one, if they can be seen. Selects it, if it was asked for. */
+  function layOut({ select = false } = {}) {
+    const { bytes, at, number, isLong } = state;
     const area = $("log-text");
-    if (!state.isLong || !area.closest("details").open) return;
-    const { from, first } = beginOf(state), { to, last } = endOf(state), { bytes, at } = state;
-    const before = decoder.decode(bytes.subarray(from, at)), text = before + decoder.decode(bytes.subarray(at, to));
-    area.value = text;
-    $("log-text-part").textContent = `Lines ${first.toLocaleString("en")} to ${last.toLocaleString("en")}. The log is too long to be shown `
-      + "whole, or to be edited here. The window follows the chosen slot.";
-    const end = text.indexOf("\n", before.length);
-    if (choose) { area.focus(); area.setSelectionRange(before.length, end < 0 ? text.length : end); }
-    area.scrollTop = Math.max(0, (before.split("\n").length - 4) * parseFloat(getComputedStyle(area).lineHeight));
+    if (!isLong || !area.closest("details").open) return;
+    const from = at > AROUND ? bytes.indexOf(NEWLINE, at - AROUND) + 1 : 0;
+    const before = decoder.decode(bytes.subarray(from, at));
+    const after = decoder.decode(bytes.subarray(at, at + AROUND));
+    const newlines = (text) => text.split("\n").length - 1;
+    const first = number - newlines(before);
+    const last = number + newlines(after.replace(/\n$/, ""));
+    area.value = before + after;
+    $("log-text-part").textContent = `Lines ${first.toLocaleString("en")} to ${last.toLocaleString("en")}. The log is `
+      + "too long to be shown whole, or to be edited here. The window follows the chosen slot.";
+    if (select) {
+      area.focus();
+      area.setSelectionRange(before.length, before.length + after.split("\n", 1)[0].length);
+    }
+    area.scrollTop = Math.max(0, (newlines(before) - 3) * parseFloat(getComputedStyle(area).lineHeight));
   }
 
-  /* Moves the window of a long log to this line. */
-  const moveSoon = parts.soon(layOut);
+  /* Shows the lines around this one of a long log. */
+  const layOutSoon = parts.soon(layOut);
   function move(at, number) {
     if (!state.isLong || number === state.number) return;
     Object.assign(state, { at, number });
-    moveSoon();
+    layOutSoon();
   }
 
-  /* Opens the log itself, and chooses the line with this number that begins at this byte. */
+  /* Opens the log itself, and selects the line with this number that begins at this byte. */
   function goTo(at, number) {
     if (!state.isLong) { parts.goToLine("log-text", number); return; }
     Object.assign(state, { at, number });
     $("log-text").closest("details").open = true;
-    layOut({ choose: true });
+    layOut({ select: true });
   }
 
   const begin = () => { $("log-text").closest("details").addEventListener("toggle", () => layOut()); };

@@ -3,30 +3,33 @@
 const logTab = (() => {
   const { $ } = parts;
   const PI = "C201", MOST_PROGRAMMES = 12;
-  /* Milliseconds after which the page shows that it waits for an answer. */
-  const PATIENCE = 150;
   /* A log of more slots takes the worker that decodes with lost slots a while when it does so first. */
   const LONG = 100_000;
   /* How many dwells after a no are searched first for a witness: most are there, and a log may be a day. */
   const NEAR = 4;
   /* How many slots after that are searched too, about a day: each takes some 41 bytes of memory. */
   const FAR = 1_000_000;
-  /* Why a text went: the page does not know it of a receiver with a window. */
-  const GONE = "gone";
   const NO_SEARCH = { lost: null, shown: [], failure: "the search is for a receiver without a window" };
-  const PARTS = [["name", "name (PTYN)"], ["tag1", "first tag"], ["tag2", "second tag"]];
+  /* Each part with the label of its lane, and with the one on a phone. */
+  const PARTS = [["name", "name (PTYN)", "name"], ["tag1", "first tag", "tag 1"], ["tag2", "second tag", "tag 2"]];
   const KINDS = ["nothing", "text", "name", "tags", "other"];
   const CLOCK = /\d\d:\d\d:\d\d/, LONGEST_TIME = 80;
   const encoder = new TextEncoder(), decoder = new TextDecoder("utf-8", { ignoreBOM: true });
   const NO_LOG = { count: 0, end: 0, words: [], missing: [], starts: [], numbers: [] };
   /* Another question was asked meanwhile. */
   class Superseded extends Error {}
+  const NO_CHANGES = { slots: new Int32Array(0), parts: new Uint8Array(0), runs: new Int32Array(0) };
+  const NO_EVENTS = { slots: new Int32Array(0), numbers: new Int32Array(0) };
   const NO_TIMES = { timed: 0, absent: 0, breaks: 0, coarse: "" };
   const empty = () => ({
-    log: NO_LOG, times: NO_TIMES, programmes: [], groups: 0, codes: new Uint8Array(0), view: new lines.View(), alone: new lines.View(),
-    mixUntil: parts.noMix, whole: null, known: {}, witness: null, result: null, audits: new Map(),
+    log: NO_LOG, times: NO_TIMES, programmes: [], groups: 0, codes: new Uint8Array(0),
+    view: new views.View(), alone: new views.View(), events: NO_EVENTS,
+    whole: null, witness: null, result: null, audits: new Map(),
   });
-  const state = { text: "", bytes: new Uint8Array(0), lost: new Set(), number: 0, m: 1, w: 0, opening: 0, turn: 0, judged: 0, drawn: 0, work: Promise.resolve(), ...empty() };
+  const state = {
+    text: "", bytes: new Uint8Array(0), lost: new Set(), number: 0, m: 1, w: 0,
+    opening: 0, turn: 0, judged: 0, drawn: 0, work: Promise.resolve(), ...empty(),
+  };
   const workers = {};
   const timeline = new Timeline($("log-time"), {
     label: "Slot of the log",
@@ -43,7 +46,7 @@ const logTab = (() => {
     },
   });
 
-  timeline.displays = () => parts.displays("log-radio", "log-alone");
+  timeline.about = () => ({ station: $("log-pi").value, answer: $("verdict").querySelector("h2").textContent });
 
   const pause = () => new Promise((done) => { setTimeout(done); });
 
@@ -87,10 +90,13 @@ const logTab = (() => {
     look();
   }
 
-  /* Opens a log: its text, or the bytes of its file, which is `blob`. Returns when its display and its verdict are shown. */
-  function open(content, { pi, m, k, w = "", running = false, lost = [], example = "", file = "", blob, isEdited = false } = {}) {
+  /* Opens a log: its text, or the bytes of its file, which is `blob`. Returns when its display and its verdict are
+     shown. */
+  function open(content, settings = {}) {
+    const { pi, m, k, w = "", running = false, lost = [], example = "", file = "", blob, isEdited = false } = settings;
     const bytes = typeof content === "string" ? encoder.encode(content) : content;
     state.blob = blob ?? new Blob([bytes]);
+    $("log").classList.remove("unopened");
     for (const worker of Object.values(workers)) worker.drop();
     Object.assign(state, empty(), { bytes, isEdited, lost: new Set(lost), brush: null });
     undo.begin(links.inLetters(state.lost));
@@ -109,7 +115,7 @@ const logTab = (() => {
   async function read(pi) {
     const opening = ++state.opening, { blob } = state, done = wait("Reading the log");
     state.turn++;
-    for (const name of ["audit", "search"]) workers[name].ask("keep", { blob });
+    workers.audit.ask("keep", { blob });
     workers.lossy.ask("read", { blob });
     const opened = await workers.whole.ask("open", { blob }, (share) => { $("log-progress").value = share; });
     done();
@@ -121,9 +127,19 @@ const logTab = (() => {
     await look({ fit: true });
     if (state.opening !== opening) return;
     if (state.log.count > LONG && !state.lost.size) workers.lossy.ask("warm", asking());
-    const [shown, simple] = [state.view, state.alone].map((view) => view.parts.text.filter((run) => run.value !== null));
-    const isMix = (run) => run.from < state.mixUntil("text", run.value), mix = shown.find(isMix) ?? simple.find(isMix) ?? shown.at(-1);
-    timeline.move(mix ? mix.from : 0, { keep: true });
+    timeline.move(firstSlot(), { keep: true });
+  }
+
+  /* The slot to look at first: the first mix of a text, or else the last text. */
+  function firstSlot() {
+    const { text: shown } = state.view.parts, { text: other } = state.alone.parts;
+    for (const runs of [shown, other]) {
+      const mix = runs.find((i) => runs.isMix(i));
+      if (mix >= 0) return runs.from(mix);
+    }
+    let last = shown.length - 1;
+    while (last >= 0 && !shown.isShown(last)) last--;
+    return last < 0 ? 0 : shown.from(last);
   }
 
   /* The programmes of the log, to choose one of them. */
@@ -135,24 +151,11 @@ const logTab = (() => {
   }
 
   /* Shows after a while that the page waits; the answer ends this. */
-  function wait(what) {
-    const begins = () => {
-      $("log").setAttribute("aria-busy", "true");
-      $("log-wait").hidden = false;
-      $("log-waits").textContent = what;
-      $("log-progress").removeAttribute("value");
-      if (state.judged !== state.turn) verdict.showNone(`${what} …`, "");
-      if (state.log === NO_LOG) timeline.show([], 1);
-    };
-    clearTimeout(wait.timer);
-    const timer = wait.timer = setTimeout(begins, PATIENCE);
-    return () => {
-      clearTimeout(timer);
-      if (wait.timer !== timer) return;
-      $("log").removeAttribute("aria-busy");
-      $("log-wait").hidden = true;
-    };
-  }
+  const wait = (what) => parts.waits("log", what, () => {
+    $("log-progress").removeAttribute("value");
+    if (state.judged !== state.turn) verdict.showNone(`${what} …`, "");
+    if (state.log === NO_LOG) timeline.show([], 1);
+  });
 
   /* What the form holds. A window makes what it shows later by its length less one. */
   function asking() {
@@ -165,6 +168,8 @@ const logTab = (() => {
   async function answer({ fit = false }) {
     links.keep("log", { text: state.text, options: options() });
     const turn = ++state.turn, problem = parts.problemOf($("log-form"));
+    // older searches end
+    for (const name of ["witness", "others"]) workers[name].drop();
     if (problem) { showProblem(problem, { fit }); return; }
     const asked = { ...asking(), lost: [...state.lost] };
     const done = wait(`Decoding with M = ${Number(asked.m).toLocaleString("en")}`);
@@ -184,34 +189,29 @@ const logTab = (() => {
     if (!asked.lost.length && ["pi", "m", "w"].every((name) => state.whole?.[name] === asked[name])) return state.whole;
     const name = asked.lost.length ? "lossy" : "whole", got = await workers[name].askNewest("decode", asked);
     if (!got) return undefined;
-    // what does not depend on M comes once
-    if (got.codes) {
-      state.known[name] = { alone: new lines.View(got.alone), codes: got.codes };
-      Timeline.sums.set(got.codes, got.sums);
-    }
-    const shown = { ...got, ...state.known[name], pi: asked.pi, m: asked.m, w: asked.w, view: new lines.View(got.view) };
+    const values = new views.Texts(got.values);
+    const [view, alone] = [got.view, got.alone].map((packed) => new views.View(packed, values, got.until));
+    const shown = { ...got, view, alone, pi: asked.pi, m: asked.m, w: asked.w };
     if (!asked.lost.length) state.whole = shown;
     return shown;
   }
 
   async function display(asked, turn, fit) {
-    const ofAll = decode({ ...asked, lost: [] }), [whole, shown] = await Promise.all([ofAll, asked.lost.length ? decode(asked) : ofAll]);
+    const ofAll = decode({ ...asked, lost: [] }), ofHeard = asked.lost.length ? decode(asked) : ofAll;
+    const [whole, shown] = await Promise.all([ofAll, ofHeard]);
     if (state.turn !== turn || !whole || !shown) return;
-    const { view, alone, codes, output, notes } = shown, { log } = state;
+    const { view, alone, codes, events, output, notes } = shown, { log } = state;
     const number = parseInt(asked.pi, 16), result = { ...state.result, decode: { output, notes } };
-    Object.assign(state, { view, alone, codes, number, m: Number(asked.m), w: Number(asked.w), result, drawn: turn });
+    const [m, w] = [Number(asked.m), Number(asked.w)];
+    Object.assign(state, { view, alone, codes, events, number, result, m, w, drawn: turn });
     tellWithoutLoss(turn);
-    // nobody sent what no receiver without losses shows before, or within M slots
-    state.mixUntil = asked.lost.length ? parts.mixUntilShown([whole.view, whole.alone], state.m - 1) : parts.noMix;
-    timeline.title = `rdsrt decode --pi ${asked.pi} --m ${asked.m}${asked.w ? ` --confirm ${asked.w}` : ""}`;
     timeline.show(lanes(), log.count, { fit });
-    $("log-limit").textContent = flagAlone.limit(log.count);
-    $("log-limit").hidden = !flagAlone.limit(log.count);
-    tellLines("log", timeline.title, output);
+    const confirm = asked.w ? ` --confirm ${asked.w}` : "";
+    tellLines("log", `rdsrt decode --pi ${asked.pi} --m ${asked.m}${confirm}`, output);
     // the list is laid out after the lanes are drawn
     await pause();
     if (state.turn !== turn) return;
-    changes.show(view, state.mixUntil, { goTo: does.goTo, clock, line });
+    changes.show(view, shown.changes, { goTo: actions.goTo, clock, line });
     changes.move(timeline.cursor);
   }
 
@@ -228,15 +228,18 @@ const logTab = (() => {
     const got = await audit(asked);
     if (state.turn !== turn || !got) return;
     const { log, groups, times } = state, pi = parseInt(asked.pi, 16), m = Number(asked.m), k = Number(asked.k);
-    const { running } = asked, w = Number(asked.w), no = verdict.show({ audit: got, log, groups, pi, m, k, w, running, times }, does);
+    const { running } = asked, w = Number(asked.w);
+    const no = verdict.show({ audit: got, log, groups, pi, m, k, w, running, times }, actions);
     Object.assign(state, { result: { ...state.result, audit: got }, no, judged: turn });
-    tellLines("audit", `rdsrt audit --pi ${asked.pi} --m ${asked.m} --k ${asked.k}${running ? " --running" : ""}`, got.output);
+    const command = `rdsrt audit --pi ${asked.pi} --m ${asked.m} --k ${asked.k}${running ? " --running" : ""}`;
+    tellLines("audit", command, got.output);
     // the answer has a mark in the lane of events
     if (no && state.drawn === turn) timeline.show(lanes(), log.count);
     tellWithoutLoss(turn);
   }
 
-  /* A text that changes without its flag is mixed even where nothing is lost. Waits for both, the answer and the view. */
+  /* A text that changes without its flag is mixed even where nothing is lost. Waits for both, the answer and the view.
+     */
   function tellWithoutLoss(turn) {
     const { no, whole, drawn, judged } = state;
     if (no?.fault !== "Changed" || drawn !== turn || judged !== turn) return;
@@ -244,46 +247,69 @@ const logTab = (() => {
     if (text !== null) verdict.showWithoutLoss(no, text);
   }
 
+  /* Says each second how long a search goes on, and over how many slots. Returns a function that is told their number,
+     and one that ends this. */
+  function tellSearch() {
+    const from = performance.now(), second = 1000;
+    let slots = 0;
+    const tell = () => verdict.showSearch({ slots, seconds: Math.round((performance.now() - from) / second) });
+    const timer = setInterval(tell, second);
+    return [(count) => { slots = count; }, () => clearInterval(timer)];
+  }
+
+  /* Ends a worker that has searched a long log, to free its memory. */
+  const rest = (name) => { if (state.log.count > LONG) workers[name].end(); };
+
   /* Looks for a witness after a no. */
   async function search(asked, turn) {
-    const { no, log, bytes } = state, m = Number(asked.m);
+    const { no, log, bytes, blob } = state, m = Number(asked.m);
     if (!no) return;
-    if (asked.w) { verdict.showWitness(NO_SEARCH, does); return; }
+    if (asked.w) { verdict.showWitness(NO_SEARCH, actions); return; }
     const end = (slots) => ({ slots, bytes: slots < log.count ? log.starts[slots] : bytes.length });
     const near = end(Math.min(log.count, no.slot + NEAR * m)), far = end(Math.min(log.count, near.slots + FAR));
-    const found = await workers.search.askNewest("witness", { pi: asked.pi, m, near, far })
+    const [tell, done] = tellSearch();
+    workers.witness.ask("keep", { blob });
+    const found = await workers.witness.ask("witness", { pi: asked.pi, m, near, far }, tell)
       .catch((error) => ({ lost: null, shown: [], failure: error.message }));
+    done();
     if (state.turn !== turn || !found) return;
+    rest("witness");
     state.witness = found;
-    verdict.showWitness(found, does);
+    verdict.showWitness(found, actions);
   }
 
   /* Looks for the dwells that pass around the chosen one, and shows their bounds. */
   async function judgeOthers(asked, turn) {
     if (!state.groups || !state.result.audit || /^fault/m.test(state.result.audit.output)) return;
+    workers.others.ask("keep", { blob: state.blob });
     const passes = async (m) => {
-      const got = await audit({ ...asked, m: String(m) }, "search");
+      const got = state.turn === turn && await audit({ ...asked, m: String(m) }, "others");
       if (state.turn !== turn || !got) throw new Superseded();
       return got.output.startsWith("yes ");
     };
     try {
-      verdict.showDwells(await passing.bounds(Number(asked.m), passes), does);
+      verdict.showDwells(await passing.bounds(Number(asked.m), passes), actions);
+      rest("others");
     } catch (error) {
       if (!(error instanceof Superseded)) throw error;
     }
   }
 
   /* The actions of the verdict's buttons. */
-  const does = {
+  const actions = {
     goTo: (slot) => { timeline.move(slot); timeline.canvas.focus(); },
     showLine: (number) => logText.goTo(state.log.end, number),
     chooseDwell: (m) => { $("log-m").value = m; look(); },
     fill: () => working(fill()),
+    stopSearch() {
+      workers.witness.end();
+      verdict.showWitness({ lost: null, shown: [], failure: "the search was stopped" }, actions);
+    },
     /* Loses these slots alone, and goes to the one in which the mix is shown. */
     async lose(slot, first, last) {
       state.lost = new Set(Array.from({ length: last - first + 1 }, (_, i) => first + i));
       await lostChanged();
-      does.goTo(slot);
+      actions.goTo(slot);
     },
   };
 
@@ -292,18 +318,17 @@ const logTab = (() => {
     const name = $("log-file-name").textContent, m = $("log-m").value, pi = $("log-pi").value;
     const { bytes } = await workers.whole.ask("fill", { m });
     const [k, w, running] = [$("log-k").value, $("log-w").value, $("log-running").checked];
-    await open(bytes, { pi, m, k, w, running, isEdited: state.isEdited, file: `${name || "log"}, with its lost slots` });
+    const file = `${name || "log"}, with its lost slots`;
+    await open(bytes, { pi, m, k, w, running, isEdited: state.isEdited, file });
   }
 
   /* Shows why nothing is decoded, and no result of what was there before. */
   function showProblem(problem, { fit = false } = {}) {
-    Object.assign(state, { view: new lines.View(), alone: new lines.View(), mixUntil: parts.noMix, result: null, witness: null, no: null });
-    state.codes = new Uint8Array(0);
-    timeline.title = "";
+    const { view, alone, events, codes, result, witness } = empty();
+    Object.assign(state, { view, alone, events, codes, result, witness, no: null });
     timeline.show([], state.log.count, { fit });
-    changes.show(state.view, state.mixUntil, { goTo: does.goTo, clock, line });
+    changes.show(state.view, NO_CHANGES, { goTo: actions.goTo, clock, line });
     verdict.showNone("No verdict", problem);
-    $("log-limit").hidden = true;
     for (const name of ["log", "audit"]) tellLines(name, "", "");
   }
 
@@ -316,49 +341,38 @@ const logTab = (() => {
 
   /* Why the text or the name that was shown before this slot is shown no longer. */
   const KIND_OF = { text: lines.TEXT, name: lines.NAME };
-  function whyGone(part, from, slot = from) {
-    if (state.w) return GONE;
+  function whyGone(part, from, slot) {
+    if (state.w) return views.GONE;
     const isPart = (at) => (state.codes[at] & lines.KIND) === KIND_OF[part];
-    return parts.whyNone(isPart, { from, slot, m: state.m });
+    return views.whyNone(isPart, { from, slot, m: state.m });
   }
 
+  /* The events of the display, and the answer of the audit. */
   function events() {
-    const marks = [], { no } = state;
-    for (const part of ["text", "name"]) {
-      state.view.parts[part].forEach((run, i, all) => {
-        if (run.value === null && i && all[i - 1].value !== null) marks.push(parts.mark(run.from, `${part}: ${whyGone(part, run.from)}`));
-      });
-    }
-    if (no) marks.push(parts.mark(no.slot, no.fault, true));
-    return marks.sort((a, b) => a.at - b.at);
+    const marks = new laneItems.Marks(state.events.slots, state.events.numbers, views.EVENTS), { no } = state;
+    return no ? marks.withNo(no.slot, no.fault) : marks;
   }
 
-  /* Bars of the receiver with the flag bit alone, pale from where the other forgot the text that it shows. */
-  function aged(runs) {
-    const gone = state.view.parts.text.filter((run) => run.value === null && whyGone("text", run.from) === parts.DROPPED);
-    let next = 0;
-    return runs.flatMap((run) => {
-      while (next < gone.length && gone[next].from <= run.from) next++;
-      const from = gone[next]?.from ?? Infinity;
-      if (run.label === null || run.mix || from >= run.to) return [run];
-      return [{ ...run, to: from }, { ...run, from, old: true }];
-    });
+  /* Returns where a text of the receiver with the flag bit alone is old: from where the other one dropped its text. */
+  function oldFrom() {
+    const dropped = views.eventOf(0, views.DROPPED), { slots, numbers } = state.events;
+    const all = new laneItems.Marks(slots.filter((_, i) => numbers[i] === dropped), [], []);
+    return (from) => all.slots[all.indexAt(from) + 1] ?? Infinity;
   }
 
   function lanes() {
-    const tint = parts.tinter(), { view, alone: other, mixUntil, codes, lost } = state;
-    const bars = (it, part) => parts.bars(it, part, tint, mixUntil);
+    const { view, alone: other, codes, lost } = state, bar = (it, part, old) => new laneItems.Bars(it.parts[part], old);
     const lane = (name, short, runs, more) => ({ name, short, kind: "bars", runs, gap: 3, ...more });
     const all = [
-      // a slot without a group may have been silent: it is not red
-      { name: "received", kind: "ticks", codes, losses: true, nothing: "dim", lost },
+      // a slot without a group may have been silent: it is not drawn as lost
+      { name: "received", kind: "ticks", codes, lost },
       { name: "events", kind: "marks", marks: events() },
-      lane("text", "text", bars(view, "text"), { strong: true, gap: 10 }),
+      lane("text", "text", bar(view, "text"), { strong: true, gap: 10 }),
     ];
-    for (const [part, name] of PARTS) if (parts.shows(view, part)) all.push(lane(name, name, bars(view, part)));
-    all.push(lane("flag bit alone", "flag bit", aged(bars(other, "text")), { gap: 12 }));
-    if (parts.shows(other, "name")) all.push(lane("  its name", " name", bars(other, "name")));
-    if (parts.showsTags(other)) all.push(lane("  its tags", " tags", parts.tagBars(other, tint, mixUntil)));
+    for (const [part, name, short] of PARTS) if (parts.shows(view, part)) all.push(lane(name, short, bar(view, part)));
+    all.push(lane("flag bit alone", "flag bit", bar(other, "text", oldFrom()), { gap: 12 }));
+    if (parts.shows(other, "name")) all.push(lane("  its name", " name", bar(other, "name")));
+    if (parts.showsTags(other)) all.push(lane("  its tags", " tags", new laneItems.TagBars(other)));
     return all;
   }
 
@@ -367,7 +381,8 @@ const logTab = (() => {
   /* The clock time at the end of a slot's line; empty if it has none. */
   function clock(slot) {
     if (slot >= state.log.count) return "";
-    const start = state.log.starts[slot] + logfile.BLOCKS, end = Math.min(logfile.endOf(state.bytes, start), start + LONGEST_TIME);
+    const start = state.log.starts[slot] + logfile.BLOCKS;
+    const end = Math.min(logfile.endOf(state.bytes, start), start + LONGEST_TIME);
     return CLOCK.exec(decoder.decode(state.bytes.subarray(start, end)))?.[0] ?? "";
   }
 
@@ -375,19 +390,20 @@ const logTab = (() => {
   function line(slot) { return slot < state.log.count ? `line ${state.log.numbers[slot].toLocaleString("en")}` : ""; }
 
   function showSlot(slot) {
-    const group = logfile.groupAt(state.log, slot), sent = group ? `${KINDS[lines.codeOf(group, state.number)]} group` : "nothing received";
+    const group = logfile.groupAt(state.log, slot);
+    const sent = group ? `${KINDS[lines.codeOf(group, state.number)]} group` : "nothing received";
     const what = !state.result ? "" : state.lost.has(slot) ? "lost" : sent, run = state.view.at("text", slot);
     const none = run && run.value === null && run.from > 0 && !state.w ? whyGone("text", run.from, slot) : "no text";
-    const { mixUntil } = state, ours = { led: what, mixUntil, none }, simple = { mixUntil, none: flagAlone.noneAt(slot) };
+    const options = { led: what, none };
     const kind = state.w ? `The receiver, with the dwell and W = ${state.w}` : "The receiver, with the dwell";
-    parts.radio($("log-radio"), kind, state.view, slot, ours);
-    parts.radio($("log-alone"), "Flag bit alone: decode --m 65535", state.alone, slot, simple);
-    $("log-why").textContent = parts.whyNoMix(state.view, state.alone, slot, mixUntil);
+    parts.radio($("log-radio"), kind, state.view, slot, options);
+    parts.radio($("log-alone"), "Flag bit alone: decode --m 65535", state.alone, slot);
+    $("log-why").textContent = parts.whyNoMix(state.view, state.alone, slot);
     if (state.log.count) logText.move(state.log.starts[slot], state.log.numbers[slot]);
     $("log-group").textContent = state.log.count ? groups.ofSlot(state.log, slot, state.number) : "";
     changes.move(slot);
     if (!state.result) return "Not decoded.";
-    const shown = parts.inWords(state.view, slot, ours), other = parts.inWords(state.alone, slot, simple);
+    const shown = parts.inWords(state.view, slot, options), other = parts.inWords(state.alone, slot);
     return `${what}. The receiver shows ${shown}. With the flag bit alone: ${other}.`;
   }
 
@@ -395,7 +411,8 @@ const logTab = (() => {
 
   const lostOptions = () => state.lost.size ? `&lost=${links.inLetters(state.lost)}` : "";
   const runningOption = () => $("log-running").checked ? "&running=1" : "";
-  const options = () => `pi=${$("log-pi").value}&m=${$("log-m").value}&k=${$("log-k").value}${links.windowOption("log")}${runningOption()}${lostOptions()}`;
+  const options = () => `pi=${$("log-pi").value}&m=${$("log-m").value}&k=${$("log-k").value}`
+    + links.windowOption("log") + runningOption() + lostOptions();
   const isUnsaved = () => state.isEdited;
 
   function save() {
@@ -423,10 +440,13 @@ const logTab = (() => {
   /* Begins with the compiled program. */
   function begin(compiled) {
     $("log-share").onclick = link;
-    for (const name of ["whole", "lossy", "audit", "search"]) workers[name] = new LogWorker(compiled);
+    for (const name of ["whole", "lossy", "audit", "others", "witness"]) workers[name] = new ProgramWorker(compiled);
     for (const id of ["log-pi", "log-m", "log-k", "log-w", "log-running"]) $(id).oninput = parts.soon(() => look());
     $("log-save").onclick = save;
-    $("log-text").oninput = parts.soon(() => open($("log-text").value, { pi: $("log-pi").value, w: $("log-w").value, running: $("log-running").checked, isEdited: true }));
+    $("log-text").oninput = parts.soon(() => {
+      const { pi, w, running } = asking();
+      open($("log-text").value, { pi, w, running, isEdited: true });
+    });
     $("log-unlose").onclick = () => { state.lost.clear(); lostChanged(); };
     $("log-undo").onclick = () => back(-1);
     logText.begin();

@@ -1,10 +1,15 @@
 "use strict";
 /* Reads the bytes of a log into typed arrays, once a log. docs/FORMATS.md has the form of a log. */
 const logfile = (() => {
-  const NEWLINE = 10, RETURN = 13, SPACE = 32, DASH = 45;
-  /* The bytes of four blocks with spaces between them, and how often the reader tells how far it is. */
-  const BLOCKS = 19, PER_STEP = 1 << 21;
-  const MISSING = -1, MALFORMED = -2;
+  const [NEWLINE, RETURN, SPACE, DASH] = [..."\n\r -"].map((letter) => letter.charCodeAt(0));
+  /* A line that begins with one of these letters is a note. */
+  const NOTES = [..."<#%"].map((letter) => letter.charCodeAt(0));
+  /* The bytes of four blocks with spaces between them. */
+  const BLOCKS = 19;
+  /* The bytes after which the reader says again how far it is. */
+  const PER_STEP = 1 << 21;
+  const MISSING = -1;
+  const MALFORMED = -2;
   const LOST = new TextEncoder().encode(lines.LOST);
 
   /* The value of each hexadecimal digit, and 16 for every other byte. */
@@ -13,21 +18,26 @@ const logfile = (() => {
 
   /* Returns the block at this place, MISSING for `----`, or MALFORMED. */
   function blockAt(bytes, at) {
-    const a = DIGITS[bytes[at]], b = DIGITS[bytes[at + 1]], c = DIGITS[bytes[at + 2]], d = DIGITS[bytes[at + 3]];
-    if ((a | b | c | d) < 16) return a << 12 | b << 8 | c << 4 | d;
-    const isMissing = bytes[at] === DASH && bytes[at + 1] === DASH && bytes[at + 2] === DASH && bytes[at + 3] === DASH;
-    return isMissing ? MISSING : MALFORMED;
+    let block = 0;
+    let dashes = 0;
+    for (let i = at; i < at + 4; i++) {
+      const digit = DIGITS[bytes[i]];
+      if (digit < 16) block = block << 4 | digit;
+      else if (bytes[i] === DASH) dashes++;
+      else return MALFORMED;
+    }
+    if (dashes === 0) return block;
+    return dashes === 4 ? MISSING : MALFORMED;
   }
 
-  const endOf = (bytes, start) => {
+  function endOf(bytes, start) {
     const newline = bytes.indexOf(NEWLINE, start);
     return newline < 0 ? bytes.length : newline;
-  };
+  }
 
   /* Returns whether a line is empty or a note. */
   function isSkipped(bytes, start, end) {
-    const first = bytes[start];
-    return start === end || (first === RETURN && end === start + 1) || first === 0x3C || first === 0x23 || first === 0x25;
+    return start === end || (bytes[start] === RETURN && end === start + 1) || NOTES.includes(bytes[start]);
   }
 
   /* Returns whether the line ends after its blocks, or goes on with a space. */
@@ -44,7 +54,8 @@ const logfile = (() => {
   function take(log, bytes, start, slot) {
     if (start + BLOCKS > bytes.length || !endsWell(bytes, start + BLOCKS)) return false;
     let missing = 0;
-    for (let i = 0, at = start; i < 4; i++, at += 5) {
+    for (let i = 0; i < 4; i++) {
+      const at = start + 5 * i;
       const block = blockAt(bytes, at);
       if (block === MALFORMED || (i < 3 && bytes[at + 4] !== SPACE)) return false;
       if (block === MISSING) missing |= 1 << i;
@@ -55,24 +66,31 @@ const logfile = (() => {
     return true;
   }
 
-  /* Reads a log up to its first malformed line. `words` has four blocks a slot, `missing` a bit for each block that was not
-     received, `starts` the first byte of the slot's line and `numbers` its number. `end` is the first byte that was not read. */
+  /* Reads a log up to its first malformed line. `words` has four blocks a slot, `missing` a bit for each block that was
+     not received, `starts` the first byte of the slot's line and `numbers` its number. `end` is the first byte that was
+     not read. */
   function parse(bytes, tell = () => {}) {
     const most = Math.floor((bytes.length + 1) / (BLOCKS + 1));
-    const log = { words: new Uint16Array(4 * most), missing: new Uint8Array(most), starts: new Uint32Array(most), numbers: new Uint32Array(most) };
-    let slot = 0, start = 0, next = PER_STEP;
+    const log = {
+      words: new Uint16Array(4 * most), missing: new Uint8Array(most), starts: new Uint32Array(most),
+      numbers: new Uint32Array(most),
+    };
+    let slot = 0;
+    let start = 0;
+    let next = PER_STEP;
     for (let number = 1; start < bytes.length; number++) {
-      const isSlot = take(log, bytes, start, slot), end = isSlot && isBare(bytes, start) ? start + BLOCKS : endOf(bytes, start);
+      const isSlot = take(log, bytes, start, slot);
+      const end = isSlot && isBare(bytes, start) ? start + BLOCKS : endOf(bytes, start);
       if (isSlot) log.numbers[slot++] = number;
       else if (!isSkipped(bytes, start, end)) break;
       start = end + 1;
-      if (start > next) { tell(start / bytes.length); next += PER_STEP; }
+      if (start > next) {
+        tell(start / bytes.length);
+        next += PER_STEP;
+      }
     }
-    const cut = (array, size = 1) => array.slice(0, size * slot);
-    return {
-      count: slot, end: Math.min(start, bytes.length), words: cut(log.words, 4), missing: cut(log.missing), starts: cut(log.starts),
-      numbers: cut(log.numbers),
-    };
+    for (const [name, array] of Object.entries(log)) log[name] = array.slice(0, name === "words" ? 4 * slot : slot);
+    return { ...log, count: slot, end: Math.min(start, bytes.length) };
   }
 
   /* Returns the four blocks of a slot, or null if one is missing. */
@@ -90,7 +108,8 @@ const logfile = (() => {
 
   /* Returns the code of each slot for a programme. */
   function codes({ words, missing, count }, pi) {
-    const all = new Uint8Array(count), group = [0, 0];
+    const all = new Uint8Array(count);
+    const group = [0, 0];
     for (let slot = 0; slot < count; slot++) {
       if (missing[slot]) continue;
       group[0] = words[4 * slot];
@@ -100,13 +119,17 @@ const logfile = (() => {
     return all;
   }
 
-  /* Returns the bytes of the log as a receiver gets it that loses these slots. */
-  function received(bytes, { starts, count }, lost) {
-    if (!lost.length) return bytes;
-    const copy = bytes.slice();
-    for (const slot of lost) if (slot < count) copy.set(LOST, starts[slot]);
-    return copy;
+  /* Returns what a call returns while the bytes of the log are those of a receiver that loses these slots. */
+  function whileLost(bytes, { starts, count }, lost, call) {
+    const places = lost.filter((slot) => slot < count).map((slot) => starts[slot]);
+    const kept = places.map((at) => bytes.slice(at, at + BLOCKS));
+    for (const at of places) bytes.set(LOST, at);
+    try {
+      return call();
+    } finally {
+      places.forEach((at, i) => bytes.set(kept[i], at));
+    }
   }
 
-  return { BLOCKS, codes, endOf, groupAt, isBare, parse, programmes, received };
+  return { BLOCKS, codes, endOf, groupAt, parse, programmes, whileLost };
 })();

@@ -2,6 +2,7 @@
 /* The program itself: words and input in, status, output and notes out. lines.js reads its output and its notes. */
 const rdsrt = (() => {
   const HEAP = 1 << 20, ROOM = 1 << 16, NOTES = 1 << 13, MOST = 2 ** 31, PAGE = 1 << 16;
+  const FAULT = "fault memory\n";
   const encoder = new TextEncoder(), decoder = new TextDecoder();
   let module = null;
 
@@ -51,31 +52,43 @@ const rdsrt = (() => {
     };
   }
 
-  const textAt = (at, length) => decoder.decode(new Uint8Array(module.memory.buffer, at, length));
+  const bytesAt = (at, length) => new Uint8Array(module.memory.buffer, at, length);
+  const textAt = (at, length) => decoder.decode(bytesAt(at, length));
 
   /* The notes of a call, as far as they have room: its lines without the name of the program. */
   const notesOf = (got) => lines.notes(textAt(got.at.notes, Math.min(got.noted, NOTES)));
 
-  /* Runs the program. Where there was no memory, or no room for the output, it runs again with more. */
-  function run(words, input) {
+  /* Runs the program. Where there was no memory, or no room for the output, it runs again with more. The output is
+     bytes in the program's memory, up to the next run. */
+  function runBytes(words, input) {
     const given = encoder.encode(["rdsrt", ...words].join("\n"));
     const bytes = typeof input === "string" ? encoder.encode(input) : input, from = performance.now();
     let room = ROOM + 4 * bytes.length, heap = HEAP + 2 * room;
     for (;;) {
       const got = call(given, bytes, room, heap), fits = got.length <= room;
-      const output = fits ? textAt(got.at.output, got.length) : "";
-      if (got.failures > 0 || output.endsWith("fault memory\n")) {
+      const last = Math.min(got.length, FAULT.length), lastAt = got.at.output + got.length - last;
+      const hasFault = fits && textAt(lastAt, last) === FAULT;
+      if (got.failures > 0 || hasFault) {
         heap *= 4;
         if (heap > MOST) throw new Error("no memory for this input");
       } else if (!fits) {
         room = got.length;
         heap = Math.max(heap, HEAP + 2 * room);
-      } else return { status: got.status, output, notes: notesOf(got), heap: got.heap, ms: performance.now() - from };
+      } else {
+        const bytes = bytesAt(got.at.output, got.length), ms = performance.now() - from;
+        return { status: got.status, bytes, notes: notesOf(got), heap: got.heap, ms };
+      }
     }
+  }
+
+  /* Runs the program, whose output becomes a text. */
+  function run(words, input) {
+    const { bytes, ...got } = runBytes(words, input);
+    return { ...got, output: decoder.decode(bytes) };
   }
 
   /* The words for a window of W slots, if there is one. */
   const windowWords = (w) => w ? ["--confirm", w] : [];
 
-  return { begin, layout, load, run, windowWords };
+  return { begin, layout, load, run, runBytes, windowWords };
 })();

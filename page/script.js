@@ -5,12 +5,20 @@ const scriptTab = (() => {
   const COMMANDS = ["-", "text", "name", "tags", "restart"], PI = "C201";
   const HINTS = { text: "the text", name: "the name", tags: "1 1 4 0 3 1 7 7" };
   const UNPLAYED = "not played";
+  /* What a display shows that was not on air in the last M + K slots, as the program says. */
+  const MIXED = { led: "not on air", words: "not on air" };
   /* The most letters of an argument that the form takes: a text has 64 characters, and an escape is four letters. */
   const LONG_ARGUMENT = 400;
+  const NOTHING_SENT = { count: 0, words: [], missing: [], kinds: [], codes: new Uint8Array(0) };
+  const unplayed = () => ({
+    played: 0, air: new views.View(), shown: { views: [], sent: NOTHING_SENT, fault: null }, alone: [], heard: [],
+    replies: new Map(), result: null, firstMix: null,
+  });
   const state = {
-    rows: [], played: 0, chosen: 0, pty: "10", air: new lines.View(), said: { views: [], sent: [] }, alone: [], heard: [],
-    replies: new Map(), spans: new Map(), mixUntil: parts.noMix, text: "", opened: { text: "", input: "", file: "", example: "" }, saved: "",
+    rows: [], chosen: 0, pty: "10", text: "", opened: { text: "", input: "", file: "", example: "" }, saved: "",
+    turn: 0, work: Promise.resolve(), ...unplayed(),
   };
+  let worker = null;
   const timeline = new Timeline($("script-time"), {
     label: "Slot of the script",
     onMove: showSlot,
@@ -18,7 +26,7 @@ const scriptTab = (() => {
     onPaint: brush,
     onKey: key,
   });
-  timeline.displays = () => parts.displays("script-air", "script-radio", "script-alone");
+  timeline.about = () => ({ station: PI, answer: $("script-count").textContent });
   const undo = new Undo((it) => {
     $("script-undo").disabled = !it.has(-1);
     $("script-redo").disabled = !it.has(1);
@@ -35,6 +43,7 @@ const scriptTab = (() => {
     if (lane === null) { edited(); return true; }
     if (letter === LOOK || lane?.group === undefined) return false;
     for (let s = from; s <= to; s++) setReception(s, lane.group, letter);
+    expectEdit();
     showStroke(lane.group, from, to);
     return true;
   }
@@ -43,8 +52,9 @@ const scriptTab = (() => {
   function showStroke(receiver, from, to) {
     const ticks = timeline.lanes.find((lane) => lane.kind === "ticks" && lane.group === receiver);
     const ends = Math.min(to + 1, ticks?.codes.length ?? 0);
-    for (let s = from; s < ends; s++) ticks.codes[s] = codeHeard(state.rows[s].receptions[receiver], s);
-    if (ticks) ticks.sums = lines.sums(ticks.codes);
+    const { kinds } = state.shown.sent;
+    const codeOf = (slot) => player.kindHeard(kinds, PI, state.rows[slot].receptions[receiver], slot);
+    for (let s = from; s < ends; s++) ticks.codes[s] = codeOf(s);
     timeline.draw();
   }
 
@@ -52,8 +62,9 @@ const scriptTab = (() => {
 
   /* Says how the brush works while it is on. */
   function showBrush() {
-    const does = BRUSHES[letterOfBrush()];
-    $("brush-on").textContent = does ? `A click or a drag on a receiver makes it ${does} the slots. Escape returns to “look”.` : "";
+    const action = BRUSHES[letterOfBrush()];
+    const words = `A click or a drag on a receiver makes it ${action} the slots. Escape returns to “look”.`;
+    $("brush-on").textContent = action ? words : "";
     timeline.canvas.classList.remove("brushes");
   }
 
@@ -97,11 +108,14 @@ const scriptTab = (() => {
 
   /* A reception of the slot's group with the last bit wrong; a lost slot if none was sent. */
   function wrongIn(slot) {
-    const [, second, third, fourth] = state.said.sent[slot] ?? [];
+    const [, second, third, fourth] = logfile.groupAt(state.shown.sent, slot) ?? [];
     return second === undefined ? "L" : `W${[second, third, fourth ^ 1].map(parts.hex).join("")}`;
   }
 
-  /* The rows were edited: plays them, and notes the script for the undo. */
+  /* The rows are being edited: a result of the rows before is not shown any more. */
+  const expectEdit = () => { state.turn++; };
+
+  /* The rows were edited: notes the script for the undo, and plays it. */
   function edited(how) {
     const text = records.write(state.rows);
     undo.note(text);
@@ -128,9 +142,14 @@ const scriptTab = (() => {
 
   const commandChanged = () => { if (writeCommand()) edited(); };
 
-  /* A letter was typed: the row of its slot gets it at once, for another slot may be chosen before the rows are played. */
+  /* A letter was typed: the row of its slot gets it at once, for another slot may be chosen before the rows are played.
+     */
   const playedSoon = parts.soon(() => edited());
-  const argumentTyped = () => { if (writeCommand()) playedSoon(); };
+  function argumentTyped() {
+    if (!writeCommand()) return;
+    expectEdit();
+    playedSoon();
+  }
 
   /* A number of the form was changed: a script of another size is edited, and one of the same is played again. */
   function formChanged() {
@@ -142,7 +161,8 @@ const scriptTab = (() => {
   }
 
   function resize() {
-    const n = receivers(), count = Number($("script-slots").value), isOther = n !== (state.rows[0]?.receptions.length ?? n);
+    const n = receivers(), count = Number($("script-slots").value);
+    const isOther = n !== (state.rows[0]?.receptions.length ?? n);
     while (state.rows.length < count) state.rows.push(records.empty(n));
     state.rows.length = count;
     if (isOther) for (const row of state.rows) records.editReceivers(row, n);
@@ -160,8 +180,9 @@ const scriptTab = (() => {
     state.chosen = Math.max(0, Math.min(state.chosen, receivers() - 1));
   }
 
-  /* Opens a script: its text, and the program's input for this text, which for a file is the file's bytes. */
-  function open(text, { m, k, w = "", pty = "10", isEdit = false, example = "", file = "", input = text } = {}) {
+  /* Opens a script: its text, and the program's input for this text, which for a file is the file's bytes. Returns when
+     it is played, or when another one is. */
+  async function open(text, { m, k, w = "", pty = "10", isEdit = false, example = "", file = "", input = text } = {}) {
     state.pty = pty;
     if (!isEdit) {
       Object.assign(state, { opened: { text, input, file, example }, saved: text });
@@ -171,15 +192,16 @@ const scriptTab = (() => {
     if (k !== undefined) $("script-k").value = k;
     take(text);
     if (isEdit) undo.note(text); else undo.begin(text);
-    play({ fit: true, text });
-    if (isEdit) return;
-    const { firstMix } = state, [first] = state.air.parts.text;
+    const isPlayed = await play({ fit: true, text });
+    if (isEdit || !isPlayed) return;
+    const { firstMix } = state, { text: onAir } = state.air.parts;
     if (firstMix) state.chosen = timeline.chosen = firstMix.receiver;
     if (firstMix) timeline.move(firstMix.slot, { keep: true });
-    else if (first) timeline.move(Math.min(state.rows.length - 1, first.from + Number($("script-m").value)), { keep: true });
+    else if (onAir.length) timeline.move(Math.min(state.rows.length - 1, onAir.from(0) + state.m), { keep: true });
   }
 
-  /* Names the example or the file of the text, and drops the link of another text. Gives the program's input for the text. */
+  /* Names the example or the file of the text, and drops the link of another text. Gives the program's input for the
+     text. */
   function nameInput() {
     const { opened, text } = state, isOpened = text === opened.text;
     $("script-example").value = isOpened ? opened.example : "";
@@ -188,201 +210,116 @@ const scriptTab = (() => {
     return isOpened ? opened.input : text;
   }
 
-  function play({ fit = false, text = state.text } = {}) {
+  /* Keeps the work in progress, so that a test can wait for it. */
+  const working = (promise) => { state.work = promise; return promise; };
+
+  /* Plays a script in the worker, and shows what comes of it. Returns whether it does: of several edits only the last
+     one's result is shown. */
+  const play = (how = {}) => working(show(how));
+  async function show({ fit = false, text = state.text }) {
     state.text = text;
-    const input = nameInput();
+    const turn = ++state.turn, input = nameInput();
     parts.fill("script-text", text);
-    const problem = tooMuch() || parts.problemOf($("script-form"));
-    if (problem) { showProblem(problem); return; }
-    const [m, k, w] = ["script-m", "script-k", "script-w"].map((id) => $(id).value), count = state.rows.length;
-    const words = ["sim", "--pi", PI, "--pty", state.pty, "--m", m, "--k", k, ...rdsrt.windowWords(w)];
-    const got = rdsrt.run(words, input);
+    const problem = tooMuch() || parts.problemOf($("script-form")), done = parts.waits("script", "Playing the script");
+    try {
+      if (problem) throw new Error(problem);
+      const [m, k, w] = ["script-m", "script-k", "script-w"].map((id) => $(id).value);
+      const words = ["sim", "--pi", PI, "--pty", state.pty, "--m", m, "--k", k, ...rdsrt.windowWords(w)];
+      const got = await worker.askNewest("play", { text, input: input === text ? undefined : input, words, pi: PI });
+      if (state.turn !== turn) return false;
+      showPlayed(got, { m: Number(m), w, words, fit });
+      return true;
+    } catch (error) {
+      if (state.turn === turn) showProblem(error.message.replace(/\.?$/, "."));
+      return false;
+    } finally { done(); }
+  }
+
+  /* Shows what a worker played. */
+  function showPlayed(got, { m, w, words, fit }) {
+    const { output, played, sent, fault, heard } = got, command = `rdsrt ${words.join(" ")}`;
+    const values = new views.Texts(got.values), view = (packed) => new views.View(packed, values);
+    const alone = heard.map((_, i) => view(got.alone[i])), air = view(got.air);
+    const shown = { views: got.receivers.map(view), sent, fault };
     $("brush-wrong").hidden = !w;
-    const played = playedOf(got.output, count), said = lines.read(got.output, played), tint = parts.tinter();
-    const broadcast = onAir(said.replies, played, tint);
-    const replies = new Map(said.replies.map((it) => [it.slot, it]));
-    const spaced = Number(m) + Number(k) + (w ? Number(w) - 1 : 0);
-    Object.assign(state, { said, replies, played, air: broadcast.air, result: got, m: Number(m), spaced });
-    state.mixUntil = parts.mixUntilShown([state.air]);
-    state.spans = spans(state.air.parts.text);
-    hear();
+    Object.assign(state, { shown, played, air, heard, alone, result: got, m });
+    state.replies = new Map(got.replies.map((it) => [it.slot, it]));
     timeline.chosen = receivers() ? state.chosen : null;
-    timeline.title = `rdsrt ${words.join(" ")}`;
-    timeline.show(lanes(broadcast.marks, played, tint), count, { fit });
-    parts.fill("script-lines", got.output);
-    $("script-command").textContent = `rdsrt ${words.join(" ")}`;
+    timeline.show(lanes(), state.rows.length, { fit });
+    parts.fill("script-lines", output);
+    $("script-command").textContent = command;
     tellMixes();
     tellWait();
-    tellFault(text);
+    tellFault();
   }
 
   /* Why the page does not play these rows; empty if it does. */
   function tooMuch() {
     const n = state.rows[0]?.receptions.length ?? 0, count = state.rows.length;
     const most = (id) => Number($(id).max);
-    if (n > most("script-n")) return `The script has ${n.toLocaleString("en")} receivers. The page plays at most ${most("script-n")}.`;
+    if (n > most("script-n")) {
+      return `The script has ${n.toLocaleString("en")} receivers. The page plays at most ${most("script-n")}.`;
+    }
     if (count <= most("script-slots")) return "";
-    return `The script has ${parts.counted(count, "row")}. The page plays at most ${most("script-slots").toLocaleString("en")}.`;
+    const limit = most("script-slots").toLocaleString("en");
+    return `The script has ${parts.counted(count, "row")}. The page plays at most ${limit}.`;
   }
 
-  /* Shows why nothing is played, and no result of what was there before. */
-  function showProblem(problem) {
-    const none = { played: 0, replies: new Map(), spans: new Map(), alone: [], heard: [], result: null, firstMix: null };
-    Object.assign(state, none, { said: { views: [], sent: [], logged: [] }, air: new lines.View(), mixUntil: parts.noMix });
-    timeline.title = "";
+  /* Shows why nothing is played, and no result of what was there before. What the page refuses is red. */
+  function showProblem(problem, { isRefused = false } = {}) {
+    Object.assign(state, unplayed());
     timeline.show([], state.rows.length);
     for (const id of ["script-count", "script-note", "script-command"]) $(id).textContent = "";
     $("script-note").hidden = true;
     parts.fill("script-lines", "");
     $("script-fault").textContent = problem;
+    $("script-fault").classList.toggle("no", isRefused);
     $("script-fault").hidden = false;
   }
 
-  /* How many rows the program played: those before a bad one. */
-  function playedOf(output, count) {
-    const row = /^fault row (\d+)/m.exec(output);
-    return row ? Math.min(count, Number(row[1]) - 1) : count;
-  }
-
-  /* The characters of a printed text: an escape is one. */
-  const characters = (text) => [...text.matchAll(/\\x[0-9A-Fa-f]{2}|./gsu)].map(([c]) => c);
-
-  /* The printed form of each text and name so far, by command and argument. */
-  const printedForms = new Map();
-  const keyOfForm = ({ command, argument }) => `${command} ${argument}`;
-  /* A receiver that loses nothing shows any text or name within so many slots, if all of them are free. */
-  const ROUND = 64;
-
-  /* Asks the program for the printed forms of the texts and names of these rows: what a receiver shows that gets them. */
-  function askForms(rows) {
-    const news = new Map(rows.map((row) => [keyOfForm(row), row]).filter(([key]) => !printedForms.has(key)));
-    if (!news.size) return;
-    const idle = (count) => Array.from({ length: count }, () => records.empty(1));
-    const setting = ({ command, argument }) => [{ ...records.empty(1), command, argument }, ...idle(ROUND - 1)];
-    const asked = [...idle(ROUND), ...[...news.values()].flatMap(setting)];
-    const { output } = rdsrt.run(["sim", "--pi", PI, "--m", String(ROUND / 2)], records.write(asked));
-    const [view] = lines.read(output, asked.length).views;
-    [...news].forEach(([key, { command }], i) => printedForms.set(key, view.at(command, ROUND * (i + 2) - 1).value));
-  }
-
-  /* The tags of a row as they cut the text: class and piece, or nothing. */
-  function piecesOf(argument, text) {
-    const numbers = argument.split(" ").map(Number), chars = characters(text);
-    return [numbers.slice(2, 5), numbers.slice(5, 8)].map(([kind, start, extra]) => {
-      const text = chars.slice(start, start + extra + 1).join("");
-      return kind > 0 && start + extra < chars.length ? { kind: lines.classOf(kind), text } : null;
-    });
-  }
-
-  /* Finds the broadcasts by the replies and the rows, since the program does not print them. Marks the commands. */
-  function onAir(replies, count, tint) {
-    const air = new lines.View(), marks = [];
-    const isSet = ({ what, reply }) => reply === "ok" && what !== "tags";
-    askForms(replies.filter(isSet).map(({ slot }) => state.rows[slot]));
-    const setTags = (slot, tags) => tags.forEach((tag, i) => air.change(`tag${i + 1}`, slot, tag));
-    for (const { slot, what, reply } of replies) {
-      const { argument = "" } = state.rows[slot] ?? {}, isDone = what === "restart" || reply === "ok";
-      if (!isDone) { marks.push(parts.mark(slot, `${what} ${reply}`, true)); continue; }
-      if (what === "restart" || what === "tags") marks.push(parts.mark(slot, what));
-      if (what === "restart") air.clear(slot);
-      else if (what === "tags") setTags(slot, piecesOf(argument, air.at("text", slot)?.value ?? ""));
-      else {
-        const value = printedForms.get(keyOfForm(state.rows[slot]));
-        if (what === "text") { air.clear(slot, "tag1", "tag2"); tint(value); }
-        air.change(what, slot, value);
-      }
-    }
-    return { air: air.finish(count), marks };
-  }
-
-  /* For each text the spans in which it was on air. */
-  function spans(runs) {
-    const all = new Map();
-    for (const run of runs) if (run.value !== null) all.set(run.value, [...all.get(run.value) ?? [], run]);
-    return all;
-  }
-
-  /* The slot whose group a receiver gets in this slot, late or not; -1 if it gets none. */
-  function sourceOf(letter, slot) {
-    if (letter?.[0] !== "G") return -1;
-    return letter.length > 1 ? slot - Number(letter.slice(1)) : slot;
-  }
-
-  /* The slots in which a receiver restarts. */
-  const restartsOf = (i) => [...state.rows.keys()].filter((slot) => state.rows[slot].receptions[i] === "R");
-
-  /* The line of a wrong group. */
-  const wrongLine = (letter) => `${PI} ${letter.slice(1).match(/.{4}/g).join(" ")}`;
-  const isWrong = (letter) => letter?.[0] === "W";
-
-  /* What a receiver gets in this slot: a group, and its line. */
-  const groupHeard = (letter, slot) => isWrong(letter) ? lines.groupIn(wrongLine(letter)) : state.said.sent[sourceOf(letter, slot)];
-  const lineHeard = (letter, slot) => isWrong(letter) ? wrongLine(letter) : state.said.logged[sourceOf(letter, slot)] ?? lines.LOST;
-
-  /* Finds the groups of each receiver, and the view of one with the flag bit alone that gets them. */
-  function hear() {
-    const rows = state.rows.slice(0, state.played);
-    const each = (heard) => Array.from({ length: receivers() }, (_, i) => rows.map((row, slot) => heard(row.receptions[i], slot)));
-    state.heard = each((letter, slot) => groupHeard(letter, slot) ?? null);
-    state.alone = each(lineHeard).map((got, i) => flagAlone.receive(PI, got, restartsOf(i)));
-  }
-
-  /* The colour of a slot in which a receiver does this. A group that has nothing to do with texts isn't printed. */
-  function codeHeard(letter, slot) {
-    const group = groupHeard(letter, slot);
-    if (group) return lines.codeOf(group, null);
-    return sourceOf(letter, slot) < 0 ? lines.NOTHING : lines.OTHER;
-  }
-
-  function codesHeard(i, count) {
-    const codes = new Uint8Array(count);
-    for (let s = 0; s < count; s++) codes[s] = codeHeard(state.rows[s].receptions[i], s);
-    return codes;
-  }
-
-  /* Bars of texts, pale from where the text has been off the air for M + K slots. */
-  function aged(runs) {
-    return runs.flatMap((run) => {
-      const all = run.label === null || run.mix ? undefined : state.spans.get(run.value);
-      if (!all) return [run];
-      const spans = all.filter((span) => span.from <= run.from + state.spaced);
-      const at = Math.max(run.from, ...spans.map((span) => span.to + state.spaced));
-      return at >= run.to ? [run] : [{ ...run, to: at }, { ...run, from: at, old: true }].filter((it) => it.to > it.from);
+  /* The marks of restarts, of tags, and of what the station did not do. */
+  function marks() {
+    return [...state.replies.values()].flatMap(({ slot, what, reply }) => {
+      if (what !== "restart" && reply !== "ok") return [{ slot, label: `${what} ${reply}`, kind: "refused" }];
+      return what === "restart" || what === "tags" ? [{ slot, label: what, kind: "" }] : [];
     });
   }
 
   const lane = (name, short, runs, more) => ({ name, short, kind: "bars", runs, gap: 2, ...more });
 
-  function lanes(marks, count, tint) {
-    const { air, said } = state, all = [
-      { name: "sent", kind: "ticks", codes: lines.codesOf(said.sent, count, null) },
-      { name: "station", kind: "marks", marks },
-      lane("on air", "on air", parts.bars(air, "text", tint), { strong: true, gap: 8 }),
+  function lanes() {
+    const { air, shown } = state, all = [
+      { name: "sent", kind: "ticks", codes: shown.sent.codes },
+      { name: "station", kind: "marks", marks: laneItems.Marks.of(marks()) },
+      lane("on air", "on air", new laneItems.Bars(air.parts.text), { strong: true, gap: 8 }),
     ];
-    if (parts.shows(air, "name")) all.push(lane("  its name", " name", parts.bars(air, "name", tint)));
-    if (parts.showsTags(air)) all.push(lane("  its tags", " tags", parts.tagBars(air, tint)));
-    for (let i = 0; i < receivers(); i++) all.push(...receiverLanes(i, count, tint));
+    if (parts.shows(air, "name")) all.push(lane("  its name", " name", new laneItems.Bars(air.parts.name)));
+    if (parts.showsTags(air)) all.push(lane("  its tags", " tags", new laneItems.TagBars(air)));
+    for (let i = 0; i < state.heard.length; i++) all.push(...receiverLanes(i));
     return all;
   }
 
-  function receiverLanes(i, count, tint) {
-    const all = [{ name: `receiver ${i}`, kind: "ticks", codes: codesHeard(i, count), losses: true, group: i, gap: 14 }];
+  function receiverLanes(i) {
+    const { codes } = state.heard[i];
+    const all = [{ name: `receiver ${i}`, kind: "ticks", codes, losses: true, group: i, gap: 14 }];
     const add = (name, short, runs) => all.push(lane(`  ${name}`, ` ${short}`, runs, { group: i }));
-    const addView = (name, short, view, old) => {
-      add(name, short, old(parts.bars(view, "text", tint, state.mixUntil)));
-      if (parts.shows(view, "name")) add("  its name", "  name", parts.bars(view, "name", tint, state.mixUntil));
-      if (parts.showsTags(view)) add("  its tags", "  tags", parts.tagBars(view, tint, state.mixUntil));
+    const addView = (name, short, view) => {
+      add(name, short, new laneItems.Bars(view.parts.text));
+      if (parts.shows(view, "name")) add("  its name", "  name", new laneItems.Bars(view.parts.name));
+      if (parts.showsTags(view)) add("  its tags", "  tags", new laneItems.TagBars(view));
     };
-    addView("with the dwell", "dwell", state.said.views[i], (runs) => runs);
-    addView("flag bit alone", "flag bit", state.alone[i], aged);
+    addView("with the dwell", "dwell", state.shown.views[i] ?? new views.View());
+    addView("flag bit alone", "flag bit", state.alone[i]);
     return all;
   }
 
   // ---- mixes and faults
 
+  /* The mixes that a view shows: the part and the first slot of each. */
   function mixesOf(view) {
-    const mixes = (part) => (view?.parts[part] ?? []).filter((run) => run.value !== null && run.from < state.mixUntil(part, run.value));
-    return ["text", "name", "tag1", "tag2"].flatMap((part) => mixes(part).map((run) => ({ ...run, part: part.replace(/[12]$/, "") })));
+    return Object.entries(view?.parts ?? {}).flatMap(([part, runs]) => {
+      return runs.mixes().map((i) => ({ from: runs.from(i), part: part.replace(/[12]$/, "") }));
+    });
   }
 
   /* How many texts, names and tags these are. */
@@ -393,13 +330,16 @@ const scriptTab = (() => {
   }
 
   function tellMixes() {
-    const n = receivers(), wrong = state.alone.map(mixesOf), ours = state.said.views.slice(0, n).flatMap(mixesOf).length;
+    const n = receivers(), wrong = state.alone.map(mixesOf);
     const all = wrong.flat().length, at = wrong.findIndex((it) => it.length);
-    state.firstMix = at < 0 ? null : { receiver: at, slot: Math.min(...wrong[at].map((run) => run.from)) };
-    const mixed = `With the flag bit alone, receivers show ${inKinds(wrong.flat())} that nobody sent. `
-      + `With the dwell ${ours === 0 ? "none does" : `${ours} do`}.`;
-    const told = all ? mixed : "No receiver shows a mix here. Lose more slots: a whole text and the next flip of the flag.";
-    $("script-count").textContent = n === 0 || state.said.fault ? "" : `${told} ${flagAlone.limit(state.rows.length)}`.trim();
+    const first = (mixes) => mixes.reduce((least, { from }) => Math.min(least, from), Infinity);
+    state.firstMix = at < 0 ? null : { receiver: at, slot: first(wrong[at]) };
+    // that one with the dwell shows none is proved, so the page does not count them
+    const mixed = `With the flag bit alone, receivers show ${all === 1 ? "a mix" : "mixes"}: ${inKinds(wrong.flat())}. `
+      + "With the dwell none does.";
+    const none = "No receiver shows a mix here. Lose more slots: a whole text and the next flip of the flag.";
+    const words = all ? mixed : none;
+    $("script-count").textContent = n === 0 || state.shown.fault ? "" : words;
   }
 
   /* Shows the program's note on the first set that came too early. */
@@ -410,13 +350,14 @@ const scriptTab = (() => {
   }
 
   /* A fault of the script, by the program's note; and a button to the line of a bad row in the text that was played. */
-  function tellFault(text) {
-    const { fault } = state.said, root = $("script-fault"), row = /^fault row (\d+)/.exec(fault ?? "");
+  function tellFault() {
+    const { fault } = state.shown, root = $("script-fault"), row = /^fault row (\d+)/.exec(fault ?? "");
     root.hidden = !fault;
+    root.classList.remove("no");
     root.replaceChildren();
     if (!fault) return;
-    root.replaceChildren(...parts.told(`${lines.noteOf(state.result.notes, fault) || fault}.`));
-    const bad = row && records.read(text)[Number(row[1]) - 1];
+    root.replaceChildren(...parts.nodesOf(`${lines.noteOf(state.result.notes, fault) || fault}.`));
+    const bad = row && records.read(state.text)[Number(row[1]) - 1];
     if (!bad) return;
     const go = parts.make("button", { type: "button", textContent: "Show the line" });
     go.onclick = () => parts.goToLine("script-text", bad.line);
@@ -425,44 +366,41 @@ const scriptTab = (() => {
 
   // ---- a slot
 
-  function isOld(value, slot) {
-    const spans = state.spans.get(value);
-    return spans !== undefined && !spans.some((span) => span.from <= slot && span.to > slot - state.spaced);
-  }
-
   /* Names what the receiver does in the slot. */
-  function does(letter, slot) {
+  function receptionInWords(letter, slot) {
     if (letter[0] !== "G") return { L: "loses", R: "restarts", W: "gets a wrong group" }[letter[0]] ?? "";
     return letter.length > 1 ? `gets slot ${slot - Number(letter.slice(1))}` : "gets";
   }
 
   /* Why receiver i shows no text in this slot, if it showed one up to the slot `from`. */
   function whyGone(from, slot, i) {
-    if (state.rows.slice(from, slot + 1).some((row) => row.receptions[i] === "R")) return "restarted";
-    const isText = (at) => lines.codeOf(state.heard[i]?.[at], parseInt(PI, 16)) === lines.TEXT;
-    const why = (at) => parts.whyNone(isText, { from, slot: at, m: state.m });
+    const { restarts, codes } = state.heard[i], isText = (at) => codes[at] === lines.TEXT;
+    if (restarts.some((restart) => restart >= from && restart <= slot)) return "restarted";
+    const why = (at) => views.whyNone(isText, { from, slot: at, m: state.m });
     const isSilent = (at) => (state.air.at("text", at)?.value ?? null) === null;
-    return isSilent(slot) && (isSilent(from) || why(from) === parts.NEXT) ? "the encoder is silent" : why(slot);
+    return isSilent(slot) && (isSilent(from) || why(from) === views.NEXT) ? "the encoder is silent" : why(slot);
   }
 
   function showSlot(slot) {
     const i = state.chosen, row = state.rows[slot], n = receivers(), reply = state.replies.get(slot);
     const isPlayed = slot < state.played, orUnplayed = (word) => isPlayed ? word : UNPLAYED;
-    const got = orUnplayed(does(row?.receptions[i] ?? "", slot)), sent = orUnplayed(state.said.sent[slot] ? "sends" : "");
-    const view = state.said.views[i], run = view?.at("text", slot), simple = state.alone[i], other = simple?.at("text", slot);
+    const got = orUnplayed(receptionInWords(row?.receptions[i] ?? "", slot));
+    const sent = orUnplayed(logfile.groupAt(state.shown.sent, slot) ? "sends" : "");
+    const view = state.shown.views[i], run = view?.at("text", slot), radio = state.alone[i];
     const none = orUnplayed(run?.value === null ? whyGone(run.from, slot, i) : "no text");
-    const stale = other && isOld(other.value, slot) ? "old" : "";
+    const stale = radio?.at("text", slot)?.isOld ? "old" : "";
     const named = (what) => n ? `Receiver ${i}, ${what}` : "No receiver";
-    const airLed = reply ? `${reply.what} ${reply.reply}` : sent, { mixUntil } = state;
-    const ours = { led: got, mixUntil, none }, its = { led: orUnplayed(stale), mixUntil, none: orUnplayed(flagAlone.noneAt(slot)) };
+    const airLed = reply ? `${reply.what} ${reply.reply}` : sent;
+    const dwellOptions = { led: got, none };
+    const radioOptions = { led: orUnplayed(stale), none: orUnplayed("no text"), mixed: MIXED };
     parts.radio($("script-air"), "On air", state.air, slot, { led: airLed, none: orUnplayed("silence") });
-    parts.radio($("script-radio"), named("with the dwell"), view, slot, ours);
-    parts.radio($("script-alone"), named("flag bit alone"), simple, slot, its);
-    $("script-why").textContent = parts.whyNoMix(view, simple, slot, mixUntil);
+    parts.radio($("script-radio"), named("with the dwell"), view, slot, dwellOptions);
+    parts.radio($("script-alone"), named("flag bit alone"), radio, slot, radioOptions);
+    $("script-why").textContent = parts.whyNoMix(view, radio, slot);
     showCommand(slot, row);
     if (!isPlayed) return `${UNPLAYED}.`;
     const air = `On air ${parts.inWords(state.air, slot)}.`;
-    const shown = parts.inWords(view, slot, { mixUntil }), otherShown = parts.inWords(simple, slot, its);
+    const shown = parts.inWords(view, slot), otherShown = parts.inWords(radio, slot, radioOptions);
     return n ? `${air} Receiver ${i} ${got}: ${shown}. With the flag bit alone: ${otherShown}.` : air;
   }
 
@@ -498,7 +436,8 @@ const scriptTab = (() => {
     picture.saveAs("script.csv", new Blob([state.text], { type: "text/csv" }));
   }
 
-  const options = () => `m=${$("script-m").value}&k=${$("script-k").value}${links.windowOption("script")}&pty=${state.pty}`;
+  const options = () => `m=${$("script-m").value}&k=${$("script-k").value}`
+    + `${links.windowOption("script")}&pty=${state.pty}`;
 
   async function link() {
     playedSoon.now();
@@ -506,11 +445,11 @@ const scriptTab = (() => {
     if (await links.give("script", { text, options: options(), sight }, save)) state.saved = text;
   }
 
-  /* Opens the script of a link. */
+  /* Opens the script of a link, and returns when it is shown. */
   async function openLink(hash, defaults) {
     const it = await links.read("script", hash), { text, within } = it;
     const [m, k, w] = [within("m", 1, 65535) ?? defaults.m, within("k", 0, 1024) ?? defaults.k, within("w", 2, 255)];
-    open(text, { m, k, w, pty: within("pty", 0, 31) });
+    await open(text, { m, k, w, pty: within("pty", 0, 31) });
     state.chosen = within("receiver", 0, receivers() - 1) ?? state.chosen;
     timeline.chosen = receivers() ? state.chosen : null;
     links.look(timeline, it);
@@ -518,13 +457,16 @@ const scriptTab = (() => {
   }
 
   /* Opens no script, and says why. */
-  function refuse(why, defaults) {
-    open("", defaults);
-    showProblem(why);
+  async function refuse(why, defaults) {
+    await open("", defaults);
+    showProblem(why, { isRefused: true });
   }
 
-  function begin() {
-    for (const id of ["script-m", "script-k", "script-w", "script-n", "script-slots"]) $(id).oninput = parts.soon(formChanged);
+  /* Begins with the compiled program. */
+  function begin(compiled) {
+    worker = new ProgramWorker(compiled);
+    const fields = ["script-m", "script-k", "script-w", "script-n", "script-slots"];
+    for (const id of fields) $(id).oninput = parts.soon(formChanged);
     $("script-text").oninput = parts.soon(() => {
       const area = $("script-text"), at = area.selectionStart;
       open(area.value, { pty: state.pty, isEdit: true });
@@ -535,7 +477,9 @@ const scriptTab = (() => {
     $("script").addEventListener("keydown", putBrushAway);
     timeline.canvas.addEventListener("pointermove", point);
     $("argument").oninput = argumentTyped;
-    const buttons = { "script-undo": () => back(-1), "script-redo": () => back(1), "script-save": save, "script-share": link };
+    const buttons = {
+      "script-undo": () => back(-1), "script-redo": () => back(1), "script-save": save, "script-share": link,
+    };
     for (const [id, what] of Object.entries(buttons)) $(id).onclick = what;
   }
 

@@ -1,6 +1,9 @@
 "use strict";
 /* Keeps the states before and after the present one, up to a bound. */
 class Undo {
+  static MOST = 200;
+  static LETTERS = 40e6;
+
   constructor(changed) { Object.assign(this, { changed, all: [], now: -1 }); }
 
   /* Begins anew. */
@@ -14,15 +17,15 @@ class Undo {
   note(text) {
     if (this.all[this.now] === text) return;
     this.all.splice(this.now + 1, Infinity, text);
-    const isFull = () => this.all.length > Undo.MOST || this.all.reduce((sum, it) => sum + it.length, 0) > Undo.ROOM;
-    while (this.all.length > 2 && isFull()) this.all.shift();
+    const letters = () => this.all.reduce((sum, { length }) => sum + length, 0);
+    while (this.all.length > 2 && (this.all.length > Undo.MOST || letters() > Undo.LETTERS)) this.all.shift();
     this.now = this.all.length - 1;
     this.changed(this);
   }
 
   has(by) { return this.all[this.now + by] !== undefined; }
 
-  /* Goes back (-1) or forth (1); gives that state, or nothing where there is none. */
+  /* Goes back (-1) or forth (1). Returns that state, or nothing if there is none. */
   go(by) {
     if (!this.has(by)) return undefined;
     this.now += by;
@@ -30,5 +33,3 @@ class Undo {
     return this.all[this.now];
   }
 }
-Undo.MOST = 200;
-Undo.ROOM = 40e6;

@@ -1,173 +1,179 @@
 "use strict";
-/* The answer of the audit in words: passes, breaks a rule, or cannot say. What it covers, what the encoder should do, and
-   which other dwells pass. */
+/* The answer of the audit in words: passes, breaks a rule, or cannot say. What it covers, what the encoder should do,
+   and which other dwells pass. `actions` is what the buttons do. */
 const verdict = (() => {
   const { $, make } = parts;
-  const NO_WITNESS = ": no burst of lost slots makes a mix. Two bursts may still make one. "
-    + "A no says that a rule was broken.";
-  const STOPPED = ": the search stopped there. No burst makes a mix before that slot. A no says that a rule was broken.";
+  const RULE_BROKEN = "A no says that a rule was broken.";
   /* The cure of each fault, as in docs/FORMATS.md. */
   const CURES = {
     EarlyFlag: "Keep each text on air for at least M + K slots, and flip the flag only for a new text.",
     Changed: "Flip the flag with every change, even of one word.",
-    NotOneText: "Send printable characters, end the text with one carriage return, fill its segment with spaces, and send no segment "
-      + "past it.",
-    EarlyTag: "Send the first tags M + K slots after the start of their text.",
-    TagOutside: "Count the start from 0, send the number of characters less one as the length, and set the tags after their text.",
+    NotOneText: "Send printable characters, end the text with one carriage return, fill its segment with spaces, and "
+      + "send no segment past it.",
+    EarlyTag: "Send the first tags M + K slots after the start of their text. If this 11A is not RT+, empty its lines "
+      + "before the audit.",
+    TagOutside: "Count the start from 0, send the number of characters less one as the length, and set the tags after "
+      + "their text.",
   };
+  const WHOLE_NAME = "A name has eight printable characters, filled with spaces.";
   /* A yes over fewer slots with a group says too little. */
   const LEAST_SHARE = 0.9;
-  const WHOLE_NAME = "A name has eight printable characters, filled with spaces.";
-  const OTHER_TAGS = "If this 11A is not RT+, empty its lines before the audit.";
 
-  const button = (text, what) => Object.assign(make("button", { type: "button", textContent: text }), { onclick: what });
-  const says = (strong, ...text) => make("p", {}, make("b", { textContent: strong }), " ", ...text);
-  const number = (n) => n.toLocaleString("en");
+  const format = (number) => number.toLocaleString("en");
+  const heading = (...words) => make("h2", {}, ...words);
+  const sentence = (...words) => make("p", {}, ...words);
+  const strong = (textContent) => make("b", { textContent });
+  const code = (textContent) => make("code", { textContent });
+  const button = (textContent, onclick) => make("button", { type: "button", textContent, onclick });
+  const withDwell = (m) => `with M = ${format(m)} (${lines.time(m)})`;
 
-  /* The dwell of a verdict, for its heading. */
-  const withDwell = (m) => `with M = ${number(m)} (${lines.time(m)})`;
+  /* Shows a card, and says its heading to screen readers: the card itself changes often. */
+  function showCard(kind, ...elements) {
+    $("verdict").className = `verdict ${kind}`.trim();
+    $("verdict").replaceChildren(...elements);
+    $("verdict-status").textContent = $("verdict").querySelector("h2").textContent;
+  }
 
-  /* The program's note that a yes says nothing; empty if it says something. */
-  const emptyNote = ({ notes }) => notes.find((note) => note.includes("the yes says nothing")) ?? "";
+  /* Shows a heading and a sentence in place of an answer. */
+  const showNone = (title, words, kind = "fault") => showCard(kind, heading(title), sentence(words));
 
-  /* A yes that says nothing, in the words of the program. */
-  const empty = ({ audit }) => [
-    make("h2", { textContent: "Nothing to audit" }),
-    make("p", { textContent: `The program answers yes, with a note: ${emptyNote(audit)}.` }),
-  ];
+  // ---- each answer
+
+  /* The program's note that a yes says nothing; none if it says something. */
+  const emptyNote = ({ notes }) => notes.find((note) => note.includes("the yes says nothing"));
 
   /* What a yes covers, in the words of the program. */
   const covered = ({ notes }) => (notes.find((note) => note.startsWith("judged ")) ?? "").replace("judged", "Judged");
 
+  /* A yes that says nothing, in the words of the program. */
+  const empty = (note) => [heading("Nothing to audit"), sentence(`The program answers yes, with a note: ${note}.`)];
+
   /* A yes over a log that does not show enough. */
   const unsure = ({ audit, m }) => [
-    make("h2", { textContent: "Cannot say" }),
-    make("p", { textContent: `The program answers yes ${withDwell(m)}, but the log does not show enough. ${covered(audit)}.` }),
+    heading("Cannot say"),
+    sentence(`The program answers yes ${withDwell(m)}, but the log does not show enough. ${covered(audit)}.`),
   ];
 
-  /* A yes; it covers the slots that were recorded. */
+  function keptBy(count, groups) {
+    if (count > groups) return `The recorded ${groups === 1 ? "slot keeps" : "slots keep"}`;
+    return count === 1 ? "The one slot keeps" : `All ${parts.counted(count, "slot")} keep`;
+  }
+
+  /* A yes. It covers the slots that were recorded. */
   function passed({ audit, log, groups, m }) {
-    const missing = log.count - groups, few = `${number(missing)} of ${parts.counted(log.count, "slot")} ${missing === 1 ? "has" : "have"} no whole group.`;
-    const kept = missing ? `The recorded ${groups === 1 ? "slot keeps" : "slots keep"}`
-      : log.count === 1 ? "The one slot keeps" : `All ${parts.counted(log.count, "slot")} keep`;
-    const of = missing ? "the recorded texts" : "two texts";
-    const all = [
-      make("h2", { textContent: `✓ Passes ${withDwell(m)}` }),
-      make("p", { textContent: `${kept} the rules. No receiver with this M shows a mix of ${of}, whichever groups it loses.` }),
-      make("p", { textContent: `${covered(audit)}.` }),
+    const missing = log.count - groups;
+    const texts = missing ? "the recorded texts" : "two texts";
+    const have = `${missing === 1 ? "has" : "have"} no whole group.`;
+    const few = `${format(missing)} of ${parts.counted(log.count, "slot")} ${have}`;
+    return [
+      heading(`✓ Passes ${withDwell(m)}`),
+      sentence(`${keptBy(log.count, groups)} the rules. No receiver with this M shows a mix of ${texts}, whichever `
+        + "groups it loses."),
+      sentence(`${covered(audit)}.`),
+      ...missing ? [sentence(strong(few), " None was sent, or it was not recorded. The yes covers the others.")] : [],
     ];
-    return missing ? [...all, says(few, "None was sent, or it was not recorded. The yes covers the others.")] : all;
   }
 
   /* Returns the cure of a fault in this slot. */
-  function cure({ log, pi }, fault, slot) {
+  function cureOf({ log, pi }, { slot, fault }) {
     const isName = lines.codeOf(logfile.groupAt(log, slot), pi) === lines.NAME;
-    if (fault === "NotOneText" && isName) return WHOLE_NAME;
-    return fault === "EarlyTag" ? `${CURES[fault]} ${OTHER_TAGS}` : CURES[fault] ?? "";
+    return fault === "NotOneText" && isName ? WHOLE_NAME : CURES[fault] ?? "";
   }
 
-  function refused({ audit, m, ...given }, no, does) {
-    const { slot, fault } = no, note = lines.noteOf(audit.notes, "slot "), rule = note.slice(`slot ${slot}`.length);
-    const about = make("p", { className: "witness", id: "witness", textContent: "Looking for lost slots that make a mix …" });
+  function refused(given, no, actions) {
+    const { slot, fault } = no;
+    const rule = lines.noteOf(given.audit.notes, "slot ").slice(`slot ${slot}`.length);
+    const searching = make("span", { id: "search", textContent: "Looking for lost slots that make a mix …" });
+    const stop = Object.assign(button("Stop the search", actions.stopSearch), { id: "search-stop", hidden: true });
     return [
-      make("h2", {}, "✗ ", make("code", { textContent: fault }), ` ${withDwell(m)}`),
-      make("p", {}, "First in ", button(`slot ${number(slot)}`, () => does.goTo(slot)), `${rule}. `
-        + `This slot is ${lines.time(slot)} after the first.`),
-      says("What the encoder should do:", cure(given, fault, slot)),
+      heading("✗ ", code(fault), ` ${withDwell(given.m)}`),
+      sentence("First in ", button(`slot ${format(slot)}`, () => actions.goTo(slot)), `${rule}. This slot is `
+        + `${lines.time(slot)} after the first.`),
+      sentence(strong("What the encoder should do:"), ` ${cureOf(given, no)}`),
       make("p", { id: "without-loss", hidden: true }),
-      about,
+      make("p", { className: "witness", id: "witness" }, searching, " ", stop),
     ];
   }
 
-  function faulty({ audit }, does) {
-    const line = /^fault line (\d+)/.exec(audit.output), note = lines.noteOf(audit.notes, "fault ") || audit.output.trim();
-    const reason = note.replace(/^fault line \d+: b/, "B").replace(/^fault line \d+: /, "");
-    if (!line) return [make("h2", { textContent: "No verdict" }), make("p", {}, ...parts.told(`${note}.`))];
+  function faulty({ audit }, actions) {
+    const [, number] = /^fault line (\d+)/.exec(audit.output) ?? [];
+    const note = lines.noteOf(audit.notes, "fault ") || audit.output.trim();
+    if (!number) return [heading("No verdict"), sentence(...parts.nodesOf(`${note}.`))];
+    const reason = note.replace(/^fault line \d+: (b?)/, (_, letter) => letter.toUpperCase());
     return [
-      make("h2", { textContent: `Line ${number(Number(line[1]))} is malformed` }),
-      make("p", {}, ...parts.told(`${reason}.`), " The page does not show the lines after it."),
-      make("p", {}, button("Show the line", () => does.showLine(Number(line[1])))),
+      heading(`Line ${format(Number(number))} is malformed`),
+      sentence(...parts.nodesOf(`${reason}.`), " The page does not show the lines after it."),
+      sentence(button("Show the line", () => actions.showLine(Number(number)))),
     ];
   }
+
+  // ---- doubts
 
   /* Says that slots are absent by the times of the lines, and offers to add them. */
-  function absent({ log, times }, does) {
+  function absent({ log, times }, actions) {
     if (!(times.absent + times.breaks) || 2 * times.timed < log.count) return [];
-    const slots = times.absent ? `${parts.counted(times.absent, "slot")} ${times.absent === 1 ? "is" : "are"} not in this log` : "";
-    const breaks = times.breaks ? `${parts.counted(times.breaks, "break")} of unknown length` : "";
-    const without = log.count - times.timed, leftOut = without ? ` It leaves out ${parts.counted(without, "line")} without a time.` : "";
-    const told = `By the times of the lines, ${[slots, breaks].filter(Boolean).join(", and it has ")}.`;
-    const saysOf = "The audit takes the lines as slots without a gap, so this answer may be wrong.";
-    return [says("Lost slots:", `${told} ${saysOf}${leftOut} `, button("Add the lost slots", does.fill))];
+    const slots = `${parts.counted(times.absent, "slot")} ${times.absent === 1 ? "is" : "are"} not in this log`;
+    const breaks = `${parts.counted(times.breaks, "break")} of unknown length`;
+    const lacks = [times.absent && slots, times.breaks && breaks].filter(Boolean).join(", and it has ");
+    const without = log.count - times.timed;
+    const leftOut = without ? `It leaves out ${parts.counted(without, "line")} without a time. ` : "";
+    return [sentence(strong("Lost slots:"), ` By the times of the lines, ${lacks}. The audit takes the lines as slots `
+      + `without a gap, so this answer may be wrong. ${leftOut}`, button("Add the lost slots", actions.fill))];
   }
 
   /* Says that the times of the lines are too coarse to count slots by, in the words of the program. */
-  const coarse = ({ times }) => (times.coarse ? [says("Coarse times:", `${times.coarse}.`)] : []);
+  const coarse = ({ times }) => times.coarse ? [sentence(strong("Coarse times:"), ` ${times.coarse}.`)] : [];
 
-  /* Says that few slots of a log with times have a group. In a log without times a slot without a group may have been silent. */
+  /* Says that few slots of a log with times have a group. Without times a slot without a group may have been silent. */
   function few({ log, groups, times }) {
-    const share = groups / log.count, has = `${number(groups)} of ${number(log.count)} slots have a group`;
+    const share = groups / log.count;
     if (2 * times.timed < groups || !(share < LEAST_SHARE)) return [];
-    return [says("Lost slots:", `${has} (${Math.floor(100 * share)} %). The log says nothing of the others.`)];
+    return [sentence(strong("Lost slots:"), ` ${format(groups)} of ${format(log.count)} slots have a group `
+      + `(${Math.floor(100 * share)} %). The log says nothing of the others.`)];
   }
 
-  /* The kind of an answer: yes, no, a yes that means nothing, or a fault. */
-  function kindOf(no, isYes, isGrey) {
-    if (no) return " no";
-    if (!isYes) return " fault";
-    return isGrey ? " empty" : "";
-  }
+  // ---- the card
 
-  /* The answer in words. */
-  function answer(given, no, isYes, isEmpty, doubts, does) {
-    if (no) return refused(given, no, does);
-    if (!isYes) return faulty(given, does);
-    if (isEmpty) return empty(given);
-    return doubts.length ? unsure(given) : passed(given);
-  }
-
-  /* Returns slot and fault of a no; nothing after another answer. */
-  function noOf(audit) {
-    const no = /^no (\d+) (\w+)/.exec(audit.output);
+  /* The slot and the fault of a no; nothing after another answer. */
+  function noOf({ output }) {
+    const no = /^no (\d+) (\w+)/.exec(output);
     return no && { slot: Number(no[1]), fault: no[2] };
   }
 
-  /* Says the heading to screen readers: the card below it changes often. */
-  function tellHeading() { $("verdict-said").textContent = $("verdict").querySelector("h2").textContent; }
+  /* The kind of the card, its words, and the doubts beside them. */
+  function answer(given, no, actions) {
+    const gaps = [...absent(given, actions), ...coarse(given)];
+    if (no) return ["no", refused(given, no, actions), gaps];
+    if (!given.audit.output.startsWith("yes ")) return ["fault", faulty(given, actions), []];
+    const note = emptyNote(given.audit);
+    if (note) return ["empty", empty(note), gaps];
+    const doubts = [...gaps, ...few(given)];
+    return doubts.length ? ["empty", unsure(given), doubts] : ["", passed(given), []];
+  }
 
-  /* Shows the answer over a log, which has so many whole groups. `does` is what its buttons do. */
-  function show({ audit, log, groups, pi, m, k, w, running, times }, does) {
-    const given = { audit, log, groups, pi, m, times }, no = noOf(audit), isYes = audit.output.startsWith("yes ");
-    const isEmpty = isYes && emptyNote(audit) !== "";
-    const doubts = no || isYes ? [...absent(given, does), ...coarse(given), ...(isYes && !isEmpty ? few(given) : [])] : [];
-    const before = running ? " The station was on air before the log began." : "";
-    const sum = w ? "M + K + W - 1" : "M + K";
-    const about = `The audit reads the log as sent, with ${sum} = ${m + k} slots (${lines.time(m + k)}).${before}`;
-    $("verdict").className = `verdict${kindOf(no, isYes, isEmpty || doubts.length)}`;
-    $("verdict").replaceChildren(...answer(given, no, isYes, isEmpty, doubts, does), ...doubts,
-      make("p", { className: "dwells", id: "dwells", hidden: true }),
-      make("p", { className: "small", textContent: no || isYes ? about : "" }));
-    tellHeading();
+  /* Shows the answer over a log, which has so many whole groups. Returns the slot and the fault of a no. */
+  function show({ w, k, running, ...given }, actions) {
+    const no = noOf(given.audit);
+    const [kind, words, doubts] = answer(given, no, actions);
+    const spacing = given.m + k;
+    const about = `The audit reads the log as sent, with M + K${w ? " + W - 1" : ""} = ${spacing} slots `
+      + `(${lines.time(spacing)}).${running ? " The station was on air before the log began." : ""}`;
+    showCard(kind, ...words, ...doubts, make("p", { className: "dwells", id: "dwells", hidden: true }),
+      make("p", { className: "small", textContent: kind === "fault" ? "" : about }));
     return no;
   }
 
   /* Shows the dwells that pass, from the least one to the greatest one of those that were tried, as buttons. */
-  function showDwells(found, does) {
-    const choose = (m) => Object.assign(button(number(m), () => does.chooseDwell(m)), { title: lines.time(m) });
-    const { least, greatest } = found ?? {};
-    const failing = [least?.beyond, greatest?.beyond].filter(Boolean).map(number);
-    const beyond = failing.length ? `: ${failing.join(" and ")} ${failing.length > 1 ? "do" : "does"} not.` : ".";
-    const all = found ? ["from ", choose(least.last), " to ", choose(greatest.last), ` passes, as far as was tried${beyond}`]
-      : ["no dwell that was tried passes: powers of two, and 65,535."];
+  function showDwells(found, actions) {
+    const choose = (m) => Object.assign(button(format(m), () => actions.chooseDwell(m)), { title: lines.time(m) });
+    const words = (({ least, greatest }) => {
+      const failing = [least.beyond, greatest.beyond].filter(Boolean).map(format);
+      const beyond = failing.length ? `: ${failing.join(" and ")} ${failing.length > 1 ? "do" : "does"} not.` : ".";
+      return ["from ", choose(least.last), " to ", choose(greatest.last), ` passes, as far as was tried${beyond}`];
+    });
     $("dwells").hidden = false;
-    $("dwells").replaceChildren(make("b", { textContent: "With other dwells M:" }), " ", ...all);
-  }
-
-  /* Shows a heading and a sentence in place of an answer. */
-  function showNone(heading, sentence, kind = "fault") {
-    $("verdict").className = `verdict ${kind}`;
-    $("verdict").replaceChildren(make("h2", { textContent: heading }), make("p", { textContent: sentence }));
-    tellHeading();
+    $("dwells").replaceChildren(strong("With other dwells M:"), " ",
+      ...found ? words(found) : ["no dwell that was tried passes: powers of two, and 65,535."]);
   }
 
   /* Says what a receiver that loses nothing shows in the slot of a no. */
@@ -175,19 +181,38 @@ const verdict = (() => {
     const element = $("without-loss");
     if (!element) return;
     element.hidden = false;
-    element.replaceChildren(`Even a receiver that loses nothing shows in slot ${number(slot)}: `, make("code", { textContent: text }), ".");
+    element.replaceChildren(`Even a receiver that loses nothing shows in slot ${format(slot)}: `, code(text), ".");
+  }
+
+  function whyNoWitness(upto, failure) {
+    if (failure) return `: ${failure}.`;
+    if (upto === null) return ": no burst of lost slots makes a mix. Two bursts may still make one.";
+    return ` up to slot ${format(upto)}: the search stopped there. No burst makes a mix before that slot.`;
+  }
+
+  /* Says for how many seconds a witness was searched, and in how many slots, and shows the button that stops the
+     search. */
+  function showSearch({ slots, seconds }) {
+    if (!$("search")) return;
+    const where = `in ${parts.counted(slots, "slot")}, for ${seconds} s`;
+    $("search").textContent = `Looking for lost slots that make a mix ${where} …`;
+    $("search-stop").hidden = false;
   }
 
   /* Shows the lost slots that make a mix, or why there are none. */
-  function showWitness({ slot, lost, shown, upto = null, failure = "" }, does) {
-    const searched = upto === null ? NO_WITNESS : ` up to slot ${number(upto)}${STOPPED}`;
-    const none = failure ? `: ${failure}. A no says that a rule was broken.` : searched;
-    if (!lost || !shown.length) { $("witness")?.replaceChildren(make("b", { textContent: "No witness" }), none); return; }
-    const [first, last] = lost, slots = first === last ? `slot ${first}` : `slots ${first} to ${last}`;
-    const what = make("code", { textContent: shown.join("; ") }), doSo = button(`Lose ${slots}`, () => does.lose(slot, first, last));
-    $("witness")?.replaceChildren(make("b", { textContent: "A witness:" }),
-      ` a receiver that loses ${slots} shows what a receiver that loses nothing does not: `, what, ". ", doSo);
+  function showWitness({ slot, lost, shown, upto = null, failure = "" }, actions) {
+    const element = $("witness");
+    if (!element) return;
+    if (!lost || !shown.length) {
+      element.replaceChildren(strong("No witness"), `${whyNoWitness(upto, failure)} ${RULE_BROKEN}`);
+      return;
+    }
+    const [first, last] = lost;
+    const slots = first === last ? `slot ${first}` : `slots ${first} to ${last}`;
+    const lose = button(`Lose ${slots}`, () => actions.lose(slot, first, last));
+    element.replaceChildren(strong("A witness:"), ` a receiver that loses ${slots} shows what a receiver that loses `
+      + "nothing does not: ", code(shown.join("; ")), ". ", lose);
   }
 
-  return { noOf, show, showDwells, showNone, showWithoutLoss, showWitness };
+  return { show, showDwells, showNone, showSearch, showWithoutLoss, showWitness };
 })();

@@ -1,5 +1,6 @@
 "use strict";
-/* After a no: the slots that a receiver has to lose to show what a receiver that loses nothing does not show. The program's command `witness` finds them. */
+/* After a no: the slots that a receiver has to lose to show what a receiver that loses nothing does not show. The
+   program's command `witness` finds them. */
 const witness = (() => {
   const LOSE = /^lose (\d+)(?:-(\d+))?: ((\d+) .*)$/gm, UP_TO = / up to slot (\d+)$/m;
 
@@ -8,15 +9,20 @@ const witness = (() => {
     const found = [...output.matchAll(LOSE)], stopped = UP_TO.exec(output);
     if (!found.length) return { lost: null, shown: [], upto: stopped ? Number(stopped[1]) : null };
     const [, first, last, , slot] = found[0];
-    return { slot: Number(slot), lost: [Number(first), Number(last ?? first)], shown: found.map((it) => it[3]), upto: null };
+    const lost = [Number(first), Number(last ?? first)], shown = found.map((it) => it[3]);
+    return { slot: Number(slot), lost, shown, upto: null };
   }
 
-  /* Returns the slots to lose, the slot of the mix and the lines of `decode`; or the slot at which the search stopped. The search
-     takes the log up to `near`, and then up to `far` if that is more: each is an end in bytes and in slots. A witness of the
-     first part is one of the second if the part has a dwell after the mix. */
-  function find(bytes, { pi, m, near, far }) {
-    const words = ["--pi", pi, "--m", String(m)], first = look(bytes.subarray(0, near.bytes), words);
+  /* Returns the slots to lose, the slot of the mix and the lines of `decode`; or the slot at which the search stopped.
+     The search takes the log up to `near`, and then up to `far` if that is more: each is an end in bytes and in slots.
+     It tells how many slots it takes. A witness of the first part is one of the second if the part has a dwell after
+     the mix. */
+  function find(bytes, { pi, m, near, far }, tell) {
+    const words = ["--pi", pi, "--m", String(m)];
+    tell(near.slots);
+    const first = look(bytes.subarray(0, near.bytes), words);
     if (near.slots >= far.slots || (first.lost && first.slot + m <= near.slots)) return first;
+    tell(far.slots);
     const found = look(bytes.subarray(0, far.bytes), words);
     return found.lost || found.upto !== null || far.bytes === bytes.length ? found : { ...found, upto: far.slots };
   }

@@ -1,10 +1,18 @@
 "use strict";
-/* Runs the program over one log in a worker, so that the page never waits for it. Each message asks for one thing; its
-   answer has the same id. */
+/* Runs the program over a log or a script in a worker, so that the page never waits for it. Each message asks for one
+   thing; its answer has the same id. */
 (() => {
-  const state = { bytes: new Uint8Array(0), log: null, known: {} };
-  const encoder = new TextEncoder();
+  const state = { bytes: new Uint8Array(0), log: null, alone: null, whole: null };
+  /* A receiver with this dwell is one with the flag bit alone, as radios of today are, unless no segment comes for as
+     many slots (the_flag_alone_is_a_long_dwell of rds_safety). */
+  const LONGEST_DWELL = "65535";
   const teller = (id) => (done) => postMessage({ id, done });
+
+  /* The typed arrays in an object. Those in the `moves` of an answer are handed over without a copy. */
+  function arraysIn(it) {
+    if (ArrayBuffer.isView(it)) return [it];
+    return it !== null && typeof it === "object" ? Object.values(it).flatMap(arraysIn) : [];
+  }
 
   /* The output and the notes of the program over these bytes. */
   function run(words, bytes) {
@@ -13,7 +21,9 @@
   }
 
   /* Reads the bytes of a log: enough to audit it. A blob is handed over without a copy. */
-  async function keep({ blob }) { Object.assign(state, { bytes: new Uint8Array(await blob.arrayBuffer()), known: {}, all: null }); }
+  async function keep({ blob }) {
+    Object.assign(state, { bytes: new Uint8Array(await blob.arrayBuffer()), alone: null, whole: null });
+  }
 
   /* Reads a log. */
   async function read({ blob }, tell) {
@@ -21,13 +31,23 @@
     state.log = logfile.parse(state.bytes, tell);
   }
 
-  /* What `rdsrt slots` finds: the lines with a time, the slots that the log lacks by them, the breaks of unknown length, and
-     its note on coarse times. With M = 1 one lost slot stands for a break. */
+  /* Counts the lines that are not empty and are no comment. */
+  const NEWLINE = 10, COMMENT = 35;
+  function slotsIn(output) {
+    let count = 0;
+    for (let at = 0; at < output.length; at = logfile.endOf(output, at) + 1) {
+      if (output[at] !== NEWLINE && output[at] !== COMMENT) count++;
+    }
+    return count;
+  }
+
+  /* What `rdsrt slots` finds: the lines with a time, the slots that the log lacks by them, the breaks of unknown
+     length, and its note on coarse times. With M = 1 one lost slot stands for a break. */
   function timesOf(bytes, log) {
-    const { output, notes } = run(["slots", "--m", "1"], bytes);
+    const { bytes: output, notes } = rdsrt.runBytes(["slots", "--m", "1"], bytes);
     const numberIn = (begin) => Number(notes.find((note) => note.startsWith(begin))?.match(/: (\d+)/)[1] ?? 0);
     const timed = log.count - numberIn("groups without a time"), breaks = numberIn("times that went back");
-    const slots = output.split("\n").filter((line) => line !== "" && !line.startsWith("#")).length;
+    const slots = slotsIn(output);
     const coarse = notes.find((note) => note.startsWith("the times vary")) ?? "";
     return { timed, absent: Math.max(0, slots - timed - breaks), breaks, coarse };
   }
@@ -37,49 +57,116 @@
     await read({ blob }, tell);
     const { log } = state, copy = { ...log };
     for (const name of ["words", "missing", "starts", "numbers"]) copy[name] = log[name].slice();
-    return { log: copy, programmes: logfile.programmes(log), times: timesOf(state.bytes, log) };
+    return { log: copy, programmes: logfile.programmes(log), times: timesOf(state.bytes, log), moves: arraysIn(copy) };
   }
 
-  /* Returns the parts that do not depend on M: the view of the flag bit alone, and the codes of the slots with their sums.
-     Returns nothing if the page has them already. */
-  function withoutDwell({ pi, lost }, bytes) {
-    const key = `${pi} ${lost.join(" ")}`, { log } = state;
-    if (state.known.key === key) return {};
-    if (state.all?.pi !== pi) state.all = { pi, codes: logfile.codes(log, parseInt(pi, 16)) };
-    const alone = flagAlone.ofLog(pi, bytes, log).parts, codes = state.all.codes.slice();
-    for (const slot of lost) if (slot < log.count) codes[slot] = lines.NOTHING;
-    state.known = { key };
-    return { alone, codes, sums: lines.sums(codes) };
+  /* Returns what does not depend on M, and is kept: what one with the flag bit alone shows, and the codes of the slots.
+     */
+  function aloneOf(pi) {
+    const { log, bytes } = state, values = new views.Values();
+    if (state.alone?.pi !== pi) {
+      const alone = view({ pi, m: LONGEST_DWELL }, bytes, values).view;
+      state.alone = { pi, values, alone, codes: logfile.codes(log, parseInt(pi, 16)) };
+    }
+    return state.alone;
   }
 
   /* The words of `decode`, with a window if there is one. */
   const decoding = ({ pi, m, w }) => ["decode", "--pi", pi, "--m", m, ...rdsrt.windowWords(w)];
 
-  /* Returns the views of a receiver that loses these slots, with the dwell and with the flag bit alone. */
-  function decode({ pi, m, w, lost }) {
-    const { log } = state, bytes = logfile.received(state.bytes, log, lost);
-    const got = run(decoding({ pi, m, w }), bytes), view = lines.read(got.output, log.count).views[0] ?? new lines.View();
-    return { ...got, view: view.parts, ...withoutDwell({ pi, lost }, bytes) };
+  /* Returns what a receiver shows that gets these bytes. */
+  function view(asked, bytes, values) {
+    const got = rdsrt.runBytes(decoding(asked), bytes), writer = views.write(got.bytes, new views.Writer(values));
+    return { output: views.beginOf(got.bytes), notes: got.notes, view: writer.packed(state.log.count) };
   }
 
-  /* Decodes once: the browser compiles the program better once it has run, and makes room for the log. */
-  const warm = (asked) => { run(decoding(asked), state.bytes); return null; };
+  /* Returns what receivers show that lose nothing. */
+  function decodeWhole(asked) {
+    const { values, alone, codes } = aloneOf(asked.pi);
+    return { ...view(asked, state.bytes, values), values, alone, codes };
+  }
 
-  const audit = ({ pi, m, k, running }) => run(["audit", "--pi", pi, "--m", m, "--k", k, ...(running ? ["--running"] : [])], state.bytes);
-  const find = (given) => witness.find(state.bytes, given);
+  /* The same, kept: it is asked for at each change of the lost slots. */
+  function wholeOf(asked) {
+    const { pi, m, w } = asked, key = `${pi} ${m} ${w}`;
+    if (state.whole?.key !== key) state.whole = { key, ...decodeWhole(asked) };
+    return state.whole;
+  }
+
+  /* Returns what receivers show that lose these slots. Nobody sent what no receiver without losses shows before, or
+     within M slots. */
+  function decodeLossy(asked) {
+    const { pi, m, lost } = asked, { log, bytes } = state;
+    const whole = wholeOf(asked), { values } = whole, codes = whole.codes.slice();
+    const alone = () => view({ pi, m: LONGEST_DWELL }, bytes, values).view;
+    const read = () => ({ ...view(asked, bytes, values), alone: alone() });
+    const shown = logfile.whileLost(bytes, log, lost, read);
+    const until = views.firstShown([whole.view, whole.alone], values.length);
+    for (let i = 0; i < until.length; i++) if (until[i] !== views.NEVER) until[i] -= Number(m) - 1;
+    for (const slot of lost) if (slot < log.count) codes[slot] = lines.NOTHING;
+    return { ...shown, values, until, codes };
+  }
+
+  /* The slots in which a text or a name is shown no longer. */
+  function goneOf({ starts, numbers }) {
+    const { NOTHING } = views;
+    return starts.filter((_, i) => i > 0 && numbers[i] === NOTHING && numbers[i - 1] !== NOTHING);
+  }
+
+  /* Returns the events of a display: the slots in which a text or a name went, each with the number of its kind. */
+  function eventsOf({ view, codes }, { m, w }) {
+    const kinds = [[lines.TEXT, 0], [lines.NAME, 1]], texts = goneOf(view.text), names = goneOf(view.name);
+    const slots = new Int32Array(texts.length + names.length), numbers = new Int32Array(slots.length);
+    const [whyText, whyName] = kinds.map(([kind, part]) => {
+      const isPart = (at) => (codes[at] & lines.KIND) === kind;
+      return (slot) => views.eventOf(part, w ? views.GONE : views.whyNone(isPart, { from: slot, slot, m: Number(m) }));
+    });
+    for (let i = 0, j = 0; i + j < slots.length;) {
+      const isText = i < texts.length && !(names[j] < texts[i]), slot = isText ? texts[i] : names[j];
+      numbers[i + j] = isText ? whyText(slot) : whyName(slot);
+      slots[i + j] = slot;
+      if (isText) i++; else j++;
+    }
+    return { slots, numbers };
+  }
+
+  /* Returns the displays of a receiver that loses these slots, with the dwell and with the flag bit alone. */
+  function decode(asked) {
+    const shown = asked.lost.length ? decodeLossy(asked) : decodeWhole(asked);
+    const { output, notes, view, alone, until = null } = shown, codes = shown.codes.slice();
+    const fresh = { view, until, codes, values: shown.values.packed() };
+    Object.assign(fresh, { events: eventsOf(shown, asked), changes: views.changesOf(view) });
+    return { ...fresh, output, notes, alone, moves: arraysIn(fresh) };
+  }
+
+  /* Decodes before a slot is lost: the browser compiles the program better once it has run, and makes room for the log.
+     */
+  function warm(asked) { wholeOf(asked); }
+
+  function audit({ pi, m, k, running }) {
+    return run(["audit", "--pi", pi, "--m", m, "--k", k, ...(running ? ["--running"] : [])], state.bytes);
+  }
+  const find = (given, tell) => witness.find(state.bytes, given, tell);
 
   /* The log with a line for each slot that its times say it lacks. */
-  const fill = ({ m }) => ({ bytes: encoder.encode(run(["slots", "--m", m], state.bytes).output) });
+  function fill({ m }) {
+    const bytes = rdsrt.runBytes(["slots", "--m", m], state.bytes).bytes.slice();
+    return { bytes, moves: [bytes] };
+  }
 
-  const CALLS = { open, read, keep, warm, decode, audit, witness: find, fill };
+  function play(given) {
+    const played = player.play(given);
+    return { ...played, moves: arraysIn(played) };
+  }
+
+  const CALLS = { open, read, keep, warm, decode, audit, witness: find, fill, play };
 
   /* Answers one message. */
   async function answerTo({ id, call, given }) {
     try {
       if (call === "begin") await rdsrt.begin(given);
-      const answer = call === "begin" ? null : await CALLS[call](given, teller(id)), { codes, sums, log } = answer ?? {};
-      const arrays = [codes, ...Object.values(sums ?? {}), ...Object.values(log ?? {})].filter((it) => ArrayBuffer.isView(it));
-      postMessage({ id, answer: answer ?? null }, arrays.map((array) => array.buffer));
+      const { moves = [], ...answer } = (call === "begin" ? null : await CALLS[call](given, teller(id))) ?? {};
+      postMessage({ id, answer }, moves.map((array) => array.buffer));
     } catch (error) { postMessage({ id, error: error.message }); }
   }
 

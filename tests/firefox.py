@@ -21,7 +21,6 @@ except ImportError:
 
 PACKAGES = "firefox-esr python3-websocket"
 NAMES = ("firefox-esr", "firefox")
-SECONDS = 60
 PREFERENCES = {"ui.prefersReducedMotion": 1, "browser.shell.checkDefaultBrowser": False}
 
 
@@ -51,8 +50,9 @@ class Browser(browser.Driven):
         self.process = subprocess.Popen(words, stdout=subprocess.DEVNULL, stderr=subprocess.PIPE)
         host, port = self.address()
         # Firefox refuses a client that names an origin
-        self.socket = websocket.create_connection(f"ws://{host}:{port}/session", timeout=SECONDS, suppress_origin=True,
-                                                  skip_utf8_validation=True, http_no_proxy=[host])
+        self.socket = websocket.create_connection(f"ws://{host}:{port}/session", timeout=browser.SECONDS,
+                                                  suppress_origin=True, skip_utf8_validation=True,
+                                                  http_no_proxy=[host])
         # a full pipe would stop the browser
         threading.Thread(target=self.process.stderr.read, daemon=True).start()
         self.ask("session.new", capabilities={})
@@ -121,7 +121,7 @@ class Browser(browser.Driven):
             self.process.kill()
         self.socket.shutdown()
         try:
-            self.process.wait(SECONDS)
+            self.process.wait(browser.SECONDS)
         except subprocess.TimeoutExpired:
             self.process.kill()
         shutil.rmtree(self.folder, ignore_errors=True)

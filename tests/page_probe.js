@@ -59,13 +59,6 @@ const probe = (() => {
     return [x, y - timeline.lanes[0].top - timeline.lanes[0].height / 2 + 8];
   }
 
-  /* The place of a slot on the overview. */
-  function onOverview(timeline, slot) {
-    timeline.root.scrollIntoView();
-    const { left, top, height } = timeline.overview.getBoundingClientRect();
-    return [left + timeline.gutter + (slot + 0.5) / timeline.count * timeline.room, top + height / 2];
-  }
-
   // ---- what a canvas shows
 
   /* The rows of a canvas at this place, top to bottom: # where the colour is not that of the first row. */
@@ -76,14 +69,6 @@ const probe = (() => {
     reader.drawImage(canvas, 0, 0);
     const at = (y) => String(reader.getImageData(Math.floor(x * scale), Math.floor((top + y + 0.5) * scale), 1, 1).data);
     return Array.from({ length: height }, (_, y) => at(y) === at(0) ? "." : "#").join("");
-  }
-
-  /* Whether the overview has the colour of what is bad where a slot begins. */
-  function isRed({ overview, ink, gutter, count, room }, slot) {
-    Object.assign(reader.canvas, { width: overview.width, height: overview.height });
-    reader.drawImage(overview, 0, 0);
-    const { data } = reader.getImageData(Math.floor(gutter + slot / count * room), 6, 2, 1), [r, g, b] = rgba(ink.bad);
-    return [0, 4].some((i) => data[i] === r && data[i + 1] === g && data[i + 2] === b);
   }
 
   /* The words of each swatch of a tab's legend, and its shape. */
@@ -121,6 +106,16 @@ const probe = (() => {
     timeline.paint();
     prototype.fillText = fillText;
     return all;
+  }
+
+  /* The names of lanes that have no room beside them. */
+  function cutNames({ lanes, gutter, canvas }) {
+    const ctx = canvas.getContext("2d"), name = (lane) => gutter < 100 ? lane.short ?? lane.name : lane.name;
+    const isCut = (lane) => {
+      ctx.font = `${lane.strong ? "600 " : ""}12px ${painter.FONT}`;
+      return ctx.measureText(name(lane)).width > gutter - 10;
+    };
+    return lanes.filter(isCut).map(name);
   }
 
   /* In how many columns of a lane, of which number, each of these colours is to be seen. */
@@ -177,13 +172,16 @@ const probe = (() => {
     return (own || ["INPUT", "SELECT", "TEXTAREA"].includes(e.tagName)) && e.checkVisibility();
   }
 
+  /* The shades of the kinds: text, name and tags. */
+  const SHADES = ["text", "name", "tags"].flatMap((kind) => [0, 1, 2].map((shade) => `shade-${kind}-${shade}`));
   /* Pairs of colours that the canvas draws on each other. */
   const PAIRS = [
-    ...[0, 1, 2, 3, 4, 5, 6, 7].map((i) => ["white", `c${i}`]), ["white", "wrong"], ["dim", "card"], ["dim", "lane"],
+    ...SHADES.map((shade) => ["on-bar", shade]), ["on-wrong", "wrong"], ["dim", "card"], ["dim", "lane"],
     ...["lane", "chosen", "card"].flatMap((on) => [["text", on], ["bad", on], ["stale-text", on]]),
   ];
   /* And those of ticks, bars and marks that have no text. */
-  const GRAPHICS = ["lane", "chosen"].flatMap((on) => ["t1", "t2", "t3", "t4", "t5", "stale", "accent", "bad"].map((it) => [it, on]));
+  const MARKS = [...SHADES, "other", "dim", "stale", "bad"];
+  const GRAPHICS = ["lane", "chosen"].flatMap((on) => MARKS.map((it) => [it, on]));
 
   /* How many texts are in sight, and those whose contrast is too low. */
   function contrasts(least) {
@@ -198,15 +196,75 @@ const probe = (() => {
   /* The graphics whose contrast to their lane is too low. */
   const faint = (least) => GRAPHICS.filter(([a, b]) => ratio(colour(a), colour(b)) < least).map((pair) => pair.join(" on "));
 
-  /* The texts of a timeline's picture from the top down, with their colours. */
-  function pictured(timeline) {
-    const all = [], { fillText } = CanvasRenderingContext2D.prototype;
-    CanvasRenderingContext2D.prototype.fillText = function (text, x, y) {
-      all.push([Math.round(this.getTransform().f / 2 + y), text, this.fillStyle]);
-      fillText.call(this, text, x, y);
+  // ---- hues
+
+  /* The hue of a colour in degrees; null for one that is nearly grey. */
+  function hueOf([r, g, b], least = 40) {
+    const high = Math.max(r, g, b), range = high - Math.min(r, g, b);
+    if (range < least) return null;
+    const sector = [(g - b) / range, 2 + (b - r) / range, 4 + (r - g) / range][[r, g, b].indexOf(high)];
+    return Math.round(60 * sector + 360) % 360;
+  }
+  const hue = (color) => hueOf(rgba(color), 1);
+
+  /* The hues of a part of a canvas. */
+  function huesOf(canvas, left, top, width, height) {
+    const scale = canvas.width / canvas.clientWidth, all = new Set();
+    Object.assign(reader.canvas, { width: canvas.width, height: canvas.height });
+    reader.drawImage(canvas, 0, 0);
+    const { data } = reader.getImageData(...[left, top, width, height].map((length) => Math.floor(length * scale)));
+    for (let i = 0; i < data.length; i += 4) all.add(hueOf(data.slice(i, i + 3)));
+    return [...all].filter((it) => it !== null).sort((a, b) => a - b);
+  }
+
+  /* The hues of a lane, or of one of its slots. No cursor is drawn. */
+  function huesOfLane(timeline, number, slot = null) {
+    const { cursor, canvas } = timeline, { top, height } = timeline.lanes[number];
+    timeline.cursor = -9;
+    timeline.paint();
+    const [left, width] = slot === null ? [timeline.gutter, timeline.room] : [timeline.x(slot + 0.5), 1];
+    const hues = huesOf(canvas, left, top, width, height);
+    timeline.cursor = cursor;
+    timeline.paint();
+    return hues;
+  }
+
+  /* The elements in sight that have a colour with a hue between these: the first hue is above the second one. */
+  function elementsOfHue(from, to) {
+    const isWithin = (color) => {
+      const [, , , alpha] = rgba(color), itsHue = hueOf(rgba(color));
+      return alpha > 0 && itsHue !== null && (itsHue >= from || itsHue < to);
     };
-    try { picture.drawn(timeline); } finally { CanvasRenderingContext2D.prototype.fillText = fillText; }
-    return all.sort(([a], [b]) => a - b);
+    const hasOne = (element) => {
+      const { color, backgroundColor, borderLeftColor, borderTopColor } = getComputedStyle(element);
+      return [color, backgroundColor, borderLeftColor, borderTopColor].some(isWithin);
+    };
+    const inSight = [...document.querySelectorAll("body *")].filter((it) => it.checkVisibility());
+    return inSight.filter((it) => !(it instanceof SVGElement) && hasOne(it)).map((it) => `${it.tagName}#${it.id}`);
+  }
+
+  /* The texts that the picture of a timeline has besides those of the timeline. */
+  function pictured(timeline) {
+    const { prototype } = CanvasRenderingContext2D, { fillText } = prototype, texts = [];
+    prototype.fillText = function (text, ...given) {
+      if (this.canvas !== timeline.canvas) texts.push(text);
+      fillText.call(this, text, ...given);
+    };
+    try { picture.drawn(timeline); } finally { prototype.fillText = fillText; }
+    return texts;
+  }
+
+  /* Whether the end of a timeline's picture is the timeline as the page shows it. */
+  function endsWithTimeline(timeline) {
+    const { canvas } = timeline, drawn = picture.drawn(timeline), edge = (drawn.width - canvas.width) / 2;
+    const pixels = (from, x, y) => {
+      Object.assign(reader.canvas, { width: from.width, height: from.height });
+      reader.drawImage(from, 0, 0);
+      return reader.getImageData(x, y, canvas.width, canvas.height).data;
+    };
+    const copy = pixels(drawn, edge, drawn.height - edge - canvas.height), own = pixels(canvas, 0, 0);
+    // behind what the timeline leaves clear, the picture has a colour
+    return copy.every((value, i) => own[4 * (i >> 2) + 3] < 255 || value === own[i]);
   }
 
   // ---- many slots
@@ -245,10 +303,14 @@ const probe = (() => {
     return longest;
   }
 
-  /* Waits until the log tab has all its answers, and is drawn. */
+  /* Waits until the tabs have all their answers, and are drawn. */
   async function idle() {
+    const tabs = [logTab, scriptTab, { state: changes.state }];
     let work;
-    do { work = logTab.state.work; await work; } while (work !== logTab.state.work);
+    do {
+      work = tabs.map((it) => it.state.work);
+      await Promise.all(work);
+    } while (work.some((it, i) => it !== tabs[i].state.work));
     await new Promise((done) => { requestAnimationFrame(() => setTimeout(done)); });
   }
 
@@ -313,7 +375,8 @@ const probe = (() => {
   }
 
   return {
-    axis, choose, chosenLine, colour, column, columnsOf, contrasts, drop, dropAll, faint, fill, idle, isRed, labels, large, longestTask,
-    many, onOverview, pick, pictured, place, run, sharesOf, swatches, tempt, ticks, typeAndLeave,
+    axis, choose, chosenLine, colour, column, columnsOf, contrasts, cutNames, drop, dropAll, elementsOfHue,
+    endsWithTimeline, faint, fill, hue, huesOf, huesOfLane, idle, labels, large, longestTask, many, pick, pictured, place,
+    run, scriptOf, sharesOf, swatches, tempt, ticks, typeAndLeave,
   };
 })();

@@ -121,13 +121,31 @@ def settled_verdict(b):
 
 
 def printed(b):
-    """Returns the lines of the script's output."""
+    """Returns the lines of the script's output, once it is played."""
+    idle(b)
     return text_of(b, "#script-lines")
 
 
 def hidden(b):
     """Returns the tabs that are not open."""
     return [name for name in TABS if of(b, f"#{name}", "hidden")]
+
+
+def example_of(b, tab, name):
+    """Opens an example by a part of its name."""
+    call(b, "page.tab", tab)
+    number = b.run(f"RDSRT_EXAMPLES.{tab}.findIndex(it => it.name.includes({json.dumps(name)}))")
+    call(b, "probe.choose", f"{tab}-example", number)
+
+
+def longest_task(b, does, most):
+    """Returns the longest task of the page in ms while a script, and all that it causes, goes on. Of three tries the
+    best one counts, for a machine may have other work."""
+    longest, pause = [], "new Promise(done => setTimeout(done, 300))"
+    while len(longest) < 3 and (not longest or longest[-1] > most):
+        waits = f"async () => {{ await ({does}); await {pause}; await probe.idle(); }}"
+        longest.append(b.run(f"probe.longestTask({waits})"))
+    return min(longest)
 
 
 def first_examples(b):

@@ -1,6 +1,6 @@
 """The page by key, to be heard and to be read: controls, contrast, colours, motion, and small windows."""
-from tests.page_support import (GROUPS, HI, SCHEMES, TABS, ChromiumCase, FirefoxCase, call, first_examples, hidden,
-                                of, settle, settled_verdict, verdict_of)
+from tests.page_support import (GROUPS, HI, SCHEMES, TABS, ChromiumCase, FirefoxCase, call, example, first_examples,
+                                hidden, of, open_script, settle, settled_verdict, verdict_of)
 
 # of texts, and of shapes without a text
 CONTRAST, GRAPHIC_CONTRAST = 4.5, 3
@@ -42,6 +42,21 @@ class Access:
         b.key("Enter")
         self.check("Enter goes to the command", b.run("document.activeElement.id"), "command")
 
+    def test_both_tabs_have_the_legend_and_the_keys(self):
+        """The key ? opens and closes the list of keys."""
+        b = self.b
+        call(b, "probe.choose", "log-example", 0)
+        for tab in TABS[:2]:
+            call(b, "page.tab", tab)
+            b.run(f"{tab}Tab.timeline.canvas.focus()")
+            seen = []
+            for key in ("", "?", "?"):
+                if key:
+                    b.key(key, modifiers=8)
+                seen.append(b.run(f"[...document.querySelectorAll('#{tab} .legend, #{tab} .keys[open] dl')]"
+                                  ".filter(it => it.checkVisibility()).length"))
+            self.check(f"the legend of {tab}, and its keys", seen, [1, 2, 1])
+
 
 class Chromium(Access, ChromiumCase):
     def test_forced_colours_keep_all_differences(self):
@@ -66,7 +81,7 @@ class Chromium(Access, ChromiumCase):
             for tab in TABS[:2]:
                 call(b, "page.tab", tab)
                 drawn = b.run(f"[...document.querySelectorAll('#{tab} .legend canvas')].map(it => it.toDataURL())")
-                self.check(f"the swatches of {tab}", (len(drawn), len(set(drawn))), (8, 8))
+                self.check(f"the swatches of {tab}", (len(drawn), len(set(drawn))), (9, 9))
         edges = []
         for log in (f"{HI}\n", f"{HI}\n{GROUPS[2]}\n", "", "bad\n"):
             verdict_of(b, log, 8)
@@ -108,23 +123,26 @@ class Chromium(Access, ChromiumCase):
         b.ask("Accessibility.disable")
 
     def test_contrast_and_narrow_windows(self):
+        """Of the start too."""
         b = self.b
-        first_examples(b)
-        for scheme in SCHEMES:
-            b.scheme(scheme)
-            for name in TABS:
-                call(b, "page.tab", name)
-                settle(b)
-                seen, low = call(b, "probe.contrasts", CONTRAST)
-                self.check(f"contrast of {name}, {scheme}", (seen > 10, low), (True, []))
-        b.scheme("light")
-        for width in NARROW:
-            b.size(width, 844, is_phone=False)
-            for name in TABS:
-                call(b, "page.tab", name)
-                settle(b)
-                self.check(f"{name} fits a window of {width} px", b.run("document.documentElement.scrollWidth"), width)
-        b.size(1280, 900)
+        for tabs in (TABS[:1], TABS):
+            for scheme in SCHEMES:
+                b.scheme(scheme)
+                for name in tabs:
+                    call(b, "page.tab", name)
+                    settle(b)
+                    seen, low = call(b, "probe.contrasts", CONTRAST)
+                    self.check(f"contrast of {name}, {scheme}", (seen > 10, low), (True, []))
+            b.scheme("light")
+            for width in NARROW:
+                b.size(width, 844, is_phone=False)
+                for name in tabs:
+                    call(b, "page.tab", name)
+                    settle(b)
+                    self.check(f"{name} fits a window of {width} px", b.run("document.documentElement.scrollWidth"),
+                               width)
+            b.size(1280, 900)
+            first_examples(b)
 
     def test_timeline_and_displays_take_the_whole_width(self):
         """The timeline is in sight. Prose stays readable."""
@@ -143,6 +161,44 @@ class Chromium(Access, ChromiumCase):
                 prose = "document.querySelectorAll('.hint, .verdict p, .problem, footer p')"
                 wide = b.run(f"[...{prose}].filter(it => it.clientWidth > 46 * 16).length")
                 self.check(f"lines of prose in {width} px", wide, 0)
+        b.size(1280, 900)
+
+    def test_the_verdict_is_first_and_takes_the_whole_width(self):
+        """The answer of a script is first too."""
+        b = self.b
+        call(b, "probe.choose", "log-example", 0)
+        for width in (1920, 1280, 800, *NARROW):
+            b.size(width, 900)
+            call(b, "page.tab", "script")
+            settle(b)
+            tops = b.run("['#script-count', '#script-air', '#script-time']"
+                         ".map(it => document.querySelector(it).getBoundingClientRect().top)")
+            self.check(f"the answer of a script in {width} px", tops[0], min(tops))
+            call(b, "page.tab", "log")
+            settle(b)
+            box = lambda query: b.run(f"(({{ left, right, top }}) => [left, right, top])"
+                                      f"(document.querySelector('{query}').getBoundingClientRect())")
+            (left, right, top), form = box("#verdict"), box("#log-form")
+            self.check(f"its edges in {width} px", (left, right), tuple(form[:2]))
+            later = [query for query in ("#log-radio", "#log-alone", "#log-time", ".changes") if box(query)[2] <= top]
+            self.check(f"what comes before it in {width} px", later, [])
+        b.size(1280, 900)
+
+    def test_a_phone_shows_names_of_lanes_and_displays_beside_the_timeline(self):
+        b = self.b
+        b.size(320, 844)
+        open_script(b, "".join(f"{line}GG\n" for line in example("chanson.csv").decode().splitlines()), m=8, k=0)
+        call(b, "probe.choose", "log-example", 2)
+        for tab, display in (("log", "#log-radio"), ("script", "#script-air")):
+            call(b, "page.tab", tab)
+            settle(b)
+            names = b.run(f"{tab}Tab.timeline.lanes.map(lane => lane.name.trim())")
+            others = [it for it in names if "name" in it or "tag" in it]
+            self.check(f"{tab} has lanes of a name and of tags", len(others) >= 4, True)
+            self.check(f"names that {tab} cuts", b.run(f"probe.cutNames({tab}Tab.timeline)"), [])
+            ends = b.run(f"[document.querySelector('#{tab}-time').getBoundingClientRect().bottom, "
+                         f"document.querySelector('{display}').getBoundingClientRect().top]")
+            self.check(f"the displays of {tab} begin behind the timeline", 0 <= ends[1] - ends[0] < 60, True)
         b.size(1280, 900)
 
     def test_a_phone_has_verdict_and_timeline_first(self):

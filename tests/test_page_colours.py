@@ -1,10 +1,11 @@
-"""What the page draws in red: parts that nobody sent, at each time, beside a plain history of what was on air."""
+"""What the page draws in red: parts that nobody sent, at each time, beside a plain history of what was on air; and the
+hues of kinds."""
 import random
 import re
 
 from tests import plain_worlds, random_scripts
-from tests.page_support import (ChromiumCase, FirefoxCase, call, click, example, of, open_script, program, settled_verdict,
-                                text_of, verdict_of)
+from tests.page_support import (HI, NOTHING, SCHEMES, YO, ChromiumCase, FirefoxCase, call, click, example, of,
+                                open_script, program, settle, settled_verdict, text_of, verdict_of)
 
 SEED, SCRIPTS, SLOTS = 20261127, 40, 90
 # arguments of a script with the form in which the program prints them: escapes of characters in the table, and pieces that
@@ -13,7 +14,17 @@ TEXTS = (("ABCDEFG", "ABCDEFG"), ("STUVWXY", "STUVWXY"), (r"\x41BCDWXY", "ABCDWX
          (r"caf\x82 noir", "café noir"), ('say "hi"', r"say \x22hi\x22"), (r"\x22", r"\x22"), ("", ""))
 NAMES = ((r"\x41BC", "ABC     "), ("JAZZ FM", "JAZZ FM "), ("JAZZ", "JAZZ    "))
 BARS = ("scriptTab.timeline.lanes.filter(lane => lane.kind === 'bars' && lane.group !== undefined)"
-        ".map(lane => lane.runs.map(run => [lane.name, run.from, run.to, run.value, Boolean(run.mix)]))")
+        ".map(lane => [...lane.runs].map(run => [lane.name, run.from, run.to, run.value, run.mix, Boolean(run.old)]))")
+# lanes of a script by the kind that they show, and the codes of groups of each kind
+LANES = {"text": "on air", "name": "  its name", "tags": "  its tags"}
+CODES = {"text": (1, 9), "name": (2,), "tags": (3,)}
+# degrees: of red, from one to the other; between the shades of a kind, also at their edges; and between two kinds
+RED, NEAR, BLENDED, APART = (338, 12), 8, 20, 25
+
+
+def apart(one, other):
+    """Returns the degrees between two hues."""
+    return min((one - other) % 360, (other - one) % 360)
 
 
 def random_script(rng):
@@ -29,36 +40,39 @@ def random_script(rng):
     return plain_worlds.script(rows).decode(), sets
 
 
-def begun(script, sets, dwell):
-    """Returns the slot in which each text and each name was on air first."""
+def on_air(script, sets, dwell):
+    """Returns the text and the name on air in each slot, by the replies to the commands."""
     output = program(["sim", "--pi", "C201", "--pty", "10", "--m", str(dwell)], script.encode())[1]
-    first = {}
-    for slot in map(int, re.findall(r"^(\d+) (?:text|name) ok$", output, re.M)):
-        first.setdefault(sets[slot], slot)
-    return first
+    accepted = {int(slot) for slot in re.findall(r"^(\d+) (?:text|name) ok$", output, re.M)}
+    now, airs = {}, []
+    for slot, (kind, shown) in enumerate(sets):
+        now = {**now, kind: shown} if slot in accepted else now
+        airs.append(now)
+    return airs
 
 
 class Colours:
-    def test_red_bars_are_what_was_not_on_air_yet(self):
-        """Random scripts with escapes and with texts that return: no bar is red that was on air, and each other one is."""
-        b, red, calm = self.b, 0, 0
+    def test_red_and_old_bars_are_what_was_not_on_air(self):
+        """Random scripts with escapes and with texts that return. A red bar or an old one was not on air in the last M
+        slots, and each other one was. An old bar is the rest of one that was."""
+        b, red, old, calm = self.b, 0, 0, 0
         for number in range(SCRIPTS):
             rng = random.Random(f"{SEED} {number}")
             dwell, (script, sets) = rng.randrange(2, 6), random_script(rng)
             open_script(b, script, m=dwell, k=0)
-            first, wrong = begun(script, sets, dwell), []
-            for name, start, end, value, is_mix in [run for lane in b.run(BARS) for run in lane]:
-                kind = "name" if "name" in name else "text"
+            airs, wrong, before = on_air(script, sets, dwell), [], None
+            for name, start, end, value, is_mix, is_old in [run for lane in b.run(BARS) for run in lane]:
+                kind, goes_on = "name" if "name" in name else "text", before == (name, start, value)
+                before = (name, end, value)
                 if not isinstance(value, str):
                     continue
-                on_air = first.get((kind, value), SLOTS)
-                red, calm = red + is_mix, calm + (not is_mix)
-                if is_mix != (start < on_air) or (is_mix and end > on_air):
-                    wrong.append((name, start, end, value, is_mix))
-                if is_mix and "dwell" in name:
-                    wrong.append((name, start, end, value))
+                was = {any(air.get(kind) == value for air in airs[max(0, slot + 1 - dwell):slot + 1])
+                       for slot in range(start, end)}
+                red, old, calm = red + is_mix, old + is_old, calm + (not is_mix and not is_old)
+                if was != {not is_mix and not is_old} or (is_old and not goes_on):
+                    wrong.append((name, start, end, value, is_mix, is_old))
             self.check(f"script {number}, M {dwell}: wrong bars", wrong, [], script.encode())
-        self.check_all("red bars and others", (red > 20, calm > 500), (True, True))
+        self.check_all("red bars, old ones and others", (red > 20, old > 20, calm > 500), (True, True, True))
 
     def test_an_escape_of_a_character_is_that_character(self):
         b = self.b
@@ -73,10 +87,10 @@ class Colours:
         for name, rows in (("as it is", script), ("with the text later", later)):
             open_script(b, rows, m=8, k=0)
             self.check(f"{name}: the mix is counted", text_of(b, "#script-count"),
-                       "With the flag bit alone, receivers show a text that nobody sent. With the dwell none does.")
+                       "With the flag bit alone, receivers show a mix: a text. With the dwell none does.")
             b.run("scriptTab.timeline.move(60)")
             self.check(f"{name}: it is red", (of(b, "#script-alone", "className"), text_of(b, "#script-alone .led")),
-                       ("radio alone mixed", "nobody sent this"))
+                       ("radio alone mixed", "not on air"))
 
     def test_a_witness_is_red_even_if_its_text_comes_later(self):
         b = self.b
@@ -100,9 +114,85 @@ class Colours:
         self.check("the verdict", ("Changed" in verdict, text_of(b, "#without-loss")),
                    (True, "Even a receiver that loses nothing shows in slot 49: B7: open today."))
 
+    def in_schemes(self):
+        """Gives the name of each scheme while the page has it."""
+        yield "light"
+
+    def reds(self, tab):
+        """Returns the lanes of a tab that have a red pixel, and the elements in sight that have a red colour."""
+        lanes = self.b.run(f"{tab}Tab.timeline.lanes.map(lane => lane.name)")
+        hues = [self.b.run(f"probe.huesOfLane({tab}Tab.timeline, {number})") for number in range(len(lanes))]
+        is_red = lambda hue: hue >= RED[0] or hue < RED[1]
+        red_lanes = [name for name, some in zip(lanes, hues) if any(map(is_red, some))]
+        return red_lanes, call(self.b, "probe.elementsOfHue", *RED)
+
+    def test_each_kind_has_one_hue(self):
+        """Ticks, bars, legend and list of texts, of names, and of tags have it. Its shades differ."""
+        b = self.b
+        for scheme in self.in_schemes():
+            open_script(b, "".join(f"{line}GG\n" for line in example("chanson.csv").decode().splitlines()), m=8, k=0)
+            settle(b)
+            hues = {}
+            for kind in LANES:
+                shades = [call(b, "probe.colour", f"shade-{kind}-{shade}") for shade in range(3)]
+                hues[kind], *others = [call(b, "probe.hue", it) for it in shades]
+                self.check(f"{scheme}: {kind} has one hue in three shades",
+                           (len(set(shades)), [it for it in others if apart(it, hues[kind]) > NEAR]), (3, []))
+            all_hues = [*hues.values(), 0]
+            close = [(one, two) for i, one in enumerate(all_hues) for two in all_hues[:i] if apart(one, two) < APART]
+            self.check(f"{scheme}: the kinds and red differ", close, [])
+            sent = b.run("[...scriptTab.timeline.lanes[0].codes]")
+            for kind, lane in LANES.items():
+                number = b.run("scriptTab.timeline.lanes.map(lane => lane.name)").index(lane)
+                of_lane = b.run(f"probe.huesOfLane(scriptTab.timeline, {number})")
+                slots = [slot for slot, code in enumerate(sent) if code in CODES[kind]]
+                ticks = [b.run(f"probe.huesOfLane(scriptTab.timeline, 0, {slot})") for slot in slots]
+                swatch = "document.querySelector('#script .legend [data-shows=\"{}\"]')"
+                legend = [b.run(f"probe.huesOf({swatch.format(code)}, 6, 0, 2, 20)") for code in CODES[kind]]
+                for name, some in (("bars", [of_lane]), ("ticks", ticks), ("legend", legend)):
+                    wrong = [it for it in some if not it or any(apart(hue, hues[kind]) > BLENDED for hue in it)]
+                    self.check(f"{scheme}: {name} of {kind}", (len(some) > 0, wrong), (True, []))
+            call(b, "page.tab", "log")
+            call(b, "probe.choose", "log-example", 2)
+            for kind in LANES:
+                ink = b.run(f"probe.hue(getComputedStyle(document.querySelector('#log-changes .part.{kind}')).color)")
+                self.check(f"{scheme}: the list's {kind}", apart(ink, hues[kind]) <= NEAR, True)
+
+    def test_red_is_for_mixes_and_noes_alone(self):
+        """Lost slots, restarts, refused commands and faults have other colours."""
+        b = self.b
+        for scheme in self.in_schemes():
+            refused = "-,,1,GL\n" * 9 + "text,HI,1,GL\ntext,HO,1,RL\n" + "-,,1,GG\n" * 20
+            for name, script in (("lost slots", refused), ("a fault", refused + "bad\n")):
+                open_script(b, script, m=8, k=0)
+                settle(b)
+                self.check(f"{scheme}: a script with {name}", self.reds("script"), ([], []))
+            open_script(b, example("mix.csv").decode(), m=8, k=0)
+            settle(b)
+            lanes, elements = self.reds("script")
+            self.check(f"{scheme}: a script with a mix", (set(lanes), len(elements) > 0), ({"  flag bit alone"}, True))
+            passes = f"{HI}\n" * 20 + f"{NOTHING}\n" * 3 + f"{YO}\n" * 20
+            verdict_of(b, passes, 8)
+            b.run("logTab.lose([4, 5, 6, 7])")
+            settle(b)
+            self.check(f"{scheme}: a log with lost slots that passes", self.reds("log"), ([], []))
+            call(b, "probe.choose", "log-m", "0")
+            settle(b)
+            self.check(f"{scheme}: a number out of bounds", self.reds("log"), ([], []))
+            verdict_of(b, "bad\n", 8)
+            self.check(f"{scheme}: a malformed line", self.reds("log"), ([], []))
+            verdict_of(b, example("flags.log").decode(), 8)
+            lanes, elements = self.reds("log")
+            self.check(f"{scheme}: a no", (lanes, {"DIV#verdict", "CODE#"} <= set(elements)), (["events"], True))
+
 
 class Chromium(Colours, ChromiumCase):
-    pass
+    def in_schemes(self):
+        for scheme in SCHEMES:
+            self.b.scheme(scheme)
+            settle(self.b)
+            yield scheme
+        self.b.scheme("light")
 
 
 class Firefox(Colours, FirefoxCase):

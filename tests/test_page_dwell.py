@@ -6,8 +6,8 @@ from tests.page_support import ChromiumCase, FirefoxCase, call, click, of, text_
 
 def dwell_shows(b):
     """Returns the two answers for texts that change every so many seconds, and the time of the first card."""
-    answers = b.run("[...document.querySelectorAll('#answers p')].map(p => p.textContent)")
-    return [*answers, *b.run("[...document.querySelectorAll('.card.first strong')].map(card => card.textContent)")]
+    shown = "[...document.querySelectorAll('#answers p, .card:first-child strong')].filter(it => it.checkVisibility())"
+    return b.run(f"{shown}.map(it => it.textContent)")
 
 
 class DwellTab:
@@ -71,9 +71,9 @@ class DwellTab:
             was = of(b, f"#dwell-{field}", "value")
             for value in (str(low - 1), str(int(str(high).replace(",", "")) + 1), "", "1e2"):
                 call(b, "probe.choose", f"dwell-{field}", value)
-                got = text_of(b, "#dwell-fault"), dwell_shows(b), text_of(b, "#ladder")
+                got = text_of(b, "#dwell-fault"), dwell_shows(b), of(b, "#dwell-times", "hidden")
                 self.check(f"dwell-{field} {value!r}", got,
-                           (f"{name} must be a whole number from {low} to {high}.", [], ""))
+                           (f"{name} must be a whole number from {low} to {high}.", [], True))
             call(b, "probe.choose", f"dwell-{field}", was)
         self.check("and a good number again", (of(b, "#dwell-fault", "hidden"), len(dwell_shows(b))), (True, 3))
         for field, number in (("m", 128), ("s", 15)):

@@ -78,7 +78,8 @@ class Faults:
         b.run("scriptTab.timeline.move(3)")
         self.check("a text is shown before a bad row", (shown(b, "script-radio"), shown(b, "script-alone")),
                    ("HI", "HI"))
-        ends = b.run("scriptTab.timeline.lanes.map(lane => (lane.codes?.length ?? lane.runs?.at(-1)?.to ?? 0))")
+        last = "lane.codes?.length ?? [...lane.runs ?? []].at(-1)?.to ?? 0"
+        ends = b.run(f"scriptTab.timeline.lanes.map(lane => {last})")
         self.check("no lane goes on behind it", [it for it in ends if it > 5], [])
         for slot in (5, 11):
             b.run(f"scriptTab.timeline.move({slot})")
@@ -134,7 +135,7 @@ class Faults:
         for log, kind, wanted in rows:
             said, colour = verdict_of(b, log,
                                       8), b.run("getComputedStyle(document.querySelector('#verdict')).borderLeftColor")
-            ink = call(b, "probe.colour", "t4" if kind else "good")
+            ink = call(b, "probe.colour", "other" if kind else "good")
             self.check(f"a yes over {log[:20]!r}", (wanted in said and "undefined" not in said or said, colour),
                        (True, ink))
     def test_a_yes_over_a_log_that_does_not_show_enough_is_grey(self):
@@ -154,7 +155,7 @@ class Faults:
             said = verdict_of(b, log, 8)
             colour = b.run("getComputedStyle(document.querySelector('#verdict')).borderLeftColor")
             self.check(name, [it in said for it in (cannot, *wanted)] + [colour],
-                       [True] * (1 + len(wanted)) + [call(b, "probe.colour", "t4")], said)
+                       [True] * (1 + len(wanted)) + [call(b, "probe.colour", "other")], said)
         nine = "".join(f"{HI} {number * SLOT:.2f}\n" for number in range(9))
         said = verdict_of(b, f"{nine}{NOTHING}\n", 8)
         self.check("nine slots in ten", "✓ Passes with M = 8" in said, True, said)

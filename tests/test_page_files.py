@@ -3,14 +3,44 @@ import os
 import struct
 import tempfile
 
-from tests.page_support import (EVERY_100, HI, NOTHING, TABS, ChromiumCase, FirefoxCase, call, click, example,
-                                first_examples, hidden, of, open_script, printed, program, run_program, settle,
-                                text_of, verdict_of, waited_for)
+from tests.page_support import (EVERY_100, HI, NOTHING, TABS, URL, ChromiumCase, FirefoxCase, call, click, example,
+                                first_examples, hidden, idle, of, open_script, printed, program, run_program, settle,
+                                text_of, verdict_of, visit, waited_for)
 
 TURNS = "\u061c\u200e\u200f\u202a\u202b\u202c\u202d\u202e\u2066\u2067\u2068\u2069"
 
 
 class Files:
+    def test_the_log_tab_starts_with_a_field_for_a_log(self):
+        """No answer over an example is shown before a choice. The keys reach the field and the examples."""
+        b = self.b
+        seen = lambda query: b.run(f"[...document.querySelectorAll({query!r})].filter(it => it.checkVisibility())"
+                                   ".map(it => it.textContent.trim())")
+        result = "#log-form, #verdict, #log .radio, #log-time"
+        names = b.run("RDSRT_EXAMPLES.log.map(it => it.name)")
+        self.check("the field alone", (seen("#log h2"), seen(result)), (["Drop a log of your station"], []))
+        self.check("the examples", (seen("#log-start-examples button"), len(names) > 4), (names, True))
+        b.run("document.querySelector('#tab-log').focus()")
+        reached = []
+        for _ in range(1 + len(names)):
+            b.key("Tab")
+            reached.append(b.run("(e => e.id || e.textContent)(document.activeElement)"))
+        self.check("the tab key reaches them", reached, ["log-start-file", *names])
+        # a key presses no button in the window of a headless Firefox, which has no focus
+        if b.run("document.hasFocus()"):
+            b.key("Enter")
+        else:
+            b.run("document.activeElement.click()")
+        idle(b)
+        self.check("Enter opens one", (of(b, "#log-example", "selectedOptions[0].text"), len(seen(result))),
+                   (names[-1], 5))
+        self.check("the focus is on the examples", b.run("document.activeElement.id"), "log-example")
+        visit(b, URL)
+        call(b, "probe.pick", "log-start-file", "own.log", EVERY_100)
+        settle(b)
+        self.check("its button opens a file", (text_of(b, "#log-file-name"), seen("#log-start h2"), len(seen(result))),
+                   ("own.log", [], 5))
+
     def test_of_several_files_the_first_is_opened(self):
         """The page says how many it left out."""
         b = self.b
@@ -223,7 +253,9 @@ class Chromium(Files, ChromiumCase):
             self.check("a saved script", waited_for(os.path.join(folder, "script.csv")), example("late.csv"))
             click(b, "#script-time [data-do=save]")
             data = waited_for(os.path.join(folder, "timeline.png"))
-            self.check("a saved picture", (data[:8], struct.unpack(">I", data[16:20])), (b"\x89PNG\r\n\x1a\n", (2400,)))
+            width = b.run("scriptTab.timeline.canvas.width + 32")
+            self.check("a saved picture", (data[:8], struct.unpack(">I", data[16:20])),
+                       (b"\x89PNG\r\n\x1a\n", (width,)))
 
 
 class Firefox(Files, FirefoxCase):

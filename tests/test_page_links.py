@@ -55,8 +55,9 @@ class Links:
         for name, broken, told in (("holds none", f"{URL}#script=nonsense&end", "The link has no script."),
                                    ("was cut", link[:-9], "The link was cut: copy the whole link.")):
             visit(b, broken)
-            self.check(f"a link that {name}", (text_of(b, "#script-saved"), text_of(b, "#script-fault"), printed(b)),
-                       (told, told, ""))
+            card = text_of(b, "#script-fault"), of(b, "#script-fault", "className")
+            self.check(f"a link that {name}", (text_of(b, "#script-saved"), card, printed(b)),
+                       (told, (told, "problem no"), ""))
         too_large = "The link holds a script of more than 4 MB. The page does not open it."
         for size, told in ((4_000_000, ""), (4_000_001, too_large), (100_000_000, too_large)):
             visit(b, f"{URL}#script={packed(b'-,,1,' + bytes(size - 5))}&end")

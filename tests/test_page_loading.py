@@ -63,7 +63,7 @@ class Chromium(Loading, ChromiumCase):
                    ["This page needs JavaScript. The program rdsrt does the same in a terminal."])
         b.ask("Emulation.setScriptExecutionDisabled", value=False)
         visit(b, URL)
-        self.check("a page with its program", b.run(f"{IN_SIGHT}.map(e => e.tagName)"), ["MAIN", "DIV"])
+        self.check("a page with its program", b.run(f"{IN_SIGHT}.map(e => e.tagName)"), ["MAIN"])
 
 
 class Firefox(Loading, FirefoxCase):

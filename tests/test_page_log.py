@@ -257,6 +257,10 @@ class LogTab:
         slot = b.run("document.querySelector('#log-changes [aria-current] .slot').textContent")
         self.check("a long list is laid out in part, around the slot",
                    (rows <= 100, len(listed(b)) <= 100, abs(int(slot.replace(",", "")) - 900) < 4), (True,) * 3)
+        row, whole = (b.run(f"(({{ top, bottom }}) => [top, bottom])({it}.getBoundingClientRect())")
+                      for it in ("document.querySelector('#log-changes [aria-current]')",
+                                 "document.querySelector('#log-changes')"))
+        self.check("its row is in sight of the list", (row[0] >= whole[0], row[1] <= whole[1]), (True, True))
         first_examples(b)
 
     def test_the_chosen_group_is_in_words(self):

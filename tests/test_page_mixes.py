@@ -1,13 +1,14 @@
 """Receivers of the page: mixes with the flag bit alone, and why a receiver shows no text."""
 import re
 
-from tests.page_support import (HI, NOTHING, ChromiumCase, FirefoxCase, call, click, example, of, open_script,
-                                program, reload, shown, text_of)
+from tests.page_support import (HI, NOTHING, ChromiumCase, FirefoxCase, call, click, example, example_of, of,
+                                open_script, program, reload, shown, text_of)
 
 
 def runs_of(b, view, part="text"):
     """Returns the slots from which a view shows another value of a part, with the value."""
-    return b.run(f"{view}.parts.{part}.map(run => [run.from, run.value])")
+    runs = b.run(f"[...{view}.parts.{part}].map(run => [run.from, run.value])")
+    return [run for before, run in zip([[0, None, "none"], *runs], runs) if before[-1] != run[-1]]
 
 
 class Mixes:
@@ -24,16 +25,16 @@ class Mixes:
         open_script(b, "".join(f"{row}{'L' if slot in lost else 'G'}\n" for slot, row in enumerate(rows)), m=8, k=0)
         log = "".join(f"{sent.get(str(slot), NOTHING)}\n" for slot in range(48))
         call(b, "logTab.open", log, {"pi": "C201", "m": 8, "k": 0, "lost": lost})
-        told = ("With the flag bit alone: “Édith Piaf, Milord”, artist: Édith Pia, which nobody sent, title:  Milo, "
-                "which nobody sent.")
-        for tab in ("script", "log"):
+        for tab, led, words in (("script", "not on air tag", "not on air"),
+                                ("log", "nobody sent this tag", "which nobody sent")):
             call(b, "page.tab", tab)
             b.run(f"{tab}Tab.timeline.move(47)")
             self.check(f"{tab}: a mix of tags is red",
                        (of(b, f"#{tab}-alone", "className"), text_of(b, f"#{tab}-alone .led")),
-                       ("radio alone mixed", "nobody sent this tag"))
-            self.check(f"{tab}: and is in the words", told in of(b, f"#{tab}-time canvas", "ariaValueText") or told,
-                       True)
+                       ("radio alone mixed", led))
+            told = of(b, f"#{tab}-time canvas", "ariaValueText").split("With the flag bit alone: ")[1]
+            self.check(f"{tab}: and is in the words", told,
+                       f"“Édith Piaf, Milord”, artist: Édith Pia, {words}, title:  Milo, {words}.")
             self.check(f"{tab}: with the dwell there is none", of(b, f"#{tab}-radio", "className"), "radio")
             b.run(f"{tab}Tab.timeline.move(22)")
             self.check(f"{tab}: tags that were sent are not red", of(b, f"#{tab}-alone", "className"), "radio alone")
@@ -55,21 +56,17 @@ class Mixes:
             b.run(f"scriptTab.timeline.move({slot})")
             self.check(f"why no text is shown in slot {slot}", shown(b, "script-radio"), f"— {word} —")
         call(b, "page.tab", "log")
-        many = f"{HI}\n" + f"{NOTHING}\n" * 65_535
-        for text, ends, told in ((many[:-20], 65_535, ""),
-                                 (many, 65_535, "The flag bit alone is shown for the first 65,535 slots only.")):
+        many = f"{HI}\n" + f"{NOTHING}\n" * 65_534
+        for text, wanted in ((many * 2, [[0, 131_070]]), (many + f"{NOTHING}\n", [[0, 65_535], [65_535, 65_536]])):
             call(b, "logTab.open", text, {"pi": "C201", "m": 8})
-            got = b.run("logTab.state.alone.parts.text.map(run => [run.from, run.to])"), text_of(b, "#log-limit")
-            self.check(f"its end over {text.count(chr(10))} slots", got, ([[0, ends]], told))
-        b.run("logTab.timeline.move(65535)")
-        self.check("it is not shown behind that", shown(b, "log-alone"), "— not shown here —")
-        self.check("nor told", "With the flag bit alone: not shown here" in of(b, "#log-time canvas", "ariaValueText"),
-                   True)
+            got = b.run("[...logTab.state.alone.parts.text].map(run => [run.from, run.to])")
+            self.check(f"what it keeps of {text.count(chr(10))} slots", got, wanted)
 
     def test_the_examples_say_why_no_text_is_shown(self):
         """They open on a mix of the flag bit alone beside the dwell."""
         b = self.b
         reload(b)
+        example_of(b, "log", "A long tunnel")
         lines = program(["sim", "--pi", "C201", "--m", "8"], example("mix.csv"))[1]
         slot = re.search("^(\\d+) r1 text", lines, re.M)[1]
         told = ("The receiver with the dwell has dropped its segments of the old text. It shows the next one when it "
@@ -109,7 +106,7 @@ class Mixes:
                                     ("with the empty text", with_it, [])):
             open_script(b, "".join(f"{row}\n" for row in script), m=8, k=0)
             all_shown = [text for _, text in runs_of(b, "scriptTab.state.alone[0]") if text is not None]
-            told = ("With the flag bit alone, receivers show 2 texts that nobody sent. With the dwell none does."
+            told = ("With the flag bit alone, receivers show mixes: 2 texts. With the dwell none does."
                     if mixes
                     else "No receiver shows a mix here. Lose more slots: a whole text and the next flip of the flag.")
             self.check(f"restart {name}: mixes", [it for it in all_shown if f"text,{it}" not in "\n".join(script)],

@@ -15,7 +15,7 @@ class ScriptTab:
         both = shown(b, "script-alone"), shown(b, "script-radio")
         self.check("one with the flag bit alone shows a mix", both, ("A1: closed today", "— no text —"))
         self.check("the mix is counted", text_of(b, "#script-count"),
-                   "With the flag bit alone, receivers show a text that nobody sent. With the dwell none does.")
+                   "With the flag bit alone, receivers show a mix: a text. With the dwell none does.")
         self.check("it is the example", of(b, "#script-text", "value"), example("mix.csv").decode())
         before = printed(b)
         b.run("scriptTab.timeline.move(30)")
@@ -94,8 +94,8 @@ class ScriptTab:
         open_script(b, "".join(f"{line}GG\n" for line in example("chanson.csv").decode().splitlines()), m=8, k=0)
         names = b.run("scriptTab.timeline.lanes.map(lane => lane.name.trim())")
         self.check("names and tags have lanes", (names.count("its name"), names.count("its tags")), (5, 5))
-        views = "[...scriptTab.state.alone, ...scriptTab.state.said.views]"
-        last = b.run(f"{views}.map(view => view.parts.tag1.at(-1).value.text)")
+        views = "[...scriptTab.state.alone, ...scriptTab.state.shown.views]"
+        last = b.run(f"{views}.map(view => [...view.parts.tag1].at(-1).value.text)")
         self.check("tags of both kinds of receivers", last, ["Édith Piaf"] * 4)
         self.check("nothing is taken for a mix", "No receiver shows a mix" in text_of(b, "#script-count"), True)
         sent = "[...scriptTab.timeline.lanes[0].codes]"
@@ -113,7 +113,7 @@ class ScriptTab:
         open_script(b, example("wrong.csv").decode(), m=8, k=0, w=8)
         self.check("the command", text_of(b, "#script-command"), "rdsrt sim --pi C201 --pty 10 --m 8 --k 0 --confirm 8")
         self.check("a radio shows a text that nobody sent", text_of(b, "#script-count"),
-                   "With the flag bit alone, receivers show a text that nobody sent. With the dwell none does.")
+                   "With the flag bit alone, receivers show a mix: a text. With the dwell none does.")
         self.check("the brush for wrong groups", of(b, "#brush-wrong", "hidden"), False)
         call(b, "probe.choose", "script-w", "")
         settle(b)

@@ -1,32 +1,33 @@
-"""The timelines of the page: their marks, zoom, overview, shapes and pictures."""
-from tests.page_support import (GROUPS, HI, NOTHING, SCHEMES, YO, ChromiumCase, FirefoxCase, call, first_examples, of,
-                                settle, text_of, verdict_of)
+"""The timelines of the page: their marks, zoom, shapes and pictures."""
+from tests.page_support import (GROUPS, HI, NOTHING, SCHEMES, YO, ChromiumCase, FirefoxCase, call, click,
+                                first_examples, of, settle, text_of, verdict_of)
 
 # of texts, and of shapes without a text
 CONTRAST, GRAPHIC_CONTRAST = 4.5, 3
-LEGEND = ["text, flag A", "text, flag B", "name (PTYN)", "tags", "other", "no group", "never sent", "old"]
+LEGEND = ["text, flag A", "text, flag B", "name (PTYN)", "tags", "other", "no group", "lost", "a mix", "old"]
 
 
 class Timeline:
     def test_labels_of_marks_do_not_overlap(self):
-        """A label ends before the next mark. Marks without room are strokes in a calm colour, and a bad one is seen
-        among them."""
+        """A label ends before the next mark, or is left out. Marks without room are strokes in a calm colour, and a bad
+        one is seen among them."""
         b = self.b
         log = "".join(f"{line}\n" for line in (GROUPS[2], GROUPS[3], "C201 2150 4E45 5753",
                                                "C201 2151 2031 320D")) * 2500
         verdict_of(b, log, 8)
         b.run("logTab.timeline.fit()")
-        seen = b.run("probe.columnsOf(logTab.timeline, 'events', 'accent', 'dim', 'bad')")
-        self.check("many marks are no bar", (seen["accent"], seen["dim"] > seen["width"] / 2, seen["bad"] > 1),
+        seen = b.run("probe.columnsOf(logTab.timeline, 'events', 'text', 'dim', 'bad')")
+        self.check("many marks are no bar", (seen["text"], seen["dim"] > seen["width"] / 2, seen["bad"] > 1),
                    (0, True, True))
         self.check("and have no labels", b.run("probe.labels(logTab.timeline, 'events')"), [])
-        for across, is_cut in ((26, True), (8, False)):
+        for across, least in ((26, 0), (8, 3)):
             b.run(f"Object.assign(logTab.timeline, {{ from: 100, across: {across} }})")
             told = b.run("probe.labels(logTab.timeline, 'events')")
-            places = b.run("logTab.timeline.lanes[1].marks.map(mark => logTab.timeline.x(mark.at))")
+            places, all_labels = b.run("(marks => [marks.map(mark => logTab.timeline.x(mark.from)), "
+                                       "marks.map(mark => mark.label)])([...logTab.timeline.lanes[1].marks])")
             over = [text for text, left, right in told if any(left < x <= right for x in places)]
-            self.check(f"no mark is on a label in {across} slots", (over, len(told) >= across / 2 - 1), ([], True))
-            self.check(f"labels of {across} slots", {text.endswith("…") for text, *_ in told}, {is_cut})
+            self.check(f"no mark is on a label in {across} slots", (over, len(told) >= least), ([], True))
+            self.check(f"labels of {across} slots are whole", {text for text, *_ in told} - set(all_labels), set())
         first_examples(b)
 
     def test_drags_and_keys_zoom_and_move(self):
@@ -52,14 +53,15 @@ class Timeline:
             b.drag(axis(29), axis(29), clicks=clicks)
         self.check("a double click on the axis shows all slots", (b.run(sight), b.run("scriptTab.timeline.cursor")),
                    ([0, count], 29))
-        texts = b.run("scriptTab.state.air.parts.text.filter(run => run.value !== null).map(run => run.from)")
+        texts = b.run("[...scriptTab.state.air.parts.text].filter(run => run.value !== null).map(run => run.from)")
         call(b, "scriptTab.timeline.move", texts[0])
         b.key("n")
         self.check("N goes to the next text", b.run("scriptTab.timeline.cursor"), texts[1])
         b.key("p")
         at = b.run("scriptTab.timeline.cursor")
         self.check("P goes to the one before", at, texts[0])
-        changes = b.run("[...scriptTab.timeline.changes]")
+        starts = "[...lane.runs ?? lane.marks ?? []].map(it => it.from)"
+        changes = b.run(f"scriptTab.timeline.lanes.flatMap(lane => {starts})")
         b.key("N", modifiers=8)
         self.check("Shift and N go to the next change of any part", b.run("scriptTab.timeline.cursor"),
                    min(it for it in changes if it > at))
@@ -71,39 +73,59 @@ class Timeline:
                        b.run(f"scriptTab.state.rows[{at}].receptions[scriptTab.state.chosen]"), key.upper())
         first_examples(b)
 
-    def test_the_overview_shows_all_slots_and_a_frame(self):
-        """The frame can be dragged, clicked and moved by key."""
+    def test_a_bar_moves_the_slots_in_sight(self):
+        """It can be clicked, dragged and moved by key. A screen reader hears the slots."""
         b = self.b
-        log = f"{HI}\n" * 400 + f"{NOTHING}\n" * 400 + f"{HI}\n" * 150 + f"{GROUPS[2]}\n" + f"{HI}\n" * 49
-        verdict_of(b, log, 8)
-        canvas = "document.querySelector('#log-time .overview canvas')"
-        box = "logTab.timeline"
-        place = lambda slot: b.run(f"probe.onOverview({box}, {slot})")
-        self.check("no other height than its own", of(b, "#log-time .overview", "offsetHeight"), 30)
-        column = lambda slot: b.run(f"probe.column({canvas}, {box}.gutter + ({slot} + 0.5) / 1000 * {box}.room, 3, 24)")
-        self.check("it shows groups, and slots without one", ["#" in column(slot) for slot in (200, 600)],
-                   [True, False])
-        call(b, "logTab.timeline.move", 0)
-        self.check("a bad mark is red", [b.run(f"probe.isRed({box}, {slot})") for slot in (200, 600, 950)],
-                   [False, False, True])
-        b.run(f"{box}.zoomTo(100, 200)")
-        b.run(f"{box}.paint()")
-        b.drag(place(900), place(900))
-        self.check("a click brings slots into sight", abs(b.run(f"{box}.from") - 850) < 3, True)
-        b.drag(place(880), place(480))
-        self.check("the frame is dragged", abs(b.run(f"{box}.from") - 450) < 5, True)
-        self.check("the pointer is on the strip", b.run("document.activeElement.className"), "scroll")
-        before = b.run(f"{box}.from")
+        verdict_of(b, f"{HI}\n" * 1000, 8)
+        bar = "logTab.timeline.scroll"
+        self.check("all slots are in sight", b.run(f"[{bar}.max, {bar}.value, {bar}.disabled]"), ["0", "0", True])
+        b.run("logTab.timeline.zoomTo(100, 200); logTab.timeline.paint()")
+        self.check("it shows where they are", b.run(f"[{bar}.max, {bar}.value, {bar}.disabled]"), ["900", "100", False])
+        b.run(f"{bar}.scrollIntoView()")
+        box = ("left", "top", "width", "height")
+        left, top, width, height = (b.run(f"{bar}.getBoundingClientRect().{it}") for it in box)
+        place = lambda share: (left + share * width, top + height / 2)
+        b.drag(place(0.5), place(0.5))
+        self.check("a click", abs(b.run("logTab.timeline.from") - 450) < 20, True)
+        b.drag(place(0.5), place(0.25))
+        self.check("a drag", abs(b.run("logTab.timeline.from") - 225) < 20, True)
+        before = b.run("logTab.timeline.from")
         b.key("ArrowRight")
-        self.check("a key moves it", b.run(f"{box}.from") > before, True)
-        self.check("a reader is told the slots", of(b, "#log-time .scroll", "ariaValueText").endswith(" of 1,000"),
-                   True)
+        self.check("a key", b.run("logTab.timeline.from") > before, True)
+        b.run("logTab.timeline.zoomTo(100, 200); logTab.timeline.paint()")
+        self.check("a reader hears the slots", of(b, "#log-time .scroll", "ariaValueText"), "slots 100 to 199 of 1,000")
         b.key("Tab", modifiers=8)
         b.key("Tab")
-        outline = "getComputedStyle(document.querySelector('#log-time .overview')).outlineStyle"
-        focus = b.run(f"[document.activeElement.className, {outline}]")
+        focus = b.run(f"[document.activeElement.className, getComputedStyle({bar}).outlineStyle]")
         # the window of a headless Firefox has no focus, so it shows none
         self.check("the focus is to be seen", focus, ["scroll", "solid" if b.run("document.hasFocus()") else "none"])
+        first_examples(b)
+
+    def test_a_picture_has_a_caption_over_its_lanes(self):
+        """It has the file or the example, the station, the options, the slots in sight and the answer."""
+        b = self.b
+        log = "".join(f"{HI} @2024/06/01 07:58:{second}.00\n" for second in range(12, 32))
+        call(b, "probe.drop", "own.log", log)
+        settle(b)
+        b.run("logTab.timeline.zoomTo(4, 14)")
+        captions = {"log": b.run("picture.caption(logTab.timeline)")}
+        call(b, "probe.choose", "log-example", 3)
+        settle(b)
+        captions["window"] = b.run("picture.caption(logTab.timeline)")[:1]
+        call(b, "page.tab", "script")
+        call(b, "probe.choose", "script-example", 0)
+        settle(b)
+        count = b.run("scriptTab.timeline.count")
+        captions["script"] = b.run("picture.caption(scriptTab.timeline)")
+        self.check("captions", captions, {
+            "log": ["own.log · station C201 · M = 128, K = 0",
+                    "slots 4 to 13 of 20 · 0.35 s to 1.14 s · 07:58:16 to 07:58:25", "Cannot say"],
+            "window": ["A wrong group, heard twice · station C201 · M = 8, K = 0, W = 8"],
+            "script": ["The mix: a long tunnel · station C201 · M = 8, K = 0",
+                       f"slots 0 to {count - 1} of {count} · 0.00 s to {call(b, 'lines.time', count - 1)}",
+                       text_of(b, "#script-count")]})
+        drawn = b.run("[probe.pictured(scriptTab.timeline), probe.endsWithTimeline(scriptTab.timeline)]")
+        self.check("a picture has its caption and the lanes", drawn, [captions["script"], True])
         first_examples(b)
 
 
@@ -122,10 +144,15 @@ class Chromium(Timeline, ChromiumCase):
             settle(b)
             legend = dict(call(b, "probe.swatches", "log"))
             self.check(f"the legend, {scheme}", list(legend), LEGEND)
-            shapes = list(legend.values())[:6]
-            self.check(f"shapes differ, {scheme}", (len(set(shapes)), [it for it in shapes if "#" not in it]), (6, []))
+            shapes = list(legend.values())[:7]
+            self.check(f"shapes differ, {scheme}", (len(set(shapes)), [it for it in shapes if "#" not in it]), (7, []))
             self.check(f"the lane has the shapes of the legend, {scheme}", b.run("probe.ticks(logTab.timeline, 6)"),
-                       shapes)
+                       shapes[:6])
+            b.run("logTab.lose([5])")
+            settle(b)
+            self.check(f"and a lost slot its own, {scheme}", b.run("probe.ticks(logTab.timeline, 6)"),
+                       [*shapes[:5], shapes[6]])
+            click(b, "#log-unlose")
             self.check(f"ticks, bars and marks stand out, {scheme}", call(b, "probe.faint", GRAPHIC_CONTRAST), [])
         b.scheme("light")
         other = f"{GROUPS[6]}\n"
@@ -136,34 +163,9 @@ class Chromium(Timeline, ChromiumCase):
         self.check("columns of many slots have the shape of their flag", four, alike)
         inks = b.run("[1000, 3000, 5000, 7000].map(slot => probe.sharesOf(logTab.timeline, slot))")
         self.check("and its shade, or none", inks, [1, 9, 4, 4])
-
-    def test_a_picture_has_title_displays_lanes_and_legend(self):
-        """It has the colours of the page."""
-        b = self.b
-        first_examples(b)
-        for scheme in SCHEMES:
-            b.scheme(scheme)
-            for tab in ("log", "script"):
-                call(b, "page.tab", tab)
-                call(b, "probe.choose", f"{tab}-example", 5 if tab == "log" else 0)
-                settle(b)
-                shows = f"document.querySelectorAll('#{tab} .radio figcaption span, #{tab} .radio .text')"
-                displays = b.run(f"[...{shows}].map(it => it.textContent).filter(text => text)")
-                legend = b.run(f"[...document.querySelectorAll('#{tab} .legend > span')].map(it => it.textContent)")
-                all_texts = b.run(f"probe.pictured({tab}Tab.timeline)")
-                texts = [text for _, text, _ in all_texts]
-                drawn = " ".join(texts)
-                missing = [it for it in displays if it not in drawn and it not in drawn.replace("  ", " ")]
-                self.check(f"{scheme} {tab}: the displays are drawn", (len(displays) > 4, missing), (True, []))
-                self.check(f"{scheme} {tab}: the title is first, the legend last", (texts[0], texts[-len(legend):]),
-                           (b.run(f"{tab}Tab.timeline.title"), legend))
-                colours = {ink for _, _, ink in all_texts[-len(legend):]}
-                dim = b.run("getComputedStyle(document.documentElement).getPropertyValue('--dim').trim()")
-                self.check(f"{scheme} {tab}: its colour", colours, {dim})
-                is_marked = any(text.startswith("⚠ nobody sent") for text in texts)
-                self.check(f"{scheme} {tab}: a mix is marked", is_marked, True)
-        b.scheme("light")
-        first_examples(b)
+        call(b, "logTab.lose", list(range(5000, 5200)))
+        settle(b)
+        self.check("and that of lost slots", b.run("probe.ticks(logTab.timeline, 5101, 5100)"), [shapes[6]])
 
 
 class Firefox(Timeline, FirefoxCase):

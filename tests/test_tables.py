@@ -17,7 +17,6 @@ DWELLS = [
 ]
 # each table of names: a file, and the pattern in front of the names between quotation marks
 NAMES = [
-    ("page/lines.js", r"CLASSES = \["),
     ("bench/c/decode.c", r"classes\[12\] = \{"),
 ]
 

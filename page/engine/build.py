@@ -16,9 +16,11 @@ import sys
 
 PAGE_FOLDER = os.path.dirname(os.path.dirname(os.path.abspath(__file__)))
 # Each script uses only names of scripts before it. A worker runs those of WORKER.
-WORKER = ["lines.js", "rdsrt.js", "flag-alone.js", "logfile.js", "witness.js", "worker.js"]
-PAGE = ["lines.js", "rdsrt.js", "records.js", "flag-alone.js", "logfile.js", "painter.js", "picture.js", "timeline.js", "parts.js",
-        "undo.js", "links.js", "log-worker.js", "log-text.js", "groups.js", "changes.js", "verdict.js", "passing.js", "log.js", "script.js", "dwell.js", "app.js"]
+BOTH = ["lines.js", "rdsrt.js", "views.js", "records.js", "logfile.js", "player.js"]
+WORKER = [*BOTH, "witness.js", "worker.js"]
+PAGE = [*BOTH, "painter.js", "parts.js", "lane-items.js", "picture.js", "timeline.js", "undo.js", "links.js",
+        "program-worker.js", "log-text.js", "groups.js", "changes.js", "verdict.js", "passing.js", "log.js", "script.js",
+        "dwell.js", "app.js"]
 DEFINED = re.compile(r"^(?:const|class) (\w+)", re.M)
 
 ENCODE = ["encode", "--pi", "C201", "--pty", "10", "--m", "8"]
@@ -56,13 +58,13 @@ def shown(folder, rows):
 
 
 def tunnel(folder, receiver=1):
-    """The log of mix.csv with the slots lost that this receiver loses: one example, which the page opens first."""
+    """The log of mix.csv with the slots lost that this receiver loses: one example."""
     with open(os.path.join(folder, "mix.csv"), encoding="utf-8", newline="") as file:
         rows = list(csv.reader(file))
     text = io.StringIO()
     csv.writer(text, lineterminator="\n").writerows([*row[:3], ""] for row in rows)
     lost = [slot for slot, row in enumerate(rows) if row[3][receiver] == "L"]
-    return {"name": "A long tunnel", "text": text.getvalue(), "from": ENCODE, "pi": "C201", "m": 8, "lost": lost, "isFirst": True}
+    return {"name": "A long tunnel", "text": text.getvalue(), "from": ENCODE, "pi": "C201", "m": 8, "lost": lost}
 
 
 def write(out, name, constant, value):

@@ -1,6 +1,6 @@
 "use strict";
-/* Asks a worker to run the program over one log: worker.js. */
-class LogWorker {
+/* Asks a worker to run the program over a log or a script: worker.js. */
+class ProgramWorker {
   constructor(compiled) {
     this.compiled = compiled;
     this.start();
@@ -23,8 +23,9 @@ class LogWorker {
     if (error === undefined) asked.resolve(answer); else asked.reject(new Error(error));
   }
 
-  /* Asks for one thing. `tell` hears which share of it is done. */
+  /* Asks for one thing. `tell` hears how far it is. */
   ask(call, given, tell = () => {}) {
+    if (!this.worker) this.start();
     const id = ++this.last;
     return new Promise((resolve, reject) => {
       this.waiting.set(id, { resolve, reject, tell });
@@ -36,7 +37,8 @@ class LogWorker {
   async askNewest(call, given) {
     const before = this.newest.get(call)?.answer;
     this.newest.set(call, { given });
-    await before;
+    // an older call may have failed
+    await before?.catch(() => {});
     if (this.newest.get(call)?.given !== given) return undefined;
     const answer = this.ask(call, given);
     this.newest.set(call, { given, answer });
@@ -44,11 +46,13 @@ class LogWorker {
   }
 
   /* Drops all that was asked: its callers get no answer. */
-  drop() {
-    if (!this.waiting.size) return;
+  drop() { if (this.waiting.size) this.end(); }
+
+  /* Ends the worker, which frees its memory, and drops all that was asked. The next question starts it again. */
+  end() {
     const { waiting } = this;
-    this.worker.terminate();
-    this.start();
+    this.worker?.terminate();
+    Object.assign(this, { worker: null, waiting: new Map(), newest: new Map() });
     for (const { resolve } of waiting.values()) resolve(undefined);
   }
 }

@@ -1,0 +1,168 @@
+"""Long and nasty inputs: no task of the page may hold up what people do, and no more than 1 GB may be in use."""
+import os
+import re
+import tempfile
+
+from tests.page_support import (NOTHING, ChromiumCase, FirefoxCase, call, idle, longest_task, of, program, settle,
+                                shown, text_of)
+
+# milliseconds: on a quiet machine no task is above 200, and other work may triple that
+LONGEST_TASK = 600
+MOST_MEMORY = 1 << 30
+ROWS, RECEIVERS = 200_000, 8
+# a day of slots, whose flag turns every two slots
+DAY = 982_000
+# seconds: a slow machine judges a day of slots so long before it searches
+JUDGED = 300
+TYPED = "Song of the night"
+# each 997th of a million changes is compared
+EACH = 997
+
+
+def turning():
+    """Returns the log of a day with a text of its own in every two slots."""
+    for number in range(DAY // 2):
+        text = f"{number:06d}X\r".encode().hex().upper()
+        for segment, half in enumerate((text[:8], text[8:])):
+            yield f"C201 21{4 + number % 2}{segment} {half[:4]} {half[4:]}\n"
+
+
+def file_of(b, path):
+    """Makes a file of the disk one of the page, `day`."""
+    b.run("document.body.append(Object.assign(document.createElement('input'), { type: 'file', id: 'own' }))")
+    root = b.ask("DOM.getDocument")["root"]["nodeId"]
+    field = b.ask("DOM.querySelector", nodeId=root, selector="#own")["nodeId"]
+    b.ask("DOM.setFileInputFiles", files=[path], nodeId=field)
+    b.run("window.day = document.querySelector('#own').files[0]; document.querySelector('#own').remove()")
+
+
+def memory_of_renderers(driver):
+    """Returns the most bytes that a renderer of this driver's browser has in memory."""
+    parents, sizes = {}, {}
+    for name in filter(str.isdigit, os.listdir("/proc")):
+        try:
+            with open(f"/proc/{name}/status", encoding="utf-8") as status, open(f"/proc/{name}/cmdline", "rb") as words:
+                told = dict(line.split(":", 1) for line in status.read().splitlines() if ":" in line)
+                parents[int(name)] = int(told["PPid"])
+                if b"--type=renderer" in words.read():
+                    sizes[int(name)] = int(told["VmRSS"].split()[0]) * 1024
+        except (OSError, KeyError):
+            # it ended meanwhile
+            continue
+    root = driver.service.process.pid
+
+    def is_below(pid):
+        while pid not in (root, 0):
+            pid = parents.get(pid, 0)
+        return pid == root
+
+    return max(size for pid, size in sizes.items() if is_below(pid))
+
+
+class Long:
+    def test_of_several_edits_only_the_last_ones_result_is_shown(self):
+        b = self.b
+        call(b, "page.tab", "script")
+        call(b, "scriptTab.open", b.run("probe.scriptOf(20000)"), {"m": 8, "k": 0})
+        b.run("window.drawn = 0; window.show = scriptTab.timeline.show; scriptTab.timeline.show = "
+              "function (...given) { drawn++; show.apply(this, given); }; undefined")
+        b.run("scriptTab.timeline.move(10)")
+        b.run("['restart', 'tags', '-', 'restart'].forEach(command => probe.choose('command', command))")
+        self.check("the row has the last edit at once", b.run("scriptTab.state.rows[10].command"), "restart")
+        idle(b)
+        script = b.run("scriptTab.state.text")
+        wanted = program(["sim", "--pi", "C201", "--pty", "10", "--m", "8", "--k", "0"], script.encode())[1]
+        self.check("one result is shown, the last one's",
+                   (b.run("drawn"), b.run("scriptTab.state.result.output") == wanted[:1_600_004]), (1, True))
+        b.run("scriptTab.timeline.show = show; undefined")
+
+    def test_the_search_for_a_witness_says_how_long_it_takes_and_can_be_stopped(self):
+        """Two short texts in turn make no mix, so the search takes the whole log."""
+        b = self.b
+        groups = "".join(f"C201 21{flag}0 {text} 0D20\\n" * 2 for flag, text in ((4, "4849"), (5, "594F")))
+        b.run(f"page.openFile(new File(['{groups}'.repeat({DAY // 4})], 'day.log')); undefined")
+        searches = b.until("document.querySelector('#search-stop')?.hidden === false", JUDGED)
+        self.check("a button stops it", searches, True)
+        told = re.fullmatch(r"Looking for lost slots that make a mix in ([\d,]+) slots, for (\d+) s …",
+                            text_of(b, "#search"))
+        self.check("its line", told is not None, True, text_of(b, "#verdict"))
+        b.run("document.querySelector('#search-stop').click()")
+        self.check("it stops at once", text_of(b, "#witness"),
+                   "No witness: the search was stopped. A no says that a rule was broken.")
+        idle(b)
+        self.check("and stays so", text_of(b, "#witness"),
+                   "No witness: the search was stopped. A no says that a rule was broken.")
+        call(b, "probe.choose", "log-m", 2)
+        settle(b)
+        self.check("another M is judged", text_of(b, "#verdict h2").endswith("with M = 2 (0.18 s)"), True)
+
+
+class Chromium(Long, ChromiumCase):
+    def test_a_long_script_is_edited_without_a_pause(self):
+        """The page plays it in a worker."""
+        b = self.b
+        call(b, "page.tab", "script")
+        b.run(f"window.long = probe.scriptOf({ROWS}); undefined")
+        edit = f"(scriptTab.timeline.move(900), probe.typeAndLeave({TYPED!r}, 960))"
+        steps = {"opened": "scriptTab.open(long, { m: 128, k: 0 })", "a letter is typed": edit,
+                 "a reception": "(scriptTab.timeline.canvas.focus(), scriptTab.timeline.onKey('l', {}))",
+                 "undone": "document.querySelector('#script-undo').click()",
+                 "another M": "probe.choose('script-m', 100)",
+                 "fewer receivers": f"probe.choose('script-n', {RECEIVERS - 1})"}
+        for name, step in steps.items():
+            longest = longest_task(b, step, LONGEST_TASK)
+            self.check(f"{name}: no task of more than {LONGEST_TASK} ms", longest <= LONGEST_TASK or longest, True)
+            if name != "a letter is typed":
+                continue
+            self.check("the row has the text", b.run("scriptTab.state.rows[900].argument"), TYPED)
+            script = b.run("scriptTab.state.text").encode()
+            wanted = program(["sim", "--pi", "C201", "--pty", "10", "--m", "128", "--k", "0"], script)[1]
+            self.check("it is played", b.run("scriptTab.state.result.output") == wanted[:1_600_004], True)
+            b.run("scriptTab.timeline.move(1000)")
+            self.check("and shown", shown(b, "script-air"), TYPED)
+            waits = "document.querySelector('#script-wait').checkVisibility()"
+            b.run("probe.choose('command', 'restart')")
+            dim = "[...document.querySelectorAll('#script .stage, #script-count, #script-time')]" \
+                ".map(it => getComputedStyle(it).opacity)"
+            self.check("a line says that it is played, and the old result is pale", (b.until(waits), b.run(dim)),
+                       (True, ["0.35"] * 3))
+            idle(b)
+            self.check("until the new one is there", (b.run(waits), b.run(dim)), (False, ["1"] * 3))
+
+    def test_a_log_whose_flag_turns_all_the_time_holds_nothing_up(self):
+        b = self.b
+        with tempfile.NamedTemporaryFile("w", suffix=".log") as file:
+            file.writelines(turning())
+            file.flush()
+            file_of(b, file.name)
+            self.nothing_holds_up(b)
+        groups = list(turning())
+        for slot in b.run("[...logTab.state.lost]"):
+            groups[slot] = f"{NOTHING}\n"
+        output = program(["decode", "--pi", "C201", "--m", "64"], "".join(groups).encode())[1]
+        told = [[int(slot), text or None] for slot, text in re.findall('^(\\d+) text (?:"(.*)"|none)$', output, re.M)]
+        runs = "logTab.state.view.parts.text"
+        some = b.run(f"Array.from({runs}.starts.keys()).filter(i => i % {EACH} === 0)"
+                     f".map(i => [{runs}.from(i), {runs}.value(i)])")
+        self.check("some of what is shown", (b.run(f"{runs}.length"), some), (len(told), told[::EACH]))
+        shows = sum(1 for _, text in told if text)
+        self.check("its changes", text_of(b, "#log-found").partition(" of ")[2], f"{shows:,} changes")
+        self.check("its answer", text_of(b, "#verdict h2 code"), "EarlyFlag")
+
+    def nothing_holds_up(self, b):
+        """Measures each step over the open log."""
+        b.run("document.querySelector('#log-text').closest('details').open = true")
+        steps = {"opened": "page.openFile(day)", "another M": "probe.choose('log-m', 100)",
+                 "a lost slot": "logTab.lose([500_001 + 2 * logTab.state.lost.size])",
+                 "another M then": "probe.choose('log-m', 64)",
+                 "at the end": f"logTab.timeline.move({DAY - 1})", "its list": "probe.choose('log-find', '45678')",
+                 "all in sight": "logTab.timeline.act('all')", "the next text": "logTab.timeline.act('next')"}
+        for name, step in steps.items():
+            longest = longest_task(b, step, LONGEST_TASK)
+            memory = memory_of_renderers(b.driver)
+            self.check(f"{name}: no task of more than {LONGEST_TASK} ms", longest <= LONGEST_TASK or longest, True)
+            self.check(f"{name}: memory", memory <= MOST_MEMORY or memory, True)
+
+
+class Firefox(Long, FirefoxCase):
+    pass
