@@ -600,6 +600,25 @@ def radios_and_what_is_on_air():
     return "radios and what is on air", "sim --m 2 --pi C201 --pty 10 --flag-alone", 0, script, shown
 
 
+def why_texts_are_not_shown():
+    """Gives rows of a text that goes: the next one began, no segment came for M slots, and a receiver restarted. With a
+    window the next one begins with the segment that comes again."""
+    hell, o = b"C201 2150 4845 4C4C\n", b"C201 2151 4F0D 2020\n"
+    shown = b'0 text "HI"\n1 text none next\n2 text "HELLO"\n4 text none dropped\n'
+    yield "why a text goes", "decode --pi C201 --m 2 --why", 0, HI + hell + o + NO_GROUP * 2, shown
+    shown = b'1 text "HI"\n3 text none next\n'
+    yield "why a text goes, twice", "decode --pi C201 --m 4 --confirm 2 --why", 0, HI * 2 + hell * 2, shown
+    script = b"-,,1,GG\n" * 2 + b"text,HI,1,GG\n-,,1,RG\n-,,0,GG\n"
+    shown = b"""2 text ok
+2 sent C201 2140 4849 0D20
+2 r0 text "HI"
+2 r1 text "HI"
+3 r0 text none restarted
+4 r1 text none dropped
+"""
+    yield "why texts go in a world", "sim --m 2 --pi C201 --pty 10 --why", 0, script, shown
+
+
 def much_output():
     """Returns a row with more output for one read than the program writes at once."""
     shown = b"".join(b'%d text "%s"\n' % (slot, (b"HI", b"YO")[slot % 2]) for slot in range(2000))
@@ -651,6 +670,7 @@ def rows():
     yield from in_order()
     yield from (second_name(), tags_after_the_dwell(), longest_dwell(), silent_and_held_for_late_groups())
     yield radios_and_what_is_on_air()
+    yield from why_texts_are_not_shown()
     yield much_output()
     yield from carriage_return_at_each_place()
     yield from decoded_classes()

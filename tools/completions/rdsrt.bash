@@ -10,12 +10,12 @@ _rdsrt() {
     case $command in
         '') offered='decode audit witness slots encode sim help --help --version' ;;
         help) offered='decode audit witness slots encode sim help' ;;
-        decode) offered='--pi --m --confirm --quiet --help' ;;
+        decode) offered='--pi --m --confirm --why --quiet --help' ;;
         witness) offered='--pi --m --quiet --help' ;;
         audit) offered='--pi --m --k --running --quiet --help' ;;
         slots) offered='--pi --grain --m --quiet --help' ;;
         encode) offered='--pi --m --k --pty --tp --quiet --help' ;;
-        sim) offered='--pi --m --k --pty --tp --confirm --flag-alone --quiet --help' ;;
+        sim) offered='--pi --m --k --pty --tp --confirm --flag-alone --why --quiet --help' ;;
     esac
     mapfile -t COMPREPLY < <(compgen -W "$offered" -- "$word")
 }

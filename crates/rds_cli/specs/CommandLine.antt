@@ -79,6 +79,10 @@ running_rule = flag_rule (codes "running")
 abbrev pub flag_alone_rule : Rule
 flag_alone_rule = flag_rule (codes "flag-alone")
 
+-- `--why`
+abbrev pub why_rule : Rule
+why_rule = flag_rule (codes "why")
+
 -- `--quiet`
 abbrev pub quiet_rule : Rule
 quiet_rule = flag_rule (codes "quiet")
@@ -97,7 +101,7 @@ confirm_rule = record (new_rule (codes "confirm")) {
 
 -- the subcommand that decodes a log
 unfoldable pub decode_app : Text → App
-decode_app name = with_rule (log_app name) confirm_rule
+decode_app name = with_rule (with_rule (log_app name) confirm_rule) why_rule
 
 -- a subcommand that takes `--k`
 unfoldable pub late_app : Text → App
@@ -125,7 +129,7 @@ station_app name = with_rule (with_rule (late_app name) pty_rule) tp_rule
 
 -- the subcommand that simulates a station and its receivers
 unfoldable pub sim_app : Text → App
-sim_app name = with_rule (with_rule (station_app name) confirm_rule) flag_alone_rule
+sim_app name = with_rule (with_rule (with_rule (station_app name) confirm_rule) flag_alone_rule) why_rule
 
 -- `rdsrt`, which has a version and requires a subcommand
 abbrev pub top_app : App
@@ -201,6 +205,9 @@ running_in = flag_in (codes "running")
 abbrev pub flag_alone_in : List Row → Bool
 flag_alone_in = flag_in (codes "flag-alone")
 
+abbrev pub why_in : List Row → Bool
+why_in = flag_in (codes "why")
+
 abbrev pub quiet_in : List Row → Bool
 quiet_in = flag_in (codes "quiet")
 
@@ -224,11 +231,12 @@ with_station task rows = option_and_then (λ programme. option_map (task program
 
 abbrev pub task_in : Text → List Row → Option Task
 task_in name rows =
-    if bytes_eq name (codes "decode") then option_map Decode (window_in rows)
+    if bytes_eq name (codes "decode") then option_map (λ window. Decode window (why_in rows)) (window_in rows)
     else if bytes_eq name (codes "encode") then with_station Encode rows
     else if bytes_eq name (codes "sim")
     then option_and_then
-    (λ window. with_station (λ programme late. Simulate programme late window (flag_alone_in rows)) rows) (window_in rows)
+    (λ window. with_station (λ programme late. Simulate programme late window (flag_alone_in rows) (why_in rows)) rows)
+    (window_in rows)
     else if bytes_eq name (codes "audit") then option_map (λ late. Audit late (running_in rows)) (late_in rows)
     else if bytes_eq name (codes "witness") then Some Witness
     else if bytes_eq name (codes "slots") then option_map (λ grain. Slots grain (has_value (codes "pi") rows)) (grain_in rows)

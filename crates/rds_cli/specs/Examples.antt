@@ -25,11 +25,15 @@ pub record CallForHelp (words : List Text) : Type 0 where
   pub kinds : fault_of whole_app words ≡ DisplayHelp ∷ InvalidSubcommand ∷ []
 
 abbrev pub decoding : Text → ℕ → Requested
-decoding pi dwell = record { task = Decode None; pi = pi; dwell = dwell; quiet = false }
+decoding pi dwell = record { task = Decode None false; pi = pi; dwell = dwell; quiet = false }
 
 -- the same of what was heard twice within a window
 abbrev pub confirming : ℕ → ℕ → Requested
-confirming dwell window = record { task = Decode (Some window); pi = codes "C201"; dwell = dwell; quiet = false }
+confirming dwell window = record { task = Decode (Some window) false; pi = codes "C201"; dwell = dwell; quiet = false }
+
+-- the same with reasons, without a window
+abbrev pub decoding_why : ℕ → Requested
+decoding_why dwell = record { task = Decode None true; pi = codes "C201"; dwell = dwell; quiet = false }
 
 abbrev pub encoding : ℕ → ℕ → Requested
 encoding dwell pty =
@@ -37,21 +41,21 @@ encoding dwell pty =
 
 abbrev pub simulating : ℕ → ℕ → Bool → ℕ → Requested
 simulating dwell pty tp late =
-    record { task = Simulate (record { pty = pty; tp = tp }) late None false; pi = codes "C201"; dwell = dwell; quiet = false }
+    record { task = Simulate (record { pty = pty; tp = tp }) late None false false; pi = codes "C201"; dwell = dwell; quiet = false }
 
 -- the same with a window, without these options
 abbrev pub simulating_twice : ℕ → ℕ → Requested
 simulating_twice dwell window = record {
-  task = Simulate (record { pty = 0; tp = false }) 0 (Some window) false;
+  task = Simulate (record { pty = 0; tp = false }) 0 (Some window) false false;
   pi = codes "C201";
   dwell = dwell;
   quiet = false;
 }
 
--- the simulation of radios that follow the flag bit alone
-abbrev pub simulating_flag_alone : ℕ → Requested
-simulating_flag_alone dwell = record {
-  task = Simulate (record { pty = 0; tp = false }) 0 None true;
+-- the simulation of radios that follow the flag bit alone, with reasons or without
+abbrev pub simulating_flag_alone : ℕ → Bool → Requested
+simulating_flag_alone dwell why = record {
+  task = Simulate (record { pty = 0; tp = false }) 0 None true why;
   pi = codes "C201";
   dwell = dwell;
   quiet = false;

@@ -5,7 +5,7 @@ ghost use Rattle.clap.specs.declared.builder.command.Command.TheViews.{out-Comma
 ghost use Rattle.rds_cli.specs.CommandLine.{audit_app, confirm_rule, decode_app, dwell_rule, flag_rule, grain_rule};
 ghost use Rattle.rds_cli.specs.CommandLine.{flag_alone_rule, late_app, late_rule};
 ghost use Rattle.rds_cli.specs.CommandLine.{log_app, number_rule, own_pi_rule, pi_rule, pty_rule, quiet_rule};
-ghost use Rattle.rds_cli.specs.CommandLine.{running_rule, sim_app, slots_app, station_app, timed_app, top_app, tp_rule, whole_app};
+ghost use Rattle.rds_cli.specs.CommandLine.{running_rule, sim_app, slots_app, station_app, timed_app, top_app, tp_rule, whole_app, why_rule};
 
 use clap::builder::ValueParser;
 use clap::{Arg, ArgAction, Command, value_parser};
@@ -181,6 +181,20 @@ fn flag_alone<'a>(alloc: Global) -> Arg<'a>
     )
 }
 
+/// Makes the flag `--why`.
+fn why<'a>(alloc: Global) -> Arg<'a>
+    ensures rule { rule_of result ≡ why_rule }
+    ensures local { result.global ≡ false }
+{
+    let help = "Says why a text or a name is not shown any more";
+    flag(alloc, "why", help).long_help(
+        "Says why a text or a name is not shown any more, as in `9 text none dropped`:\n  \
+           next       a segment of the next one came, which is not whole yet\n  \
+           dropped    no segment came for M slots\n  \
+           restarted  the receiver restarted (sim)",
+    )
+}
+
 /// Makes the flag `--quiet`. Help lists it after the other options.
 fn quiet<'a>(alloc: Global) -> Arg<'a>
     ensures rule { rule_of result ≡ quiet_rule }
@@ -230,7 +244,9 @@ fn decode<'a>(alloc: Global) -> Result<Command<'a>, AllocError>
                    $ echo C201 2140 4849 0D20 | rdsrt decode --pi C201\n  \
                    0 text \"HI\"",
     };
-    log_reader(alloc, "decode", page)?.arg(confirm(alloc))
+    log_reader(alloc, "decode", page)?
+        .arg(confirm(alloc))?
+        .arg(why(alloc))
 }
 
 /// Makes a subcommand that takes `--k`.
@@ -399,7 +415,8 @@ fn simulate<'a>(alloc: Global) -> Result<Command<'a>, AllocError>
     };
     station(alloc, "sim", page)?
         .arg(confirm(alloc))?
-        .arg(flag_alone(alloc))
+        .arg(flag_alone(alloc))?
+        .arg(why(alloc))
 }
 
 /// Makes the command `rdsrt` with its version and text.

@@ -27,13 +27,26 @@ pub struct Programme {
 /// The command. `encode` and `sim` have a station; the lateness is the most slots that a group may come late.
 #[derive(Clone, Copy)]
 pub enum Task {
-    /// Print what a receiver shows of a log. With a window it shows only what it heard twice within it.
-    Decode(Option<Window>),
+    /// Print what a receiver shows of a log.
+    Decode {
+        /// With a window it shows only what it heard twice within it.
+        window: Option<Window>,
+        /// Whether the line of a text or a name that is not shown any more says why.
+        says_why: bool,
+    },
     /// Print the groups that a station sends.
     Encode(Programme, Late),
-    /// Print what a station sends and what its receivers show. With a window they show only what they heard twice within
-    /// it. The flag: in place of such receivers, radios that follow the A/B flag bit alone.
-    Simulate(Programme, Late, Option<Window>, bool),
+    /// Print what a station sends and what its receivers show.
+    Simulate {
+        programme: Programme,
+        late: Late,
+        /// With a window the receivers show only what they heard twice within it.
+        window: Option<Window>,
+        /// Whether the receivers are radios that follow the A/B flag bit alone.
+        flag_alone: bool,
+        /// Whether the line of a text or a name that is not shown any more says why.
+        says_why: bool,
+    },
     /// Print whether a log of all groups that were sent passes the audit. The flag: the station was on air before the
     /// log began.
     Audit(Late, bool),
@@ -111,12 +124,20 @@ fn task_of(name: &str, inner: &ArgMatches<'_>) -> Option<Task>
     ensures { result ≡ task_in name.now (rows_of (found_of inner.now)) }
 {
     match name {
-        "decode" => Some(Task::Decode(window_of(inner)?)),
+        "decode" => Some(Task::Decode {
+            window: window_of(inner)?,
+            says_why: is_given(inner, "why"),
+        }),
         "encode" => Some(Task::Encode(programme_of(inner)?, late_of(inner)?)),
         "sim" => {
             let window = window_of(inner)?;
-            let alone = is_given(inner, "flag-alone");
-            Some(Task::Simulate(programme_of(inner)?, late_of(inner)?, window, alone))
+            Some(Task::Simulate {
+                programme: programme_of(inner)?,
+                late: late_of(inner)?,
+                window,
+                flag_alone: is_given(inner, "flag-alone"),
+                says_why: is_given(inner, "why"),
+            })
         }
         "audit" => Some(Task::Audit(late_of(inner)?, is_given(inner, "running"))),
         "witness" => Some(Task::Witness),

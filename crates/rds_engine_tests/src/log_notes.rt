@@ -4,8 +4,9 @@ use rds_audit::{AuditFault, LogStart};
 use rds_fields::{Dwell, Late};
 use rds_io::{LogFault, Told};
 use rds_log::{
-    LineCause, LogNotes, MOST_READS, NoNote, audit_with_notes, decode_with_notes, gather,
+    Decoding, LineCause, LogNotes, MOST_READS, NoNote, audit_with_notes, decode_with_notes, gather,
 };
+use rds_receiver::Window;
 use rds_witness::witness_with_notes;
 use std::test::Fail;
 
@@ -29,6 +30,15 @@ fn dwell(slots: u16) -> Result<Dwell, Fail> {
     Ok(Dwell::new(slots).ok_or("dwell")?)
 }
 
+fn decoding(pi: u16, window: Option<Window>) -> Result<Decoding, Fail> {
+    Ok(Decoding {
+        pi,
+        dwell: dwell(128)?,
+        window,
+        says_why: false,
+    })
+}
+
 /// The note on a malformed line has its first bytes and its mistake, whatever came before it.
 #[test]
 fn causes_of_lines(rt: HostRuntime) -> Result<(), Fail> {
@@ -38,12 +48,12 @@ fn causes_of_lines(rt: HostRuntime) -> Result<(), Fail> {
         log.extend_from_slice(line)?;
         let mut output = Vec::new(rt.alloc());
         let mut notes = LogNotes::new(0);
+        // Prover: a variable of the type in `Decoding`, for the borrow checker (docs/PROVER.md, "Workarounds").
+        let window: Option<Window> = None;
         let done = decode_with_notes(
             &mut Told::new(log.as_slice()),
             &mut Told::new(&mut output),
-            0xC201,
-            dwell(128)?,
-            None,
+            decoding(0xC201, window)?,
             MOST_READS,
             &mut notes,
         );
@@ -94,12 +104,12 @@ fn programmes(rt: HostRuntime) -> Result<(), Fail> {
     ] {
         let mut output = Vec::new(rt.alloc());
         let mut notes = LogNotes::new(0);
+        // Prover: a variable of the type in `Decoding`, for the borrow checker (docs/PROVER.md, "Workarounds").
+        let window: Option<Window> = None;
         let done = decode_with_notes(
             &mut Told::new(TWO_SLOTS),
             &mut Told::new(&mut output),
-            pi,
-            dwell(128)?,
-            None,
+            decoding(pi, window)?,
             MOST_READS,
             &mut notes,
         );

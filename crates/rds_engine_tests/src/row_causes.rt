@@ -50,12 +50,12 @@ fn played(alloc: Global, form: Form, script: &[u8]) -> Result<Ended, Fail> {
         Form::Log => rds_script::Form::Log,
         Form::Receivers(late) => {
             station.premise = Premise::once(Late::new(late).ok_or("late")?);
-            rds_script::Form::Simulation
+            rds_script::Form::Simulation { says_why: false }
         }
         Form::Confirming(slots) => {
             let window = Some(Window::new(slots).ok_or("window")?);
             station.premise = Premise::new(station.premise.late(), window).ok_or("premise")?;
-            rds_script::Form::Simulation
+            rds_script::Form::Simulation { says_why: false }
         }
     };
     let script = Told::new(script);
@@ -716,7 +716,7 @@ fn same_output(rt: HostRuntime) -> Result<(), Fail> {
             &mut Told::new(&mut output),
             config(1)?,
         );
-        let form = rds_script::Form::Simulation;
+        let form = rds_script::Form::Simulation { says_why: false };
         let script = Told::new(script);
         let mut writer = Told::new(&mut other);
         let records = MOST_RECORDS;

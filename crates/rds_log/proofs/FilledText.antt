@@ -10,7 +10,8 @@ use Rattle.std.proofs.lemmas.List.{append-nil, drop_all, get_or-take, length-tak
 use Rattle.std.proofs.lemmas.List.Elements.{All-cons, All-head, All-nil, All-tail, All-take}
 use Rattle.rds_block.specs.declared.group.Group.{Group}
 use Rattle.rds_receiver.specs.Receipts.{Tuning}
-use Rattle.rds_receiver.specs.Shown.{IsView, ShownView}
+use Rattle.rds_receiver.specs.Shown.{IsView}
+use Rattle.rds_view_lines.specs.Output.{Display}
 use Rattle.rds_arrivals.specs.Arrivals.{Arrival, and_lost, filled, lost_between, lost_until}
 use Rattle.rds_arrivals.specs.Breaks.{break_of}
 use Rattle.rds_arrivals.specs.Delivered.{arrivals}
@@ -23,7 +24,7 @@ use Rattle.rds_log.specs.Fill.{AreFilled, SoFar, break_line, gap_lines, lost_lin
 use Rattle.rds_log.specs.FilledLog.{FilledTextsAreLogs, FilledTextsAreSafe}
 use Rattle.rds_log.specs.LineSays.{LineSays}
 use Rattle.rds_log.specs.LogLines.{IsLine, Line, line_feed, text_of}
-use Rattle.rds_log.specs.LogWrites.{AreSlots, AreViews, tuned}
+use Rattle.rds_log.specs.LogWrites.{AreDisplays, AreSlots, tuned}
 use Rattle.rds_log.specs.declared.filler.Filling.{Filling}
 use Rattle.rds_log.specs.declared.log_line.Block.TheVariants.{Missing}
 use Rattle.rds_log.specs.declared.log_line.LogLine.TheVariants.{Skip, Slot}
@@ -188,17 +189,17 @@ are_logs f lines s all fill =
 
 -- ---- the view of a receiver of it
 
--- the newest view of some slots
-newest_of : (t : Tuning) (slot : Option Group) (slots : List (Option Group)) (views : List ShownView) → AreViews t (slot ∷ slots) views
-    → (view : ShownView) × (older : List ShownView) × (views ≡ view ∷ older) × IsView t (slot ∷ slots) view
+-- the newest display of some slots
+newest_of : (t : Tuning) (slot : Option Group) (slots : List (Option Group)) (displays : List Display) → AreDisplays false t (slot ∷ slots) displays
+    → (display : Display) × (older : List Display) × (displays ≡ display ∷ older) × IsView t (slot ∷ slots) display.view
 newest_of t slot slots [] are = absurd are
-newest_of t slot slots (view ∷ older) are = (view, older, refl, are.0)
+newest_of t slot slots (display ∷ older) are = (display, older, refl, are.0.view)
 
 -- lost slots may follow
-newest_after : (t : Tuning) (n : ℕ) (slot : Option Group) (slots : List (Option Group)) (views : List ShownView) → AreViews t (and_lost n (slot ∷ slots)) views
-    → (view : ShownView) × (older : List ShownView) × (views ≡ view ∷ older) × IsView t (and_lost n (slot ∷ slots)) view
-newest_after t zero slot slots views are = newest_of t slot slots views are
-newest_after t (suc n) slot slots views are = newest_of t None (and_lost n (slot ∷ slots)) views are
+newest_after : (t : Tuning) (n : ℕ) (slot : Option Group) (slots : List (Option Group)) (displays : List Display) → AreDisplays false t (and_lost n (slot ∷ slots)) displays
+    → (display : Display) × (older : List Display) × (displays ≡ display ∷ older) × IsView t (and_lost n (slot ∷ slots)) display.view
+newest_after t zero slot slots displays are = newest_of t slot slots displays are
+newest_after t (suc n) slot slots displays are = newest_of t None (and_lost n (slot ∷ slots)) displays are
 
 pub texts_are_safe : FilledLogsAreSafe → FilledTextsAreSafe
 texts_are_safe law station f spread plans log sent newest before lines s shown wide some lawful zip are all fill came decoded =
@@ -207,11 +208,11 @@ texts_are_safe law station f spread plans log sent newest before lines s shown w
     let slots : decoded.write.slots ≡ and_lost s.told (filled f.grain f.dwell (arrivals (newest ∷ before))) =
     same_slots log_of.lines decoded.write.slots _ (rw same at decoded.write.say)
     (subst (λ (l : List (Arrival Group)). AreSlots log_of.lines (and_lost s.told (filled f.grain f.dwell l))) came log_of.say) in
-    let (view, older, is_newest, is) = newest_after (tuned station.pi f.dwell) s.told _ _ decoded.write.write.views (rw slots at decoded.write.write.are) in
+    let (display, older, is_newest, is) = newest_after (tuned station.pi f.dwell) s.told _ _ decoded.write.write.displays (rw slots at decoded.write.write.are) in
     rw slots record {
-      view = view;
+      display = display;
       older = older;
       newest = is_newest;
       is = is;
-      safe = law station f.grain spread f.dwell 0 s.told plans log sent newest before view wide some lawful zip are is;
+      safe = law station f.grain spread f.dwell 0 s.told plans log sent newest before display.view wide some lawful zip are is;
     }

@@ -1,5 +1,5 @@
--- The bytes of a log have one list of lines, a line says one thing, and slots have one list of views.
-use Rattle.std.proofs.Common.{◌≡◌, ◌≢◌, ◌⊎◌, ◌<◌, ℕ, List, [], ◌∷◌, ◌++◌, length, length-append, get_or, Option, Some, refl, sym, ap, ◌∙◌, subst, arith, inl, inr}
+-- The bytes of a log have one list of lines, a line says one thing, and slots have one list of displays.
+use Rattle.std.proofs.Common.{◌≡◌, ◌≢◌, ◌⊎◌, ◌<◌, ℕ, List, [], ◌∷◌, ◌++◌, length, length-append, get_or, Bool, true, false, Option, Some, refl, sym, ap, ◌∙◌, subst, arith, inl, inr}
 use Rattle.std.specs.Prelude.{All}
 use Rattle.std.proofs.lemmas.List.Elements.{All-head, All-tail}
 use Rattle.std.specs.Char.{digit_value}
@@ -9,12 +9,13 @@ use Rattle.rds_block.specs.SecondWord.{same_group}
 use Rattle.rds_log.specs.LogLines.{AreLines, IsLine, Line, line_feed, text_of}
 use Rattle.rds_log.specs.LineSays.{Carry, IsBlock, IsMark, IsSkipped, LineSays, SaysSlot}
 use Rattle.rds_receiver.specs.Receipts.{Tuning}
-use Rattle.rds_receiver.specs.Shown.{ShownView}
-use Rattle.rds_receiver.specs.OneView.{same_view}
-use Rattle.rds_view_lines.specs.Output.{changes_of}
+use Rattle.rds_receiver.specs.NotShown.{whys_of}
+use Rattle.rds_receiver.specs.OneView.{same_heard, same_view}
+use Rattle.rds_receiver.specs.declared.why.Whys.{Whys}
+use Rattle.rds_view_lines.specs.Output.{Display, changes_of}
 use Rattle.rds_io.specs.Told.{Traffic}
 use Rattle.rds_io.specs.Alike.{WriteAlike}
-use Rattle.rds_log.specs.LogWrites.{AreSlots, AreViews, LogWrites}
+use Rattle.rds_log.specs.LogWrites.{AreDisplays, AreSlots, IsDisplay, LogWrites, SayWhys}
 use Rattle.rds_log.specs.Decode.{DecodesAll}
 use Rattle.rds_log.proofs.WholeBytes.{read_whole}
 use Rattle.rds_log.specs.declared.log_line.Block.{Block}
@@ -128,29 +129,41 @@ same_slots (line ∷ before) slots other (inr (slot, older, p, e, rest)) (inr (s
     let all : older ≡ older' = same_slots before older older' rest rest' in
     (cc)
 
-same_views : (t : Tuning) (slots : List (Option Group)) (views other : List ShownView) → AreViews t slots views → AreViews t slots other → views ≡ other
-same_views t [] [] [] p q = refl
-same_views t [] [] (v ∷ other) p q = absurd q
-same_views t [] (v ∷ views) other p q = absurd p
-same_views t (slot ∷ before) [] other p q = absurd p
-same_views t (slot ∷ before) (v ∷ views) [] p q = absurd q
-same_views t (slot ∷ before) (v ∷ views) (w ∷ other) p q =
-    let one : v ≡ w = same_view t (slot ∷ before) v w p.0 q.0 in
-    let all : views ≡ other = same_views t before views other p.1 q.1 in
+-- an input has one display
+same_display : (why : Bool) (t : Tuning) (input : List (Option Group)) (d e : Display) → IsDisplay why t input d → IsDisplay why t input e → d ≡ e
+same_display why t input d e p q =
+    let view = same_view t input d.view e.view p.view q.view in
+    let whys = same_whys why d.whys e.whys p.whys q.whys in
+    λ i. record { view = view i; whys = whys i }
+  where
+    same_whys : (why : Bool) (one other : Option Whys) → SayWhys why t input one → SayWhys why t input other → one ≡ other
+    same_whys false one other p q = p ∙ sym q
+    same_whys true one other (one_is, (heard, are, is), e) (other_is, (heard', are', is'), f) =
+        e ∙ ap Some (is ∙ ap (whys_of t) (same_heard t.programme input heard heard' are are') ∙ sym is') ∙ sym f
+
+same_displays : (why : Bool) (t : Tuning) (slots : List (Option Group)) (displays other : List Display) → AreDisplays why t slots displays → AreDisplays why t slots other → displays ≡ other
+same_displays why t [] [] [] p q = refl
+same_displays why t [] [] (d ∷ other) p q = absurd q
+same_displays why t [] (d ∷ displays) other p q = absurd p
+same_displays why t (slot ∷ before) [] other p q = absurd p
+same_displays why t (slot ∷ before) (d ∷ displays) [] p q = absurd q
+same_displays why t (slot ∷ before) (d ∷ displays) (e ∷ other) p q =
+    let one : d ≡ e = same_display why t (slot ∷ before) d e p.0 q.0 in
+    let all : displays ≡ other = same_displays why t before displays other p.1 q.1 in
     (cc)
 
 -- the bytes of a log write one output
-pub same_output : (t : Tuning) (text written other : List ℕ) → LogWrites t text written → LogWrites t text other → written ≡ other
-same_output t text written other p q =
+pub same_output : (why : Bool) (t : Tuning) (text written other : List ℕ) → LogWrites why t text written → LogWrites why t text other → written ≡ other
+same_output why t text written other p q =
     let lines : p.cut ≡ q.cut = same_lines text p.cut q.cut p.are q.are in
     let slots : p.write.slots ≡ q.write.slots = same_slots q.cut p.write.slots q.write.slots (rw lines at p.write.say) q.write.say in
-    let views : p.write.write.views ≡ q.write.write.views = same_views t q.write.slots p.write.write.views q.write.write.views (rw slots at p.write.write.are) q.write.write.are in
-    p.write.write.changes ∙ ap changes_of views ∙ sym q.write.write.changes
+    let displays : p.write.write.displays ≡ q.write.write.displays = same_displays why t q.write.slots p.write.write.displays q.write.write.displays (rw slots at p.write.write.are) q.write.write.are in
+    p.write.write.changes ∙ ap changes_of displays ∙ sym q.write.write.changes
 
 -- two calls over the same bytes
-pub alike : (t : Tuning) (text : List ℕ) (r w q v : Traffic) → r.before ≡ Some text → q.before ≡ Some text → DecodesAll t r w → DecodesAll t q v → WriteAlike w v
-alike t text r w q v given same a b =
+pub alike : (why : Bool) (t : Tuning) (text : List ℕ) (r w q v : Traffic) → r.before ≡ Some text → q.before ≡ Some text → DecodesAll why t r w → DecodesAll why t q v → WriteAlike w v
+alike why t text r w q v given same a b =
     let first : a.text ≡ text = read_whole r.before r.after text a.text given a.read a.end in
     let second : b.text ≡ text = read_whole q.before q.after text b.text same b.read b.end in
-    let one : a.written ≡ b.written = same_output t text a.written b.written (rw first at a.write) (rw second at b.write) in
+    let one : a.written ≡ b.written = same_output why t text a.written b.written (rw first at a.write) (rw second at b.write) in
     record { written = b.written; one = rw one at a.wrote; other = b.wrote }

@@ -1,50 +1,61 @@
--- How the views and their changes go on by a slot.
-use Rattle.std.proofs.Common.{◌≡◌, ◌+◌, ◌++◌, ℕ, List, [], ◌∷◌, Option, length, sym, ap, ◌∙◌, arith}
+-- How the displays and their changes go on by a slot.
+use Rattle.std.proofs.Common.{◌≡◌, ◌+◌, ◌++◌, ℕ, Bool, true, false, List, [], ◌∷◌, None, Option, Some, length, refl, sym, ap, ◌∙◌, arith}
 use Rattle.std.proofs.lemmas.List.{append-nil}
 use Rattle.rds_block.specs.declared.group.Group.{Group}
+use Rattle.rds_receiver.specs.NotShown.{whys_of}
 use Rattle.rds_receiver.specs.Receipts.{Tuning}
 use Rattle.rds_receiver.specs.Shown.{IsView, ShownView}
+use Rattle.rds_receiver.specs.declared.why.Whys.{Whys}
 use Rattle.rds_view_lines.specs.NoChange.{no_change, view_of_none}
-use Rattle.rds_view_lines.specs.Output.{change, newest, slot_stamp}
-use Rattle.rds_log.specs.LogWrites.{AreViews}
+use Rattle.rds_view_lines.specs.Output.{Display, change, newest, slot_stamp}
+use Rattle.rds_log.specs.LogWrites.{AreDisplays, IsDisplay, SayWhys}
 use Rattle.rds_view_lines.specs.KeptView.{view_kept}
 use Rattle.rds_log.specs.Inside.ViewLines.{ViewsStandAt}
 use Rattle.rds_log.specs.declared.decoder.ViewLines.{ViewLines}
 
--- a slot that was handled: its view, and the changes that it appends
-pub slot_given : {R : Type 0} (Stands : Tuning → R → List (Option Group) → Type 0) (t : Tuning) (v after : ViewLines R) (slots : List (Option Group)) (written before now : List ℕ) (group : Option Group) (view : ShownView) (s : ViewsStandAt Stands t v slots written)
-    → Stands t after.receiver (group ∷ slots) → IsView t (group ∷ slots) view → after.slot ≡ v.slot + 1 → view_kept after.shown ≡ view
-    → now ≡ before ++ change (slot_stamp v.slot) (view_kept v.shown) view
-    → (added : List ℕ) × (now ≡ before ++ added) × ViewsStandAt Stands t after (group ∷ slots) (written ++ added)
-slot_given Stands t v after slots written before now group view s receiver is slot shown gave =
-    let here : change (slot_stamp v.slot) (view_kept v.shown) view ≡ change (slot_stamp (length s.views)) (newest s.views) view = ap (λ (n : ℕ). change (slot_stamp n) (view_kept v.shown) view) s.slot ∙ ap (λ (x : ShownView). change (slot_stamp (length s.views)) x view) s.shown in (
-      change (slot_stamp v.slot) (view_kept v.shown) view,
+-- a slot that was handled: its display, and the changes that it appends
+pub slot_given : {R : Type 0} (Stands : Tuning → R → List (Option Group) → Type 0) (why : Bool) (t : Tuning) (v after : ViewLines R) (slots : List (Option Group)) (written before now : List ℕ) (group : Option Group) (display : Display) (s : ViewsStandAt Stands why t v slots written)
+    → Stands t after.receiver (group ∷ slots) → IsDisplay why t (group ∷ slots) display → after.says_why ≡ v.says_why → after.slot ≡ v.slot + 1 → view_kept after.shown ≡ display.view
+    → now ≡ before ++ change (slot_stamp v.slot) display.whys (view_kept v.shown) display.view
+    → (added : List ℕ) × (now ≡ before ++ added) × ViewsStandAt Stands why t after (group ∷ slots) (written ++ added)
+slot_given Stands why t v after slots written before now group display s receiver is says slot shown gave =
+    let here : change (slot_stamp v.slot) display.whys (view_kept v.shown) display.view ≡ change (slot_stamp (length s.displays)) display.whys (newest s.displays) display.view =
+    ap (λ (n : ℕ). change (slot_stamp n) display.whys (view_kept v.shown) display.view) s.slot ∙ ap (λ (x : ShownView). change (slot_stamp (length s.displays)) display.whys x display.view) s.shown in (
+      change (slot_stamp v.slot) display.whys (view_kept v.shown) display.view,
       gave,
       record {
         receiver = receiver;
-        views = view ∷ s.views;
+        says_why = says ∙ s.says_why;
+        displays = display ∷ s.displays;
         are = (is, s.are);
-        slot = slot ∙ ap (λ (n : ℕ). n + 1) s.slot ∙ one_more s.views view;
+        slot = slot ∙ ap (λ (n : ℕ). n + 1) s.slot ∙ one_more s.displays display;
         shown = shown;
-        changes = ap (λ (bytes : List ℕ). written ++ bytes) here ∙ ap (λ (bytes : List ℕ). bytes ++ change (slot_stamp (length s.views)) (newest s.views) view) s.changes;
+        changes = ap (λ (bytes : List ℕ). written ++ bytes) here ∙ ap (λ (bytes : List ℕ). bytes ++ change (slot_stamp (length s.displays)) display.whys (newest s.displays) display.view) s.changes;
       },
     )
   where
-    one_more : (views : List ShownView) (view : ShownView) → length views + 1 ≡ length (view ∷ views)
-    one_more views view = omega arith
+    one_more : (displays : List Display) (display : Display) → length displays + 1 ≡ length (display ∷ displays)
+    one_more displays display = omega arith
 
-newest_view : (t : Tuning) (slots : List (Option Group)) (views : List ShownView) → AreViews t slots views → IsView t slots (newest views)
-newest_view t [] [] are = view_of_none t
-newest_view t [] (view ∷ older) are = absurd are
-newest_view t (slot ∷ before) [] are = absurd are
-newest_view t (slot ∷ before) (view ∷ older) are = are.0
+newest_view : (why : Bool) (t : Tuning) (slots : List (Option Group)) (displays : List Display) → AreDisplays why t slots displays → IsView t slots (newest displays)
+newest_view why t [] [] are = view_of_none t
+newest_view why t [] (display ∷ older) are = absurd are
+newest_view why t (slot ∷ before) [] are = absurd are
+newest_view why t (slot ∷ before) (display ∷ older) are = are.0.view
+
+-- a slot has reasons, whether the lines say them or not
+some_whys : (why : Bool) (t : Tuning) (input : List (Option Group)) (view : ShownView) → IsView t input view → (whys : Option Whys) × SayWhys why t input whys
+some_whys false t input view is = (None, refl)
+some_whys true t input view (heard, are, shows) = (Some (whys_of t heard), (whys_of t heard, (heard, are, refl), refl))
 
 -- a slot that shows what the one before it showed
-pub slot_same : {R : Type 0} (Stands : Tuning → R → List (Option Group) → Type 0) (t : Tuning) (v after : ViewLines R) (slots : List (Option Group)) (written before : List ℕ) (group : Option Group) (s : ViewsStandAt Stands t v slots written)
+pub slot_same : {R : Type 0} (Stands : Tuning → R → List (Option Group) → Type 0) (why : Bool) (t : Tuning) (v after : ViewLines R) (slots : List (Option Group)) (written before : List ℕ) (group : Option Group) (s : ViewsStandAt Stands why t v slots written)
     → Stands t after.receiver (group ∷ slots) → ((view : ShownView) → IsView t slots view → IsView t (group ∷ slots) view)
-    → after.slot ≡ v.slot + 1 → view_kept after.shown ≡ view_kept v.shown
-    → (added : List ℕ) × (before ≡ before ++ added) × ViewsStandAt Stands t after (group ∷ slots) (written ++ added)
-slot_same Stands t v after slots written before group s receiver stays slot kept =
-    let none : change (slot_stamp v.slot) (view_kept v.shown) (newest s.views) ≡ [] = ap (λ (view : ShownView). change (slot_stamp v.slot) view (newest s.views)) s.shown ∙ no_change (slot_stamp v.slot) (newest s.views) in
-    slot_given Stands t v after slots written before before group (newest s.views) s receiver (stays (newest s.views) (newest_view t slots s.views s.are)) slot (kept ∙ s.shown)
+    → after.says_why ≡ v.says_why → after.slot ≡ v.slot + 1 → view_kept after.shown ≡ view_kept v.shown
+    → (added : List ℕ) × (before ≡ before ++ added) × ViewsStandAt Stands why t after (group ∷ slots) (written ++ added)
+slot_same Stands why t v after slots written before group s receiver stays says slot kept =
+    let is = stays (newest s.displays) (newest_view why t slots s.displays s.are) in
+    let (whys, say) = some_whys why t (group ∷ slots) (newest s.displays) is in
+    let none : change (slot_stamp v.slot) whys (view_kept v.shown) (newest s.displays) ≡ [] = ap (λ (view : ShownView). change (slot_stamp v.slot) whys view (newest s.displays)) s.shown ∙ no_change (slot_stamp v.slot) whys (newest s.displays) in
+    slot_given Stands why t v after slots written before before group (record { view = newest s.displays; whys = whys }) s receiver (record { view = is; whys = say }) says slot (kept ∙ s.shown)
     (sym (append-nil before) ∙ ap (λ (bytes : List ℕ). before ++ bytes) (sym none))

@@ -1,12 +1,13 @@
 -- The output of `slots` as a log, and what a receiver of it shows. Lists have the newest first.
-use Rattle.std.specs.Prelude.{◌≡◌, ◌+◌, ◌<◌, ◌∷◌, [], ℕ, List, Option}
+use Rattle.std.specs.Prelude.{◌≡◌, ◌+◌, ◌<◌, ◌∷◌, [], ℕ, false, List, Option}
 use Rattle.std.specs.List.{All, AllZip}
 use Rattle.rds_block.specs.declared.group.Group.{Group}
 use Rattle.rds_fields.specs.declared.head.Head.{Head}
 use Rattle.rds_fields.specs.declared.message.Message.{Message}
 use Rattle.rds_encoder.specs.Sent.{IsSent}
 use Rattle.rds_receiver.specs.Receipts.{Tuning}
-use Rattle.rds_receiver.specs.Shown.{IsView, ShownView}
+use Rattle.rds_receiver.specs.Shown.{IsView}
+use Rattle.rds_view_lines.specs.Output.{Display}
 use Rattle.rds_safety.specs.Plans.{AreLawful, Plans}
 use Rattle.rds_safety.specs.Safe.{AreSafe}
 use Rattle.rds_arrivals.specs.Arrivals.{and_lost, filled}
@@ -29,16 +30,16 @@ FilledTextsAreLogs =
     (f : Filling) (lines : List Line) (s : SoFar) → All IsLine lines
     → AreFilled f lines s → IsLogOf s.written (and_lost s.told (filled f.grain f.dwell s.came))
 
--- the newest of the views is safe in slot `now` of the station, for a receiver of these slots, with these origins
+-- the view of the newest of the displays is safe in slot `now` of the station, for a receiver of these slots, with these origins
 pub record NewestIsSafe (t : Tuning) (now : ℕ) (plans : Plans) (log : List (Option Message))
-    (slots : List (Option Group)) (from : List (Option ℕ)) (views : List ShownView) : Type 0 where
-  pub view : ShownView
-  pub older : List ShownView
-  pub newest : views ≡ view ∷ older
-  pub is : IsView t slots view
+    (slots : List (Option Group)) (from : List (Option ℕ)) (displays : List Display) : Type 0 where
+  pub display : Display
+  pub older : List Display
+  pub newest : displays ≡ display ∷ older
+  pub is : IsView t slots display.view
   pub safe : AreSafe t.dwell t.dwell now plans log (record {
     input = record { first = t.first; heard = is.0; origins = from };
-    view = view;
+    view = display.view;
   } ∷ [])
 
 -- the lines have the groups of a station as they were delivered, `slots` wrote this for them, and `decode` writes the
@@ -50,6 +51,6 @@ FilledTextsAreSafe =
     → AreBelowASlot f.grain spread → 0 < f.dwell
     → AreLawful f.dwell plans log → AllZip (IsSent station) log sent → AreDelivered spread sent (newest ∷ before)
     → All IsLine lines → AreFilled f lines s → s.came ≡ arrivals (newest ∷ before)
-    → (decoded : LogWrites (tuned station.pi f.dwell) s.written shown)
+    → (decoded : LogWrites false (tuned station.pi f.dwell) s.written shown)
     → NewestIsSafe (tuned station.pi f.dwell) (newest.slot + s.told) plans log decoded.write.slots
-    (and_lost s.told (filled f.grain f.dwell (origins (newest ∷ before)))) decoded.write.write.views
+    (and_lost s.told (filled f.grain f.dwell (origins (newest ∷ before)))) decoded.write.write.displays

@@ -1,5 +1,5 @@
 //! The engine of `decode`: the view of a receiver of a log.
-ghost use Rattle.std.specs.Prelude.{◌≤◌, ◌^◌, [], IfErr, OnOk};
+ghost use Rattle.std.specs.Prelude.{◌≤◌, ◌^◌, [], IfErr, OnOk, false};
 ghost use Rattle.rds_io.specs.Told.{traffic};
 ghost use Rattle.rds_receiver.specs.Receipts.{Tuning};
 ghost use Rattle.rds_log.specs.Decode.{Decodes};
@@ -15,6 +15,19 @@ use crate::source::Source;
 use rds_fields::Dwell;
 use rds_io::{LogFault, TellingRead, TellingWrite};
 use rds_receiver::{Receive, Receiver, TwiceReceiver, Window};
+
+/// How a log is decoded.
+#[derive(Clone, Copy)]
+pub struct Decoding {
+    /// The programme.
+    pub pi: u16,
+    /// The dwell M of the receiver.
+    pub dwell: Dwell,
+    /// With a window the receiver shows only what it heard twice within it.
+    pub window: Option<Window>,
+    /// Whether the line of a text or a name that is not shown any more says why.
+    pub says_why: bool,
+}
 
 /// The most reads of a log. A longer log is too long.
 pub const MOST_READS: u64 = 1 << 32;
@@ -32,7 +45,7 @@ pub fn decode<R: TellingRead, W: TellingWrite>(
     pi: u16,
     dwell: Dwell,
 ) -> Result<(), LogFault>
-    ensures decodes { Decodes (tuned pi dwell) (2 ^ 32)
+    ensures decodes { Decodes false (tuned pi dwell) (2 ^ 32)
         (traffic R.remaining R.failures reader.old reader.new)
         (traffic W.contents W.failures writer.old writer.new) result }
     ensures reads { MadeReads (2 ^ 32) (R.reads reader.old) (R.reads reader.new) result }
@@ -49,59 +62,61 @@ pub fn decode_within<R: TellingRead, W: TellingWrite>(
     reads: u64,
 ) -> Result<(), LogFault>
     requires { reads ≤ 2 ^ 32 }
-    ensures decodes { Decodes (tuned pi dwell) reads
+    ensures decodes { Decodes false (tuned pi dwell) reads
         (traffic R.remaining R.failures reader.old reader.new)
         (traffic W.contents W.failures writer.old writer.new) result }
     ensures reads { MadeReads reads (R.reads reader.old) (R.reads reader.new) result }
 {
-    decode_with_notes(
-        reader,
-        writer,
+    let decoding = Decoding {
         pi,
         dwell,
-        None,
-        reads,
-        &mut LogNotes::new(pi),
-    )
+        window: None,
+        says_why: false,
+    };
+    decode_with_notes(reader, writer, decoding, reads, &mut LogNotes::new(pi))
 }
 
-/// Does what [`decode_within`] does, and takes notes for a person. The new notes replace the old content of `notes`. With
-/// a window the receiver shows only what it heard twice within it.
+/// Decodes a log in this way with at most `reads` reads, and takes notes for a person. The new notes replace the old
+/// content of `notes`.
 pub fn decode_with_notes<R: TellingRead, W: TellingWrite>(
     reader: &mut R,
     writer: &mut W,
-    pi: u16,
-    dwell: Dwell,
-    window: Option<Window>,
+    decoding: Decoding,
     reads: u64,
     notes: &mut LogNotes,
 ) -> Result<(), LogFault>
     requires { reads ≤ 2 ^ 32 }
-    ensures decodes { Decodes (tuned_with pi dwell window) reads
+    ensures decodes { Decodes decoding.says_why (tuned_with decoding.pi decoding.dwell decoding.window) reads
         (traffic R.remaining R.failures reader.old reader.new)
         (traffic W.contents W.failures writer.old writer.new) result }
     ensures reads { MadeReads reads (R.reads reader.old) (R.reads reader.new) result }
     ensures heard { OnOk result
-        (HeardLog pi (traffic R.remaining R.failures reader.old reader.new) notes.new.heard) }
+        (HeardLog decoding.pi (traffic R.remaining R.failures reader.old reader.new) notes.new.heard) }
     ensures fault { IfErr result (λ fault.
         NotesFault (traffic R.remaining R.failures reader.old reader.new) fault notes.new.bad) }
 {
+    let Decoding {
+        pi,
+        dwell,
+        window,
+        says_why,
+    } = decoding;
     match window {
-        None => decode_by(Receiver::new(pi, dwell), reader, writer, pi, reads, notes),
-        Some(window) => decode_by(
-            TwiceReceiver::new(pi, dwell, window),
-            reader,
-            writer,
-            pi,
-            reads,
-            notes,
-        ),
+        None => {
+            let receiver = Receiver::new(pi, dwell);
+            decode_by(receiver, says_why, reader, writer, pi, reads, notes)
+        }
+        Some(window) => {
+            let receiver = TwiceReceiver::new(pi, dwell, window);
+            decode_by(receiver, says_why, reader, writer, pi, reads, notes)
+        }
     }
 }
 
 /// Does what [`decode_with_notes`] does with this receiver, which has heard nothing yet.
 fn decode_by<T: Receive + Drop, R: TellingRead, W: TellingWrite>(
     receiver: T,
+    says_why: bool,
     reader: &mut R,
     writer: &mut W,
     pi: u16,
@@ -109,7 +124,7 @@ fn decode_by<T: Receive + Drop, R: TellingRead, W: TellingWrite>(
     notes: &mut LogNotes,
 ) -> Result<(), LogFault>
     requires { reads ≤ 2 ^ 32 }
-    ensures decodes { (t : Tuning) → T.stands t receiver [] → Decodes t reads
+    ensures decodes { (t : Tuning) → T.stands t receiver [] → Decodes says_why t reads
         (traffic R.remaining R.failures reader.old reader.new)
         (traffic W.contents W.failures writer.old writer.new) result }
     ensures reads { MadeReads reads (R.reads reader.old) (R.reads reader.new) result }
@@ -120,7 +135,7 @@ fn decode_by<T: Receive + Drop, R: TellingRead, W: TellingWrite>(
 {
     *notes = LogNotes::new(pi);
     let mut source = Source::new(reads);
-    let mut decoder = Decoder::new(receiver);
+    let mut decoder = Decoder::new(receiver, says_why);
     let mut said = LogLine::Skip;
     loop {
         match source.next(reader, &mut said) {

@@ -1,10 +1,12 @@
 //! The output of the lines of a log. It waits in memory until it is written.
 ghost use Rattle.std.specs.Prelude.{◌≡◌, ◌≤◌, ◌<◌, ◌+◌, ◌-◌, ◌^◌, ◌++◌, ◌∷◌, ◌↔◌, []};
-ghost use Rattle.std.specs.Prelude.{ℕ, List, Option, IsOk, IsTrue, MatchResult, OnOk, length};
+ghost use Rattle.std.specs.Prelude.{ℕ, Bool, List, Option, IsOk, IsTrue, MatchResult, OnOk, length};
 ghost use Rattle.rds_block.specs.declared.group.Group.{Group};
 ghost use Rattle.rds_io.specs.Told.{IsCalm, Traffic, traffic};
 ghost use Rattle.rds_receiver.specs.Receipts.{Tuning};
+ghost use Rattle.rds_receiver.specs.Receive.{WhereStands};
 ghost use Rattle.rds_log.specs.LogLines.{Line};
+ghost use Rattle.rds_log.specs.LogWrites.{SayWhys};
 ghost use Rattle.rds_log.specs.LineSays.{LineSays};
 ghost use Rattle.rds_view_lines.specs.declared.change.TheConstants.{SLOT_ROOM};
 ghost use Rattle.rds_log.specs.declared.decoder.TheConstants.{OUTPUT_ROOM};
@@ -12,13 +14,15 @@ ghost use Rattle.rds_log.specs.declared.decoder.TheConstants.{OUTPUT_ROOM};
 use crate::log_line::LogLine;
 use rds_block::Blocks;
 use rds_io::{Lines, TellingWrite, WriteFault};
-use rds_receiver::Receive;
+use rds_receiver::{Receive, Whys};
 use rds_view_lines::{KeptView, SLOT_ROOM, Stamp, show};
 
-/// Feeds a receiver slot by slot, and appends a line for each part of its view that changed.
+/// Feeds a receiver slot by slot, and appends a line for each part of its view that changed. The line of a text or a name
+/// that is not shown any more may say why.
 #[derive(Drop)]
 pub(crate) struct ViewLines<T> {
     receiver: T,
+    says_why: bool,
     pub(crate) slot: u64,
     shown: KeptView,
 }
@@ -27,12 +31,13 @@ impl<T: Receive> ViewLines<T> {
     ghost use Rattle.rds_log.specs.Inside.ViewLines.{GivesChange, ViewsStandAt};
 
     /// Starts before the first slot, with nothing shown.
-    pub(crate) fn new(receiver: T) -> ViewLines<T>
+    pub(crate) fn new(receiver: T, says_why: bool) -> ViewLines<T>
         ensures count { result.slot ≡ 0 }
-        ensures stands { (t : Tuning) → T.stands t receiver [] → ViewsStandAt T.stands t result [] [] }
+        ensures stands { (t : Tuning) → T.stands t receiver [] → ViewsStandAt T.stands says_why t result [] [] }
     {
         ViewLines {
             receiver,
+            says_why,
             slot: 0,
             shown: KeptView::new(),
         }
@@ -53,11 +58,23 @@ impl<T: Receive> ViewLines<T> {
         }
         show(
             Stamp::Slot(self.slot),
+            self.whys(),
             &mut self.shown,
             &self.receiver,
             lines,
         );
         self.slot += 1;
+    }
+
+    /// Returns why a text and a name are not shown, if the lines say why.
+    fn whys(&self) -> Option<Whys>
+        ensures { WhereStands T.stands self.now.receiver (λ t input. SayWhys self.now.says_why t input result) }
+    {
+        if self.says_why {
+            Some(self.receiver.whys())
+        } else {
+            None
+        }
     }
 }
 
@@ -76,14 +93,14 @@ impl<T: Receive> Decoder<T> {
     ghost use Rattle.rds_log.specs.Inside.Decoder.{HasDecoded};
 
     /// Starts a log with a receiver that has heard nothing yet.
-    pub(crate) fn new(receiver: T) -> Decoder<T>
+    pub(crate) fn new(receiver: T, says_why: bool) -> Decoder<T>
         ensures slots { result.views.slot ≡ 0 }
         ensures empty { result.output ≡ [] }
         ensures decoded { (t : Tuning) (w : Traffic) → T.stands t receiver [] → w.after ≡ w.before → IsCalm w
-            → HasDecoded T.stands t result w [] }
+            → HasDecoded T.stands says_why t result w [] }
     {
         Decoder {
-            views: ViewLines::new(receiver),
+            views: ViewLines::new(receiver, says_why),
             output: Lines::new(),
         }
     }
@@ -101,8 +118,8 @@ impl<T: Receive> Decoder<T> {
         requires slots { self.old.views.slot < 2 ^ 64 - 1 }
         requires room { length self.old.output + SLOT_ROOM ≤ OUTPUT_ROOM }
         ensures slots { self.new.views.slot ≤ self.old.views.slot + 1 }
-        ensures decoded { (t : Tuning) (w : Traffic) (lines : List Line) (line : Line) → LineSays line said
-            → HasDecoded T.stands t self.old w lines → HasDecoded T.stands t self.new w (line ∷ lines) }
+        ensures decoded { (why : Bool) (t : Tuning) (w : Traffic) (lines : List Line) (line : Line) → LineSays line said
+            → HasDecoded T.stands why t self.old w lines → HasDecoded T.stands why t self.new w (line ∷ lines) }
     {
         match said {
             LogLine::Skip => {}
@@ -115,11 +132,11 @@ impl<T: Receive> Decoder<T> {
         ensures empty { OnOk result (self.new.output ≡ []) }
         ensures slots { self.new.views ≡ self.old.views }
         ensures nothing { self.old.output ≡ [] → IsOk result }
-        ensures wrote { (t : Tuning) (start : W) (lines : List Line)
-            → HasDecoded T.stands t self.old (traffic W.contents W.failures start writer.old) lines
+        ensures wrote { (why : Bool) (t : Tuning) (start : W) (lines : List Line)
+            → HasDecoded T.stands why t self.old (traffic W.contents W.failures start writer.old) lines
             → MatchResult result
-            (λ _. HasDecoded T.stands t self.new (traffic W.contents W.failures start writer.new) lines)
-            (λ _. WrotePart t (traffic W.contents W.failures start writer.new) lines) }
+            (λ _. HasDecoded T.stands why t self.new (traffic W.contents W.failures start writer.new) lines)
+            (λ _. WrotePart why t (traffic W.contents W.failures start writer.new) lines) }
     {
         self.output.write(writer)
     }

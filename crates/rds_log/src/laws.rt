@@ -28,10 +28,10 @@ use rds_audit::{
 pub fn bytes_write_one_output()
     ensures one_said { (line : Line) (said other : LogLine) → LineSays line said
         → LineSays line other → said ≡ other }
-    ensures one_output { (t : Tuning) (text written other : List ℕ) → LogWrites t text written
-        → LogWrites t text other → written ≡ other }
-    ensures alike { (t : Tuning) (text : List ℕ) (r w q v : Traffic) → r.before ≡ Some text
-        → q.before ≡ Some text → DecodesAll t r w → DecodesAll t q v → WriteAlike w v }
+    ensures one_output { (why : Bool) (t : Tuning) (text written other : List ℕ) → LogWrites why t text written
+        → LogWrites why t text other → written ≡ other }
+    ensures alike { (why : Bool) (t : Tuning) (text : List ℕ) (r w q v : Traffic) → r.before ≡ Some text
+        → q.before ≡ Some text → DecodesAll why t r w → DecodesAll why t q v → WriteAlike w v }
 {}
 
 /// Shows that the answer to a log is a function of its bytes: they have one verdict, a call of `audit` that ends

@@ -53,9 +53,9 @@ PutsLine line w = (r : Result (Unit {0}) WriteFault) × Puts w line r
 
 -- the mark before the line of a fault: in the log that `encode` or `slots` writes, the line is a comment
 abbrev pub mark_of : Task → List ℕ
-mark_of (Decode window) = []
+mark_of (Decode window why) = []
 mark_of (Encode programme late) = codes "# "
-mark_of (Simulate programme late window alone) = []
+mark_of (Simulate programme late window alone why) = []
 mark_of (Audit late running) = []
 mark_of Witness = []
 mark_of (Slots grain only) = codes "# "
@@ -149,22 +149,22 @@ pub record RefusesWindow (task : Task) (w : Traffic) (status : ℕ) : Type 0 whe
   pub status_is : status ≡ 2
   pub told : TellsFault task (codes "fault confirm") w
 
--- the simulation of this station ran; without a station its window was refused
-abbrev pub SimulationRuns : Option Config → Task → Reading → Traffic → ℕ → Type 0
-SimulationRuns None task reading w status = RefusesWindow task w status
-SimulationRuns (Some station) task reading w status =
-    Runs (Plays Simulation station (2 ^ 32) reading) done task w status
+-- the simulation of this station ran, with reasons or without; without a station its window was refused
+abbrev pub SimulationRuns : Bool → Option Config → Task → Reading → Traffic → ℕ → Type 0
+SimulationRuns why None task reading w status = RefusesWindow task w status
+SimulationRuns why (Some station) task reading w status =
+    Runs (Plays (Simulation why) station (2 ^ 32) reading) done task w status
 
 -- the engine of the task ran, with receivers that are tuned so; the receiver of `decode` has the window of the task.
 -- ReadFailed says that a read of the reader failed
 abbrev pub TaskRuns : Task → Tuning → Traffic → Type 0 → Traffic → ℕ → Type 0
-TaskRuns (Decode window) t r ReadFailed w status =
-    Runs (Decodes (record t { window = window }) (2 ^ 32) r) done (Decode window) w status
+TaskRuns (Decode window why) t r ReadFailed w status =
+    Runs (Decodes why (record t { window = window }) (2 ^ 32) r) done (Decode window why) w status
 TaskRuns (Encode programme late) t r ReadFailed w status =
     Runs (Plays Log (station_of t programme (once late) WithDwell) (2 ^ 32) (script_in r ReadFailed)) done
     (Encode programme late) w status
-TaskRuns (Simulate programme late window alone) t r ReadFailed w status =
-    SimulationRuns (simulated_station t programme late window alone) (Simulate programme late window alone)
+TaskRuns (Simulate programme late window alone why) t r ReadFailed w status =
+    SimulationRuns why (simulated_station t programme late window alone) (Simulate programme late window alone why)
     (script_in r ReadFailed) w status
 TaskRuns (Audit late running) t r ReadFailed w status =
     Runs (Audits (start_if running) t.programme (t.dwell + late) (2 ^ 32) r) verdict_status (Audit late running) w status

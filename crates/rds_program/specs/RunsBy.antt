@@ -1,7 +1,7 @@
 -- From what one program promises to a weaker promise: of other engines, or of a reader that never fails.
 use Rattle.std.proofs.Common.{◌^◌, arith, inl, inr}
 use Rattle.std.proofs.Math.Logic.{∥∥₁_elim}
-use Rattle.std.specs.Prelude.{ℕ, List, None, Option, Some}
+use Rattle.std.specs.Prelude.{ℕ, Bool, List, None, Option, Some}
 use Rattle.rds_io.specs.Told.{Failed, Traffic}
 use Rattle.rds_receiver.specs.Receipts.{Tuning}
 use Rattle.rds_world.specs.declared.any_receiver.ReceiverKind.TheVariants.{WithDwell}
@@ -58,26 +58,26 @@ script_by says form config task known w status ran = record {
 }
 
 -- the run of a simulation, with another statement about its reads
-simulation_by : {P Q : Type 0} → (P → Q) → (station : Option Config) (task : Task) (known : Option (List ℕ))
+simulation_by : {P Q : Type 0} → (P → Q) → (why : Bool) (station : Option Config) (task : Task) (known : Option (List ℕ))
     (w : Traffic) (status : ℕ)
-    → SimulationRuns station task record { known = known; Failed = P } w status
-    → SimulationRuns station task record { known = known; Failed = Q } w status
-simulation_by says None task known w status ran = ran
-simulation_by says (Some station) task known w status ran =
-    script_by says Simulation station task known w status ran
+    → SimulationRuns why station task record { known = known; Failed = P } w status
+    → SimulationRuns why station task record { known = known; Failed = Q } w status
+simulation_by says why None task known w status ran = ran
+simulation_by says why (Some station) task known w status ran =
+    script_by says (Simulation why) station task known w status ran
 
 -- the run of a task, with another statement about its reads
 pub task_by : {P Q : Type 0} → (P → Q) → (task : Task) (t : Tuning) (r w : Traffic) (status : ℕ)
     → TaskRuns task t r P w status → TaskRuns task t r Q w status
-task_by says (Decode window) t r w status ran = ran
+task_by says (Decode window why) t r w status ran = ran
 task_by says (Audit late running) t r w status ran = ran
 task_by says Witness t r w status ran = ran
 task_by says (Slots grain only) t r w status ran = ran
 task_by says (Encode programme late) t r w status ran =
     script_by says Log (station_of t programme (once late) WithDwell) (Encode programme late) r.before w status ran
-task_by says (Simulate programme late window alone) t r w status ran =
-    simulation_by says (simulated_station t programme late window alone) (Simulate programme late window alone) r.before w
-    status ran
+task_by says (Simulate programme late window alone why) t r w status ran =
+    simulation_by says why (simulated_station t programme late window alone)
+    (Simulate programme late window alone why) r.before w status ran
 
 -- a reader whose count of failures is always 0 never fails
 pub never_fails : Failed 0 0 → ⊥

@@ -130,9 +130,9 @@ fn print_covered<N: TellingWrite>(task: Task, notes: &RunNotes, screen: &mut N) 
 fn is_audit(task: Task) -> bool {
     match task {
         Task::Audit(..) => true,
-        Task::Decode(..)
+        Task::Decode { .. }
         | Task::Encode(..)
-        | Task::Simulate(..)
+        | Task::Simulate { .. }
         | Task::Witness
         | Task::Slots(..) => false,
     }
@@ -175,7 +175,7 @@ fn nothing_said(task: Task) -> &'static str {
     match task {
         Task::Audit(..) => ": the yes says nothing",
         Task::Witness => ": the search says nothing",
-        Task::Decode(..) | Task::Encode(..) | Task::Simulate(..) | Task::Slots(..) => "",
+        Task::Decode { .. } | Task::Encode(..) | Task::Simulate { .. } | Task::Slots(..) => "",
     }
 }
 
@@ -346,9 +346,9 @@ fn push_running(no: NoNote, task: Task, note: &mut Note) {
     };
     let takes_it = match task {
         Task::Audit(_, running) => !running,
-        Task::Decode(..)
+        Task::Decode { .. }
         | Task::Encode(..)
-        | Task::Simulate(..)
+        | Task::Simulate { .. }
         | Task::Witness
         | Task::Slots(..) => false,
     };
@@ -537,8 +537,8 @@ fn push_shown(bytes: &[u8], note: &mut Note) {
 /// Returns whether the command reads a script instead of a log.
 fn reads_script(task: Task) -> bool {
     match task {
-        Task::Encode(..) | Task::Simulate(..) => true,
-        Task::Decode(..) | Task::Audit(..) | Task::Witness | Task::Slots(..) => false,
+        Task::Encode(..) | Task::Simulate { .. } => true,
+        Task::Decode { .. } | Task::Audit(..) | Task::Witness | Task::Slots(..) => false,
     }
 }
 

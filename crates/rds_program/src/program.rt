@@ -21,7 +21,9 @@ use rds_audit::LogStart;
 use rds_cli::{Programme, Request, Task, identification_of, read_words};
 use rds_fields::{Dwell, Head, Late};
 use rds_io::{Lines, LogFault, TellingRead, TellingWrite, put};
-use rds_log::{Filling, MOST_READS, audit_with_notes, decode_with_notes, fill_with_notes};
+use rds_log::{
+    Decoding, Filling, MOST_READS, audit_with_notes, decode_with_notes, fill_with_notes,
+};
 use rds_receiver::Window;
 use rds_script::{Form, MOST_RECORDS, play_script};
 use rds_witness::witness_with_notes;
@@ -176,9 +178,15 @@ fn run_task<R: TellingRead, W: TellingWrite>(
     // Prover: a matched value is copied by a new name before its second use (docs/PROVER.md, "Workarounds").
     let asked = task;
     match task {
-        Task::Decode(window) => {
+        Task::Decode { window, says_why } => {
+            let decoding = Decoding {
+                pi,
+                dwell,
+                window,
+                says_why,
+            };
             let log = &mut notes.log;
-            let decoded = decode_with_notes(reader, writer, pi, dwell, window, MOST_READS, log);
+            let decoded = decode_with_notes(reader, writer, decoding, MOST_READS, log);
             end_with(asked, decoded, writer, &mut notes.end)
         }
         Task::Encode(programme, late) => {
@@ -187,9 +195,15 @@ fn run_task<R: TellingRead, W: TellingWrite>(
             let encoded = run_script(Form::Log, alloc, station, reader, writer, notes);
             end_with(asked, encoded, writer, &mut notes.end)
         }
-        Task::Simulate(programme, late, window, alone) => {
-            let station = simulated_station(pi, dwell, programme, late, window, alone);
-            simulate(alloc, asked, station, reader, writer, notes)
+        Task::Simulate {
+            programme,
+            late,
+            window,
+            flag_alone,
+            says_why,
+        } => {
+            let station = simulated_station(pi, dwell, programme, late, window, flag_alone);
+            simulate(alloc, asked, says_why, station, reader, writer, notes)
         }
         Task::Audit(late, running) => {
             let start = start_of(running);
@@ -215,16 +229,17 @@ fn run_task<R: TellingRead, W: TellingWrite>(
     }
 }
 
-/// Simulates a station and its receivers. Without a station the window is refused.
+/// Simulates a station and its receivers, and says why texts and names are not shown any more, if that is asked for. Without a station the window is refused.
 fn simulate<R: TellingRead, W: TellingWrite>(
     alloc: Global,
     task: Task,
+    says_why: bool,
     station: Option<Config>,
     reader: &mut R,
     writer: &mut W,
     notes: &mut RunNotes,
 ) -> u8
-    ensures { SimulationRuns station task
+    ensures { SimulationRuns says_why station task
         (script_in (traffic R.remaining R.failures reader.old reader.new) (SomeReadFailed R.failures))
         (traffic W.contents W.failures writer.old writer.new) result }
 {
@@ -233,7 +248,8 @@ fn simulate<R: TellingRead, W: TellingWrite>(
         write_fault_text(task, b"fault confirm", writer);
         return REFUSED;
     };
-    let simulated = run_script(Form::Simulation, alloc, station, reader, writer, notes);
+    let form = Form::Simulation { says_why };
+    let simulated = run_script(form, alloc, station, reader, writer, notes);
     end_with(task, simulated, writer, &mut notes.end)
 }
 
@@ -408,7 +424,7 @@ fn mark(task: Task) -> &'static [u8]
 {
     match task {
         Task::Encode(..) | Task::Slots(..) => b"# ",
-        Task::Decode(..) | Task::Simulate(..) | Task::Audit(..) | Task::Witness => b"",
+        Task::Decode { .. } | Task::Simulate { .. } | Task::Audit(..) | Task::Witness => b"",
     }
 }
 

@@ -14,7 +14,10 @@ fn too_long(rt: HostRuntime) -> Result<(), Fail> {
         let mut notes = RunNotes::new();
         notes.end = End::Fault(LogFault::TooLong);
         notes.options = Some(Options {
-            task: Task::Decode(None),
+            task: Task::Decode {
+                window: None,
+                says_why: false,
+            },
             dwell: Dwell::new(128).ok_or("dwell")?,
             quiet,
         });

@@ -5,4 +5,5 @@ pub mod Longest
 pub mod Shows
 pub mod WorkedRows
 pub mod Alike
+pub mod NotShown
 pub mod TwiceSteps

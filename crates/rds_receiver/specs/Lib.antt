@@ -4,6 +4,7 @@ pub mod Chained
 pub mod Tags
 pub mod Twice
 pub mod Shown
+pub mod NotShown
 pub mod Receive
 pub mod State
 pub mod Stored

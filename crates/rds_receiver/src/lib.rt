@@ -22,6 +22,7 @@ mod stored;
 mod stored_twice;
 mod twice;
 mod view;
+mod why;
 mod window;
 
 pub use last::StoredLastSegments;
@@ -32,4 +33,5 @@ pub use stored::{StoredReceiver, StoredSegments};
 pub use stored_twice::StoredTwice;
 pub use twice::TwiceReceiver;
 pub use view::View;
+pub use why::{WhyNone, Whys};
 pub use window::Window;

@@ -7,8 +7,9 @@ ghost use Rattle.rds_receiver.specs.Receive.{GoesOn, KeepsViews, WhereStands};
 ghost use Rattle.rds_receiver.specs.Shown.{IsView};
 ghost use Rattle.rds_receiver.specs.StandsAt.{StandsAt};
 ghost use Rattle.rds_receiver.specs.TwiceState.{StandsTwice};
+ghost use Rattle.rds_receiver.specs.NotShown.{AreWhys};
 
-use crate::{Receiver, TwiceReceiver, View};
+use crate::{Receiver, TwiceReceiver, View, Whys};
 use rds_block::Blocks;
 
 /// A receiver with or without a window.
@@ -25,6 +26,10 @@ pub trait Receive {
     /// Returns all that is shown, borrowed from the receiver.
     fn view(&self) -> View<'_>
         ensures { WhereStands stands self.now (λ t input. IsView t input (view_of result)) };
+
+    /// Returns why a text and a name are not shown, if they are not.
+    fn whys(&self) -> Whys
+        ensures { WhereStands stands self.now (λ t input. AreWhys t input result) };
 }
 
 impl Receive for Receiver {
@@ -38,6 +43,10 @@ impl Receive for Receiver {
     fn view(&self) -> View<'_> {
         self.view()
     }
+
+    fn whys(&self) -> Whys {
+        self.whys()
+    }
 }
 
 impl Receive for TwiceReceiver {
@@ -50,5 +59,9 @@ impl Receive for TwiceReceiver {
 
     fn view(&self) -> View<'_> {
         self.view()
+    }
+
+    fn whys(&self) -> Whys {
+        self.whys()
     }
 }

@@ -9,10 +9,11 @@ ghost use Rattle.rds_receiver.specs.Shown.{IsItemShown, IsNameShown, IsTagShown,
 ghost use Rattle.rds_receiver.specs.StandsAt.{KeepsView, StandsAt, TakesSlot, WhatItHeard, WhereItStands};
 ghost use Rattle.rds_receiver.specs.Stored.{IsStored, receiver_stored};
 ghost use Rattle.rds_receiver.specs.Tags.{pair_held};
+ghost use Rattle.rds_receiver.specs.NotShown.{AreWhys};
 
-use crate::View;
 use crate::shown::{shown_item, shown_tag};
 use crate::stored::{StoredReceiver, StoredSegments};
+use crate::{View, Whys};
 use rds_block::{Blocks, Group};
 use rds_fields::{Dwell, Message, StoredPair, TagPair, Which};
 use std::marker::Model;
@@ -119,6 +120,13 @@ impl Receiver {
         ensures { WhereItStands self.now (λ t input. IsView t input (view_of result)) }
     {
         self.state.view()
+    }
+
+    /// Returns why a text and a name are not shown, if they are not.
+    pub fn whys(&self) -> Whys
+        ensures { WhereItStands self.now (λ t input. AreWhys t input result) }
+    {
+        self.state.whys()
     }
 
     /// Returns the text shown, at most 64 bytes, borrowed from the receiver. `None` if no text is shown; `Some` of no

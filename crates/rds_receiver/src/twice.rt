@@ -4,11 +4,12 @@ ghost use Rattle.rds_block.specs.declared.group.Group.{Group};
 ghost use Rattle.rds_receiver.specs.Borrowed.{view_of};
 ghost use Rattle.rds_receiver.specs.Shown.{IsView};
 ghost use Rattle.rds_receiver.specs.StoredTwice.{IsStoredTwice, twice_stored};
+ghost use Rattle.rds_receiver.specs.NotShown.{AreWhys};
 ghost use Rattle.rds_receiver.specs.TwiceState.{KeepsViewTwice, StandsTwice, TakesSlotTwice, WhereItStandsTwice};
 
 use crate::last::StoredLastSegments;
 use crate::stored_twice::StoredTwice;
-use crate::{Receiver, View, Window};
+use crate::{Receiver, View, Whys, Window};
 use rds_block::{Blocks, Group};
 use rds_fields::{Dwell, StoredPair};
 use std::marker::Model;
@@ -95,5 +96,12 @@ impl TwiceReceiver {
         ensures { WhereItStandsTwice self.now (λ t input. IsView t input (view_of result)) }
     {
         self.state.receiver.view()
+    }
+
+    /// Returns why a text and a name are not shown, if they are not.
+    pub fn whys(&self) -> Whys
+        ensures { WhereItStandsTwice self.now (λ t input. AreWhys t input result) }
+    {
+        self.state.receiver.whys()
     }
 }

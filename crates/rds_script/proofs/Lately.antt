@@ -1,5 +1,5 @@
 -- Lemmas: what was on air in the last slots, and the parts of views that were on air.
-use Rattle.std.proofs.Common.{◌≡◌, ◌∙◌, ◌∷◌, ◌++◌, ◌+◌, ◌<◌, ◌||◌, [], add-one, ℕ, zero, suc, Bool, true, false, List, ap, ap₂, append_assoc, append-nil, arith, refl, sym, take}
+use Rattle.std.proofs.Common.{◌≡◌, ◌∙◌, ◌∷◌, ◌++◌, ◌+◌, ◌<◌, ◌||◌, [], add-one, ℕ, zero, suc, Bool, true, false, List, None, ap, ap₂, append_assoc, append-nil, arith, refl, sym, take}
 use Rattle.rds_receiver.specs.Shown.{ShownView}
 use Rattle.rds_view_lines.specs.Output.{air_stamp, change, receiver_stamp}
 use Rattle.rds_view_lines.specs.Part.{same_parts}
@@ -80,6 +80,6 @@ pub compared_alike : (config : Config) (slot other n : ℕ) (e : Event) (before 
     → compared_lines config slot n e before kept shown ≡ compared_lines config other n e before older shown
 compared_alike config slot other n e before kept older shown at same =
     ap (λ (s : ℕ). compared_lines config s n e before kept shown) at
-    ∙ ap (λ (l : List ℕ). if_alone config.kind (change (air_stamp other) (air_of config before) (air_of config (e ∷ before)) ++ l))
+    ∙ ap (λ (l : List ℕ). if_alone config.kind (change (air_stamp other) None (air_of config before) (air_of config (e ∷ before)) ++ l))
     (parts_alike other n (λ i. parts_lately config before (view_at kept i)) (λ i. parts_lately config before (view_at older i)) (λ i. parts_lately config (e ∷ before) (view_at shown i)) (λ i. parts_lately config (e ∷ before) (view_at shown i))
     (λ i l. ap (λ (v : ShownView). parts_lately config before v) (same i)) (λ i l. refl))

@@ -3,6 +3,7 @@ pub mod Commands
 pub mod ReadRecords
 pub mod Changes
 pub mod Lately
+pub mod NotShown
 pub mod Receptions
 pub mod SecondReading
 pub mod OneEvent

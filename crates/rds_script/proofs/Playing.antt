@@ -10,7 +10,7 @@ use Rattle.rds_script.proofs.Lately.{compared_alike}
 use Rattle.rds_view_lines.specs.NoChange.{view_of_none}
 use Rattle.rds_world.specs.Slots.{entries, input_of}
 use Rattle.rds_world.specs.StandsAt.{IsViewOfInput, ShowsStill, tuned_to}
-use Rattle.rds_script.specs.Outcomes.{AreOutcomes, IsOutcome, Outcome, answer_lines, compared_lines, lines_of, newest_views, receiver_changes, slot_lines, view_at}
+use Rattle.rds_script.specs.Outcomes.{AreOutcomes, IsOutcome, Outcome, answer_lines, compared_lines, lines_of, newest_views, receiver_changes, slot_lines, view_at, whys_at}
 use Rattle.rds_script.specs.Inside.Player.{AppendsRow, HasWatched, IsBegun, IsRowRefused, Played, PlayerStandsAt}
 use Rattle.rds_script.specs.Inside.Watched.{AreKept, WatchedStandsAt, WereShown, views_kept}
 use Rattle.rds_script.specs.Notes.{first_of, wait_of}
@@ -56,7 +56,7 @@ names_receivers k form row records e says none (f ∷ older) say = none (subst (
 
 -- a record that says no event
 few_allowed : (form : Form) (n : ℕ) → IsAllowed form n → n ≤ MOST_RECEIVERS
-few_allowed Simulation n allowed = allowed
+few_allowed (Simulation why) n allowed = allowed
 few_allowed Log n allowed = omega (arith, allowed)
 
 pub says_none : (k : Premise) (form : Form) (row : Record) (records : List Record) → ((e : Event) → length e.receptions ≤ MOST_RECEIVERS → SaysEvent row e → ⊥) → AreNoRows k form (row ∷ records)
@@ -65,7 +65,7 @@ says_none k form row records none (e ∷ older) say = none e (let few = few_allo
 
 -- a number of receivers that is not allowed, of up to eight
 pub not_allowed : (form : Form) (n : ℕ) → n ≤ MOST_RECEIVERS → (IsAllowed form n → ⊥) → (form ≡ Log) × (0 < n)
-not_allowed Simulation n few none = absurd (none few)
+not_allowed (Simulation why) n few none = absurd (none few)
 not_allowed Log zero few none = absurd (none refl)
 not_allowed Log (suc n) few none = (refl, omega arith)
 
@@ -79,11 +79,12 @@ same_receivers k n other (row ∷ records) (e ∷ events) (f ∷ older) p q some
 -- the lines of a slot come after those of the slots before
 pub slot_written : (form : Form) (config : Config) (slot : ℕ) (kept : List ShownView) (e : Event) (events : List Event) (o : Outcome) (older : List Outcome) (written lines : List ℕ)
     → written ≡ lines_of form config events older → slot ≡ length older → AreKept kept (newest_views older)
-    → lines ≡ slot_lines form slot kept o ++ compared_lines config slot (length o.views) e events kept o.views
+    → lines ≡ slot_lines form config slot e events kept o ++ compared_lines config slot (length o.views) e events kept o.views
     → written ++ lines ≡ lines_of form config (e ∷ events) (o ∷ older)
 slot_written form config slot kept e events o older written lines had now same gave =
-    let changes : receiver_changes slot (length o.views) kept o.views ≡ receiver_changes (length older) (length o.views) (newest_views older) o.views =
-    changes_same slot (length o.views) kept (newest_views older) o.views o.views (λ i l. same i) (λ i l. refl) ∙ ap (λ (s : ℕ). receiver_changes s (length o.views) (newest_views older) o.views) now in
+    let whys = whys_at form config e.receptions (e ∷ events) in
+    let changes : receiver_changes slot (length o.views) whys kept o.views ≡ receiver_changes (length older) (length o.views) whys (newest_views older) o.views =
+    changes_same slot (length o.views) whys kept (newest_views older) o.views o.views (λ i l. same i) (λ i l. refl) ∙ ap (λ (s : ℕ). receiver_changes s (length o.views) whys (newest_views older) o.views) now in
     let answer : answer_lines form slot o.command o.reply o.sent ≡ answer_lines form (length older) o.command o.reply o.sent = ap (λ (s : ℕ). answer_lines form s o.command o.reply o.sent) now in
     let compared = compared_alike config slot (length older) (length o.views) e events kept (newest_views older) o.views now same in
     ap₂ (λ (x y : List ℕ). x ++ y) had (gave ∙ ap₂ (λ (x y : List ℕ). x ++ y) (ap₂ (λ (x y : List ℕ). x ++ y) answer changes) compared)
@@ -141,12 +142,12 @@ pub plays_on : {T E : Type 0} (r : Result T E) (before now : Player) (played : P
     → now.form ≡ before.form → now.config ≡ before.config → now.slot ≡ before.slot + 1 → now.watched ≡ Some w → IsAllowed played.form receivers
     → AreRows played.config.premise receivers played.records s.events → SaysEvent row e → AreKept kept (newest_views s.outcomes)
     → OnOk r (CanBeTaken played.config.premise receivers e s.events) → OnOk r (WatchedStandsAt played.config receivers w (e ∷ s.events))
-    → OnOk r ((o : Outcome) × IsOutcome played.config e s.events o × (o.views ≡ views_kept w) × (new ≡ old ++ (slot_lines played.form before.slot kept o ++ compared_lines played.config before.slot (length o.views) e s.events kept o.views)))
+    → OnOk r ((o : Outcome) × IsOutcome played.config e s.events o × (o.views ≡ views_kept w) × (new ≡ old ++ (slot_lines played.form played.config before.slot e s.events kept o ++ compared_lines played.config before.slot (length o.views) e s.events kept o.views)))
     → OnOk r (now.wait ≡ first_of (wait_of before.slot e.command (reply_at (distance played.config) e.command (entries s.events))) before.wait)
     → OnOk r (AppendsRow now row old new played)
 plays_on (Err why) before now played s receivers kept w row e old new form config slot watched allowed rows says same taken stands outcome wait = tt
 plays_on (Ok done) before now played s receivers kept w row e old new form config slot watched allowed rows says same taken stands (o, is, views, gave) wait = (
-  slot_lines played.form before.slot kept o ++ compared_lines played.config before.slot (length o.views) e s.events kept o.views,
+  slot_lines played.form played.config before.slot e s.events kept o ++ compared_lines played.config before.slot (length o.views) e s.events kept o.views,
   gave,
   (
     receivers,

@@ -1,6 +1,7 @@
 -- The outcomes of a station's slots, and their output. `sim` writes the reply, the group, and the changes of each
--- receiver's view. For radios with the flag bit alone it also compares the views with what is on air. `encode` writes
--- the reply as a comment, and the group as a line of a log. This is the project's own format. Lists have the newest first, so the slot of an outcome is the number of outcomes behind it.
+-- receiver's view, with the reasons if the lines say why a text or a name is not shown any more. For radios with the flag bit alone it also compares the views with what is on air. `encode` writes
+-- the reply as a comment, and the group as a line of a log. This is the project's own format. Lists have the newest
+-- first, so the slot of an outcome is the number of outcomes behind it.
 use Rattle.std.specs.Prelude.{◌≡◌, ◌<◌, ◌++◌, [], ◌∷◌}
 use Rattle.std.specs.Prelude.{ℕ, zero, suc, Bool, true, false, List, Option, Some, None, codes, decimal, length, slice_index_or}
 use Rattle.rds_block.specs.declared.group.Group.{Group}
@@ -12,16 +13,24 @@ use Rattle.rds_fields.specs.declared.pair.Which.TheVariants.{One, Two}
 use Rattle.rds_encoder.specs.Sent.{IsSent}
 use Rattle.rds_encoder.specs.declared.reply.Refusal.{Refusal}
 use Rattle.rds_encoder.specs.declared.reply.Refusal.TheVariants.{Silent, Held, NoText, OutOfText}
+use Rattle.rds_fields.specs.declared.message.Message.{Message}
+use Rattle.rds_receiver.specs.NotShown.{whys_of}
+use Rattle.rds_receiver.specs.Receipts.{Tuning}
 use Rattle.rds_receiver.specs.Shown.{ShownView}
+use Rattle.rds_receiver.specs.declared.why.WhyNone.TheVariants as why
+use Rattle.rds_receiver.specs.declared.why.Whys.{Whys}
+use Rattle.rds_safety.specs.Late.{Input}
 use Rattle.rds_world.specs.declared.event.Command.{Command}
 use Rattle.rds_world.specs.declared.event.Command.TheVariants.{Quiet, Restart, SetText, SetName, SetTags}
+use Rattle.rds_world.specs.declared.event.Reception.{Reception}
+use Rattle.rds_world.specs.declared.event.Reception.TheVariants as reception
 use Rattle.rds_world.specs.declared.reply.Reply.{Reply}
 use Rattle.rds_world.specs.declared.reply.Reply.TheVariants.{Restarted, Done, Refused}
 use Rattle.rds_world.specs.declared.reply.Reply.TheVariants as reply
 use Rattle.rds_world.specs.Event.{Event}
 use Rattle.rds_world.specs.Replies.{reply_at}
 use Rattle.rds_world.specs.Slots.{entries, input_of, sent_at}
-use Rattle.rds_world.specs.StandsAt.{IsViewOfInput}
+use Rattle.rds_world.specs.StandsAt.{IsViewOfInput, tuned_to}
 use Rattle.rds_io.specs.Digits.{word_digits}
 use Rattle.rds_view_lines.specs.Output.{air_stamp, change, line_of, nothing_shown, receiver_stamp, slot_stamp, unless_same}
 use Rattle.rds_view_lines.specs.declared.parts.Parts.{Parts}
@@ -119,21 +128,42 @@ abbrev pub log_line : Option Group → List ℕ
 log_line None = codes "---- ---- ---- ----\n"
 log_line (Some g) = block_digits g ++ codes "\n"
 
+-- why a text and a name are not shown after a slot with this reception, by the input since the last restart: a restart
+-- in this slot, or what the receiver heard
+abbrev pub whys_after : Reception → Tuning → List (Option Message) → Whys
+whys_after reception.Restart t heard = record { text = why.Restarted; name = why.Restarted }
+whys_after reception.Lost t heard = whys_of t heard
+whys_after (reception.Got back) t heard = whys_of t heard
+whys_after (reception.Wrong message) t heard = whys_of t heard
+
+-- the same, if the lines say why
+abbrev pub whys_said : Form → Reception → Config → Input → Option Whys
+whys_said Log r config input = None
+whys_said (Simulation false) r config input = None
+whys_said (Simulation true) r config input = Some (whys_after r (tuned_to config input) input.heard)
+
+-- the same for receiver i after these slots, the newest of which has these receptions
+abbrev pub whys_at : Form → Config → List Reception → List Event → ℕ → Option Whys
+whys_at form config receptions events i =
+    whys_said form (slice_index_or receptions i reception.Lost) config (input_of (distance config) i events)
+
 -- the changes of the first n receivers, by their numbers
-unfoldable pub receiver_changes : ℕ → ℕ → List ShownView → List ShownView → List ℕ
-receiver_changes slot zero before now = []
-receiver_changes slot (suc i) before now =
-    receiver_changes slot i before now ++ change (receiver_stamp slot i) (view_at before i) (view_at now i)
+unfoldable pub receiver_changes : ℕ → ℕ → (ℕ → Option Whys) → List ShownView → List ShownView → List ℕ
+receiver_changes slot zero whys before now = []
+receiver_changes slot (suc i) whys before now =
+    receiver_changes slot i whys before now
+    ++ change (receiver_stamp slot i) (whys i) (view_at before i) (view_at now i)
 
 -- the lines of the reply and of the group
 abbrev pub answer_lines : Form → ℕ → Command → Reply → Option Group → List ℕ
-answer_lines Simulation slot command reply sent = reply_line [] slot command reply ++ sent_line slot sent
+answer_lines (Simulation why) slot command reply sent = reply_line [] slot command reply ++ sent_line slot sent
 answer_lines Log slot command reply sent = reply_line (codes "# ") slot command reply ++ log_line sent
 
--- the lines of a slot after these earlier views; a log has no receivers
-abbrev pub slot_lines : Form → ℕ → List ShownView → Outcome → List ℕ
-slot_lines form slot before o =
-    answer_lines form slot o.command o.reply o.sent ++ receiver_changes slot (length o.views) before o.views
+-- the lines of the slot of an event after these earlier slots and views; a log has no receivers
+abbrev pub slot_lines : Form → Config → ℕ → Event → List Event → List ShownView → Outcome → List ℕ
+slot_lines form config slot e before shown_before o =
+    answer_lines form slot o.command o.reply o.sent
+    ++ receiver_changes slot (length o.views) (whys_at form config e.receptions (e ∷ before)) shown_before o.views
 
 -- the views of the receivers at the end
 abbrev pub newest_views : List Outcome → List ShownView
@@ -169,7 +199,7 @@ if_alone FlagAlone lines = lines
 -- off it. A part that was on air in one of the last d slots is on air, and so is one that is not shown
 abbrev pub air_lines : Config → ℕ → ℕ → Event → List Event → List ShownView → List ShownView → List ℕ
 air_lines config slot n e before shown_before shown =
-    change (air_stamp slot) (air_of config before) (air_of config (e ∷ before))
+    change (air_stamp slot) None (air_of config before) (air_of config (e ∷ before))
     ++ parts_changes slot n (λ i. parts_lately config before (view_at shown_before i))
     (λ i. parts_lately config (e ∷ before) (view_at shown i))
 
@@ -183,7 +213,7 @@ lines_of form config [] outcomes = []
 lines_of form config (e ∷ before) [] = []
 lines_of form config (e ∷ before) (o ∷ older) =
     lines_of form config before older
-    ++ (slot_lines form (length older) (newest_views older) o
+    ++ (slot_lines form config (length older) e before (newest_views older) o
     ++ compared_lines config (length older) (length o.views) e before (newest_views older) o.views)
 
 -- the output of a station's slots is the lines of their outcomes

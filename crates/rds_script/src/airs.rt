@@ -1,5 +1,5 @@
 //! What a station has on air, and what it had in the last slots.
-ghost use Rattle.std.specs.Prelude.{◌≡◌, ◌≤◌, ◌+◌, ◌-◌, ◌++◌, ◌∷◌, [], IfOk, List, length};
+ghost use Rattle.std.specs.Prelude.{◌≡◌, ◌≤◌, ◌+◌, ◌-◌, ◌++◌, ◌∷◌, [], IfOk, List, None, length};
 ghost use Rattle.rds_receiver.specs.Borrowed.{view_of};
 ghost use Rattle.rds_receiver.specs.Shown.{ShownView};
 ghost use Rattle.rds_view_lines.specs.KeptView.{view_kept};
@@ -50,11 +50,17 @@ impl Airs {
         ensures stands { WhereItStands world.now (λ config events. AirsStood config events self.old
             → AirsStand config events self.new) }
         ensures lines { lines.new
-            ≡ lines.old ++ change (air_stamp slot) (view_kept self.old.newest) (view_kept self.new.newest) }
+            ≡ lines.old ++ change (air_stamp slot) None (view_kept self.old.newest) (view_kept self.new.newest) }
         ensures room { length lines.new ≤ length lines.old + SLOT_ROOM }
     {
         let now = KeptView::of(world.on_air());
-        push_changes(Stamp::OnAir(slot), self.newest.view(), now.view(), lines);
+        push_changes(
+            Stamp::OnAir(slot),
+            None,
+            self.newest.view(),
+            now.view(),
+            lines,
+        );
         let old = mem::replace(&mut self.newest, now);
         self.earlier.push_front(old);
     }

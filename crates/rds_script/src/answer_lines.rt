@@ -37,7 +37,7 @@ pub(crate) fn push_answer<const N: usize>(
     ensures room { length lines.new ≤ length lines.old + ANSWER_ROOM }
 {
     match form {
-        Form::Simulation => {
+        Form::Simulation { .. } => {
             push_reply(b"", slot, command, answer.reply, lines);
             push_sent(slot, answer.sent, lines);
         }

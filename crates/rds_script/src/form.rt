@@ -6,7 +6,10 @@ ghost use Rattle.rds_world.specs.declared.event.TheConstants.{MOST_RECEIVERS};
 #[derive(Clone, Copy, PartialEq, Eq)]
 pub enum Form {
     /// The replies, the groups, and the changes at each receiver (`sim`).
-    Simulation,
+    Simulation {
+        /// Whether the line of a text or a name that a receiver does not show any more says why.
+        says_why: bool,
+    },
     /// A log of the groups, with the replies as comments and without receivers (`encode`).
     Log,
 }
@@ -19,6 +22,6 @@ impl Form {
         requires { receivers ≤ MOST_RECEIVERS }
         ensures { IsTrue result ↔ IsAllowed self receivers }
     {
-        self == Form::Simulation || receivers == 0
+        self != Form::Log || receivers == 0
     }
 }

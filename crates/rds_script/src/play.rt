@@ -1,5 +1,5 @@
 //! The engines of `sim` and `encode`: each row is a slot of a station.
-ghost use Rattle.std.specs.Prelude.{◌≡◌, ◌≢◌, ◌≤◌, ◌<◌, ◌+◌, ◌-◌, ◌^◌, [], ℕ, Bool, List, None, Ok, Option, Result, length, true};
+ghost use Rattle.std.specs.Prelude.{◌≡◌, ◌≢◌, ◌≤◌, ◌<◌, ◌+◌, ◌-◌, ◌^◌, [], ℕ, Bool, List, None, Ok, Option, Result, false, length, true};
 ghost use Rattle.csv.specs.Records.{fields_of};
 ghost use Rattle.rds_io.specs.Told.{traffic};
 ghost use Rattle.rds_io.specs.ReadFailed.{SomeReadFailed};
@@ -39,7 +39,7 @@ pub fn simulate<R: TellingRead + Drop, W: TellingWrite>(
     writer: &mut W,
     config: Config,
 ) -> Result<(), LogFault>
-    ensures { Plays forms.Simulation config (2 ^ 32) (reading R.remaining R.failures reader)
+    ensures { Plays (forms.Simulation false) config (2 ^ 32) (reading R.remaining R.failures reader)
         (traffic W.contents W.failures writer.old writer.new) result }
 {
     simulate_within(alloc, reader, writer, config, MOST_RECORDS)
@@ -55,11 +55,11 @@ pub fn simulate_within<R: TellingRead + Drop, W: TellingWrite>(
     records: u64,
 ) -> Result<(), LogFault>
     requires { records ≤ 2 ^ 32 }
-    ensures { Plays forms.Simulation config records (reading R.remaining R.failures reader)
+    ensures { Plays (forms.Simulation false) config records (reading R.remaining R.failures reader)
         (traffic W.contents W.failures writer.old writer.new) result }
 {
     play_script(
-        Form::Simulation,
+        Form::Simulation { says_why: false },
         alloc,
         reader,
         writer,

@@ -1,14 +1,17 @@
 //! A world, and the changes of its receivers' views.
-ghost use Rattle.std.specs.Prelude.{◌≡◌, ◌≤◌, ◌<◌, ◌+◌, ◌*◌, ◌++◌, ◌∷◌, [], ℕ, IfErr, IfOk, OnErr, OnOk, length, map};
+ghost use Rattle.std.specs.Prelude.{◌≡◌, ◌≤◌, ◌<◌, ◌+◌, ◌*◌, ◌++◌, ◌∷◌, [], ℕ, IfErr, IfOk, OnErr, OnOk, length, map, slice_index_or};
+ghost use Rattle.rds_safety.specs.Late.{Input};
+ghost use Rattle.rds_world.specs.declared.event.Reception.TheVariants.{Lost};
 ghost use Rattle.rds_world.specs.declared.event.TheConstants.{MOST_RECEIVERS};
+ghost use Rattle.rds_world.specs.declared.world.Config.{Config};
 ghost use Rattle.rds_world.specs.State.{distance};
 ghost use Rattle.rds_world.specs.Slots.{entries, input_of};
 ghost use Rattle.rds_world.specs.Replies.{CanBeTaken, IsStepRefused, reply_at};
-ghost use Rattle.rds_world.specs.StandsAt.{IsViewOfInput, WhereItStands};
+ghost use Rattle.rds_world.specs.StandsAt.{HasHeard, IsViewOfInput, WhereItStands, tuned_to};
 ghost use Rattle.rds_view_lines.specs.KeptView.{view_kept};
 ghost use Rattle.rds_script.specs.Inside.Watched.{AreKept, WereShown};
 ghost use Rattle.rds_script.specs.Notes.{first_of, wait_of};
-ghost use Rattle.rds_script.specs.Outcomes.{IsOutcome, Outcome, compared_lines, receiver_changes, slot_lines, view_at};
+ghost use Rattle.rds_script.specs.Outcomes.{IsOutcome, Outcome, compared_lines, receiver_changes, slot_lines, view_at, whys_after, whys_at, whys_said};
 ghost use Rattle.rds_script.specs.declared.row.RowRefused.TheVariants as refused;
 ghost use Rattle.rds_script.specs.declared.watched.TheConstants.{OUTPUT_ROOM, ROW_ROOM};
 ghost use Rattle.rds_view_lines.specs.declared.change.TheConstants.{SLOT_ROOM};
@@ -20,8 +23,9 @@ use crate::notes::{EarlySet, note_wait};
 use crate::row::RowRefused;
 use arrayvec::ArrayVec;
 use rds_io::Lines;
+use rds_receiver::{Receive, WhyNone, Whys};
 use rds_view_lines::{KeptView, SLOT_ROOM, Stamp, show};
-use rds_world::{Config, MOST_RECEIVERS, SlotEvent, StepRefused, World};
+use rds_world::{AnyReceiver, Config, MOST_RECEIVERS, Reception, SlotEvent, StepRefused, World};
 use std::alloc::Global;
 
 /// The most bytes of the output of a row: the reply, the group, the changes at each receiver, and how the views compare
@@ -86,7 +90,7 @@ impl Watched {
             OnOk result (CanBeTaken config.premise receivers event.now events)) }
         ensures outcome { WhereWatchedStands self.old (λ config receivers events.
             OnOk result ((o : Outcome) × IsOutcome config event.now events o × (o.views ≡ views_kept self.new)
-            × (lines.new ≡ lines.old ++ (slot_lines form slot (views_kept self.old) o
+            × (lines.new ≡ lines.old ++ (slot_lines form config slot event.now events (views_kept self.old) o
             ++ compared_lines config slot (length o.views) event.now events (views_kept self.old) o.views)))) }
         ensures wait { WhereWatchedStands self.old (λ config receivers events.
             OnOk result (wait.new ≡ first_of (wait_of slot event.now.command
@@ -101,7 +105,14 @@ impl Watched {
             Ok(answer) => {
                 note_wait(wait, slot, &event.command, answer.reply);
                 push_answer(form, slot, &event.command, answer, lines);
-                push_views(slot, &self.world, self.shown.as_mut_slice(), lines);
+                push_views(
+                    form,
+                    slot,
+                    &self.world,
+                    event,
+                    self.shown.as_mut_slice(),
+                    lines,
+                );
                 compare(
                     &mut self.compared,
                     slot,
@@ -137,12 +148,19 @@ fn nothing_shown(receivers: usize) -> ArrayVec<KeptView, MOST_RECEIVERS>
 }
 
 /// Appends the changes at each receiver, and keeps its view. Skips a receiver whose view did not change.
-fn push_views(slot: u64, world: &World, shown: &mut [KeptView], lines: &mut RowLines)
+fn push_views(
+    form: Form,
+    slot: u64,
+    world: &World,
+    event: &SlotEvent,
+    shown: &mut [KeptView],
+    lines: &mut RowLines,
+)
     requires few { length shown.old ≤ MOST_RECEIVERS }
     requires room { length lines.old + MOST_RECEIVERS * SLOT_ROOM ≤ OUTPUT_ROOM }
     ensures lines { length shown.old ≡ length world.now.receivers
-        → lines.new ≡ lines.old ++ receiver_changes slot (length shown.old)
-        (map view_kept shown.old) (map view_kept shown.new) }
+        → WhereItStands world.now (λ config events. lines.new ≡ lines.old ++ receiver_changes slot (length shown.old)
+        (whys_at form config event.now.receptions events) (map view_kept shown.old) (map view_kept shown.new)) }
     ensures views { length shown.old ≡ length world.now.receivers
         → WhereItStands world.now (λ config events.
         WereShown config (length shown.old) events (map view_kept shown.old)
@@ -158,6 +176,48 @@ fn push_views(slot: u64, world: &World, shown: &mut [KeptView], lines: &mut RowL
         let Some(receiver) = world.receiver(i) else {
             return;
         };
-        show(Stamp::Receiver(slot, i), &mut shown[i], receiver, lines);
+        let whys = whys_of(form, event, i, receiver);
+        show(
+            Stamp::Receiver(slot, i),
+            whys,
+            &mut shown[i],
+            receiver,
+            lines,
+        );
+    }
+}
+
+/// Returns why receiver i shows no text and no name after the slot of this event, if the lines say why.
+fn whys_of(form: Form, event: &SlotEvent, i: usize, receiver: &AnyReceiver) -> Option<Whys>
+    ensures { (config : Config) (input : Input) → HasHeard config input receiver.now
+        → result ≡ whys_said form (slice_index_or event.now.receptions i Lost) config input }
+{
+    match form {
+        Form::Simulation { says_why: true } => Some(whys_after(reception_of(event, i), receiver)),
+        Form::Simulation { says_why: false } | Form::Log => None,
+    }
+}
+
+/// Returns why a receiver shows no text and no name after a slot with this reception.
+fn whys_after(reception: Reception, receiver: &AnyReceiver) -> Whys
+    ensures { (config : Config) (input : Input) → HasHeard config input receiver.now
+        → result ≡ whys_after reception (tuned_to config input) input.heard }
+{
+    match reception {
+        Reception::Restart => Whys {
+            text: WhyNone::Restarted,
+            name: WhyNone::Restarted,
+        },
+        Reception::Got(_) | Reception::Lost | Reception::Wrong(_) => receiver.whys(),
+    }
+}
+
+/// Returns the reception of receiver i.
+fn reception_of(event: &SlotEvent, i: usize) -> Reception
+    ensures { result ≡ slice_index_or event.now.receptions i Lost }
+{
+    match event.receptions.as_slice().get(i) {
+        Some(reception) => *reception,
+        None => Reception::Lost,
     }
 }

@@ -6,6 +6,7 @@ use Rattle.rds_assembly.specs.ServiceLaws.{no_name_of_none, no_text_of_none}
 use Rattle.rds_receiver.specs.Receipts.{Tuning}
 use Rattle.rds_receiver.specs.Shown.{IsView, ShownView, ShowsView}
 use Rattle.rds_receiver.specs.Twice.{counted_in}
+use Rattle.rds_receiver.specs.declared.why.Whys.{Whys}
 use Rattle.rds_view_lines.specs.Output.{change, is_same_item, is_same_tag, is_same_text, nothing_shown}
 
 -- an unchanged part has no line
@@ -24,8 +25,8 @@ same_tag : (o : Option (ℕ × List ℕ)) → is_same_tag o o ≡ true
 same_tag None = refl
 same_tag (Some (n, x)) = rw (eq-eqb n n refl, (bytes_eq-Decides x x).1 refl) refl
 
-pub no_change : (stamp : List ℕ) (v : ShownView) → change stamp v v ≡ []
-no_change stamp v = rw (same_text v.text, same_text v.name, same_item v.item, same_tag v.one, same_tag v.two) refl
+pub no_change : (stamp : List ℕ) (whys : Option Whys) (v : ShownView) → change stamp whys v v ≡ []
+no_change stamp whys v = rw (same_text v.text, same_text v.name, same_item v.item, same_tag v.one, same_tag v.two) refl
 
 -- before the first slot nothing is shown
 pub view_of_none : (t : Tuning) → IsView t [] nothing_shown

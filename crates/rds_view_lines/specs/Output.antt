@@ -1,14 +1,18 @@
 -- The output for a list of views: for each slot one line for each part of its view that differs from the slot before,
--- in the order text, name, item bits, first tag, second tag. Before the first slot nothing is shown. This is the
--- project's own format. A list of views has the newest first, so the slot of a view is the number of views behind it.
+-- in the order text, name, item bits, first tag, second tag. The line of a text or a name that is not shown any more
+-- says why, if that is asked for. Before the first slot nothing is shown. This is the project's own format. A list of
+-- displays has the newest first, so the slot of a display is the number of displays behind it.
 use Rattle.std.specs.Prelude.{◌-◌, ◌==◌, ◌&&◌, ◌++◌, [], ◌∷◌}
 use Rattle.std.specs.Prelude.{ℕ, Bool, true, false, List, Option, Some, None}
-use Rattle.std.specs.Prelude.{codes, decimal, length, slice_get, if◌then◌else◌}
+use Rattle.std.specs.Prelude.{codes, decimal, length, option_map, slice_get, if◌then◌else◌}
 use Rattle.std.specs.Option.{option_eq}
 use Rattle.std.specs.Str.{bytes_eq}
 use Rattle.rds_charset.specs.Printed.{printed}
 use Rattle.rds_receiver.specs.Run.{is_same}
 use Rattle.rds_receiver.specs.Shown.{ShownView}
+use Rattle.rds_receiver.specs.declared.why.WhyNone.{WhyNone}
+use Rattle.rds_receiver.specs.declared.why.WhyNone.TheVariants.{Dropped, NextBegan, Restarted}
+use Rattle.rds_receiver.specs.declared.why.Whys.{Whys}
 
 -- the names of the content types from 1 on (IEC 62106-6, content types of RadioText Plus)
 abbrev pub class_names : List (List ℕ)
@@ -30,10 +34,21 @@ name_or_number (Some name) class = name
 abbrev pub quoted : List ℕ → List ℕ
 quoted x = codes " \"" ++ printed x ++ codes "\""
 
+-- why a part is not shown: the next one began, or no segment came for as long as the dwell, or the receiver restarted
+abbrev pub why_content : WhyNone → List ℕ
+why_content NextBegan = codes " next"
+why_content Dropped = codes " dropped"
+why_content Restarted = codes " restarted"
+
+-- the content of a part that is not shown, with the reason if it is asked for
+abbrev pub none_content : Option WhyNone → List ℕ
+none_content None = codes " none"
+none_content (Some why) = codes " none" ++ why_content why
+
 -- the content of a part, which follows its name
-abbrev pub text_content : Option (List ℕ) → List ℕ
-text_content None = codes " none"
-text_content (Some x) = quoted x
+abbrev pub text_content : Option WhyNone → Option (List ℕ) → List ℕ
+text_content why None = none_content why
+text_content why (Some x) = quoted x
 
 abbrev pub bit_content : Bool → List ℕ
 bit_content false = codes " 0"
@@ -77,8 +92,9 @@ abbrev pub unless_same : Bool → List ℕ → List ℕ
 unless_same true line = []
 unless_same false line = line
 
-abbrev pub text_change : List ℕ → List ℕ → Option (List ℕ) → Option (List ℕ) → List ℕ
-text_change stamp part before now = unless_same (is_same_text before now) (line_of stamp part (text_content now))
+abbrev pub text_change : List ℕ → List ℕ → Option WhyNone → Option (List ℕ) → Option (List ℕ) → List ℕ
+text_change stamp part why before now =
+    unless_same (is_same_text before now) (line_of stamp part (text_content why now))
 
 abbrev pub item_change : List ℕ → List ℕ → Option (Bool × Bool) → Option (Bool × Bool) → List ℕ
 item_change stamp part before now = unless_same (is_same_item before now) (line_of stamp part (item_content now))
@@ -86,22 +102,36 @@ item_change stamp part before now = unless_same (is_same_item before now) (line_
 abbrev pub tag_change : List ℕ → List ℕ → Option (ℕ × List ℕ) → Option (ℕ × List ℕ) → List ℕ
 tag_change stamp part before now = unless_same (is_same_tag before now) (line_of stamp part (tag_content now))
 
+-- the reasons for a text and for a name, if they are asked for
+abbrev pub why_text : Option Whys → Option WhyNone
+why_text whys = option_map (λ w. w.text) whys
+
+abbrev pub why_name : Option Whys → Option WhyNone
+why_name whys = option_map (λ w. w.name) whys
+
 -- the lines of a slot
-abbrev pub change : List ℕ → ShownView → ShownView → List ℕ
-change stamp before now =
-    text_change stamp (codes "text") before.text now.text ++ text_change stamp (codes "name") before.name now.name
+abbrev pub change : List ℕ → Option Whys → ShownView → ShownView → List ℕ
+change stamp whys before now =
+    text_change stamp (codes "text") (why_text whys) before.text now.text
+    ++ text_change stamp (codes "name") (why_name whys) before.name now.name
     ++ item_change stamp (codes "item") before.item now.item ++ tag_change stamp (codes "tag1") before.one now.one
     ++ tag_change stamp (codes "tag2") before.two now.two
 
 abbrev pub nothing_shown : ShownView
 nothing_shown = record { text = None; name = None; item = None; one = None; two = None }
 
+-- the display at the end of a slot: the view, and why a text and a name are not shown, if that is asked for
+pub record Display : Type 0 where
+  pub view : ShownView
+  pub whys : Option Whys
+
 -- the view at the end
-abbrev pub newest : List ShownView → ShownView
+abbrev pub newest : List Display → ShownView
 newest [] = nothing_shown
-newest (view ∷ older) = view
+newest (display ∷ older) = display.view
 
 -- the lines of all changes, the oldest first
-abbrev pub changes_of : List ShownView → List ℕ
+abbrev pub changes_of : List Display → List ℕ
 changes_of [] = []
-changes_of (view ∷ older) = changes_of older ++ change (slot_stamp (length older)) (newest older) view
+changes_of (display ∷ older) =
+    changes_of older ++ change (slot_stamp (length older)) display.whys (newest older) display.view

@@ -1,9 +1,10 @@
 -- The program's types for the beginning of an output line and for the parts of a view, with the content of a part and its
 -- line.
-use Rattle.std.specs.Prelude.{ℕ, Bool, false, List}
+use Rattle.std.specs.Prelude.{ℕ, Bool, false, List, Option}
 use Rattle.std.specs.Option.{option_copied}
 use Rattle.rds_receiver.specs.Borrowed.{borrowed_tag}
 use Rattle.rds_receiver.specs.Shown.{IsShortTag, IsShortText, ShownView}
+use Rattle.rds_receiver.specs.declared.why.WhyNone.{WhyNone}
 use Rattle.rds_view_lines.specs.Output.{air_stamp, is_same_item, is_same_tag, is_same_text, item_content, line_of}
 use Rattle.rds_view_lines.specs.Output.{receiver_stamp, slot_stamp, tag_content, text_content, unless_same}
 use Rattle.rds_view_lines.specs.declared.change.Part.{Part}
@@ -25,10 +26,10 @@ is_same_part (Tag before) (Item now) = false
 is_same_part (Tag before) (Tag now) = is_same_tag (borrowed_tag before) (borrowed_tag now)
 
 -- the content of the part, which follows its name
-abbrev pub part_content : Part → List ℕ
-part_content (Text text) = text_content (option_copied text)
-part_content (Item item) = item_content item
-part_content (Tag tag) = tag_content (borrowed_tag tag)
+abbrev pub part_content : Option WhyNone → Part → List ℕ
+part_content why (Text text) = text_content why (option_copied text)
+part_content why (Item item) = item_content item
+part_content why (Tag tag) = tag_content (borrowed_tag tag)
 
 -- no text, name or piece has more than 64 bytes
 abbrev pub IsShortPart : Part → Type 0
@@ -37,8 +38,8 @@ IsShortPart (Item item) = Unit {0}
 IsShortPart (Tag tag) = IsShortTag tag
 
 -- the line of a part, if the part differs from the slot before
-abbrev pub part_change : List ℕ → List ℕ → Part → Part → List ℕ
-part_change stamp name before now = unless_same (is_same_part before now) (line_of stamp name (part_content now))
+abbrev pub part_change : List ℕ → List ℕ → Option WhyNone → Part → Part → List ℕ
+part_change stamp name why before now = unless_same (is_same_part before now) (line_of stamp name (part_content why now))
 
 -- the beginning of a line
 abbrev pub stamp_of : Stamp → List ℕ

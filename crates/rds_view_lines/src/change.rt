@@ -3,12 +3,12 @@ ghost use Rattle.std.specs.Prelude.{◌≡◌, ◌≤◌, ◌+◌, ◌++◌, IfS
 ghost use Rattle.std.specs.Option.{ForSome, option_copied};
 ghost use Rattle.rds_receiver.specs.Borrowed.{borrowed_tag};
 ghost use Rattle.rds_view_lines.specs.Output.{bit_content, change, class_name, item_content};
-ghost use Rattle.rds_view_lines.specs.Output.{name_or_number, quoted, tag_content, text_content};
+ghost use Rattle.rds_view_lines.specs.Output.{name_or_number, none_content, quoted, tag_content, text_content, why_content};
 ghost use Rattle.rds_view_lines.specs.declared.change.TheConstants.{LINE_ROOM, SLOT_ROOM};
 
 use rds_charset::push_text;
 use rds_io::Lines;
-use rds_receiver::View;
+use rds_receiver::{View, WhyNone, Whys};
 
 /// The most bytes of the line of a part: its name, the name of a content type, and a text of 64 bytes, each byte
 /// printed as at most four.
@@ -80,11 +80,12 @@ impl Part<'_> {
         }
     }
 
-    /// Appends the content of the part, which follows its name.
-    fn push<const N: usize>(self, lines: &mut Lines<N>)
+    /// Appends the content of the part, which follows its name. A text or a name that is not shown has the reason, if
+    /// there is one.
+    fn push<const N: usize>(self, why: Option<WhyNone>, lines: &mut Lines<N>)
         requires short { IsShortPart self }
         requires room { length lines.old + 290 ≤ N }
-        ensures content { lines.new ≡ lines.old ++ part_content self.entry }
+        ensures content { lines.new ≡ lines.old ++ part_content why self.entry }
         ensures room { length lines.new ≤ length lines.old + 290 }
     {
         match self {
@@ -97,8 +98,32 @@ impl Part<'_> {
                 push_class(class, lines);
                 push_quoted(piece, lines);
             }
-            Part::Text(None) | Part::Item(None) | Part::Tag(None) => lines.push(b" none"),
+            Part::Text(None) => push_none(why, lines),
+            Part::Item(None) | Part::Tag(None) => lines.push(b" none"),
         }
+    }
+}
+
+/// Appends that a text or a name is not shown, and why, if there is a reason.
+fn push_none<const N: usize>(why: Option<WhyNone>, lines: &mut Lines<N>)
+    requires { length lines.old + 15 ≤ N }
+    ensures content { lines.new ≡ lines.old ++ none_content why }
+    ensures room { length lines.new ≤ length lines.old + 15 }
+{
+    lines.push(b" none");
+    if let Some(why) = why {
+        lines.push(why_content(why));
+    }
+}
+
+fn why_content(why: WhyNone) -> &'static [u8]
+    ensures content { result.now ≡ why_content why }
+    ensures short { length result.now ≤ 10 }
+{
+    match why {
+        WhyNone::NextBegan => b" next",
+        WhyNone::Dropped => b" dropped",
+        WhyNone::Restarted => b" restarted",
     }
 }
 
@@ -161,6 +186,7 @@ ghost use Rattle.rds_view_lines.specs.Part.{IsShortPart, part_change, stamp_of};
 fn push_change<const N: usize>(
     stamp: Stamp,
     name: &[u8],
+    why: Option<WhyNone>,
     before: Part<'_>,
     now: Part<'_>,
     lines: &mut Lines<N>,
@@ -168,7 +194,7 @@ fn push_change<const N: usize>(
     requires name { length name.now ≡ 4 }
     requires short { IsShortPart now }
     requires room { length lines.old + LINE_ROOM ≤ N }
-    ensures change { lines.new ≡ lines.old ++ part_change (stamp_of stamp) name.now before.entry now.entry }
+    ensures change { lines.new ≡ lines.old ++ part_change (stamp_of stamp) name.now why before.entry now.entry }
     ensures room { length lines.new ≤ length lines.old + LINE_ROOM }
 {
     if before.is_same(now) {
@@ -176,27 +202,34 @@ fn push_change<const N: usize>(
     }
     stamp.push(lines);
     lines.push(name);
-    now.push(lines);
+    now.push(why, lines);
     lines.push(b"\n");
 }
 
 ghost use Rattle.rds_receiver.specs.Borrowed.{view_of};
 
-/// Appends the line of each part of a view that differs from the slot before.
+/// Appends the line of each part of a view that differs from the slot before. With `whys` the line of a text or a name
+/// that is not shown any more says why.
 pub fn push_changes<const N: usize>(
     stamp: Stamp,
+    whys: Option<Whys>,
     before: View<'_>,
     now: View<'_>,
     lines: &mut Lines<N>,
 )
     requires { length lines.old + SLOT_ROOM ≤ N }
-    ensures changes { lines.new ≡ lines.old ++ change (stamp_of stamp) (view_of before.entry)
+    ensures changes { lines.new ≡ lines.old ++ change (stamp_of stamp) whys (view_of before.entry)
         (view_of now.entry) }
     ensures room { length lines.new ≤ length lines.old + SLOT_ROOM }
 {
+    let (why_text, why_name) = match whys {
+        Some(whys) => (Some(whys.text), Some(whys.name)),
+        None => (None, None),
+    };
     push_change(
         stamp,
         b"text",
+        why_text,
         Part::Text(before.text),
         Part::Text(now.text),
         lines,
@@ -204,6 +237,7 @@ pub fn push_changes<const N: usize>(
     push_change(
         stamp,
         b"name",
+        why_name,
         Part::Text(before.name),
         Part::Text(now.name),
         lines,
@@ -211,6 +245,7 @@ pub fn push_changes<const N: usize>(
     push_change(
         stamp,
         b"item",
+        None,
         Part::Item(before.item),
         Part::Item(now.item),
         lines,
@@ -218,6 +253,7 @@ pub fn push_changes<const N: usize>(
     push_change(
         stamp,
         b"tag1",
+        None,
         Part::Tag(before.one),
         Part::Tag(now.one),
         lines,
@@ -225,6 +261,7 @@ pub fn push_changes<const N: usize>(
     push_change(
         stamp,
         b"tag2",
+        None,
         Part::Tag(before.two),
         Part::Tag(now.two),
         lines,

@@ -10,24 +10,26 @@ ghost use Rattle.rds_view_lines.specs.Part.{stamp_of};
 use crate::change::{Stamp, push_changes};
 use crate::kept::KeptView;
 use rds_io::Lines;
-use rds_receiver::Receive;
+use rds_receiver::{Receive, Whys};
 
-/// Appends the line of each part that differs from the view that was shown, and keeps the receiver's view.
+/// Appends the line of each part that differs from the view that was shown, and keeps the receiver's view. With `whys`
+/// the line of a text or a name that is not shown any more says why.
 // Cold path: few slots change a view.
 #[inline(never)]
 pub fn show<T: Receive, const N: usize>(
     stamp: Stamp,
+    whys: Option<Whys>,
     shown: &mut KeptView,
     receiver: &T,
     lines: &mut Lines<N>,
 )
     requires { length lines.old + SLOT_ROOM ≤ N }
     ensures changes { lines.new
-        ≡ lines.old ++ change (stamp_of stamp) (view_kept shown.old) (view_kept shown.new) }
+        ≡ lines.old ++ change (stamp_of stamp) whys (view_kept shown.old) (view_kept shown.new) }
     ensures shows { WhereStands T.stands receiver.now (λ t input. IsView t input (view_kept shown.new)) }
     ensures room { length lines.new ≤ length lines.old + SLOT_ROOM }
 {
     let now = receiver.view();
-    push_changes(stamp, shown.view(), now, lines);
+    push_changes(stamp, whys, shown.view(), now, lines);
     *shown = KeptView::of(now);
 }

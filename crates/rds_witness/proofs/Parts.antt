@@ -11,8 +11,10 @@ use Rattle.rds_receiver.specs.OneView.{same_view}
 use Rattle.rds_receiver.specs.Receipts.{Tuning}
 use Rattle.rds_receiver.specs.Shown.{IsView, ShownView}
 use Rattle.rds_view_lines.specs.NoChange.{view_of_none}
-use Rattle.rds_view_lines.specs.Output.{change, changes_of, is_same_item, is_same_tag, is_same_text, item_content, item_change, line_of, newest, slot_stamp, tag_change, tag_content, text_change, text_content, unless_same}
-use Rattle.rds_log.specs.LogWrites.{AreViews}
+use Rattle.rds_receiver.specs.declared.why.WhyNone.{WhyNone}
+use Rattle.rds_receiver.specs.declared.why.Whys.{Whys}
+use Rattle.rds_view_lines.specs.Output.{Display, change, changes_of, is_same_item, is_same_tag, is_same_text, item_content, item_change, line_of, newest, slot_stamp, tag_change, tag_content, text_change, text_content, unless_same, why_name, why_text}
+use Rattle.rds_log.specs.LogWrites.{AreDisplays}
 use Rattle.rds_witness.specs.Lines.{shown_line}
 use Rattle.rds_witness.specs.Lost.{got}
 use Rattle.rds_witness.specs.Mix.{Has, IsMix, IsNew, Name, Shows, Tag, Text, Thing}
@@ -32,8 +34,8 @@ unless_line : (b : Bool) (stamp part content : List ℕ) → BeginsLine (unless_
 unless_line true stamp part content = inl refl
 unless_line false stamp part content = after_line stamp part content
 
-after_text : (stamp part : List ℕ) (before now : Option (List ℕ)) → BeginsLine (text_change stamp part before now)
-after_text stamp part before now = unless_line (is_same_text before now) stamp part (text_content now)
+after_text : (stamp part : List ℕ) (why : Option WhyNone) (before now : Option (List ℕ)) → BeginsLine (text_change stamp part why before now)
+after_text stamp part why before now = unless_line (is_same_text before now) stamp part (text_content why now)
 
 after_item : (stamp part : List ℕ) (before now : Option (Bool × Bool)) → BeginsLine (item_change stamp part before now)
 after_item stamp part before now = unless_line (is_same_item before now) stamp part (item_content now)
@@ -41,18 +43,18 @@ after_item stamp part before now = unless_line (is_same_item before now) stamp p
 after_tag : (stamp part : List ℕ) (before now : Option (ℕ × List ℕ)) → BeginsLine (tag_change stamp part before now)
 after_tag stamp part before now = unless_line (is_same_tag before now) stamp part (tag_content now)
 
-after_change : (stamp : List ℕ) (v w : ShownView) → BeginsLine (change stamp v w)
-after_change stamp v w =
-    let a = text_change stamp (codes "text") v.text w.text in
-    let b = text_change stamp (codes "name") v.name w.name in
+after_change : (stamp : List ℕ) (whys : Option Whys) (v w : ShownView) → BeginsLine (change stamp whys v w)
+after_change stamp whys v w =
+    let a = text_change stamp (codes "text") (why_text whys) v.text w.text in
+    let b = text_change stamp (codes "name") (why_name whys) v.name w.name in
     let c = item_change stamp (codes "item") v.item w.item in
     let d = tag_change stamp (codes "tag1") v.one w.one in
     let e = tag_change stamp (codes "tag2") v.two w.two in
-    begins_next (((a ++ b) ++ c) ++ d) e (begins_next ((a ++ b) ++ c) d (begins_next (a ++ b) c (begins_next a b (after_text stamp (codes "text") v.text w.text) (after_text stamp (codes "name") v.name w.name)) (after_item stamp (codes "item") v.item w.item)) (after_tag stamp (codes "tag1") v.one w.one)) (after_tag stamp (codes "tag2") v.two w.two)
+    begins_next (((a ++ b) ++ c) ++ d) e (begins_next ((a ++ b) ++ c) d (begins_next (a ++ b) c (begins_next a b (after_text stamp (codes "text") (why_text whys) v.text w.text) (after_text stamp (codes "name") (why_name whys) v.name w.name)) (after_item stamp (codes "item") v.item w.item)) (after_tag stamp (codes "tag1") v.one w.one)) (after_tag stamp (codes "tag2") v.two w.two)
 
-after_changes : (views : List ShownView) → BeginsLine (changes_of views)
+after_changes : (displays : List Display) → BeginsLine (changes_of displays)
 after_changes [] = inl refl
-after_changes (view ∷ older) = begins_next (changes_of older) (change (slot_stamp (length older)) (newest older) view) (after_changes older) (after_change (slot_stamp (length older)) (newest older) view)
+after_changes (d ∷ older) = begins_next (changes_of older) (change (slot_stamp (length older)) d.whys (newest older) d.view) (after_changes older) (after_change (slot_stamp (length older)) d.whys (newest older) d.view)
 
 -- ---- a line among others
 
@@ -96,10 +98,10 @@ tag_differs (Some (d, y)) c x isnt =
     let piece : y ≡ x = (bytes_eq-Decides y x).0 parts.1 in
     isnt (λ i. Some (class i, piece i)))
 
-text_line : (stamp part : List ℕ) (before after : Option (List ℕ)) (x : List ℕ) → (before ≡ Some x → ⊥) → after ≡ Some x → text_change stamp part before after ≡ line_of stamp part (text_content (Some x))
-text_line stamp part before after x isnt has =
-    ap (λ (o : Option (List ℕ)). text_change stamp part before o) has
-    ∙ ap (λ (b : Bool). unless_same b (line_of stamp part (text_content (Some x)))) (text_differs before x isnt)
+text_line : (stamp part : List ℕ) (why : Option WhyNone) (before after : Option (List ℕ)) (x : List ℕ) → (before ≡ Some x → ⊥) → after ≡ Some x → text_change stamp part why before after ≡ line_of stamp part (text_content why (Some x))
+text_line stamp part why before after x isnt has =
+    ap (λ (o : Option (List ℕ)). text_change stamp part why before o) has
+    ∙ ap (λ (b : Bool). unless_same b (line_of stamp part (text_content why (Some x)))) (text_differs before x isnt)
 
 tag_line : (stamp part : List ℕ) (before after : Option (ℕ × List ℕ)) (c : ℕ) (x : List ℕ) → (before ≡ Some (c, x) → ⊥) → after ≡ Some (c, x)
     → tag_change stamp part before after ≡ line_of stamp part (tag_content (Some (c, x)))
@@ -107,55 +109,55 @@ tag_line stamp part before after c x isnt has =
     ap (λ (o : Option (ℕ × List ℕ)). tag_change stamp part before o) has
     ∙ ap (λ (b : Bool). unless_same b (line_of stamp part (tag_content (Some (c, x))))) (tag_differs before c x isnt)
 
-change_has : (slot : ℕ) (v w : ShownView) (thing : Thing) → (Shows v thing → ⊥) → Has w thing → HasLine (shown_line slot thing) (change (slot_stamp slot) v w)
-change_has slot v w (Text x) isnt has =
+change_has : (slot : ℕ) (whys : Option Whys) (v w : ShownView) (thing : Thing) → (Shows v thing → ⊥) → Has w thing → HasLine (shown_line slot thing) (change (slot_stamp slot) whys v w)
+change_has slot whys v w (Text x) isnt has =
     let stamp = slot_stamp slot in
-    let a = text_change stamp (codes "text") v.text w.text in
-    let b = text_change stamp (codes "name") v.name w.name in
+    let a = text_change stamp (codes "text") (why_text whys) v.text w.text in
+    let b = text_change stamp (codes "name") (why_name whys) v.name w.name in
     let c = item_change stamp (codes "item") v.item w.item in
     let d = tag_change stamp (codes "tag1") v.one w.one in
     let e = tag_change stamp (codes "tag2") v.two w.two in
     let line = shown_line slot (Text x) in
-    line_left line (((a ++ b) ++ c) ++ d) e (line_left line ((a ++ b) ++ c) d (line_left line (a ++ b) c (line_left line a b (line_is line a (text_line stamp (codes "text") v.text w.text x isnt has)))))
-change_has slot v w (Name x) isnt has =
+    line_left line (((a ++ b) ++ c) ++ d) e (line_left line ((a ++ b) ++ c) d (line_left line (a ++ b) c (line_left line a b (line_is line a (text_line stamp (codes "text") (why_text whys) v.text w.text x isnt has)))))
+change_has slot whys v w (Name x) isnt has =
     let stamp = slot_stamp slot in
-    let a = text_change stamp (codes "text") v.text w.text in
-    let b = text_change stamp (codes "name") v.name w.name in
+    let a = text_change stamp (codes "text") (why_text whys) v.text w.text in
+    let b = text_change stamp (codes "name") (why_name whys) v.name w.name in
     let c = item_change stamp (codes "item") v.item w.item in
     let d = tag_change stamp (codes "tag1") v.one w.one in
     let e = tag_change stamp (codes "tag2") v.two w.two in
     let line = shown_line slot (Name x) in
-    line_left line (((a ++ b) ++ c) ++ d) e (line_left line ((a ++ b) ++ c) d (line_left line (a ++ b) c (line_right line a b (after_text stamp (codes "text") v.text w.text) (line_is line b (text_line stamp (codes "name") v.name w.name x isnt has)))))
-change_has slot v w (Tag One class x) isnt has =
+    line_left line (((a ++ b) ++ c) ++ d) e (line_left line ((a ++ b) ++ c) d (line_left line (a ++ b) c (line_right line a b (after_text stamp (codes "text") (why_text whys) v.text w.text) (line_is line b (text_line stamp (codes "name") (why_name whys) v.name w.name x isnt has)))))
+change_has slot whys v w (Tag One class x) isnt has =
     let stamp = slot_stamp slot in
-    let a = text_change stamp (codes "text") v.text w.text in
-    let b = text_change stamp (codes "name") v.name w.name in
+    let a = text_change stamp (codes "text") (why_text whys) v.text w.text in
+    let b = text_change stamp (codes "name") (why_name whys) v.name w.name in
     let c = item_change stamp (codes "item") v.item w.item in
     let d = tag_change stamp (codes "tag1") v.one w.one in
     let e = tag_change stamp (codes "tag2") v.two w.two in
     let line = shown_line slot (Tag One class x) in
-    line_left line (((a ++ b) ++ c) ++ d) e (line_right line ((a ++ b) ++ c) d (begins_next (a ++ b) c (begins_next a b (after_text stamp (codes "text") v.text w.text) (after_text stamp (codes "name") v.name w.name)) (after_item stamp (codes "item") v.item w.item)) (line_is line d (tag_line stamp (codes "tag1") v.one w.one class x (λ (h : v.one ≡ Some (class, x)). isnt (inl h)) has)))
-change_has slot v w (Tag Two class x) isnt has =
+    line_left line (((a ++ b) ++ c) ++ d) e (line_right line ((a ++ b) ++ c) d (begins_next (a ++ b) c (begins_next a b (after_text stamp (codes "text") (why_text whys) v.text w.text) (after_text stamp (codes "name") (why_name whys) v.name w.name)) (after_item stamp (codes "item") v.item w.item)) (line_is line d (tag_line stamp (codes "tag1") v.one w.one class x (λ (h : v.one ≡ Some (class, x)). isnt (inl h)) has)))
+change_has slot whys v w (Tag Two class x) isnt has =
     let stamp = slot_stamp slot in
-    let a = text_change stamp (codes "text") v.text w.text in
-    let b = text_change stamp (codes "name") v.name w.name in
+    let a = text_change stamp (codes "text") (why_text whys) v.text w.text in
+    let b = text_change stamp (codes "name") (why_name whys) v.name w.name in
     let c = item_change stamp (codes "item") v.item w.item in
     let d = tag_change stamp (codes "tag1") v.one w.one in
     let e = tag_change stamp (codes "tag2") v.two w.two in
     let line = shown_line slot (Tag Two class x) in
-    line_right line (((a ++ b) ++ c) ++ d) e (begins_next ((a ++ b) ++ c) d (begins_next (a ++ b) c (begins_next a b (after_text stamp (codes "text") v.text w.text) (after_text stamp (codes "name") v.name w.name)) (after_item stamp (codes "item") v.item w.item)) (after_tag stamp (codes "tag1") v.one w.one)) (line_is line e (tag_line stamp (codes "tag2") v.two w.two class x (λ (h : v.two ≡ Some (class, x)). isnt (inr h)) has))
+    line_right line (((a ++ b) ++ c) ++ d) e (begins_next ((a ++ b) ++ c) d (begins_next (a ++ b) c (begins_next a b (after_text stamp (codes "text") (why_text whys) v.text w.text) (after_text stamp (codes "name") (why_name whys) v.name w.name)) (after_item stamp (codes "item") v.item w.item)) (after_tag stamp (codes "tag1") v.one w.one)) (line_is line e (tag_line stamp (codes "tag2") v.two w.two class x (λ (h : v.two ≡ Some (class, x)). isnt (inr h)) has))
 
-newest_view : (t : Tuning) (slots : List (Option Group)) (views : List ShownView) → AreViews t slots views → IsView t slots (newest views)
-newest_view t [] [] are = view_of_none t
-newest_view t [] (view ∷ older) are = absurd are
-newest_view t (slot ∷ before) [] are = absurd are
-newest_view t (slot ∷ before) (view ∷ older) are = are.0
+newest_view : (why : Bool) (t : Tuning) (slots : List (Option Group)) (displays : List Display) → AreDisplays why t slots displays → IsView t slots (newest displays)
+newest_view why t [] [] are = view_of_none t
+newest_view why t [] (display ∷ older) are = absurd are
+newest_view why t (slot ∷ before) [] are = absurd are
+newest_view why t (slot ∷ before) (display ∷ older) are = are.0.view
 
-as_many : (t : Tuning) (slots : List (Option Group)) (views : List ShownView) → AreViews t slots views → length views ≡ length slots
-as_many t [] [] are = refl
-as_many t [] (view ∷ older) are = absurd are
-as_many t (slot ∷ before) [] are = absurd are
-as_many t (slot ∷ before) (view ∷ older) are = (let rest = as_many t before older are.1 in omega (arith, rest))
+as_many : (why : Bool) (t : Tuning) (slots : List (Option Group)) (displays : List Display) → AreDisplays why t slots displays → length displays ≡ length slots
+as_many why t [] [] are = refl
+as_many why t [] (display ∷ older) are = absurd are
+as_many why t (slot ∷ before) [] are = absurd are
+as_many why t (slot ∷ before) (display ∷ older) are = (let rest = as_many why t before older are.1 in omega (arith, rest))
 
 got_length : (lost : Option Burst) (log : List (Option Group)) (n : ℕ) → length (got lost log n) ≡ n
 unfolding got
@@ -163,30 +165,30 @@ got_length lost log zero = refl
 got_length lost log (suc n) = (let rest = got_length lost log n in omega (arith, rest))
 
 -- the lines of the changes up to any slot behind the one in which the thing is new
-prints_by : (t : Tuning) (log : List (Option Group)) (lost : Option Burst) (slot : ℕ) (thing : Thing) (n : ℕ) (views : List ShownView) → IsNew t log lost slot thing → slot < n
-    → AreViews t (got lost log n) views → HasLine (shown_line slot thing) (changes_of views)
+prints_by : (why : Bool) (t : Tuning) (log : List (Option Group)) (lost : Option Burst) (slot : ℕ) (thing : Thing) (n : ℕ) (displays : List Display) → IsNew t log lost slot thing → slot < n
+    → AreDisplays why t (got lost log n) displays → HasLine (shown_line slot thing) (changes_of displays)
 unfolding got
-prints_by t log lost slot thing zero views new less are = absurd (omega arith)
-prints_by t log lost slot thing (suc n) [] new less are = absurd are
-prints_by t log lost slot thing (suc n) (view ∷ older) new less are =
+prints_by why t log lost slot thing zero displays new less are = absurd (omega arith)
+prints_by why t log lost slot thing (suc n) [] new less are = absurd are
+prints_by why t log lost slot thing (suc n) (d ∷ older) new less are =
     let line = shown_line slot thing in
     elim (cases_lt slot n) [
-      | inl before ↦ line_left line (changes_of older) (change (slot_stamp (length older)) (newest older) view) (prints_by t log lost slot thing n older new before are.1)
+      | inl before ↦ line_left line (changes_of older) (change (slot_stamp (length older)) d.whys (newest older) d.view) (prints_by why t log lost slot thing n older new before are.1)
       | inr from ↦ (
           let here : slot ≡ n = omega arith in
-          let count : length older ≡ n = as_many t (got lost log n) older are.1 ∙ got_length lost log n in
+          let count : length older ≡ n = as_many why t (got lost log n) older are.1 ∙ got_length lost log n in
           let was : IsView t (got lost log n) new.before = subst (λ (k : ℕ). IsView t (got lost log k) new.before) here new.was in
           let is : IsView t (got lost log (n + 1)) new.after = subst (λ (k : ℕ). IsView t (got lost log (k + 1)) new.after) here new.is in
           let is_next : IsView t (got lost log (suc n)) new.after = subst (λ (k : ℕ). IsView t (got lost log k) new.after) (add-one n) is in
-          let old : newest older ≡ new.before = same_view t (got lost log n) (newest older) new.before (newest_view t (got lost log n) older are.1) was in
-          let now : view ≡ new.after = same_view t (got lost log (suc n)) view new.after are.0 is_next in
+          let old : newest older ≡ new.before = same_view t (got lost log n) (newest older) new.before (newest_view why t (got lost log n) older are.1) was in
+          let now : d.view ≡ new.after = same_view t (got lost log (suc n)) d.view new.after are.0.view is_next in
           let place : length older ≡ slot = count ∙ sym here in
           let isnt : Shows (newest older) thing → ⊥ = subst (λ (v : ShownView). Shows v thing → ⊥) (sym old) new.not_shown in
-          let has : Has view thing = subst (λ (v : ShownView). Has v thing) (sym now) new.has in
-          let changed : HasLine line (change (slot_stamp slot) (newest older) view) = change_has slot (newest older) view thing isnt has in
-          line_right line (changes_of older) (change (slot_stamp (length older)) (newest older) view) (after_changes older) (subst (λ (k : ℕ). HasLine line (change (slot_stamp k) (newest older) view)) (sym place) changed))
+          let has : Has d.view thing = subst (λ (v : ShownView). Has v thing) (sym now) new.has in
+          let changed : HasLine line (change (slot_stamp slot) d.whys (newest older) d.view) = change_has slot d.whys (newest older) d.view thing isnt has in
+          line_right line (changes_of older) (change (slot_stamp (length older)) d.whys (newest older) d.view) (after_changes older) (subst (λ (k : ℕ). HasLine line (change (slot_stamp k) d.whys (newest older) d.view)) (sym place) changed))
     ]
 
-pub prints : (t : Tuning) (log : List (Option Group)) (burst : Burst) (slot : ℕ) (thing : Thing) (views : List ShownView) → IsMix t log burst slot thing
-    → AreViews t (got (Some burst) log (length log)) views → HasLine (shown_line slot thing) (changes_of views)
-prints t log burst slot thing views mix are = prints_by t log (Some burst) slot thing (length log) views mix.new mix.place.inside are
+pub prints : (why : Bool) (t : Tuning) (log : List (Option Group)) (burst : Burst) (slot : ℕ) (thing : Thing) (displays : List Display) → IsMix t log burst slot thing
+    → AreDisplays why t (got (Some burst) log (length log)) displays → HasLine (shown_line slot thing) (changes_of displays)
+prints why t log burst slot thing displays mix are = prints_by why t log (Some burst) slot thing (length log) displays mix.new mix.place.inside are

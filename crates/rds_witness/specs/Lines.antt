@@ -6,7 +6,7 @@ use Rattle.rds_block.specs.declared.group.Group.{Group}
 use Rattle.rds_fields.specs.declared.pair.Which.{Which}
 use Rattle.rds_fields.specs.declared.pair.Which.TheVariants.{One, Two}
 use Rattle.rds_receiver.specs.Receipts.{Tuning}
-use Rattle.rds_view_lines.specs.Output.{line_of, slot_stamp, tag_content, text_content}
+use Rattle.rds_view_lines.specs.Output.{line_of, quoted, slot_stamp, tag_content}
 use Rattle.rds_witness.specs.Mix.{IsMix, Name, Tag, Text, Thing}
 use Rattle.rds_witness.specs.Search.{NoMixes, NoMixesIn}
 use Rattle.rds_witness.specs.declared.burst.Burst.{Burst}
@@ -17,8 +17,8 @@ tag_name Two = codes "tag2"
 
 -- the line of `decode` if this is shown in a slot
 abbrev pub shown_line : ℕ → Thing → List ℕ
-shown_line slot (Text x) = line_of (slot_stamp slot) (codes "text") (text_content (Some x))
-shown_line slot (Name x) = line_of (slot_stamp slot) (codes "name") (text_content (Some x))
+shown_line slot (Text x) = line_of (slot_stamp slot) (codes "text") (quoted x)
+shown_line slot (Name x) = line_of (slot_stamp slot) (codes "name") (quoted x)
 shown_line slot (Tag which class piece) =
     line_of (slot_stamp slot) (tag_name which) (tag_content (Some (class, piece)))
 

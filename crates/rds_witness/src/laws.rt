@@ -1,12 +1,12 @@
 //! The laws of witnesses.
-ghost use Rattle.std.specs.Prelude.{◌≡◌, ◌<◌, ◌∷◌, ℕ, List, None, Option, Some, length, reverse};
+ghost use Rattle.std.specs.Prelude.{◌≡◌, ◌<◌, ◌∷◌, ℕ, Bool, List, None, Option, Some, length, reverse};
 ghost use Rattle.rds_block.specs.declared.group.Group.{Group};
-ghost use Rattle.rds_log.specs.LogWrites.{AreViews};
-ghost use Rattle.rds_view_lines.specs.Output.{changes_of};
+ghost use Rattle.rds_log.specs.LogWrites.{AreDisplays};
+ghost use Rattle.rds_view_lines.specs.Output.{Display, changes_of};
 ghost use Rattle.rds_fields.specs.declared.message.Message.{Message};
 ghost use Rattle.rds_receiver.specs.Receipts.{Fragment, Tuning, name_fragment, text_fragment};
 ghost use Rattle.rds_receiver.specs.Run.{run_at};
-ghost use Rattle.rds_receiver.specs.Shown.{IsNameShown, IsTextShown, ShownView};
+ghost use Rattle.rds_receiver.specs.Shown.{IsNameShown, IsTextShown};
 ghost use Rattle.rds_witness.specs.Lines.{shown_line};
 ghost use Rattle.rds_witness.specs.Lost.{got};
 ghost use Rattle.rds_witness.specs.Mix.{IsMix, Thing};
@@ -15,11 +15,12 @@ ghost use Rattle.rds_witness.specs.Prints.{HasLine};
 ghost use Rattle.rds_witness.specs.declared.burst.Burst.{Burst};
 
 /// Shows the meaning of a mix by `decode`: the output for the slots of the log without the burst has the line of the
-/// thing, and a receiver that loses nothing gets exactly the slots of the log.
+/// thing, with reasons or without, and a receiver that loses nothing gets exactly the slots of the log.
 pub fn what_a_mix_means()
-    ensures prints { (t : Tuning) (log : List (Option Group)) (burst : Burst) (slot : ℕ) (thing : Thing)
-        (views : List ShownView) → IsMix t log burst slot thing
-        → AreViews t (got (Some burst) log (length log)) views → HasLine (shown_line slot thing) (changes_of views) }
+    ensures prints { (why : Bool) (t : Tuning) (log : List (Option Group)) (burst : Burst) (slot : ℕ) (thing : Thing)
+        (displays : List Display) → IsMix t log burst slot thing
+        → AreDisplays why t (got (Some burst) log (length log)) displays
+        → HasLine (shown_line slot thing) (changes_of displays) }
     ensures whole { (log : List (Option Group)) → got None log (length log) ≡ reverse log }
 {}
 

@@ -4,7 +4,7 @@ ghost use Rattle.rds_world.specs.AnyReceiver.{StandsAny, dwell_of, window_of};
 
 use rds_block::Blocks;
 use rds_fields::Dwell;
-use rds_receiver::{Receive, Receiver, TwiceReceiver, View, Window};
+use rds_receiver::{Receive, Receiver, TwiceReceiver, View, Whys, Window};
 
 /// The longest dwell, in slots. Over as many slots, a receiver with this dwell shows what the flag bit alone gives.
 pub(crate) const LONGEST_DWELL: u16 = 65535;
@@ -80,6 +80,13 @@ impl Receive for AnyReceiver {
         match self {
             AnyReceiver::Once(receiver) => receiver.view(),
             AnyReceiver::Twice(receiver) => receiver.view(),
+        }
+    }
+
+    fn whys(&self) -> Whys {
+        match self {
+            AnyReceiver::Once(receiver) => receiver.whys(),
+            AnyReceiver::Twice(receiver) => receiver.whys(),
         }
     }
 }

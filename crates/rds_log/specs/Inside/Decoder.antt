@@ -1,5 +1,5 @@
 -- The state of the decoder of a log after these lines, the newest first. w is the traffic with the writer.
-use Rattle.std.specs.Prelude.{◌++◌, ℕ, List, Option}
+use Rattle.std.specs.Prelude.{◌++◌, ℕ, Bool, List, Option}
 use Rattle.std.specs.Io.KnownBytes.{Appends}
 use Rattle.rds_block.specs.declared.group.Group.{Group}
 use Rattle.rds_io.specs.Told.{IsCalm, Traffic}
@@ -10,11 +10,11 @@ use Rattle.rds_log.specs.Inside.ViewLines.{ViewsStandAt}
 use Rattle.rds_log.specs.declared.decoder.Decoder.{Decoder}
 
 -- the decoder took these lines; a part of their output was written, and the rest waits
-pub record HasDecoded {R : Type 0} (Stands : Tuning → R → List (Option Group) → Type 0) (t : Tuning) (d : Decoder R)
-    (w : Traffic) (lines : List Line) : Type 0 where
+pub record HasDecoded {R : Type 0} (Stands : Tuning → R → List (Option Group) → Type 0) (why : Bool) (t : Tuning)
+    (d : Decoder R) (w : Traffic) (lines : List Line) : Type 0 where
   pub slots : List (Option Group)
   pub say : AreSlots lines slots
   pub written : List ℕ
-  pub views : ViewsStandAt Stands t d.views slots (written ++ d.output)
+  pub views : ViewsStandAt Stands why t d.views slots (written ++ d.output)
   pub wrote : Appends w.before w.after written
   pub calm : IsCalm w

@@ -27,10 +27,13 @@ returns c = record {
   sim_short = record { taken = refl; ask = refl };
   decode_quiet = record { taken = refl; ask = refl };
   decode_confirm = record { taken = refl; ask = refl };
+  decode_why = record { taken = refl; ask = refl };
+  audit_why = record { taken = refl; refused = refl };
   small_window = record { taken = refl; refused = refl };
   large_window = record { taken = refl; refused = refl };
   audit_confirm = record { taken = refl; refused = refl };
   sim_flag_alone = record { taken = refl; ask = refl };
+  sim_why = record { taken = refl; ask = refl };
   sim_confirm = record { taken = refl; ask = refl };
   sim_quiet = record { taken = refl; ask = refl };
   help = refl;

@@ -16,7 +16,7 @@ invariant-loop-notes g l = record {
   bad : l.notes.bad ≡ None;
   stands : (lines : List Line) × SourceStandsAt l.source l.fn.reads (state_of g.R.Read.remaining g.R.TellingRead.failures g.R.TellingRead.reads l.initial.reader)
       (state_of g.R.Read.remaining g.R.TellingRead.failures g.R.TellingRead.reads l.reader) lines
-      × ((t : Tuning) → g.T.Receive.stands t l.fn.receiver [] → HasDecoded g.T.Receive.stands t l.decoder (traffic g.W.Write.contents g.W.TellingWrite.failures l.initial.writer l.writer) lines)
+      × ((t : Tuning) → g.T.Receive.stands t l.fn.receiver [] → HasDecoded g.T.Receive.stands l.fn.says_why t l.decoder (traffic g.W.Write.contents g.W.TellingWrite.failures l.initial.writer l.writer) lines)
       × HeardLines l.fn.pi lines l.notes.heard;
 }
 

@@ -4,7 +4,7 @@ use Rattle.rds_world.specs.Slots.{input_of}
 use Rattle.rds_world.specs.StandsAt.{IsViewOfInput}
 use Rattle.rds_world.specs.State.{distance}
 use Rattle.rds_view_lines.specs.KeptView.{view_kept}
-use Rattle.rds_script.specs.Outcomes.{view_at}
+use Rattle.rds_script.specs.Outcomes.{view_at, whys_at}
 use Rattle.rds_script.proofs.Changes.{at_last, at_set, next_changes, no_changes, other_set, stay_changes}
 use Rattle.rds_script.proofs.Playing.{still_shown}
 use Rattle.rds_script.proofs.watched.push_views.Goals as goal
@@ -13,7 +13,7 @@ pub loop-i-init : goal.loop-i-init
 loop-i-init c = record {
   count = refl;
   room = omega arith;
-  lines = no_changes c.args.slot c.args.lines.now _ _;
+  lines = λ config events s. no_changes c.args.slot (whys_at c.args.form config c.args.event.now.receptions events) c.args.lines.now _ _;
   views = λ config events s were i below. absurd (omega (arith, below));
   later = λ i l. refl;
 }
@@ -24,8 +24,10 @@ loop-i-preserved c =
     record {
       count = grind (arith, common_steps);
       room = omega (arith, c.show.ensures.room, c.loop-i.invariant.room);
-      lines = next_changes c.args.slot c.loop-i.i c.args.shown.now c.loop-i.shown c.index-shown-i.result c.show.new.shown c.args.lines.now c.loop-i.lines c.show.new.lines within
-          c.loop-i.invariant.later c.loop-i.invariant.lines c.show.ensures.changes;
+      lines = λ config events s. next_changes c.args.slot c.loop-i.i (whys_at c.args.form config c.args.event.now.receptions events) c.whys_of-whys.result
+          c.args.shown.now c.loop-i.shown c.index-shown-i.result c.show.new.shown c.args.lines.now c.loop-i.lines c.show.new.lines within
+          c.loop-i.invariant.later (c.loop-i.invariant.lines config events s) c.show.ensures.changes
+          (c.whys_of-whys.ensures config (input_of (distance config) c.loop-i.i events) (c.in-Some.ensures.heard config events s));
       views = λ config events s were i below. elim (at_last i c.loop-i.i below) [
         | inl less ↦ subst (IsViewOfInput config (input_of (distance config) i events)) (sym (other_set c.loop-i.shown c.loop-i.i i c.show.new.shown (λ e. omega (arith, e, less)))) (c.loop-i.invariant.views config events s were i less)
         | inr same ↦ subst (λ (n : ℕ). IsViewOfInput config (input_of (distance config) n events) (view_at (map view_kept (set c.loop-i.shown c.loop-i.i c.show.new.shown)) n)) (sym same)
@@ -44,7 +46,7 @@ loop-i-preserved-then-stays c =
     record {
       count = c.loop-i.invariant.count;
       room = omega (arith, c.loop-i.invariant.room);
-      lines = stay_changes c.args.slot i initial now c.args.lines.now c.loop-i.lines same c.loop-i.invariant.lines;
+      lines = λ config events s. stay_changes c.args.slot i (whys_at c.args.form config c.args.event.now.receptions events) initial now c.args.lines.now c.loop-i.lines same (c.loop-i.invariant.lines config events s);
       views = λ config events s were j below. elim (at_last j i below) [
         | inl less ↦ c.loop-i.invariant.views config events s were j less
         | inr at ↦ subst (λ (n : ℕ). IsViewOfInput config (input_of (distance config) n events) (view_at now n)) (sym at)

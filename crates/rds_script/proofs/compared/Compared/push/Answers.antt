@@ -1,4 +1,4 @@
-use Rattle.std.proofs.Common.{◌≡◌, ◌<◌, ◌∙◌, ◌∷◌, ◌++◌, [], ℕ, List, ap, ap₂, append_assoc, arith, drop, length, map, sym}
+use Rattle.std.proofs.Common.{◌≡◌, ◌<◌, ◌∙◌, ◌∷◌, ◌++◌, [], ℕ, List, None, ap, ap₂, append_assoc, arith, drop, length, map, sym}
 use Rattle.std.proofs.lemmas.List.{length-map, take_at}
 use Rattle.arrayvec.specs.ArrayVec.{with_items}
 use Rattle.rds_receiver.specs.Shown.{ShownView}
@@ -39,8 +39,8 @@ returns c = record { goes_on = by }
         λ i below. ap (λ (l : List Parts). parts_at l i) value ∙ old.each i below in
         let count : length new ≡ length lately = c.push_lately.ensures.count ∙ ap length value in
         let back = take_at new (drop (length new) lately) (length lately) count in
-        let air : c.step.new.lines ≡ c.args.lines.now ++ change (air_stamp slot) (air_of config before) (air_of config (e ∷ before)) =
-        c.step.ensures.lines ∙ ap₂ (λ (v w : ShownView). c.args.lines.now ++ change (air_stamp slot) v w) old.airs.newest airs.newest in
+        let air : c.step.new.lines ≡ c.args.lines.now ++ change (air_stamp slot) None (air_of config before) (air_of config (e ∷ before)) =
+        c.step.ensures.lines ∙ ap₂ (λ (v w : ShownView). c.args.lines.now ++ change (air_stamp slot) None v w) old.airs.newest airs.newest in
         let parts : parts_changes slot (length c.args.shown.now) (parts_at c.as_mut_slice.result.now) (parts_at new)
         ≡ parts_changes slot (length shown) (λ i. parts_lately config before (view_at views i)) (λ i. parts_lately config (e ∷ before) (view_at shown i)) =
         ap (λ (n : ℕ). parts_changes slot n (parts_at c.as_mut_slice.result.now) (parts_at new)) (sym long)

@@ -5,7 +5,7 @@ use Rattle.rds_world.specs.declared.world.Config.{Config}
 use Rattle.rds_view_lines.specs.KeptView.{view_kept}
 use Rattle.rds_script.specs.Inside.Watched.{WatchedStandsAt, WereShown, views_kept}
 use Rattle.rds_script.specs.Inside.Compared.{IsCompared}
-use Rattle.rds_script.specs.Outcomes.{answer_lines, compared_lines, receiver_changes}
+use Rattle.rds_script.specs.Outcomes.{answer_lines, compared_lines, receiver_changes, whys_at}
 use Rattle.rds_view_lines.specs.declared.kept.KeptView.{KeptView}
 use Rattle.rds_script.proofs.watched.Watched.play.Goals as goal
 
@@ -66,6 +66,7 @@ returns-in-Ok-clause-outcome c config receivers events s =
     let shown : length views ≡ length old = length-map new view_kept ∙ kept in
     let were : WereShown config (length old) (c.args.event.now ∷ events) (map view_kept old) = λ i within. s.shown i (omega (arith, within, s.kept)) in
     let back = take_at new (drop (length new) old) (length old) kept in
+    let whys = whys_at c.args.form config c.args.event.now.receptions (c.args.event.now ∷ events) in
     let answer = answer_lines c.args.form c.args.slot c.event.inside.command c.in-Ok.answer.reply c.in-Ok.answer.sent in
     let compared = compared_lines config c.args.slot (length views) c.args.event.now events (views_kept c.args.self.now) views in
     let answered : c.push_answer.new.lines ≡ c.args.lines.now ++ answer = search rules in (
@@ -80,7 +81,7 @@ returns-in-Ok-clause-outcome c config receivers events s =
       ap (λ (l : List KeptView). map view_kept l) (sym back),
       (comparing c config receivers events s).1
           ∙ ap (λ (l : List ℕ). l ++ compared)
-          (rw shared at (c.push_views.ensures.lines (ap length shared ∙ as_many)) ∙ ap₂ (λ (x y : List ℕ). x ++ y) answered (ap (λ n. receiver_changes c.args.slot n (map view_kept old) views) (sym shown))
-          ∙ append_assoc c.args.lines.now answer (receiver_changes c.args.slot (length views) (map view_kept old) views))
-          ∙ append_assoc c.args.lines.now (answer ++ receiver_changes c.args.slot (length views) (map view_kept old) views) compared,
+          (rw shared at (c.push_views.ensures.lines (ap length shared ∙ as_many) config (c.args.event.now ∷ events) world) ∙ ap₂ (λ (x y : List ℕ). x ++ y) answered (ap (λ n. receiver_changes c.args.slot n whys (map view_kept old) views) (sym shown))
+          ∙ append_assoc c.args.lines.now answer (receiver_changes c.args.slot (length views) whys (map view_kept old) views))
+          ∙ append_assoc c.args.lines.now (answer ++ receiver_changes c.args.slot (length views) whys (map view_kept old) views) compared,
     )

@@ -1,0 +1,54 @@
+//! Why a text or a name is not shown.
+ghost use Rattle.std.specs.Prelude.{◌≡◌, ◌<◌, ℕ, List, Option};
+ghost use Rattle.rds_fields.specs.declared.message.Message.{Message};
+ghost use Rattle.rds_receiver.specs.StandsAt.{HoldsAt};
+ghost use Rattle.rds_receiver.specs.Stored.{receiver_stored};
+ghost use Rattle.rds_receiver.specs.NotShown.{whys_in};
+ghost use Rattle.rds_receiver.specs.declared.why.WhyNone.TheVariants.{Dropped, NextBegan};
+
+use crate::stored::{StoredReceiver, StoredSegments};
+
+/// Why a text or a name is not shown (this project's own rule).
+#[derive(Clone, Copy, Debug, PartialEq, Eq)]
+pub enum WhyNone {
+    /// Segments are held that make nothing whole yet: the next one began.
+    NextBegan,
+    /// No segment came for as long as the dwell.
+    Dropped,
+    /// The receiver restarted.
+    Restarted,
+}
+
+/// Why a text and a name are not shown, if they are not.
+#[derive(Clone, Copy, Debug, PartialEq, Eq)]
+pub struct Whys {
+    pub text: WhyNone,
+    pub name: WhyNone,
+}
+
+impl StoredSegments {
+    /// Returns why no value is shown, if none is. The dwell is in slots.
+    fn why(&self, dwell: u16) -> WhyNone
+        ensures held { self.now.age < dwell → result ≡ NextBegan }
+        ensures none { (self.now.age < dwell → ⊥) → result ≡ Dropped }
+    {
+        if self.is_held(dwell) {
+            WhyNone::NextBegan
+        } else {
+            WhyNone::Dropped
+        }
+    }
+}
+
+impl StoredReceiver {
+    /// Returns why a text and a name are not shown, if they are not.
+    pub(crate) fn whys(&self) -> Whys
+        ensures { (m t first : ℕ) (heard : List (Option Message))
+            → HoldsAt m t first (receiver_stored self.now) heard → result ≡ whys_in m t first heard }
+    {
+        Whys {
+            text: self.text.why(self.dwell),
+            name: self.name.why(self.dwell),
+        }
+    }
+}
