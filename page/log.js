@@ -207,7 +207,7 @@ const logTab = (() => {
     tellWithoutLoss(turn);
     timeline.show(lanes(), log.count, { fit });
     const confirm = asked.w ? ` --confirm ${asked.w}` : "";
-    tellLines("log", `rdsrt decode --pi ${asked.pi} --m ${asked.m}${confirm}`, output);
+    tellLines("log", `rdsrt decode --pi ${asked.pi} --m ${asked.m}${confirm} --why`, output);
     // the list is laid out after the lanes are drawn
     await pause();
     if (state.turn !== turn) return;
@@ -339,14 +339,6 @@ const logTab = (() => {
 
   // ---- the lanes
 
-  /* Why the text or the name that was shown before this slot is shown no longer. */
-  const KIND_OF = { text: lines.TEXT, name: lines.NAME };
-  function whyGone(part, from, slot) {
-    if (state.w) return views.GONE;
-    const isPart = (at) => (state.codes[at] & lines.KIND) === KIND_OF[part];
-    return views.whyNone(isPart, { from, slot, m: state.m });
-  }
-
   /* The events of the display, and the answer of the audit. */
   function events() {
     const marks = new laneItems.Marks(state.events.slots, state.events.numbers, views.EVENTS), { no } = state;
@@ -392,9 +384,7 @@ const logTab = (() => {
   function showSlot(slot) {
     const group = logfile.groupAt(state.log, slot);
     const sent = group ? `${KINDS[lines.codeOf(group, state.number)]} group` : "nothing received";
-    const what = !state.result ? "" : state.lost.has(slot) ? "lost" : sent, run = state.view.at("text", slot);
-    const none = run && run.value === null && run.from > 0 && !state.w ? whyGone("text", run.from, slot) : "no text";
-    const options = { led: what, none };
+    const what = !state.result ? "" : state.lost.has(slot) ? "lost" : sent, options = { led: what };
     const kind = state.w ? `The receiver, with the dwell and W = ${state.w}` : "The receiver, with the dwell";
     parts.radio($("log-radio"), kind, state.view, slot, options);
     parts.radio($("log-alone"), "Flag bit alone: decode --m 65535", state.alone, slot);

@@ -92,9 +92,12 @@ const parts = (() => {
     return [...new Set(Object.keys(NAMES).filter(isMix).map((part) => NAMES[part]))];
   }
 
+  /* What stands in place of a text that is not shown: why, if the program says so. */
+  const noneAt = (view, slot) => view?.at("text", slot)?.why ?? "no text";
+
   /* A display as a car has it: the name, the text and its tags at a slot. Parts that nobody sent make it red. */
   const NOBODY = { led: "nobody sent this", words: "which nobody sent" };
-  function radio(root, caption, view, slot, { led: calm = "", none = "no text", mixed = NOBODY } = {}) {
+  function radio(root, caption, view, slot, { led: calm = "", none = noneAt(view, slot), mixed = NOBODY } = {}) {
     const mixes = mixesAt(view, slot), bad = mixes.length > 0;
     const which = mixes.includes("text") ? "" : ` ${mixes.join(" and ")}`, led = bad ? `${mixed.led}${which}` : calm;
     const at = (part) => view?.at(part, slot)?.value ?? null, text = at("text");
@@ -114,7 +117,7 @@ const parts = (() => {
   const WORDS = {
     text: (text) => `“${text}”`, name: (name) => `name ${name.trim()}`, tag1: wordsOfTag, tag2: wordsOfTag,
   };
-  function inWords(view, slot, { none = "no text", mixed = NOBODY } = {}) {
+  function inWords(view, slot, { none = noneAt(view, slot), mixed = NOBODY } = {}) {
     const all = [];
     for (const [part, words] of Object.entries(WORDS)) {
       const { value = null, mixTo } = view?.at(part, slot) ?? {};
@@ -133,9 +136,9 @@ const parts = (() => {
     const run = view?.at("text", slot) ?? null;
     if (!(slot < alone?.at("text", slot)?.mixTo) || (run && run.value !== null)) return "";
     const runs = view?.parts.text, next = runs ? runs.find((i) => runs.isShown(i), runs.indexAt(slot) + 1) : -1;
-    const dropped = "The receiver with the dwell has dropped its segments of the old text.";
-    if (next < 0) return dropped;
-    return `${dropped} It shows the next one when it is whole: in slot ${runs.from(next).toLocaleString("en")}.`;
+    const none = `The receiver with the dwell shows no text (${noneAt(view, slot)}).`;
+    if (next < 0) return none;
+    return `${none} It shows the next one when it is whole: in slot ${runs.from(next).toLocaleString("en")}.`;
   }
 
   const later = new Map();

@@ -22,14 +22,9 @@ const player = (() => {
     return source < 0 ? lines.NOTHING : kinds[source] ?? lines.OTHER;
   }
 
-  /* What receiver i gets: the kind of each slot, and the slots in which it restarts. */
+  /* The kind of what receiver i gets in each slot. */
   function heardBy(i, { pi, rows, kinds }) {
-    const codes = new Uint8Array(rows.length), restarts = [];
-    rows.forEach(({ receptions: { [i]: letter } }, slot) => {
-      codes[slot] = kindHeard(kinds, pi, letter, slot);
-      if (letter === "R") restarts.push(slot);
-    });
-    return { codes, restarts: Int32Array.from(restarts) };
+    return Uint8Array.from(rows, ({ receptions }, slot) => kindHeard(kinds, pi, receptions[i], slot));
   }
 
   // ---- playing

@@ -224,7 +224,7 @@ const scriptTab = (() => {
     try {
       if (problem) throw new Error(problem);
       const [m, k, w] = ["script-m", "script-k", "script-w"].map((id) => $(id).value);
-      const words = ["sim", "--pi", PI, "--pty", state.pty, "--m", m, "--k", k, ...rdsrt.windowWords(w)];
+      const words = ["sim", "--pi", PI, "--pty", state.pty, "--m", m, "--k", k, ...rdsrt.windowWords(w), "--why"];
       const got = await worker.askNewest("play", { text, input: input === text ? undefined : input, words, pi: PI });
       if (state.turn !== turn) return false;
       showPlayed(got, { m: Number(m), w, words, fit });
@@ -300,7 +300,7 @@ const scriptTab = (() => {
   }
 
   function receiverLanes(i) {
-    const { codes } = state.heard[i];
+    const codes = state.heard[i];
     const all = [{ name: `receiver ${i}`, kind: "ticks", codes, losses: true, group: i, gap: 14 }];
     const add = (name, short, runs) => all.push(lane(`  ${name}`, ` ${short}`, runs, { group: i }));
     const addView = (name, short, view) => {
@@ -372,29 +372,18 @@ const scriptTab = (() => {
     return letter.length > 1 ? `gets slot ${slot - Number(letter.slice(1))}` : "gets";
   }
 
-  /* Why receiver i shows no text in this slot, if it showed one up to the slot `from`. */
-  function whyGone(from, slot, i) {
-    const { restarts, codes } = state.heard[i], isText = (at) => codes[at] === lines.TEXT;
-    if (restarts.some((restart) => restart >= from && restart <= slot)) return "restarted";
-    const why = (at) => views.whyNone(isText, { from, slot: at, m: state.m });
-    const isSilent = (at) => (state.air.at("text", at)?.value ?? null) === null;
-    return isSilent(slot) && (isSilent(from) || why(from) === views.NEXT) ? "the encoder is silent" : why(slot);
-  }
-
   function showSlot(slot) {
     const i = state.chosen, row = state.rows[slot], n = receivers(), reply = state.replies.get(slot);
     const isPlayed = slot < state.played, orUnplayed = (word) => isPlayed ? word : UNPLAYED;
     const got = orUnplayed(receptionInWords(row?.receptions[i] ?? "", slot));
     const sent = orUnplayed(logfile.groupAt(state.shown.sent, slot) ? "sends" : "");
-    const view = state.shown.views[i], run = view?.at("text", slot), radio = state.alone[i];
-    const none = orUnplayed(run?.value === null ? whyGone(run.from, slot, i) : "no text");
+    const view = state.shown.views[i], radio = state.alone[i], none = isPlayed ? undefined : UNPLAYED;
     const stale = radio?.at("text", slot)?.isOld ? "old" : "";
     const named = (what) => n ? `Receiver ${i}, ${what}` : "No receiver";
     const airLed = reply ? `${reply.what} ${reply.reply}` : sent;
-    const dwellOptions = { led: got, none };
-    const radioOptions = { led: orUnplayed(stale), none: orUnplayed("no text"), mixed: MIXED };
+    const radioOptions = { led: orUnplayed(stale), none, mixed: MIXED };
     parts.radio($("script-air"), "On air", state.air, slot, { led: airLed, none: orUnplayed("silence") });
-    parts.radio($("script-radio"), named("with the dwell"), view, slot, dwellOptions);
+    parts.radio($("script-radio"), named("with the dwell"), view, slot, { led: got, none });
     parts.radio($("script-alone"), named("flag bit alone"), radio, slot, radioOptions);
     $("script-why").textContent = parts.whyNoMix(view, radio, slot);
     showCommand(slot, row);

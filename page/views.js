@@ -10,7 +10,11 @@ const views = (() => {
   const NOTHING = -1, NEVER = 2 ** 31 - 1;
   /* Whether what a run shows is on air: it is, it never was while it was shown, or it is not any more. */
   const ON_AIR = 0, MIX = 1, OLD = 2;
-  const NEWLINE = 10, SPACE = 32, NINE = 57, ZERO = 48, LETTER_A = 97, LETTER_N = 110, LETTER_O = 111, LETTER_R = 114;
+  /* Why a run shows nothing, as the program says: nothing was shown before, the next one began, no segment came for M
+     slots, or the receiver restarted. */
+  const NOT_YET = 0, NEXT = 1, DROPPED = 2, RESTARTED = 3;
+  const WHYS = ["no text", "the next began", "dropped", "restarted"];
+  const NEWLINE = 10, SPACE = 32, NINE = 57, ZERO = 48, LETTER_A = 97, LETTER_D = 100, LETTER_N = 110, LETTER_O = 111, LETTER_R = 114;
   const decoder = new TextDecoder();
 
   /* The same numbers in an array of twice the length. */
@@ -96,8 +100,8 @@ const views = (() => {
     }
   }
 
-  /* The runs [from, to) of a part of a display, each with the number of its value, or NOTHING, and with its state. If
-     there is `until`, it has by the value's number the slot before which nobody sent it. */
+  /* The runs [from, to) of a part of a display, each with the number of its value and its state, or with NOTHING and the
+     reason. If there is `until`, it has by the value's number the slot before which nobody sent it. */
   class Runs {
     constructor({ starts, numbers, states, end }, { values, until, kind }) {
       Object.assign(this, { starts, numbers, states, end, values, until, kind });
@@ -111,8 +115,8 @@ const views = (() => {
 
     /* Whether a run begins as one that nobody sent, and up to where it is so. */
     isMix(i) {
-      if (this.until === null) return this.states[i] === MIX;
-      return this.isShown(i) && this.until[this.numbers[i]] > this.starts[i];
+      if (!this.isShown(i)) return false;
+      return this.until === null ? this.states[i] === MIX : this.until[this.numbers[i]] > this.starts[i];
     }
 
     mixTo(i) {
@@ -120,10 +124,11 @@ const views = (() => {
       return this.until === null ? this.to(i) : Math.min(this.to(i), this.until[this.numbers[i]]);
     }
 
-    isOld(i) { return this.states[i] === OLD; }
+    isOld(i) { return this.isShown(i) && this.states[i] === OLD; }
     mixes() { return [...this.starts.keys()].filter((i) => this.isMix(i)); }
     at(i) {
-      return { from: this.from(i), to: this.to(i), value: this.value(i), mixTo: this.mixTo(i), isOld: this.isOld(i) };
+      const value = this.value(i), why = value === null ? WHYS[this.states[i]] : null;
+      return { from: this.from(i), to: this.to(i), value, why, mixTo: this.mixTo(i), isOld: this.isOld(i) };
     }
 
     /* The last run that begins at the slot or before; -1 if there is none. */
@@ -185,11 +190,11 @@ const views = (() => {
       runs.states[at] = state;
     }
 
-    /* Changes a part to a value that is printed so: `none`, a text in quotation marks, or a class and a text. What is
-       shown while the part is off air was not on air before. */
+    /* Changes a part to a value that is printed so: `none` with a reason or without, a text in quotation marks, or a class
+       and a text. What is shown while the part is off air was not on air before. */
     changeTo(part, slot, bytes, from, to) {
       const state = this.parts[part].isOff ? MIX : ON_AIR;
-      if (bytes[from] === LETTER_N) this.change(part, slot, NOTHING, ON_AIR);
+      if (bytes[from] === LETTER_N) this.change(part, slot, NOTHING, whyOf(bytes, from, to));
       else this.change(part, slot, this.values.numberOf(KINDS[part], bytes.subarray(from, to)), state);
     }
 
@@ -232,6 +237,10 @@ const views = (() => {
   }
 
   // ---- the lines of the program
+
+  /* The reason behind `none`, by its first letter. */
+  const REASONS = { [LETTER_N]: NEXT, [LETTER_D]: DROPPED, [LETTER_R]: RESTARTED };
+  const whyOf = (bytes, from, to) => to - from > "none ".length ? REASONS[bytes[from + "none ".length]] : NOT_YET;
 
   /* The second word of a line by its length and its first and its last letter. */
   const keyOf = (length, first, last) => (length << 16) | (first << 8) | last;
@@ -285,26 +294,9 @@ const views = (() => {
     return writer;
   }
 
-  /* GONE: the reason is not known. */
-  const NEXT = "the next begins", DROPPED = "dropped", GONE = "gone", REASONS = [NEXT, DROPPED, GONE];
-
   /* The kinds of events of a display, and the number of one of them. */
-  const eventsOf = (part) => REASONS.map((reason) => ({ label: `${part}: ${reason}`, kind: "" }));
-  const EVENTS = ["text", "name"].flatMap(eventsOf);
-  const eventOf = (part, reason) => REASONS.length * part + REASONS.indexOf(reason);
-
-  /* Why a text or a name is shown no longer in this slot, if it was shown up to the slot `from`. `isPart` says which
-     slots brought a segment of it. The next begins if its segments came within the dwell: before that slot those of the
-     last one, and then its own. */
-  function whyNone(isPart, { from, slot, m }) {
-    const lastBefore = (end) => {
-      let at = end - 1;
-      while (at >= 0 && at > end - 1 - m && !isPart(at)) at--;
-      return at;
-    };
-    const begins = isPart(from) && from - lastBefore(from) < m && slot - lastBefore(slot + 1) < m;
-    return begins ? NEXT : DROPPED;
-  }
+  const EVENTS = ["text", "name"].flatMap((part) => WHYS.map((why) => ({ label: `${part}: ${why}`, kind: "" })));
+  const eventOf = (part, why) => WHYS.length * part + why;
 
   /* The slot in which one of these packed displays shows each value first; NEVER for those that none shows. */
   function firstShown(all, count) {
@@ -315,7 +307,7 @@ const views = (() => {
     return first;
   }
 
-  const CONSTANTS = { DROPPED, EVENTS, GONE, KINDS, KIND_OF, NEVER, NEXT, NOTHING, PARTS, STATION };
+  const CONSTANTS = { DROPPED, EVENTS, KINDS, KIND_OF, NEVER, NOTHING, NOT_YET, PARTS, STATION };
   const CLASSES = { Texts, Values, View, Writer };
-  return { ...CONSTANTS, ...CLASSES, beginOf, changesOf, eachLine, eventOf, firstShown, whyNone, write, writeLine };
+  return { ...CONSTANTS, ...CLASSES, beginOf, changesOf, eachLine, eventOf, firstShown, write, writeLine };
 })();

@@ -71,8 +71,8 @@
     return state.alone;
   }
 
-  /* The words of `decode`, with a window if there is one. */
-  const decoding = ({ pi, m, w }) => ["decode", "--pi", pi, "--m", m, ...rdsrt.windowWords(w)];
+  /* The words of `decode` with reasons, and with a window if there is one. */
+  const decoding = ({ pi, m, w }) => ["decode", "--pi", pi, "--m", m, ...rdsrt.windowWords(w), "--why"];
 
   /* Returns what a receiver shows that gets these bytes. */
   function view(asked, bytes, values) {
@@ -107,27 +107,13 @@
     return { ...shown, values, until, codes };
   }
 
-  /* The slots in which a text or a name is shown no longer. */
-  function goneOf({ starts, numbers }) {
-    const { NOTHING } = views;
-    return starts.filter((_, i) => i > 0 && numbers[i] === NOTHING && numbers[i - 1] !== NOTHING);
-  }
-
   /* Returns the events of a display: the slots in which a text or a name went, each with the number of its kind. */
-  function eventsOf({ view, codes }, { m, w }) {
-    const kinds = [[lines.TEXT, 0], [lines.NAME, 1]], texts = goneOf(view.text), names = goneOf(view.name);
-    const slots = new Int32Array(texts.length + names.length), numbers = new Int32Array(slots.length);
-    const [whyText, whyName] = kinds.map(([kind, part]) => {
-      const isPart = (at) => (codes[at] & lines.KIND) === kind;
-      return (slot) => views.eventOf(part, w ? views.GONE : views.whyNone(isPart, { from: slot, slot, m: Number(m) }));
-    });
-    for (let i = 0, j = 0; i + j < slots.length;) {
-      const isText = i < texts.length && !(names[j] < texts[i]), slot = isText ? texts[i] : names[j];
-      numbers[i + j] = isText ? whyText(slot) : whyName(slot);
-      slots[i + j] = slot;
-      if (isText) i++; else j++;
-    }
-    return { slots, numbers };
+  function eventsOf({ text, name }) {
+    const gone = [text, name].flatMap(({ starts, states, numbers }, part) => Array.from(starts.keys())
+      .filter((i) => numbers[i] === views.NOTHING && states[i] !== views.NOT_YET)
+      .map((i) => ({ slot: starts[i], event: views.eventOf(part, states[i]) })));
+    gone.sort((one, other) => one.slot - other.slot);
+    return { slots: Int32Array.from(gone, (it) => it.slot), numbers: Int32Array.from(gone, (it) => it.event) };
   }
 
   /* Returns the displays of a receiver that loses these slots, with the dwell and with the flag bit alone. */
@@ -135,7 +121,7 @@
     const shown = asked.lost.length ? decodeLossy(asked) : decodeWhole(asked);
     const { output, notes, view, alone, until = null } = shown, codes = shown.codes.slice();
     const fresh = { view, until, codes, values: shown.values.packed() };
-    Object.assign(fresh, { events: eventsOf(shown, asked), changes: views.changesOf(view) });
+    Object.assign(fresh, { events: eventsOf(view), changes: views.changesOf(view) });
     return { ...fresh, output, notes, alone, moves: arraysIn(fresh) };
   }
 

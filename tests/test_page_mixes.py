@@ -69,8 +69,8 @@ class Mixes:
         example_of(b, "log", "A long tunnel")
         lines = program(["sim", "--pi", "C201", "--m", "8"], example("mix.csv"))[1]
         slot = re.search("^(\\d+) r1 text", lines, re.M)[1]
-        told = ("The receiver with the dwell has dropped its segments of the old text. It shows the next one when it "
-                f"is whole: in slot {slot}.")
+        told = ("The receiver with the dwell shows no text (dropped). It shows the next one when it is whole: in slot "
+                f"{slot}.")
         for tab in ("log", "script"):
             call(b, "page.tab", tab)
             kinds = [of(b, f"#{tab}-{it}", "classList.contains('mixed')") for it in ("radio", "alone")]
@@ -80,18 +80,18 @@ class Mixes:
                        ("B7: closed today", ""))
 
     def test_each_cause_of_no_text_has_its_word(self):
-        """The next text begins, the encoder is silent, or nothing came for the dwell."""
+        """The next text began, or nothing came for the dwell."""
         b = self.b
         rows = ["-,,1,G"] * 48
         rows[8], rows[24] = "text,The first of two texts,1,G", "text,Another one of so many words,1,G"
         rows[28] = "restart,,1,G"
-        silent = "".join(f"{row}\n" for row in rows)
+        both = "".join(f"{row}\n" for row in rows)
         # the dwell ends in slot 28, which brings a segment of the same text
         rows = [f"-,,1,{'L' if 21 <= slot < 28 else 'G'}" for slot in range(48)]
         rows[8] = "text,HELLO WORLD,1,G"
         lost = "".join(f"{row}\n" for row in rows)
-        begins, silence = "the next begins", "the encoder is silent"
-        for script, wanted in ((silent, {24: begins, 27: begins, 28: silence, 46: silence}), (lost, {28: "dropped"})):
+        began = "the next began"
+        for script, wanted in ((both, {24: began, 46: began}), (lost, {28: "dropped"})):
             open_script(b, script, m=8, k=0)
             for slot, word in wanted.items():
                 b.run(f"scriptTab.timeline.move({slot})")
