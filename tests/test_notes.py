@@ -282,7 +282,7 @@ class Warnings(ProgramCase):
         second, plain = b"C201 2940 4849 0D20\n", b"C201 0000 0000 0000\n"
         pause = LOST * 8
         for log, words, told in (
-                (text, AUDIT, "judged in 1 slots: 1 text, 0 names, 0 pairs of tags"),
+                (text, AUDIT, "judged in 1 slot: 1 text, 0 names, 0 pairs of tags"),
                 (text + pause + tags * 2 + other + name, f"{AUDIT} --m 8",
                  "judged in 13 slots: 2 texts, 1 name, 2 pairs of tags"),
                 (tags + text, f"{AUDIT} --running", "judged in 2 slots: 1 text, 0 names, 0 pairs of tags"),

@@ -123,7 +123,7 @@ class Faults:
              f"{noted}{no_kind}: the yes says nothing; 2 groups 2B were not judged."),
             (f"{HI}\n", "",
              "✓ Passes with M = 8 (0.70 s)The one slot keeps the rules. No receiver with this M shows a mix of two "
-             "texts, whichever groups it loses.Judged in 1 slots: 1 text, 0 names, 0 pairs of tags."),
+             "texts, whichever groups it loses.Judged in 1 slot: 1 text, 0 names, 0 pairs of tags."),
             (f"{HI}\n{NOTHING}\n", "",
              "✓ Passes with M = 8 (0.70 s)The recorded slot keeps the rules. No receiver with this M shows a mix "
              "of the recorded texts, whichever groups it loses.Judged in 2 slots: 1 text, 0 names, 0 pairs of tags.1 of 2 "

@@ -156,7 +156,9 @@ fn push_judged(notes: &RunNotes, note: &mut Note) {
     let texts = notes.log.texts;
     let names = notes.log.names;
     let slots = notes.log.slots;
-    let _ = write!(note, "judged in {slots} slots: ");
+    let _ = write!(note, "judged in ");
+    push_count(slots, "slot", "slots", note);
+    let _ = write!(note, ": ");
     push_count(texts.values, "text", "texts", note);
     let _ = write!(note, ", ");
     push_count(names.values, "name", "names", note);
