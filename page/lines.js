@@ -28,8 +28,8 @@ const lines = (() => {
   const KIND_SHIFT = 11, FLAG_BIT = 0x10, TEXT_SEGMENT = 0x0F, NAME_SEGMENT = 0x01;
   const typeOf = (group) => `${group[1] >> 12}${group[1] >> KIND_SHIFT & 1 ? "B" : "A"}`;
 
-  /* The kinds of groups. In a list of codes, KIND masks the kind, and FLAG marks a text whose A/B flag is 1. */
-  const NOTHING = 0, TEXT = 1, NAME = 2, TAGS = 3, OTHER = 4, KIND = 7, FLAG = 8;
+  /* The kinds of groups. In a list of codes FLAG marks a text whose A/B flag is 1. */
+  const NOTHING = 0, TEXT = 1, NAME = 2, TAGS = 3, OTHER = 4, FLAG = 8;
   /* The group types of the services, with their versions: 2A, 10A and 11A. */
   const SERVICES = { [2 << 1]: TEXT, [10 << 1]: NAME, [11 << 1]: TAGS };
   function codeOf(group, pi) {
@@ -41,7 +41,7 @@ const lines = (() => {
     return kind === TEXT && group[1] & FLAG_BIT ? kind | FLAG : kind;
   }
 
-  const CODES = { NOTHING, TEXT, NAME, TAGS, OTHER, KIND, FLAG };
+  const CODES = { NOTHING, TEXT, NAME, TAGS, OTHER, FLAG };
   const BITS = { FLAG_BIT, NAME_SEGMENT, TEXT_SEGMENT };
   return {
     ...BITS, ...CODES, LOST, SLOT, codeOf, groupIn, markedCodeOf, noteOf, notes, seconds, time, typeOf,

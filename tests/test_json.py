@@ -20,6 +20,7 @@ TAGS = [{"content-type": "item.artist", "data": "Å"}, {"content-type": "info.ne
 WORKED = [
     ("a text", '0 text "HI"\n', [{"slot": 0, **HI}]),
     ("a text that goes", '0 text "HI"\n128 text none\n', [{"slot": 0, **HI}, {"slot": 128, **NOTHING}]),
+    ("and why", '0 text "HI"\n128 text none dropped\n', [{"slot": 0, **HI}, {"slot": 128, **NOTHING}]),
     ("the words of a line in a text", '5 text "none"\n6 text ""\n', [{"slot": 5, **HI, "radiotext": "none"},
                                                                    {"slot": 6, **HI, "radiotext": ""}]),
     ("a name with spaces", '7 name "POP MIX "\n', [{"slot": 7, **NOTHING, "ptyn": "POP MIX"}]),
