@@ -239,7 +239,8 @@ task_in name rows =
     (window_in rows)
     else if bytes_eq name (codes "audit") then option_map (λ late. Audit late (running_in rows)) (late_in rows)
     else if bytes_eq name (codes "witness") then Some Witness
-    else if bytes_eq name (codes "slots") then option_map (λ grain. Slots grain (has_value (codes "pi") rows)) (grain_in rows)
+    else if bytes_eq name (codes "slots")
+    then option_map (λ grain. Slots grain (has_value (codes "pi") rows)) (grain_in rows)
     else None
 
 abbrev pub asked : Option Task → Option Text → Option ℕ → Bool → Option Requested

@@ -40,8 +40,12 @@ encoding dwell pty =
     record { task = Encode (record { pty = pty; tp = false }) 0; pi = codes "C201"; dwell = dwell; quiet = false }
 
 abbrev pub simulating : ℕ → ℕ → Bool → ℕ → Requested
-simulating dwell pty tp late =
-    record { task = Simulate (record { pty = pty; tp = tp }) late None false false; pi = codes "C201"; dwell = dwell; quiet = false }
+simulating dwell pty tp late = record {
+  task = Simulate (record { pty = pty; tp = tp }) late None false false;
+  pi = codes "C201";
+  dwell = dwell;
+  quiet = false;
+}
 
 -- the same with a window, without these options
 abbrev pub simulating_twice : ℕ → ℕ → Requested

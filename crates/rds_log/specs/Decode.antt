@@ -32,7 +32,8 @@ pub record DecodeStopsAtBadLine (why : Bool) (t : Tuning) (n : ℕ) (text : List
   pub wrote : WroteLines why t w lines
 
 -- the writer failed at the output of lines that the text begins with
-pub record DecodeStopsAtWrite (why : Bool) (t : Tuning) (text : List ℕ) (left : Option (List ℕ)) (w : Traffic) : Type 0 where
+pub record DecodeStopsAtWrite (why : Bool) (t : Tuning) (text : List ℕ) (left : Option (List ℕ))
+    (w : Traffic) : Type 0 where
   pub lines : List Line
   pub begins : BeginsWith text left lines
   pub wrote : WrotePart why t w lines

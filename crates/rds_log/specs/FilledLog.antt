@@ -30,7 +30,8 @@ FilledTextsAreLogs =
     (f : Filling) (lines : List Line) (s : SoFar) → All IsLine lines
     → AreFilled f lines s → IsLogOf s.written (and_lost s.told (filled f.grain f.dwell s.came))
 
--- the view of the newest of the displays is safe in slot `now` of the station, for a receiver of these slots, with these origins
+-- the view of the newest of the displays is safe in slot `now` of the station, for a receiver of these slots, with these
+-- origins
 pub record NewestIsSafe (t : Tuning) (now : ℕ) (plans : Plans) (log : List (Option Message))
     (slots : List (Option Group)) (from : List (Option ℕ)) (displays : List Display) : Type 0 where
   pub display : Display
@@ -46,7 +47,8 @@ pub record NewestIsSafe (t : Tuning) (now : ℕ) (plans : Plans) (log : List (Op
 -- changes of views for that: the newest view is safe in the slot of the newest group, or in the last lost slot since
 abbrev pub FilledTextsAreSafe : Type 0
 FilledTextsAreSafe =
-    (station : Head) (f : Filling) (spread : ℕ) (plans : Plans) (log : List (Option Message)) (sent : List (Option Group))
+    (station : Head) (f : Filling) (spread : ℕ) (plans : Plans) (log : List (Option Message))
+    (sent : List (Option Group))
     (newest : Delivery Group) (before : List (Delivery Group)) (lines : List Line) (s : SoFar) (shown : List ℕ)
     → AreBelowASlot f.grain spread → 0 < f.dwell
     → AreLawful f.dwell plans log → AllZip (IsSent station) log sent → AreDelivered spread sent (newest ∷ before)

@@ -1,7 +1,8 @@
 -- What the whole program does with its arguments. This is the project's own command line. r is the traffic of a call
 -- with the reader, w its traffic with the writer.
 use Rattle.std.specs.Prelude.{◌≡◌, ◌⊎◌, ◌+◌, ◌*◌, ◌^◌, ◌++◌, []}
-use Rattle.std.specs.Prelude.{ℕ, Bool, false, true, List, codes, decimal, None, Some, Option, Ok, Err, Result, if◌then◌else◌, nat_le, option_map}
+use Rattle.std.specs.Prelude.{ℕ, Bool, false, true, List, codes, decimal, None, Some, Option, Ok, Err, Result}
+use Rattle.std.specs.Prelude.{if◌then◌else◌, nat_le, option_map}
 use Rattle.clap.specs.Words.{kind_of}
 use Rattle.clap.specs.declared.error.Error.{Error}
 use Rattle.clap.specs.declared.error.kind.ErrorKind.{ErrorKind}
@@ -167,7 +168,8 @@ TaskRuns (Simulate programme late window alone why) t r ReadFailed w status =
     SimulationRuns why (simulated_station t programme late window alone) (Simulate programme late window alone why)
     (script_in r ReadFailed) w status
 TaskRuns (Audit late running) t r ReadFailed w status =
-    Runs (Audits (start_if running) t.programme (t.dwell + late) (2 ^ 32) r) verdict_status (Audit late running) w status
+    Runs (Audits (start_if running) t.programme (t.dwell + late) (2 ^ 32) r) verdict_status (Audit late running) w
+    status
 TaskRuns Witness t r ReadFailed w status = Runs (Witnesses t r) witness_status Witness w status
 TaskRuns (Slots grain only) t r ReadFailed w status =
     Runs (Fills (filling_of t (1000 * grain) only) r) coarse_status (Slots grain only) w status

@@ -14,7 +14,8 @@ use Rattle.rds_script.specs.declared.form.Form.{Form}
 use Rattle.rds_script.specs.declared.form.Form.TheVariants.{Log, Simulation}
 use Rattle.rds_cli.specs.declared.request.Task.{Task}
 use Rattle.rds_cli.specs.declared.request.Task.TheVariants.{Audit, Decode, Encode, Simulate, Slots, Witness}
-use Rattle.rds_program.specs.Run.{NoMemory, Runs, RunsWords, SimulationRuns, TaskRuns, done, once, simulated_station, station_of}
+use Rattle.rds_program.specs.Run.{NoMemory, Runs, RunsWords, SimulationRuns, TaskRuns}
+use Rattle.rds_program.specs.Run.{done, once, simulated_station, station_of}
 
 -- a run of engines that do more, with another statement for the case that no engine ran
 pub runs_by : {Rests Rested : Type 0} (words : List (List ℕ)) (Engine Weaker : Task → Tuning → Type 0) (w : Traffic)
@@ -58,8 +59,8 @@ script_by says form config task known w status ran = record {
 }
 
 -- the run of a simulation, with another statement about its reads
-simulation_by : {P Q : Type 0} → (P → Q) → (why : Bool) (station : Option Config) (task : Task) (known : Option (List ℕ))
-    (w : Traffic) (status : ℕ)
+simulation_by : {P Q : Type 0} → (P → Q) → (why : Bool) (station : Option Config) (task : Task)
+    (known : Option (List ℕ)) (w : Traffic) (status : ℕ)
     → SimulationRuns why station task record { known = known; Failed = P } w status
     → SimulationRuns why station task record { known = known; Failed = Q } w status
 simulation_by says why None task known w status ran = ran

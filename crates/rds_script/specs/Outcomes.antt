@@ -1,9 +1,11 @@
 -- The outcomes of a station's slots, and their output. `sim` writes the reply, the group, and the changes of each
--- receiver's view, with the reasons if the lines say why a text or a name is not shown any more. For radios with the flag bit alone it also compares the views with what is on air. `encode` writes
--- the reply as a comment, and the group as a line of a log. This is the project's own format. Lists have the newest
--- first, so the slot of an outcome is the number of outcomes behind it.
+-- receiver's view, with the reasons if the lines say why a text or a name is not shown any more. For radios with the
+-- flag bit alone it also compares the views with what is on air. `encode` writes the reply as a comment, and the group
+-- as a line of a log. This is the project's own format. Lists have the newest first, so the slot of an outcome is the
+-- number of outcomes behind it.
 use Rattle.std.specs.Prelude.{◌≡◌, ◌<◌, ◌++◌, [], ◌∷◌}
-use Rattle.std.specs.Prelude.{ℕ, zero, suc, Bool, true, false, List, Option, Some, None, codes, decimal, length, slice_index_or}
+use Rattle.std.specs.Prelude.{ℕ, zero, suc, Bool, true, false, List, Option, Some, None}
+use Rattle.std.specs.Prelude.{codes, decimal, length, slice_index_or}
 use Rattle.rds_block.specs.declared.group.Group.{Group}
 use Rattle.rds_block.specs.Words.{second_word_of}
 use Rattle.rds_world.specs.State.{distance}
@@ -32,7 +34,8 @@ use Rattle.rds_world.specs.Replies.{reply_at}
 use Rattle.rds_world.specs.Slots.{entries, input_of, sent_at}
 use Rattle.rds_world.specs.StandsAt.{IsViewOfInput, tuned_to}
 use Rattle.rds_io.specs.Digits.{word_digits}
-use Rattle.rds_view_lines.specs.Output.{air_stamp, change, line_of, nothing_shown, receiver_stamp, slot_stamp, unless_same}
+use Rattle.rds_view_lines.specs.Output.{air_stamp, change, line_of, nothing_shown}
+use Rattle.rds_view_lines.specs.Output.{receiver_stamp, slot_stamp, unless_same}
 use Rattle.rds_view_lines.specs.declared.parts.Parts.{Parts}
 use Rattle.rds_receiver.specs.Run.{is_same}
 use Rattle.rds_world.specs.OnAir.{air_of}

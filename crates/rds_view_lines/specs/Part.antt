@@ -1,5 +1,5 @@
--- The program's types for the beginning of an output line and for the parts of a view, with the content of a part and its
--- line.
+-- The program's types for the beginning of an output line and for the parts of a view, with the content of a part and
+-- its line.
 use Rattle.std.specs.Prelude.{ℕ, Bool, false, List, Option}
 use Rattle.std.specs.Option.{option_copied}
 use Rattle.rds_receiver.specs.Borrowed.{borrowed_tag}
@@ -39,7 +39,8 @@ IsShortPart (Tag tag) = IsShortTag tag
 
 -- the line of a part, if the part differs from the slot before
 abbrev pub part_change : List ℕ → List ℕ → Option WhyNone → Part → Part → List ℕ
-part_change stamp name why before now = unless_same (is_same_part before now) (line_of stamp name (part_content why now))
+part_change stamp name why before now =
+    unless_same (is_same_part before now) (line_of stamp name (part_content why now))
 
 -- the beginning of a line
 abbrev pub stamp_of : Stamp → List ℕ

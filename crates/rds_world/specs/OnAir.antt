@@ -9,8 +9,8 @@ use Rattle.rds_world.specs.Slots.{entries}
 use Rattle.rds_world.specs.State.{distance}
 use Rattle.rds_world.specs.declared.world.Config.{Config}
 
--- what is on air at the end of these slots: the text, the name, and the tags of the text, even if they have not been sent
--- yet
+-- what is on air at the end of these slots: the text, the name, and the tags of the text, even if they have not been
+-- sent yet
 abbrev pub air_of : Config → List Event → ShownView
 air_of config events = view_with
     (option_map bytes_of (on_air (distance config) (text_moves (entries events))))

@@ -24,12 +24,12 @@ listeners config events i [] = []
 listeners config events i (view ∷ views) =
     record { input = input_that_counts config i events; view = view } ∷ listeners config events (i + 1) views
 
--- The headline, for receivers with the dwell, and for each list of slots. In each slot the encoder and any receiver may restart. Each receiver gets what
--- was sent at most K slots before, in the order of sending, or nothing. With a window of W slots it may also get a
--- wrong message, but none that needs two receipts twice within W slots. At the end of the newest slot, each text or name
--- that these receivers show was on air in one of the last d slots, the tags shown were sent for the text shown, and any
--- two receivers show one broadcast or two that follow each other. Here d is M + K, and M + K + W - 1 for receivers with
--- a window of W slots.
+-- The headline, for receivers with the dwell, and for each list of slots. In each slot the encoder and any receiver may
+-- restart. Each receiver gets what was sent at most K slots before, in the order of sending, or nothing. With a window
+-- of W slots it may also get a wrong message, but none that needs two receipts twice within W slots. At the end of the
+-- newest slot, each text or name that these receivers show was on air in one of the last d slots, the tags shown were
+-- sent for the text shown, and any two receivers show one broadcast or two that follow each other. Here d is M + K, and
+-- M + K + W - 1 for receivers with a window of W slots.
 abbrev pub OnlyWhatWasOnAirIsShown : Config → List Event → List AnyReceiver → Type 0
 OnlyWhatWasOnAirIsShown config [] receivers = Unit {0}
 OnlyWhatWasOnAirIsShown config (newest ∷ before) receivers =

@@ -1,5 +1,6 @@
 -- What is kept to compare views with what was on air. Lists have the newest first.
-use Rattle.std.specs.Prelude.{◌≡◌, ◌<◌, ◌-◌, ◌∷◌, ◌++◌, ℕ, [], List, Option, None, Some, length, map, slice_index_or, take, true}
+use Rattle.std.specs.Prelude.{◌≡◌, ◌<◌, ◌-◌, ◌∷◌, ◌++◌, ℕ, [], List, Option, None, Some}
+use Rattle.std.specs.Prelude.{length, map, slice_index_or, take, true}
 use Rattle.rds_receiver.specs.Shown.{ShownView}
 use Rattle.rds_view_lines.specs.KeptView.{view_kept}
 use Rattle.rds_view_lines.specs.Output.{nothing_shown}
@@ -58,7 +59,8 @@ IsCompared config n events views None = config.kind ≡ WithDwell
 IsCompared config n events views (Some c) = (config.kind ≡ FlagAlone) × ComparedStands config n events views c
 
 -- the same for what may be kept
-abbrev pub Compares : Config → ℕ → List Event → List ShownView → Option Compared → Option Compared → List ℕ → List ℕ → Type 0
+abbrev pub Compares : Config → ℕ → List Event → List ShownView → Option Compared → Option Compared → List ℕ → List ℕ
+    → Type 0
 Compares config slot [] shown old new lines after = Unit {0}
 Compares config slot (e ∷ before) shown old new lines after =
     (views : List ShownView) → IsCompared config (length shown) before views old
