@@ -27,7 +27,7 @@ const logTab = (() => {
     whole: null, witness: null, result: null, audits: new Map(),
   });
   const state = {
-    text: "", bytes: new Uint8Array(0), lost: new Set(), number: 0, m: 1, w: 0,
+    text: "", bytes: new Uint8Array(0), lost: new Set(), number: 0, w: 0,
     opening: 0, turn: 0, judged: 0, drawn: 0, work: Promise.resolve(), ...empty(),
   };
   const workers = {};
@@ -202,8 +202,7 @@ const logTab = (() => {
     if (state.turn !== turn || !whole || !shown) return;
     const { view, alone, codes, events, output, notes } = shown, { log } = state;
     const number = parseInt(asked.pi, 16), result = { ...state.result, decode: { output, notes } };
-    const [m, w] = [Number(asked.m), Number(asked.w)];
-    Object.assign(state, { view, alone, codes, events, number, result, m, w, drawn: turn });
+    Object.assign(state, { view, alone, codes, events, number, result, w: Number(asked.w), drawn: turn });
     tellWithoutLoss(turn);
     timeline.show(lanes(), log.count, { fit });
     const confirm = asked.w ? ` --confirm ${asked.w}` : "";
