@@ -10,11 +10,11 @@ const views = (() => {
   const NOTHING = -1, NEVER = 2 ** 31 - 1;
   /* Whether what a run shows is on air: it is, it never was while it was shown, or it is not any more. */
   const ON_AIR = 0, MIX = 1, OLD = 2;
-  /* Why a run shows nothing, as the program says: nothing was shown before, the next one began, no segment came for M
+  /* Why a run shows nothing, as the program says: nothing was shown before, the segments are incomplete, none came for M
      slots, or the receiver restarted. */
-  const NOT_YET = 0, NEXT = 1, DROPPED = 2, RESTARTED = 3;
-  const WHYS = ["no text", "the next began", "dropped", "restarted"];
-  const NEWLINE = 10, SPACE = 32, NINE = 57, ZERO = 48, LETTER_A = 97, LETTER_D = 100, LETTER_N = 110, LETTER_O = 111, LETTER_R = 114;
+  const NOT_YET = 0, INCOMPLETE = 1, DROPPED = 2, RESTARTED = 3;
+  const WHYS = ["no text", "incomplete", "dropped", "restarted"];
+  const NEWLINE = 10, SPACE = 32, NINE = 57, ZERO = 48, LETTER_A = 97, LETTER_D = 100, LETTER_I = 105, LETTER_N = 110, LETTER_O = 111, LETTER_R = 114;
   const decoder = new TextDecoder();
 
   /* The same numbers in an array of twice the length. */
@@ -239,7 +239,7 @@ const views = (() => {
   // ---- the lines of the program
 
   /* The reason behind `none`, by its first letter. */
-  const REASONS = { [LETTER_N]: NEXT, [LETTER_D]: DROPPED, [LETTER_R]: RESTARTED };
+  const REASONS = { [LETTER_I]: INCOMPLETE, [LETTER_D]: DROPPED, [LETTER_R]: RESTARTED };
   const whyOf = (bytes, from, to) => to - from > "none ".length ? REASONS[bytes[from + "none ".length]] : NOT_YET;
 
   /* The second word of a line by its length and its first and its last letter. */

@@ -122,7 +122,7 @@ class LogTab:
         self.check("the display drops the text", text_of(b, "#log-lines"), '0 text "HI"\n')
         click(b, "#log-undo")
         self.check("an undo", (sorted(lost(b)), text_of(b, "#log-lines").split("\n")[1:]),
-                   (list(range(3, 12)), ["10 text none", '12 text "HI"', ""]))
+                   (list(range(3, 12)), ["10 text none dropped", '12 text "HI"', ""]))
         click(b, "#log-undo")
         self.check("another undo", (lost(b), of(b, "#log-undo", "disabled")), ([], True))
         click(b, "#log-click")
@@ -232,7 +232,7 @@ class LogTab:
         name = {"text": "text", "name": "name (PTYN)", "tag1": "tag", "tag2": "tag"}
         wanted = []
         for slot, part, rest in re.findall(r"^(\d+) (text|name|tag1|tag2) (.*)$", text_of(b, "#log-lines"), re.M):
-            if rest != "none":
+            if rest.split()[0] != "none":
                 kind, _, said = rest.partition(' "')
                 wanted.append([slot, name[part], said[:-1] if not kind.startswith('"') else rest[1:-1], kind])
         got = listed(b)

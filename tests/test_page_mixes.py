@@ -52,7 +52,7 @@ class Mixes:
         open_script(b, "".join(f"text,HI,1,{letter}\n" for letter in "GGRGLR"), m=1, k=0)
         self.check("it restarts with its receiver", runs_of(b, "scriptTab.state.alone[0]"),
                    [[1, "HI"], [2, None], [3, "HI"], [5, None]])
-        for slot, word in ((2, "restarted"), (5, "restarted")):
+        for slot, word in ((2, "restarted"), (5, "dropped")):
             b.run(f"scriptTab.timeline.move({slot})")
             self.check(f"why no text is shown in slot {slot}", shown(b, "script-radio"), f"— {word} —")
         call(b, "page.tab", "log")
@@ -80,18 +80,17 @@ class Mixes:
                        ("B7: closed today", ""))
 
     def test_each_cause_of_no_text_has_its_word(self):
-        """The next text began, or nothing came for the dwell."""
+        """The next text is incomplete, nothing came for the dwell, or the receiver restarted."""
         b = self.b
         rows = ["-,,1,G"] * 48
         rows[8], rows[24] = "text,The first of two texts,1,G", "text,Another one of so many words,1,G"
         rows[28] = "restart,,1,G"
         both = "".join(f"{row}\n" for row in rows)
-        # the dwell ends in slot 28, which brings a segment of the same text
-        rows = [f"-,,1,{'L' if 21 <= slot < 28 else 'G'}" for slot in range(48)]
+        # the dwell ends in slot 28
+        rows = [f"-,,1,{'L' if 21 <= slot < 29 else 'G'}" for slot in range(48)]
         rows[8] = "text,HELLO WORLD,1,G"
         lost = "".join(f"{row}\n" for row in rows)
-        began = "the next began"
-        for script, wanted in ((both, {24: began, 46: began}), (lost, {28: "dropped"})):
+        for script, wanted in ((both, {24: "incomplete", 46: "incomplete"}), (lost, {28: "dropped"})):
             open_script(b, script, m=8, k=0)
             for slot, word in wanted.items():
                 b.run(f"scriptTab.timeline.move({slot})")

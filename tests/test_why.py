@@ -11,7 +11,7 @@ from tests.test_flag_alone import heard
 from tests.test_worlds import receptions_of
 
 WORLDS, RECEIVERS = 120, 2
-REASONS = ("next", "dropped", "restarted")
+REASONS = ("incomplete", "dropped", "restarted")
 # in the second block of a part's groups: the group type with version A, the bits of the segment's address, and the flag
 GROUPS = {"text": (2 << 1, 0x0F), "name": (10 << 1, 0x01)}
 TYPE_SHIFT, FLAG = 11, 0x10
@@ -93,7 +93,7 @@ class Why(ProgramCase):
                     if (first + slot, part) not in gone:
                         continue
                     lately = counts[max(0, slot + 1 - dwell):slot + 1]
-                    why = "restarted" if slot == len(life) else "next" if any(lately) else "dropped"
+                    why = "restarted" if slot == len(life) else "incomplete" if any(lately) else "dropped"
                     found[first + slot, part] = why
         return found
 

@@ -601,13 +601,16 @@ def radios_and_what_is_on_air():
 
 
 def why_texts_are_not_shown():
-    """Gives rows of a text that goes: the next one began, no segment came for M slots, and a receiver restarted. With a
-    window the next one begins with the segment that comes again."""
+    """Gives rows of a text that goes: the next one is incomplete, no segment came for M slots, and a receiver restarted.
+    With a window the next one begins with the segment that comes again. The last text begins anew in the slot in which
+    its dwell is over."""
     hell, o = b"C201 2150 4845 4C4C\n", b"C201 2151 4F0D 2020\n"
-    shown = b'0 text "HI"\n1 text none next\n2 text "HELLO"\n4 text none dropped\n'
+    shown = b'0 text "HI"\n1 text none incomplete\n2 text "HELLO"\n4 text none dropped\n'
     yield "why a text goes", "decode --pi C201 --m 2 --why", 0, HI + hell + o + NO_GROUP * 2, shown
-    shown = b'1 text "HI"\n3 text none next\n'
+    shown = b'1 text "HI"\n3 text none incomplete\n'
     yield "why a text goes, twice", "decode --pi C201 --m 4 --confirm 2 --why", 0, HI * 2 + hell * 2, shown
+    anew, shown = HI + NO_GROUP + b"C201 2141 2020 2020\n", b'0 text "HI"\n2 text none incomplete\n'
+    yield "why a text goes, anew", "decode --pi C201 --m 2 --why", 0, anew, shown
     script = b"-,,1,GG\n" * 2 + b"text,HI,1,GG\n-,,1,RG\n-,,0,GG\n"
     shown = b"""2 text ok
 2 sent C201 2140 4849 0D20

@@ -189,9 +189,9 @@ fn why<'a>(alloc: Global) -> Arg<'a>
     let help = "Says why a text or a name is not shown any more";
     flag(alloc, "why", help).long_help(
         "Says why a text or a name is not shown any more, as in `9 text none dropped`:\n  \
-           next       a segment of the next one came, which is not whole yet\n  \
-           dropped    no segment came for M slots\n  \
-           restarted  the receiver restarted (sim)",
+           incomplete  segments of the next one came, or of the same one anew\n  \
+           dropped     no segment came for M slots\n  \
+           restarted   the receiver restarted (sim)",
     )
 }
 

@@ -7,12 +7,12 @@ use Rattle.rds_receiver.specs.StandsAt.{HoldsRun}
 use Rattle.rds_receiver.specs.State.{HeldSegments}
 use Rattle.rds_receiver.specs.NotShown.{why_of}
 use Rattle.rds_receiver.specs.declared.why.WhyNone.{WhyNone}
-use Rattle.rds_receiver.specs.declared.why.WhyNone.TheVariants.{Dropped, NextBegan}
+use Rattle.rds_receiver.specs.declared.why.WhyNone.TheVariants.{Dropped, Incomplete}
 use Rattle.rds_receiver.proofs.Runs.{run_over, run_recent}
 
 -- segments younger than the dwell are a run, and there is no other
 pub why_held : (m t : ℕ) (segs : List Segment) (held : HeldSegments) (why : WhyNone) → 0 < m → HoldsRun m t (run m t segs) held
-    → (held.age < m → why ≡ NextBegan) → ((held.age < m → ⊥) → why ≡ Dropped) → why ≡ why_of (run m t segs)
+    → (held.age < m → why ≡ Incomplete) → ((held.age < m → ⊥) → why ≡ Dropped) → why ≡ why_of (run m t segs)
 why_held m t [] held why some holds young old = old (λ l. omega (arith, l, holds.age))
 why_held m t (g ∷ older) held why some holds young old = by (cases_lt t (g.slot + m))
   where

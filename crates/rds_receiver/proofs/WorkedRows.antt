@@ -11,7 +11,7 @@ use Rattle.rds_receiver.specs.Receipts.{Segment, Tuning, name_fragment, text_fra
 use Rattle.rds_receiver.specs.Run.{begins_in, cells_of, run_at}
 use Rattle.rds_receiver.specs.Tags.{is_known, item_of, pair_held, tag_of}
 use Rattle.rds_receiver.specs.Twice.{confirmed}
-use Rattle.rds_receiver.specs.declared.why.WhyNone.TheVariants.{Dropped, NextBegan}
+use Rattle.rds_receiver.specs.declared.why.WhyNone.TheVariants.{Dropped, Incomplete}
 
 abbrev Heard : Type 0
 Heard = List (Option Message)
@@ -154,22 +154,22 @@ tags_before_run : confirmed 5 4 0 (Some (Tags title) ∷ Some (Text false 0 hi) 
     ≡ None ∷ Some (Text false 0 hi) ∷ None ∷ None ∷ []
 tags_before_run = refl
 
--- why nothing is shown: the next text began in slot 1, and its only segment is over in slot 5
+-- why nothing is shown: a text is incomplete from slot 1 on, and its only segment is over in slot 5
 abbrev tuned : Tuning
 tuned = record { programme = 0xC201; dwell = 4; window = None; first = 0 }
 
-abbrev next_began : Heard
-next_began = Some (Text true 0 (72 ∷ 69 ∷ 76 ∷ 76 ∷ [])) ∷ Some (Text false 0 hi) ∷ []
+abbrev begun : Heard
+begun = Some (Text true 0 (72 ∷ 69 ∷ 76 ∷ 76 ∷ [])) ∷ Some (Text false 0 hi) ∷ []
 
-next_began_1 : whys_of tuned next_began ≡ record { text = NextBegan; name = Dropped }
-next_began_1 = refl
+begun_1 : whys_of tuned begun ≡ record { text = Incomplete; name = Dropped }
+begun_1 = refl
 
-next_began_4 : whys_of tuned (None ∷ None ∷ None ∷ next_began) ≡ record { text = NextBegan; name = Dropped }
-next_began_4 = refl
+begun_4 : whys_of tuned (None ∷ None ∷ None ∷ begun) ≡ record { text = Incomplete; name = Dropped }
+begun_4 = refl
 
-dropped_5 : whys_of tuned (None ∷ None ∷ None ∷ None ∷ next_began) ≡ record { text = Dropped; name = Dropped }
+dropped_5 : whys_of tuned (None ∷ None ∷ None ∷ None ∷ begun) ≡ record { text = Dropped; name = Dropped }
 dropped_5 = refl
 
 -- with a window of 3 slots a segment counts when it comes again
-not_counted_1 : whys_of (record tuned { window = Some 3 }) next_began ≡ record { text = Dropped; name = Dropped }
+not_counted_1 : whys_of (record tuned { window = Some 3 }) begun ≡ record { text = Dropped; name = Dropped }
 not_counted_1 = refl

@@ -7,13 +7,13 @@ use Rattle.rds_receiver.specs.Run.{run}
 use Rattle.rds_receiver.specs.StandsAt.{newest_slot}
 use Rattle.rds_receiver.specs.Twice.{counted}
 use Rattle.rds_receiver.specs.declared.why.WhyNone.{WhyNone}
-use Rattle.rds_receiver.specs.declared.why.WhyNone.TheVariants.{Dropped, NextBegan}
+use Rattle.rds_receiver.specs.declared.why.WhyNone.TheVariants.{Dropped, Incomplete}
 use Rattle.rds_receiver.specs.declared.why.Whys.{Whys}
 
--- a run that makes nothing whole is the begin of the next value; without a run no segment came for as long as the dwell
+-- the segments of a run that makes nothing whole are incomplete; without a run no segment came for as long as the dwell
 abbrev pub why_of : List Segment → WhyNone
 why_of [] = Dropped
-why_of (g ∷ older) = NextBegan
+why_of (g ∷ older) = Incomplete
 
 -- why a text and a name are not shown in slot t, by the runs of what was heard
 abbrev pub whys_in : ℕ → ℕ → ℕ → List (Option Message) → Whys

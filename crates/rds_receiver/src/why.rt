@@ -4,15 +4,15 @@ ghost use Rattle.rds_fields.specs.declared.message.Message.{Message};
 ghost use Rattle.rds_receiver.specs.StandsAt.{HoldsAt};
 ghost use Rattle.rds_receiver.specs.Stored.{receiver_stored};
 ghost use Rattle.rds_receiver.specs.NotShown.{whys_in};
-ghost use Rattle.rds_receiver.specs.declared.why.WhyNone.TheVariants.{Dropped, NextBegan};
+ghost use Rattle.rds_receiver.specs.declared.why.WhyNone.TheVariants.{Dropped, Incomplete};
 
 use crate::stored::{StoredReceiver, StoredSegments};
 
 /// Why a text or a name is not shown (this project's own rule).
 #[derive(Clone, Copy, Debug, PartialEq, Eq)]
 pub enum WhyNone {
-    /// Segments are held that make nothing whole yet: the next one began.
-    NextBegan,
+    /// Segments are held that make nothing whole: the next one began, or the same one anew.
+    Incomplete,
     /// No segment came for as long as the dwell.
     Dropped,
     /// The receiver restarted.
@@ -29,11 +29,11 @@ pub struct Whys {
 impl StoredSegments {
     /// Returns why no value is shown, if none is. The dwell is in slots.
     fn why(&self, dwell: u16) -> WhyNone
-        ensures held { self.now.age < dwell → result ≡ NextBegan }
+        ensures held { self.now.age < dwell → result ≡ Incomplete }
         ensures none { (self.now.age < dwell → ⊥) → result ≡ Dropped }
     {
         if self.is_held(dwell) {
-            WhyNone::NextBegan
+            WhyNone::Incomplete
         } else {
             WhyNone::Dropped
         }

@@ -11,7 +11,7 @@ use Rattle.rds_charset.specs.Printed.{printed}
 use Rattle.rds_receiver.specs.Run.{is_same}
 use Rattle.rds_receiver.specs.Shown.{ShownView}
 use Rattle.rds_receiver.specs.declared.why.WhyNone.{WhyNone}
-use Rattle.rds_receiver.specs.declared.why.WhyNone.TheVariants.{Dropped, NextBegan, Restarted}
+use Rattle.rds_receiver.specs.declared.why.WhyNone.TheVariants.{Dropped, Incomplete, Restarted}
 use Rattle.rds_receiver.specs.declared.why.Whys.{Whys}
 
 -- the names of the content types from 1 on (IEC 62106-6, content types of RadioText Plus)
@@ -34,9 +34,9 @@ name_or_number (Some name) class = name
 abbrev pub quoted : List ℕ → List ℕ
 quoted x = codes " \"" ++ printed x ++ codes "\""
 
--- why a part is not shown: the next one began, or no segment came for as long as the dwell, or the receiver restarted
+-- why a part is not shown: its segments are incomplete, or none came for as long as the dwell, or the receiver restarted
 abbrev pub why_content : WhyNone → List ℕ
-why_content NextBegan = codes " next"
+why_content Incomplete = codes " incomplete"
 why_content Dropped = codes " dropped"
 why_content Restarted = codes " restarted"
 

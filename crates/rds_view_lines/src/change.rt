@@ -106,9 +106,9 @@ impl Part<'_> {
 
 /// Appends that a text or a name is not shown, and why, if there is a reason.
 fn push_none<const N: usize>(why: Option<WhyNone>, lines: &mut Lines<N>)
-    requires { length lines.old + 15 ≤ N }
+    requires { length lines.old + 16 ≤ N }
     ensures content { lines.new ≡ lines.old ++ none_content why }
-    ensures room { length lines.new ≤ length lines.old + 15 }
+    ensures room { length lines.new ≤ length lines.old + 16 }
 {
     lines.push(b" none");
     if let Some(why) = why {
@@ -118,10 +118,10 @@ fn push_none<const N: usize>(why: Option<WhyNone>, lines: &mut Lines<N>)
 
 fn why_content(why: WhyNone) -> &'static [u8]
     ensures content { result.now ≡ why_content why }
-    ensures short { length result.now ≤ 10 }
+    ensures short { length result.now ≤ 11 }
 {
     match why {
-        WhyNone::NextBegan => b" next",
+        WhyNone::Incomplete => b" incomplete",
         WhyNone::Dropped => b" dropped",
         WhyNone::Restarted => b" restarted",
     }
