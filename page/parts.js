@@ -136,7 +136,7 @@ const parts = (() => {
     const run = view?.at("text", slot) ?? null;
     if (!(slot < alone?.at("text", slot)?.mixTo) || (run && run.value !== null)) return "";
     const runs = view?.parts.text, next = runs ? runs.find((i) => runs.isShown(i), runs.indexAt(slot) + 1) : -1;
-    const none = `The receiver with the dwell shows no text (${noneAt(view, slot)}).`;
+    const none = `The receiver with the dwell shows no text${run?.why ? ` (${run.why})` : ""}.`;
     if (next < 0) return none;
     return `${none} It shows the next one when it is whole: in slot ${runs.from(next).toLocaleString("en")}.`;
   }

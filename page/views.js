@@ -13,7 +13,7 @@ const views = (() => {
   /* Why a run shows nothing, as the program says: nothing was shown before, the segments are incomplete, none came for M
      slots, or the receiver restarted. */
   const NOT_YET = 0, INCOMPLETE = 1, DROPPED = 2, RESTARTED = 3;
-  const WHYS = ["no text", "incomplete", "dropped", "restarted"];
+  const WHYS = [null, "incomplete", "dropped", "restarted"];
   const NEWLINE = 10, SPACE = 32, NINE = 57, ZERO = 48, LETTER_A = 97, LETTER_D = 100, LETTER_I = 105, LETTER_N = 110, LETTER_O = 111, LETTER_R = 114;
   const decoder = new TextDecoder();
 

@@ -135,7 +135,7 @@ class Files:
             name = ["script-file"] if way == "pick" else []
             call(b, f"probe.{way}", *name, "tunnel.csv", example("tunnel.csv").decode())
             settle(b)
-            options = ["--pi", "C201", "--pty", "10"]
+            options = ["--pi", "C201", "--pty", "10", "--why"]
             self.check(f"a script by {way}", printed(b), program(["sim", *options], example("tunnel.csv"))[1])
         call(b, "page.tab", "log")
         call(b, "probe.choose", "log-example", 2)
@@ -167,7 +167,7 @@ class Files:
         for data, plain in logs:
             call(b, "probe.drop", "own.log", list(data))
             settle(b)
-            for name, words in (("log", ["decode", "--pi", "C201"]), ("audit", ["audit", "--pi", "C201"])):
+            for name, words in (("log", ["decode", "--pi", "C201", "--why"]), ("audit", ["audit", "--pi", "C201"])):
                 self.check(f"{words[0]} over a file that begins with {data[:12]}", text_of(b, f"#{name}-lines"),
                            program(words, plain)[1])
             b.run("logTab.lose([0])")
@@ -183,7 +183,7 @@ class Files:
                 call(b, "probe.choose", "script-m", m)
                 settle(b)
                 self.check(f"sim over a file that begins with {data[:12]}, M {m}", printed(b),
-                           program(["sim", "--pi", "C201", "--pty", "10", "--m", str(m)], data)[1])
+                           program(["sim", "--pi", "C201", "--pty", "10", "--m", str(m), "--why"], data)[1])
 
     def test_the_name_of_a_file_is_shown_as_long_as_the_file(self):
         """It is beside the field and in the title. The file can be chosen again."""

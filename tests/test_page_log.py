@@ -164,7 +164,7 @@ class LogTab:
         for number, log in self.cases("".join(f"{dice.choice(GROUPS[:8])}\n" for _ in range(40)) for _ in range(12)):
             m, k, w = dice.choice([4, 8, 64]), dice.choice([0, 3]), dice.choice([2, 9, 255])
             call(b, "logTab.open", log, {"pi": "C201", "m": m, "k": k, "w": w})
-            words = ["decode", "--pi", "C201", "--m", str(m), "--confirm", str(w)]
+            words = ["decode", "--pi", "C201", "--m", str(m), "--confirm", str(w), "--why"]
             shown_lines = program(words, log.encode())[1]
             self.check(f"log {number}: display", text_of(b, "#log-lines"), shown_lines, log)
             answer = program(["audit", "--pi", "C201", "--m", str(m), "--k", str(k + w - 1)], log.encode())[1]

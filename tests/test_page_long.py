@@ -71,7 +71,7 @@ class Long:
         self.check("the row has the last edit at once", b.run("scriptTab.state.rows[10].command"), "restart")
         idle(b)
         script = b.run("scriptTab.state.text")
-        wanted = program(["sim", "--pi", "C201", "--pty", "10", "--m", "8", "--k", "0"], script.encode())[1]
+        wanted = program(["sim", "--pi", "C201", "--pty", "10", "--m", "8", "--k", "0", "--why"], script.encode())[1]
         self.check("one result is shown, the last one's",
                    (b.run("drawn"), b.run("scriptTab.state.result.output") == wanted[:1_600_004]), (1, True))
         b.run("scriptTab.timeline.show = show; undefined")
@@ -116,7 +116,7 @@ class Chromium(Long, ChromiumCase):
                 continue
             self.check("the row has the text", b.run("scriptTab.state.rows[900].argument"), TYPED)
             script = b.run("scriptTab.state.text").encode()
-            wanted = program(["sim", "--pi", "C201", "--pty", "10", "--m", "128", "--k", "0"], script)[1]
+            wanted = program(["sim", "--pi", "C201", "--pty", "10", "--m", "128", "--k", "0", "--why"], script)[1]
             self.check("it is played", b.run("scriptTab.state.result.output") == wanted[:1_600_004], True)
             b.run("scriptTab.timeline.move(1000)")
             self.check("and shown", shown(b, "script-air"), TYPED)

@@ -58,7 +58,7 @@ class ScriptTab:
         script = "".join(f"{row}\n" for row in rows)
         self.check("a typed text stays in its slot", of(b, "#script-text", "value"), script)
         self.check("and is played there", printed(b),
-                   program(["sim", "--pi", "C201", "--m", "1", "--pty", "10"], script.encode())[1])
+                   program(["sim", "--pi", "C201", "--m", "1", "--pty", "10", "--why"], script.encode())[1])
         b.run("scriptTab.timeline.move(3)")
         call(b, "probe.typeAndLeave", "HELLO YOU", 6)
         click(b, "#script-undo")
@@ -103,7 +103,7 @@ class ScriptTab:
         open_script(b, example("mix.csv").decode(), m=8, k=0)
         wanted = ["text" if "sent C201 2" in line else "other" for line in printed(b).splitlines() if " sent " in line]
         kinds = "['', 'text', 'name', 'tags', 'other']"
-        got = b.run(f"{sent}.filter(code => code).map(code => {kinds}[code & lines.KIND])")
+        got = b.run(f"{sent}.filter(code => code).map(code => {kinds}[code & ~lines.FLAG])")
         self.check("announcements of tags have not", (got, "other" in got), (wanted, True))
 
 
@@ -111,7 +111,8 @@ class ScriptTab:
         """The receiver with a window of 4 slots shows nothing of a wrong group. A second one within the window is refused."""
         b = self.b
         open_script(b, example("wrong.csv").decode(), m=8, k=0, w=8)
-        self.check("the command", text_of(b, "#script-command"), "rdsrt sim --pi C201 --pty 10 --m 8 --k 0 --confirm 8")
+        self.check("the command", text_of(b, "#script-command"),
+                   "rdsrt sim --pi C201 --pty 10 --m 8 --k 0 --confirm 8 --why")
         self.check("a radio shows a text that nobody sent", text_of(b, "#script-count"),
                    "With the flag bit alone, receivers show a mix: a text. With the dwell none does.")
         self.check("the brush for wrong groups", of(b, "#brush-wrong", "hidden"), False)
