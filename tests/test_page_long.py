@@ -77,8 +77,10 @@ class Long:
         b.run("scriptTab.timeline.show = show; undefined")
 
     def test_the_search_for_a_witness_says_how_long_it_takes_and_can_be_stopped(self):
-        """Two short texts in turn make no mix, so the search takes the whole log."""
+        """The answer of the search is kept back, for a fast machine searches a day of slots within a second."""
         b = self.b
+        b.run("window.hear = ProgramWorker.prototype.hear; ProgramWorker.prototype.hear = function (data) {"
+              "  if (data.answer?.shown === undefined) hear.call(this, data); }; undefined")
         groups = "".join(f"C201 21{flag}0 {text} 0D20\\n" * 2 for flag, text in ((4, "4849"), (5, "594F")))
         b.run(f"page.openFile(new File(['{groups}'.repeat({DAY // 4})], 'day.log')); undefined")
         searches = b.until("document.querySelector('#search-stop')?.hidden === false", JUDGED)
@@ -89,6 +91,7 @@ class Long:
         b.run("document.querySelector('#search-stop').click()")
         self.check("it stops at once", text_of(b, "#witness"),
                    "No witness: the search was stopped. A no says that a rule was broken.")
+        b.run("ProgramWorker.prototype.hear = hear; undefined")
         idle(b)
         self.check("and stays so", text_of(b, "#witness"),
                    "No witness: the search was stopped. A no says that a rule was broken.")
