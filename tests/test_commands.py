@@ -17,7 +17,7 @@ HELP = ["tests/shown/help.txt",
 PAGES = sorted(os.path.relpath(it, ROOT) for at in ("", "docs", "crates", "examples", "python", "experiments/*")
                for it in glob.glob(os.path.join(ROOT, at, "*.md")))
 # programs of examples/ that say at their start how they are called
-EXAMPLES = sorted(os.path.relpath(it, ROOT) for at in ("station", "json", "monitor", "gnuradio/*", "c/*.c")
+EXAMPLES = sorted(os.path.relpath(it, ROOT) for at in ("station", "json", "monitor", "v4l2", "gnuradio/*", "c/*.c")
                   for it in glob.glob(os.path.join(ROOT, "examples", at)))
 # programs that a command in a sentence begins with, beside the scripts of the repository
 PROGRAMS = ("rt", "rdsrt", "pip", "cc", "man", "parallel", "python3", "apt-get")
@@ -75,7 +75,7 @@ NOT_HERE = [
     (r"tools/(?:release|build)$|tools/release OUT$|tests/release$", "makes or tries all packages, by hand: 30 minutes"),
     (r"bin/rdsrt decode |pip install ", "tests/release runs it in a fresh system"),
     (r"bench/", "measures for minutes, by hand when the code has changed"),
-    (r"rtl_fm ", "it needs a tuner"),
+    (r"rtl_fm |(?:examples/)?v4l2 --frequency ", "it needs a tuner"),
     (r"apt-get install ", "installs packages"),
     (r"\./rdsrt$", "the program without arguments, named in a sentence"),
 ]

@@ -147,7 +147,7 @@ class Guide(Case):
 
     def test_each_example_program_has_help(self):
         """test_gnuradio asks the programs of GNU Radio."""
-        for name in ("json", "monitor", "station"):
+        for name in ("json", "monitor", "station", "v4l2"):
             done = subprocess.run([os.path.join(ROOT, "examples", name), "--help"], capture_output=True,
                                   timeout=SECONDS)
             self.check(f"{name} --help", (done.returncode, name.encode() in done.stdout, done.stderr), (0, True, b""))
