@@ -1,4 +1,4 @@
-"""The signal chain of examples/gnuradio, for test_gnuradio and bench/radio: encode, transmit, noise and fades, receive.
+"""The signal chain of examples/fm, for test_fm and bench/radio: encode, transmit, noise and fades, receive.
 
 Noise and fades come from fixed seeds, by tests/air.
 """
@@ -11,7 +11,7 @@ import subprocess
 
 from tests.support import PROGRAM, path
 
-TRANSMIT, RECEIVE = path("examples/gnuradio/transmit"), path("examples/gnuradio/receive")
+TRANSMIT, RECEIVE = path("examples/fm/transmit"), path("examples/fm/receive")
 AIR = path("tests/air")
 PYTHON = "/usr/bin/python3"                                  # the one that sees Debian's packages
 LOST = "---- ---- ---- ----"
@@ -26,9 +26,9 @@ Heard = collections.namedtuple("Heard", "texts sent lines")
 
 
 def is_there():
-    """Returns whether GNU Radio and numpy are installed."""
+    """Returns whether numpy is installed."""
     try:
-        return subprocess.run([PYTHON, "-c", "import numpy, pmt, gnuradio"], capture_output=True).returncode == 0
+        return subprocess.run([PYTHON, "-c", "import numpy"], capture_output=True).returncode == 0
     except OSError:
         return False
 
@@ -98,6 +98,11 @@ def is_of(line, sent):
     """Returns whether the line may be that of the slot in which this group was sent: the group, a lost slot, or one of
     the station's names."""
     return line in (LOST, sent) or (sent == LOST and re.fullmatch("C201 000[0-3] E0CD [0-9A-F]{4}", line) is not None)
+
+
+def wrong_places(lines, sent):
+    """Returns how many lines are not that of their slot. The first slots may be missing, at 2 dB dozens of them."""
+    return min(sum(not is_of(*it) for it in zip(lines, sent[at:])) for at in range(200))
 
 
 def once(case):

@@ -17,7 +17,7 @@ HELP = ["tests/shown/help.txt",
 PAGES = sorted(os.path.relpath(it, ROOT) for at in ("", "docs", "crates", "examples", "python", "experiments/*")
                for it in glob.glob(os.path.join(ROOT, at, "*.md")))
 # programs of examples/ that say at their start how they are called
-EXAMPLES = sorted(os.path.relpath(it, ROOT) for at in ("station", "json", "monitor", "v4l2", "gnuradio/*", "c/*.c")
+EXAMPLES = sorted(os.path.relpath(it, ROOT) for at in ("station", "json", "monitor", "v4l2", "fm/*", "c/*.c")
                   for it in glob.glob(os.path.join(ROOT, "examples", at)))
 # programs that a command in a sentence begins with, beside the scripts of the repository
 PROGRAMS = ("rt", "rdsrt", "pip", "cc", "man", "parallel", "python3", "apt-get")
@@ -50,7 +50,7 @@ RUN_BY = [
     (r"parallel -k --tag ", "test_guide.Guide.test_the_lines_of_parallel"),
     (r"(?:examples/)?station --m 128 ", "test_guide.Guide.test_the_pipe_of_a_station"),
     (r"split -n l/2 stations|feed \| monitor ", "test_monitor"),
-    (r"rdsrt encode --pi C201 < script \| transmit ", "test_gnuradio"),
+    (r"rdsrt encode --pi C201 < script \| transmit ", "test_fm"),
     (r"cc \w+\.c \$\(pkg-config --cflags --libs rdsrt\) -o \w+\n\./\w+ C201", "test_c_library.Compilers"),
     (r"export PKG_CONFIG_PATH=~/rdsrt", "test_c_library.Install.test_pkg_config_finds_the_library"),
     (r"\./install(?: PREFIX| ~/rdsrt|)$", "test_c_library.Install"),

@@ -146,7 +146,7 @@ class Guide(Case):
         self.check("the others pass", done(audit, at=folder).returncode, 0)
 
     def test_each_example_program_has_help(self):
-        """test_gnuradio asks the programs of GNU Radio."""
+        """test_fm asks the programs of examples/fm."""
         for name in ("json", "monitor", "station", "v4l2"):
             done = subprocess.run([os.path.join(ROOT, "examples", name), "--help"], capture_output=True,
                                   timeout=SECONDS)

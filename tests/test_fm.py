@@ -1,9 +1,10 @@
-"""The programs of examples/gnuradio: what `rdsrt encode` sends is received over noise and fades, and decoded again.
+"""The programs of examples/fm: what `rdsrt encode` sends is received over noise and fades, and decoded again.
 
 The log that is received has the line of each slot from the first group on, which is that slot's group or a lost one,
 and no text is shown that was never set. The same log without the lines of the lost slots shows such texts: so these
 tests can fail.
 """
+import itertools
 import os
 import select
 import shlex
@@ -14,9 +15,12 @@ import unittest
 from tests import radio
 from tests.support import Case, temporary_folder
 
+BUFFER = 16_384                                              # samples
+DROPPED = {50, *range(80, 87)}
 
-@unittest.skipUnless(radio.is_there(), "no GNU Radio here (apt-get install gnuradio python3-numpy)")
-class GnuRadio(Case):
+
+@unittest.skipUnless(radio.is_there(), "no numpy here (apt-get install python3-numpy)")
+class Fm(Case):
     def test_no_fade(self):
         self.loop(radio.Case("no fade", 600, 32, 10, 1, [], False))
 
@@ -32,8 +36,7 @@ class GnuRadio(Case):
         away = sum(last - first + 1 for first, last in case.fades)
         groups = [line for line in got.lines if line != radio.LOST]
         # the first slots and the last may be missing; the slots between are in their places
-        skipped = [at for at in range(4) if all(map(radio.is_of, got.lines, got.sent[at:]))]
-        self.check(f"seed {case.seed}: each slot has its line", len(skipped), 1)
+        self.check(f"seed {case.seed}: each slot has its line", radio.wrong_places(got.lines, got.sent), 0)
         self.check(f"seed {case.seed}: no line too many, or too few", case.slots - 4 <= len(got.lines) <= case.slots,
                    True)
         self.check(f"seed {case.seed}: most that could be heard", len(groups) > 0.8 * (case.slots - away), True)
@@ -98,3 +101,34 @@ class GnuRadio(Case):
             done = subprocess.run(["bash", "-c", call], input=log, stdout=full, stderr=subprocess.PIPE,
                                   timeout=radio.SECONDS)
             self.check("receive to full output", done.returncode, 1)
+
+
+@unittest.skipUnless(radio.is_there(), "no numpy here (apt-get install python3-numpy)")
+class Live(Case):
+    # its samples come by the clock
+    alone = True
+
+    def test_samples_that_a_tuner_dropped_are_counted(self):
+        """rtl_fm drops whole buffers of 96 ms. With --live no slot is missing then; without it some are."""
+        log = "".join(f"C201 F000 {number * 40503 & 0xFFFF:04X} {number:04X}\n" for number in range(140)).encode()
+        made = subprocess.run([radio.TRANSMIT, "--pi", "C201"], input=log, stdout=subprocess.PIPE,
+                              timeout=radio.SECONDS).stdout
+        buffers = [made[at:at + 2 * BUFFER] for at in range(0, len(made), 2 * BUFFER)]
+        steps = {}
+        for words in (("--live",), ()):
+            with subprocess.Popen([radio.RECEIVE, *words, "--pi", "C201"], stdin=subprocess.PIPE,
+                                  stdout=subprocess.PIPE) as program:
+                begins = time.monotonic()
+                for number, data in enumerate(buffers):
+                    time.sleep(max(0, begins + number * BUFFER / 171_000 - time.monotonic()))
+                    if number not in DROPPED:
+                        program.stdin.write(data)
+                        program.stdin.flush()
+                program.stdin.close()
+                lines = program.stdout.read().decode().splitlines()
+            groups = [(place, int(line[15:], 16)) for place, line in enumerate(lines) if line != radio.LOST]
+            steps[words] = [(place - before, sent - earlier)
+                            for (before, earlier), (place, sent) in itertools.pairwise(groups)]
+        self.check("too few", [it for it in steps["--live",] if it[0] < it[1]], [])
+        self.check("groups on both sides", sum(sent for _, sent in steps["--live",]) > 60, True)
+        self.check("too few without the clock", any(counted < sent for counted, sent in steps[()]), True)
