@@ -48,6 +48,7 @@ RUN = [
 # a command, and the test or the script that runs it
 RUN_BY = [
     (r"parallel -k --tag ", "test_guide.Guide.test_the_lines_of_parallel"),
+    (r"examples/station --m 128 now.txt \\|", "test_guide.Guide.test_the_pipe_to_another_encoder"),
     (r"(?:examples/)?station --m 128 ", "test_guide.Guide.test_the_pipe_of_a_station"),
     (r"split -n l/2 stations|feed \| monitor ", "test_monitor"),
     (r"rdsrt encode --pi C201 < script \| transmit ", "test_fm"),

@@ -1,4 +1,5 @@
 """docs/GUIDE.md beside the program: its tables are those that the scripts print, and its advice works."""
+import itertools
 import os
 import random
 import re
@@ -121,6 +122,14 @@ class Guide(Case):
         replies = [line for line in log if line[0] == "#"]
         self.check("rows of a station", (len(slots), replies), (400, ["# 128 text ok", "# 384 text ok"]))
         self.check("its first group", [at for at, line in enumerate(slots) if line[0] != "-"][0], 128)
+
+    def test_the_pipe_to_another_encoder(self):
+        """The texts that the guide's pipe lets through, without the sender behind it: they are far enough apart."""
+        call = re.search(r"^    (examples/station .*decode --pi C201) \| send$", self.text, re.M)[1]
+        lines = ran(call.replace("now.txt", "--at-once --slots 1300 <(yes HI | head -1)")).splitlines()
+        self.check("texts", [it.split(" ", 1)[1] for it in lines[:2]], ['text ""', 'text "HI"'])
+        slots = [int(it.split(" ")[0]) for it in lines]
+        self.check("their spacing", [b - a for a, b in itertools.pairwise(slots) if b - a < 256 - 62], [])
 
     @needs("parallel", package="parallel")
     def test_the_lines_of_parallel(self):
