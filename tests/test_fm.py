@@ -19,6 +19,12 @@ BUFFER = 16_384                                              # samples
 DROPPED = {50, *range(80, 87)}
 
 
+def transmitted(log):
+    """Returns the samples of a log."""
+    return subprocess.run([radio.TRANSMIT, "--pi", "C201"], input=log, stdout=subprocess.PIPE, check=True,
+                          timeout=radio.SECONDS).stdout
+
+
 @unittest.skipUnless(radio.is_there(), "no numpy here (apt-get install python3-numpy)")
 class Fm(Case):
     def test_no_fade(self):
@@ -60,12 +66,32 @@ class Fm(Case):
         self.check("texts are shown", len(texts) > 2, True)
         self.check("none that was never set", radio.never_set(texts, got.texts), [])
 
+    def test_the_programme_that_two_groups_agree_on_is_taken(self):
+        """Without --pi, from its second group on. Standard error has the programmes that are heard."""
+        log = [f"C201 F000 {number * 40503 & 0xFFFF:04X} {number:04X}" for number in range(60)]
+        log[20] = log[30] = "F201 F000 0000 0000"
+        samples, begins = transmitted("\n".join(log).encode()), {}
+        mine, other = "receive: hears C201, and {} its groups\n", "receive: hears F201, and {} its groups\n"
+        for asked, taken, said in ((None, "C201", mine.format("takes") + other.format("leaves out")),
+                                   ("C201", "C201", mine.format("takes") + other.format("leaves out")),
+                                   ("F201", "F201", mine.format("leaves out") + other.format("takes"))):
+            done = subprocess.run([radio.RECEIVE, *(["--pi", asked] if asked else [])], input=samples,
+                                  capture_output=True, timeout=radio.SECONDS)
+            got, wanted = done.stdout.decode().splitlines(), [it if it[:4] == taken else radio.LOST for it in log]
+            # the last two slots may be missing
+            begins[asked] = next((at for at in range(30) if len(got) > 20 and got == wanted[at:][:len(got)]), None)
+            self.check(f"--pi {asked}: up to the end", 58 <= (begins[asked] or 0) + len(got) <= 60, True)
+            self.check(f"--pi {asked}: what it hears", done.stderr.decode(), said)
+        self.check("where they begin", (begins[None] - begins["C201"], begins["C201"] < 4, begins["F201"]), (1, True, 20))
+        for seconds, said in ((9, b""), (11, b"receive: hears no PI in 10 s: is there a station with RDS?\n")):
+            done = subprocess.run([radio.RECEIVE], input=bytes(2 * 171_000 * seconds), capture_output=True,
+                                  timeout=radio.SECONDS)
+            self.check(f"{seconds} s of silence", (done.stdout, done.stderr, done.returncode), (b"", said, 0))
+
     def test_lines_come_while_the_samples_come(self):
         """They come in a fade too."""
         log, _ = radio.encoded("C201", 1, 60, 8)
-        samples = subprocess.run([radio.TRANSMIT, "--pi", "C201"], input=log, stdout=subprocess.PIPE,
-                                 timeout=radio.SECONDS).stdout
-        samples = samples[:2 * 60 * radio.SAMPLES_A_SLOT]
+        samples = transmitted(log)[:2 * 60 * radio.SAMPLES_A_SLOT]
         pauses = samples, bytes(2 * 40 * radio.SAMPLES_A_SLOT)
         with subprocess.Popen([radio.RECEIVE, "--pi", "C201"], stdin=subprocess.PIPE, stdout=subprocess.PIPE,
                               bufsize=0) as program:
@@ -83,9 +109,9 @@ class Fm(Case):
             self.check("end of a live pipe", program.wait(radio.SECONDS), 0)
 
     def test_wrong_arguments_and_full_output_are_refused(self):
-        rows = [([radio.TRANSMIT], b"", 2), ([radio.TRANSMIT, "--pi", "C20"], b"", 2), ([radio.RECEIVE], b"", 2),
-                ([radio.RECEIVE, "--pi", "x"], b"", 2), ([radio.RECEIVE, "--pi", "C201", "--correct", "6"], b"", 2), ([radio.TRANSMIT, "--pi", "C201"], b"C201 2140 4849\n", 1),
-                ([radio.TRANSMIT, "--pi", "C201", "--name", "NINE CHAR"], b"", 2),
+        rows = [([radio.TRANSMIT], b"", 2), ([radio.TRANSMIT, "--pi", "C20"], b"", 2),
+                ([radio.RECEIVE, "--pi", "x"], b"", 2), ([radio.RECEIVE, "--pi", "C201", "--correct", "6"], b"", 2),
+                ([radio.TRANSMIT, "--pi", "C201"], b"C201 2140 4849\n", 1), ([radio.TRANSMIT, "--pi", "C201", "--name", "NINE CHAR"], b"", 2),
                 ([radio.RECEIVE, "--pi", "C201"], b"", 0), ([radio.TRANSMIT, "--help"], b"", 0),
                 ([radio.RECEIVE, "--help"], b"", 0)]
         for words, given, status in rows:
@@ -111,8 +137,7 @@ class Live(Case):
     def test_samples_that_a_tuner_dropped_are_counted(self):
         """rtl_fm drops whole buffers of 96 ms. With --live no slot is missing then; without it some are."""
         log = "".join(f"C201 F000 {number * 40503 & 0xFFFF:04X} {number:04X}\n" for number in range(140)).encode()
-        made = subprocess.run([radio.TRANSMIT, "--pi", "C201"], input=log, stdout=subprocess.PIPE,
-                              timeout=radio.SECONDS).stdout
+        made = transmitted(log)
         buffers = [made[at:at + 2 * BUFFER] for at in range(0, len(made), 2 * BUFFER)]
         steps = {}
         for words in (("--live",), ()):
