@@ -23,7 +23,8 @@
  *
  * next_group and the two show functions are yours. next_group returns once in each slot, every 88 ms: false if a block
  * was lost or if no group came. It writes the blocks without their check bits. rdsrt_text_to_display makes UTF-8 for
- * show. examples/c/tuner.c has the loop behind a tuner chip that interrupts for each group.
+ * show. examples/c/tuner.c has the loop behind a tuner chip that interrupts for each group. `./install PREFIX` puts it,
+ * DEFINITIONS.md and FORMATS.md into PREFIX/share/doc/rdsrt.
  *
  * For example, C201 2140 4849 0D20 is a group of programme C201 with the whole text "HI". After one call with it the
  * view shows HI.
@@ -75,6 +76,8 @@
  *     rdsrt_type_name                   72   64    rdsrt_code_name                   72   64
  *
  * YOU PROMISE for every call:
+ *  - You call _init first. No call notices that you did not: a struct of zeros has PI 0000, so it shows nothing of your
+ *    station, and its audit passes.
  *  - a pointer to a struct, to a count or to blocks[4] is not NULL, is aligned, and points to all of it;
  *  - a pointer with a number beside it points to as many elements; if that number is 0, the pointer may be NULL;
  *  - the call's output overlaps no other argument, and no other thread touches it during the call.

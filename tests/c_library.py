@@ -2,10 +2,12 @@
 
 test_c_library has the tests for this machine, test_arm and test_microcontrollers those for other processors.
 """
+import glob
 import itertools
 import os
 import random
 import re
+import shutil
 
 from tests.slot import NINETEEN_SLOTS
 from tests.support import ARCHIVE, output, path, ran, text_of
@@ -21,7 +23,9 @@ INSTALLED = {"bin/rdsrt", "include/rdsrt.h", "lib/librdsrt.a", "lib/librdsrt.so"
              "lib/pkgconfig/rdsrt.pc", "lib/cmake/rdsrt/rdsrt-config.cmake",
              "lib/cmake/rdsrt/rdsrt-config-version.cmake", "share/man/man1/rdsrt.1",
              "share/bash-completion/completions/rdsrt", "share/zsh/site-functions/_rdsrt",
-             "share/fish/vendor_completions.d/rdsrt.fish"}
+             "share/fish/vendor_completions.d/rdsrt.fish",
+             *(f"share/doc/rdsrt/{os.path.relpath(it, path('.'))}" for it in glob.glob(path("examples/c/*"))),
+             "share/doc/rdsrt/DEFINITIONS.md", "share/doc/rdsrt/FORMATS.md"}
 # a project that finds the library by CMake
 PROJECT = """cmake_minimum_required(VERSION 3.13)
 project(trial C)
@@ -32,7 +36,7 @@ add_executable(static hi.c)
 target_link_libraries(static PRIVATE rdsrt::static)
 """
 ROWS, PIECES, ROUNDS = 100_000, 60, 3000
-DWELL, LATE = "16", "3"
+DWELL, LATE, WINDOW = "16", "3", "64"
 # microseconds of examples/c/radio.h's grain, of a day, and from 1970 to a day of 2023
 GRAIN, DAY, EPOCH = 20_000, 86_400_000_000, 1_700_000_000_000_000
 LOST = b"---- ---- ---- ----\n"
@@ -122,9 +126,10 @@ def lost_slots(apart):
     return next(n for n in itertools.count() if 19 * apart <= 19 * GRAIN + NINETEEN_SLOTS * (n + 1))
 
 
-def timed(seed, log):
+def timed(seed, log, most):
     """Returns the received groups of a log with their times in microseconds, with timers and a clock that is set now
-    and then, and the log of the slots that a receiver counts by these times."""
+    and then, and the log of the slots that a receiver counts by these times. When the clock is set it counts `most`
+    slots."""
     roll = random.Random(seed)
     # the time of the last group, the lost slots that timers told since then, and how far the clock is ahead
     groups, slots, last, told, ahead = b"", b"", 0, 0, EPOCH
@@ -139,7 +144,7 @@ def timed(seed, log):
         lost = lost_slots(time - last) if groups else 0
         if groups and roll.random() < 0.005:
             jump = roll.choice([-10_000_000, DAY + 1])
-            ahead, time, lost = ahead + jump, time + jump, told + int(DWELL)
+            ahead, time, lost = ahead + jump, time + jump, told + most
         groups += b"%d %s\n" % (time, line[:19])
         slots += LOST * lost + line[:19] + b"\n"
         last, told = time, 0
@@ -147,10 +152,11 @@ def timed(seed, log):
     return groups + b"%d\n" % time, slots + LOST * lost_slots(time - last)
 
 
-def interrupted(seed, log):
+def interrupted(seed, log, most_errors=0):
     """Returns the groups of a log as interrupts of examples/c/tuner.c, with its calls of the main loop, and the log of
     the slots that it counts. Some groups are lost, some have a block with an error, and the main loop is late now and
-    then, so that there is no place for a ninth group. The timer of 32 bits begins again on the way."""
+    then, so that there is no place for a ninth group. The timer of 32 bits begins again on the way. Blocks up to the
+    level `most_errors` count."""
     roll = random.Random(seed)
     # slots count from the first call of the main loop
     start = last = 2 ** 32 - 60_000_000
@@ -160,7 +166,7 @@ def interrupted(seed, log):
         if b"-" not in line and roll.random() < 0.9:
             errors = [roll.randrange(1, 4) if roll.random() < 0.02 else 0 for _ in range(4)]
             interrupts += b"%d %s %d %d %d %d\n" % (time % 2 ** 32, line, *errors)
-            if not any(errors) and waiting < 8:
+            if max(errors) <= most_errors and waiting < 8:
                 slots += LOST * lost_slots(time - last) + line + b"\n"
                 last, waiting = time, waiting + 1
         late = roll.randrange(30) if late == 0 and roll.random() < 0.01 else max(late - 1, 0)
@@ -190,16 +196,21 @@ def received():
             yield 20, whole % begins + (b"%d\n" % (begins + later)) * 2, shown
 
 
-def texts_of(slots, options):
-    """Returns the lines of `decode` on texts."""
-    return b"".join(re.findall(rb"^\d+ text .*\n", ran(["decode", *options], slots)[1], re.M))
+def receive_inputs(log, options):
+    """Gives an input of receive.c without and with a window, and its answer."""
+    for window in ([], [WINDOW]):
+        groups, slots = timed(3, log, max(map(int, [DWELL, *window])))
+        confirm = ["--confirm", *window] if window else []
+        yield "receive", ["C201", DWELL, *window], groups, ran(["decode", *options, *confirm], slots)
 
 
-def tuner_input():
-    """Returns an input of tuner.c, whose dwell is 128, and its answer."""
-    rows = "".join(it.replace("é", "e") for it in script(4, 8000)).encode()
-    interrupts, slots = interrupted(5, ran(["encode", "--pi", "C201"], rows)[1])
-    return interrupts, (0, texts_of(slots, ["--pi", "C201"]))
+def tuner_inputs():
+    """Gives an input of tuner.c, whose dwell is 128, without and with a window, and its answer."""
+    log = ran(["encode", "--pi", "C201"], "".join(script(4, 8000)).encode())[1]
+    for most_errors, window in ((0, []), (1, [WINDOW])):
+        interrupts, slots = interrupted(5, log, most_errors)
+        options = ["--confirm", *window] if window else []
+        yield "tuner", ["C201", *window], interrupts, ran(["decode", "--pi", "C201", *options], slots)
 
 
 def inputs():
@@ -210,10 +221,9 @@ def inputs():
     station = [*options, "--pty", "10", "--k", LATE]
     sent = ran(["encode", *station], rows)
     log = b"".join(heard(2, sent[1]))
-    groups, slots = timed(3, sent[1][:200_000].rpartition(b"\n")[0])
     given = [("encode", ["C201", "10", DWELL, LATE], rows, sent),
-             ("receive", ["C201", DWELL], groups, (0, texts_of(slots, options))),
-             ("tuner", ["C201"], *tuner_input()),
+             *receive_inputs(sent[1][:200_000].rpartition(b"\n")[0], options),
+             *tuner_inputs(),
              *(("receive", ["C201", str(dwell)], text, (0, wanted)) for dwell, text, wanted in received())]
     for one in [log, *(hostile(seed, log) for seed in range(PIECES))]:
         given.append(("decode", ["C201", DWELL], one, ran(["decode", *options], one)))
@@ -279,6 +289,27 @@ def typed(check, folder, prefix):
     lines = re.search(r"```sh\n(export PKG_CONFIG_PATH=.*?)```", text_of("README.md"), re.S).group(1)
     call = ["sh", "-ec", f"cd '{folder}'\n{lines}"]
     check("README's commands for C", output(call, env=dict(os.environ, HOME=home)), (0, b"HI\n"))
+
+
+def typed_examples(check, folder, prefix):
+    """Types the lines at the start of each file of examples/c in a shell whose home has the installed library."""
+    home = os.path.join(folder, "home")
+    os.mkdir(home)
+    os.symlink(prefix, os.path.join(home, "rdsrt"))
+    place = shutil.copytree(path("examples/c"), os.path.join(folder, "c"))
+    group, script_of_hi = "C201 2140 4849 0D20", "-,,1,\n" * 128 + "text,HI,1,\n"
+    for name, text in (("log", f"{group}\n"), ("groups", f"0 {group}\n"), ("interrupts", f"0 {group} 0 0 0 0\n0\n"),
+                       ("script.csv", script_of_hi)):
+        with open(os.path.join(place, name), "w", encoding="utf-8") as file:
+            file.write(text)
+    shown = b'0 text "HI"\n'
+    wanted = {"decode": shown, "receive": shown, "tuner": shown, "audit": b"yes 1\n",
+              "encode": ran(["encode", "--pi", "C201", "--pty", "10"], script_of_hi.encode())[1]}
+    for name, printed in wanted.items():
+        head = text_of(f"examples/c/{name}.c").partition("#include")[0]
+        lines = "\n".join(re.findall(r"^ \* {5}(\S.*)$", head, re.M))
+        call = ["sh", "-ec", f"cd '{place}'\n{lines}"]
+        check(f"the lines of {name}.c", output(call, env=dict(os.environ, HOME=home)), (0, printed))
 
 
 def cmake(check, folder, prefix):

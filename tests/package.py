@@ -4,10 +4,11 @@ import functools
 import os
 import shutil
 import subprocess
+import sys
 import tempfile
 import unittest
 
-from tests.support import ARCHIVE, PROGRAM, Case, build_archive, missing, path, temporary_folder
+from tests.support import ARCHIVE, PROGRAM, SECONDS, Case, build_archive, missing, path, temporary_folder
 
 SOURCES = path("python/src")
 
@@ -26,6 +27,36 @@ def environment(library):
     """Returns the environment in which Python finds the package of this checkout and this library."""
     return {**os.environ, "PYTHONPATH": SOURCES, "RDSRT_LIBRARY": library, "RDSRT_PROGRAM": PROGRAM,
             "PYTHONDONTWRITEBYTECODE": "1"}
+
+
+def plain_environment():
+    """Returns the environment of a user who named neither the package nor the library."""
+    return {name: it for name, it in os.environ.items() if name not in ("PYTHONPATH", "RDSRT_LIBRARY")}
+
+
+def run_example(name, folder, names, examples=path("examples")):
+    """Returns status, output and errors of examples/station or examples/monitor, started without any option for a
+    library. The station writes two rows, and the monitor reads one group."""
+    with open(os.path.join(folder, "file"), "w", encoding="utf-8") as file:
+        file.write("A C201\n")
+    words = ["--slots", "2"] if name == "station" else []
+    done = subprocess.run([sys.executable, "-B", os.path.join(examples, name), *words, file.name], text=True,
+                          input="A C201 2140 4849 0D20\n", capture_output=True, timeout=SECONDS, env=names)
+    return done.returncode, done.stdout, done.stderr
+
+
+def examples(check, how, folder, names, at=path("examples")):
+    """Checks that examples/station and examples/monitor find the package and the library."""
+    check(f"station, {how}", run_example("station", folder, names, at), (0, "-,,1,\n-,,0,\n", ""))
+    status, printed, errors = run_example("monitor", folder, names, at)
+    check(f"monitor, {how}", (status, '"radiotext": "HI"' in printed, errors), (0, True, ""))
+
+
+def checkout_without_library(folder):
+    """Returns the examples of a copy of the checkout in which nothing was built."""
+    for name in ("examples", "python/src"):
+        shutil.copytree(path(name), os.path.join(folder, name), ignore=shutil.ignore_patterns("__pycache__"))
+    return os.path.join(folder, "examples")
 
 
 @functools.cache

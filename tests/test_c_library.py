@@ -4,7 +4,7 @@ import re
 import sys
 import tempfile
 
-from tests import c_library
+from tests import c_library, package
 from tests.support import (ARCHIVE, INSTALL, Case, build_archive, bytes_of, missing, needs, output, path, ran,
                            temporary_folder, text_of)
 
@@ -87,6 +87,18 @@ class Install(Case):
     def test_pkg_config_finds_the_library(self):
         c_library.readme(self.check, self.folder, self.prefix)
         c_library.typed(self.check, temporary_folder(self), self.prefix)
+
+    def test_the_lines_of_each_example_build_and_run_it(self):
+        c_library.typed_examples(self.check, temporary_folder(self), self.prefix)
+
+    def test_it_has_the_pages_and_the_example_that_the_header_names(self):
+        folder = os.path.join(self.prefix, "share/doc/rdsrt")
+        named = set(re.findall(r"\b[A-Z]{4,}\.md\b|examples/c/\w+\.c", text_of(c_library.HEADER)))
+        self.check("what the header names", named, {"DEFINITIONS.md", "FORMATS.md", "examples/c/tuner.c"})
+        self.check("what lacks", [it for it in named if not os.path.exists(os.path.join(folder, it))], [])
+
+    def test_the_examples_of_the_checkout_find_the_library(self):
+        package.examples(self.check, "after ./install", temporary_folder(self), package.plain_environment())
 
     @needs("cmake")
     def test_cmake_finds_the_library_for_the_versions_that_fit(self):

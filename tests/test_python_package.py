@@ -9,8 +9,9 @@ import tempfile
 import zipfile
 
 from tests import c_library
-from tests.package import SOURCES, PackageCase
-from tests.support import ARCHIVE, ROOT, needs, path, ran
+from tests.package import (SOURCES, PackageCase, checkout_without_library, examples, plain_environment,
+                           run_example)
+from tests.support import ARCHIVE, ROOT, needs, path, ran, temporary_folder
 
 SECONDS = 300
 # the system's Python often has setuptools and wheel if the first does not
@@ -54,6 +55,21 @@ class PythonPackage(PackageCase):
         for library in ("/nowhere.so", "libc.so.6"):
             got = output([sys.executable, "-c", code], env={**self.names, "RDSRT_LIBRARY": library})
             self.check(f"{library} in place of the library", got, (0, "True True\n"))
+
+    def test_without_a_library_the_examples_say_what_to_do(self):
+        """In one line, and without a traceback."""
+        folder, names = temporary_folder(self), plain_environment()
+        at = checkout_without_library(folder)
+        for name in ("station", "monitor"):
+            status, printed, errors = run_example(name, folder, names, at)
+            self.check(f"{name} without a library: {errors}", (status, printed, errors.count("\n")), (2, "", 1))
+            self.check(f"{name}: what to do", re.match(rf"{name}: no librdsrt\.so\.\d.*: run \./install PREFIX", errors)
+                       is not None, True)
+        shutil.rmtree(os.path.join(folder, "python"))
+        for name in ("station", "monitor"):
+            self.check(f"{name} without a package", run_example(name, folder, names, at),
+                       (1, "", f"{name}: No module named 'rdsrt': install the Python package rdsrt, or run {name} in a "
+                               "checkout\n"))
 
     def test_slots_counts_as_the_program(self):
         """The times come by chance, and go back now and then."""
@@ -100,4 +116,5 @@ class PythonPackage(PackageCase):
                     "print(receiver.view.text)")
             got = output([sys.executable, "-c", code], env={**alone, "PYTHONPATH": inside})
             self.check("a text by the wheel", got, (0, "HI\n"))
+            examples(self.check, "by the wheel", folder, {**alone, "PYTHONPATH": inside}, checkout_without_library(folder))
             self.check("a wheel for no processor", output([words[0], ARCHIVE])[0], 2)

@@ -35,7 +35,11 @@ def docs_in(folder):
 UNIT = "usr/lib/systemd/system/rdsrt-monitor.service"
 LIBRARY = (r"(?m)^Environment=RDSRT_LIBRARY=.*\n", "")
 LAYOUTS = {
-    "install": Layout({MANUAL: "share/man/man1/rdsrt.1"}, {}, []),
+    # the pages are those that include/rdsrt.h names
+    "install": Layout(
+        {MANUAL: "share/man/man1/rdsrt.1", **{it: f"share/doc/rdsrt/{os.path.basename(it)}"
+                                              for it in ("docs/DEFINITIONS.md", "docs/FORMATS.md")}},
+        {}, [(r"\./rdsrt\b", "rdsrt")]),
     # all commands run in the top folder
     "tarball": Layout(
         {**docs_in("share/doc/rdsrt"), MANUAL: "share/man/man1/rdsrt.1", "examples/README.md": "share/rdsrt/examples/README.md",

@@ -1,8 +1,11 @@
 /* Does what `rdsrt audit` does: reads a log of all groups of an encoder, and prints whether they keep the rules, or the
  * first slot that breaks one.
  *
- *     cc audit.c $(pkg-config --cflags --libs rdsrt) -o audit
- *     ./audit C201 [DWELL [LATE]] < log */
+ *     export PKG_CONFIG_PATH=~/rdsrt/lib/pkgconfig
+ *     cc audit.c $(pkg-config --cflags --libs rdsrt) -Wl,-rpath,$(pkg-config --variable=libdir rdsrt) -o audit
+ *     ./audit C201 < log
+ *
+ * Arguments: PI [DWELL [LATE]]. `./install ~/rdsrt` installs the library. */
 #include <rdsrt.h>
 
 #include "log.h"

@@ -1,8 +1,11 @@
 /* Does what `rdsrt encode` does, for scripts without a line feed in a field: reads one slot a row, and prints the
  * station's group in it, with the replies to the commands as comments.
  *
- *     cc encode.c $(pkg-config --cflags --libs rdsrt) -o encode
- *     ./encode C201 PTY [DWELL [LATE]] < script.csv */
+ *     export PKG_CONFIG_PATH=~/rdsrt/lib/pkgconfig
+ *     cc encode.c $(pkg-config --cflags --libs rdsrt) -Wl,-rpath,$(pkg-config --variable=libdir rdsrt) -o encode
+ *     ./encode C201 10 < script.csv
+ *
+ * Arguments: PI PTY [DWELL [LATE]]. `./install ~/rdsrt` installs the library. */
 #include <rdsrt.h>
 
 #include <stdbool.h>

@@ -1,6 +1,9 @@
 /* A receiver that gets groups with times, and counts the slots itself. Each slot is one call of the library, also if no
  * group came in it. So the receiver drops a text one dwell after its last part, even if no more groups come.
  *
+ * Without a window give it no group in which bits were corrected. With a window of W slots the groups may have
+ * corrected bits: the receiver shows only what it received twice within W slots.
+ *
  * rdsrt_lost_slots counts the slots from one group to the next. If the delays of the groups vary by less than 67 ms (a
  * slot less GRAIN), it never counts too few. */
 #ifndef RADIO_H
@@ -15,35 +18,49 @@
 #define GRAIN 20000 /* how far the times can be off, in microseconds */
 
 struct radio {
-    struct rdsrt_receiver receiver;
-    struct rdsrt_text shown;
-    void (*show)(const struct radio *radio); /* yours: shows `shown`, which has changed */
-    uint64_t slot;                           /* of the next call */
-    uint64_t last, latest;                   /* the time of the last group, and the latest time, in microseconds */
-    uint32_t lost;                           /* the calls without a group since the last group */
-    uint16_t dwell;
-    bool began;                              /* there was a time */
+    union {
+        struct rdsrt_receiver once; /* if the window is 0 */
+        struct rdsrt_twice twice;
+    } receiver;
+    struct rdsrt_view view; /* the text, the name and the tags that are shown */
+    /* Yours: shows `view`, which may have changed. `was` is the view before. */
+    void (*show)(const struct radio *radio, const struct rdsrt_view *was);
+    uint64_t slot;          /* of the next call */
+    uint64_t last, latest;  /* the time of the last group, and the latest time, in microseconds */
+    uint32_t lost;          /* the calls without a group since the last group */
+    uint16_t dwell, window; /* M, and W or 0 */
+    bool began;             /* there was a time */
 };
 
-/* Makes a radio for the programme `pi`. Call it again after a switch to another frequency. Returns false if the dwell
- * is 0. */
-static inline bool radio_init(struct radio *radio, uint16_t pi, uint16_t dwell, void (*show)(const struct radio *)) {
+/* Makes a radio for the programme `pi`. The window is 0 if no bits are corrected. Call it again after a switch to
+ * another frequency. Returns false if the dwell or the window is out of range. */
+static inline bool radio_init(struct radio *radio, uint16_t pi, uint16_t dwell, uint16_t window,
+                              void (*show)(const struct radio *, const struct rdsrt_view *)) {
     memset(radio, 0, sizeof *radio);
     radio->dwell = dwell;
+    radio->window = window;
     radio->show = show;
-    return rdsrt_receiver_init(&radio->receiver, pi, dwell) == RDSRT_OK;
+    if (window) return rdsrt_twice_init(&radio->receiver.twice, pi, dwell, window) == RDSRT_OK;
+    return rdsrt_receiver_init(&radio->receiver.once, pi, dwell) == RDSRT_OK;
+}
+
+/* Ends a slot in the library: the four blocks that came, or NULL. */
+static inline uint32_t slot_code(struct radio *radio, const uint16_t *blocks) {
+    const size_t count = blocks ? 4 : 0;
+    if (radio->window) return rdsrt_twice_slot(&radio->receiver.twice, blocks, count);
+    return rdsrt_receiver_slot(&radio->receiver.once, blocks, count);
 }
 
 /* One slot: the four blocks that came, or NULL. */
 static inline void end_slot(struct radio *radio, const uint16_t *blocks) {
-    if (rdsrt_receiver_slot(&radio->receiver, blocks, blocks ? 4 : 0) == RDSRT_CHANGED) {
-        struct rdsrt_view view;
-        const struct rdsrt_text *was = &radio->shown, *is = &view.text;
-        rdsrt_receiver_view(&radio->receiver, &view);
-        if (is->is_shown != was->is_shown || is->length != was->length || memcmp(is->bytes, was->bytes, is->length)) {
-            radio->shown = view.text;
-            radio->show(radio);
+    if (slot_code(radio, blocks) == RDSRT_CHANGED) {
+        const struct rdsrt_view was = radio->view;
+        if (radio->window) {
+            rdsrt_twice_view(&radio->receiver.twice, &radio->view);
+        } else {
+            rdsrt_receiver_view(&radio->receiver.once, &radio->view);
         }
+        radio->show(radio, &was);
     }
     radio->slot++;
 }
@@ -61,13 +78,13 @@ static inline bool is_break(const struct radio *radio, uint64_t now) {
     return rdsrt_lost_slots(radio->latest, now, GRAIN) == RDSRT_UNKNOWN;
 }
 
-/* No group came up to this time: makes the calls of the slots that ended. After a break it makes as many as the dwell,
- * so that the receiver keeps nothing from before. */
+/* No group came up to this time: makes the calls of the slots that ended. After a break it makes as many as the dwell or
+ * the window, so that the receiver keeps nothing from before. */
 static inline void radio_time(struct radio *radio, uint64_t now) {
     uint32_t lost;
     if (!radio->began) begin_at(radio, now);
     if (is_break(radio, now)) {
-        for (lost = 0; lost < radio->dwell; lost++) end_slot(radio, NULL);
+        for (lost = 0; lost < radio->dwell || lost < radio->window; lost++) end_slot(radio, NULL);
         begin_at(radio, now);
     }
     lost = rdsrt_lost_slots(radio->last, now, GRAIN);

@@ -3,25 +3,22 @@
  * Each line of the input has a time in microseconds, followed by the four blocks of the group that was complete then. A
  * line with only a time is a timer: no group came up to then. tuner.c has the loop for a tuner chip with an interrupt.
  *
- *     cc receive.c $(pkg-config --cflags --libs rdsrt) -o receive
- *     ./receive C201 [DWELL] < groups */
+ *     export PKG_CONFIG_PATH=~/rdsrt/lib/pkgconfig
+ *     cc receive.c $(pkg-config --cflags --libs rdsrt) -Wl,-rpath,$(pkg-config --variable=libdir rdsrt) -o receive
+ *     ./receive C201 < groups
+ *
+ * Arguments: PI [DWELL [WINDOW]]. `./install ~/rdsrt` installs the library. */
 #include <rdsrt.h>
 
 #include "radio.h"
+#include "view.h"
 
 #include <inttypes.h>
 #include <stdio.h>
 #include <stdlib.h>
 
-static void show(const struct radio *radio) {
-    uint8_t utf8[256];
-    size_t count = 0;
-    if (!radio->shown.is_shown) {
-        printf("%" PRIu64 " text none\n", radio->slot);
-        return;
-    }
-    if (rdsrt_text_to_utf8(radio->shown.bytes, radio->shown.length, utf8, sizeof utf8, &count) != RDSRT_OK) abort();
-    printf("%" PRIu64 " text \"%.*s\"\n", radio->slot, (int)count, (const char *)utf8);
+static void show(const struct radio *radio, const struct rdsrt_view *was) {
+    print_changes((unsigned long)radio->slot, was, &radio->view);
 }
 
 int main(int count, char **words) {
@@ -29,9 +26,11 @@ int main(int count, char **words) {
     char line[128];
     unsigned long pi = count > 1 ? strtoul(words[1], NULL, 16) : 0x10000;
     unsigned long dwell = count > 2 ? strtoul(words[2], NULL, 10) : RDSRT_DEFAULT_DWELL;
+    unsigned long window = count > 3 ? strtoul(words[3], NULL, 10) : 0;
 
-    if (pi > 0xFFFF || dwell > 0xFFFF || !radio_init(&radio, (uint16_t)pi, (uint16_t)dwell, show)) {
-        fputs("usage: receive PI [DWELL] < groups\n", stderr);
+    if (pi > 0xFFFF || dwell > 0xFFFF || window > 0xFFFF
+        || !radio_init(&radio, (uint16_t)pi, (uint16_t)dwell, (uint16_t)window, show)) {
+        fputs("usage: receive PI [DWELL [WINDOW]] < groups\n", stderr);
         return 2;
     }
     while (fgets(line, sizeof line, stdin)) {

@@ -1,21 +1,28 @@
 /* A receiver behind a tuner chip that interrupts for each group. Copy group_interrupt and take_groups.
  *
  * - The interrupt handler reads the timer, the four blocks and their error levels, and calls group_interrupt. It keeps
- *   the group with its time if each block came without an error. It makes no call of the library.
+ *   the group with its time if no block has more errors than `most_errors`. It makes no call of the library.
  * - The main loop calls take_groups, if possible in each slot (88 ms), and at least once an hour. It makes one call of
  *   the library for each slot: the time between two groups says how many slots had none. So a lost group becomes a lost
  *   slot by itself, and so does a group for which there was no place. If no group comes any more, the text still goes
  *   after the dwell.
+ * - If the chip is behind I2C, the handler cannot read it. Then keep only the time in the handler. Read the chip in the
+ *   main loop within a slot (88 ms), before the chip has the next group. Call radio_group with long_time of that time, and
+ *   radio_time in each slot without an interrupt.
  *
  * The rest is a trial on a computer, with lines in place of the interrupt and the timer. A line has the timer in
  * microseconds, alone for a call of take_groups. An interrupt has four blocks and four error levels after it (0 is no
- * error). The timer has 32 bits: it begins again after 71 minutes.
+ * error). With a window it counts level 1 too. The timer has 32 bits: it begins again after 71 minutes.
  *
- *     cc tuner.c $(pkg-config --cflags --libs rdsrt) -o tuner
- *     ./tuner C201 < interrupts */
+ *     export PKG_CONFIG_PATH=~/rdsrt/lib/pkgconfig
+ *     cc tuner.c $(pkg-config --cflags --libs rdsrt) -Wl,-rpath,$(pkg-config --variable=libdir rdsrt) -o tuner
+ *     ./tuner C201 < interrupts
+ *
+ * Arguments: PI [WINDOW]. `./install ~/rdsrt` installs the library. */
 #include <rdsrt.h>
 
 #include "radio.h"
+#include "view.h"
 
 #include <stdio.h>
 #include <stdlib.h>
@@ -28,12 +35,17 @@ enum { PLACES = 8 };
 static volatile struct { uint32_t time; uint16_t blocks[4]; } waiting[PLACES];
 static volatile uint8_t written, taken;
 
-/* Keeps a group, from the interrupt handler. time: of the timer, in microseconds. errors: the level of each block; any
- * other than 0 is a lost or a corrected block, and its group is lost. */
+/* The highest error level of a block that counts. 0 is a block without an error. With a window it is the level of your
+ * chip for up to 2 corrected bits. */
+static uint8_t most_errors;
+
+/* Keeps a group, from the interrupt handler. time: of the timer, in microseconds. errors: the level of each block. */
 static void group_interrupt(uint32_t time, const uint16_t blocks[4], const uint8_t errors[4]) {
     const uint8_t place = written % PLACES;
     int block;
-    if (errors[0] | errors[1] | errors[2] | errors[3]) return;
+    for (block = 0; block < 4; block++) {
+        if (errors[block] > most_errors) return;
+    }
     if ((uint8_t)(written - taken) == PLACES) return;
     waiting[place].time = time;
     for (block = 0; block < 4; block++) waiting[place].blocks[block] = blocks[block];
@@ -72,16 +84,8 @@ static uint32_t trial_time;
 
 static uint32_t trial_timer(void) { return trial_time; }
 
-static void show(const struct radio *radio) {
-    uint8_t utf8[192];
-    size_t count = 0;
-    printf("%lu text ", (unsigned long)radio->slot);
-    if (!radio->shown.is_shown) {
-        puts("none");
-        return;
-    }
-    if (rdsrt_text_to_display(radio->shown.bytes, radio->shown.length, utf8, sizeof utf8, &count) != RDSRT_OK) abort();
-    printf("\"%.*s\"\n", (int)count, (const char *)utf8);
+static void show(const struct radio *radio, const struct rdsrt_view *was) {
+    print_changes((unsigned long)radio->slot, was, &radio->view);
 }
 
 /* Reads the numbers of a line. Returns how many there are. */
@@ -100,11 +104,14 @@ int main(int count, char **words) {
     static struct radio radio;
     char line[128];
     unsigned long pi = count > 1 ? strtoul(words[1], NULL, 16) : 0x10000;
+    unsigned long window = count > 2 ? strtoul(words[2], NULL, 10) : 0;
 
-    if (pi > 0xFFFF || !radio_init(&radio, (uint16_t)pi, RDSRT_DEFAULT_DWELL, show)) {
-        fputs("usage: tuner PI < interrupts\n", stderr);
+    if (pi > 0xFFFF || window > 0xFFFF
+        || !radio_init(&radio, (uint16_t)pi, RDSRT_DEFAULT_DWELL, (uint16_t)window, show)) {
+        fputs("usage: tuner PI [WINDOW] < interrupts\n", stderr);
         return 2;
     }
+    most_errors = window ? 1 : 0;
     while (fgets(line, sizeof line, stdin)) {
         unsigned long numbers[NUMBERS];
         uint16_t blocks[4];

@@ -12,7 +12,7 @@ SECONDS = 60
 FLOWGRAPH = """
 import queue, time
 now = [100.0]
-time.monotonic = lambda: now[0]
+time.clock_gettime = lambda clock: now[0]
 class Groups:
     def get(self, timeout):
         if now[0] == 100.0:

@@ -305,8 +305,23 @@ static void texts(void) {
     CHECK(rdsrt_text_from_utf8(bytes("a~"), 2, text, sizeof text, &count) == RDSRT_NO_CHARACTER && count == 1);
 }
 
+/* No call notices a struct that no _init made, here one of zeros. */
+static void never_initialised(void) {
+    struct rdsrt_receiver it;
+    struct rdsrt_audit judge;
+    struct rdsrt_view view;
+    memset(&it, 0, sizeof it);
+    CHECK(rdsrt_receiver_slot(&it, hi, 4) == RDSRT_OK);
+    rdsrt_receiver_view(&it, &view);
+    CHECK(!view.text.is_shown && !view.name.is_shown && !view.item.is_shown && !view.tag1.content_type);
+    memset(&judge, 0, sizeof judge);
+    CHECK(rdsrt_audit_slot(&judge, hi, 4) == RDSRT_OK && rdsrt_audit_slot(&judge, changed_hi, 4) == RDSRT_OK);
+    CHECK(rdsrt_audit_passed(&judge) == 1);
+}
+
 int main(void) {
     version();
+    never_initialised();
     receiver();
     tags_shown();
     twice();

@@ -6,6 +6,7 @@ import os
 from typing import Any, Dict, Iterator, List, Tuple
 
 ABI = 3
+NAME = f"librdsrt.so.{ABI}"
 DEFAULT_DWELL = 128
 OK, DONE, BAD_ARGUMENT, SILENT, HELD, NO_TEXT, OUT_OF_TEXT_1, OUT_OF_TEXT_2 = 0, 1, 2, 3, 4, 5, 6, 7
 TOO_LONG, BAD_BYTE, BAD_TAGS = 8, 9, 10
@@ -108,15 +109,19 @@ CALLS: Dict[str, Tuple[Any, List[Any]]] = {
 
 
 def places() -> Iterator[str]:
-    """Yields the files to try: the one that RDSRT_LIBRARY names, or else the wheel's own and the system's."""
+    """Yields the files to try: the one that RDSRT_LIBRARY names, or else the wheel's own, that of the checkout and the
+    system's."""
     named = os.environ.get("RDSRT_LIBRARY")
     if named:
         yield named
         return
-    own = os.path.join(os.path.dirname(__file__), f"librdsrt.so.{ABI}")
-    if os.path.exists(own):
-        yield own
-    yield f"librdsrt.so.{ABI}"
+    here = os.path.dirname(os.path.abspath(__file__))
+    # ./install leaves a copy in the checkout
+    for folder in (here, os.path.join(here, "../../../crates/rds_ffi/out")):
+        own = os.path.join(folder, NAME)
+        if os.path.exists(own):
+            yield own
+    yield NAME
     found = ctypes.util.find_library("rdsrt")
     if found:
         yield found
@@ -149,4 +154,5 @@ def library() -> Any:
             return loaded(place)
         except NoLibrary as fault:
             faults.append(str(fault))
-    raise NoLibrary(f"no librdsrt.so.{ABI}: {'; '.join(faults)}. Name its file in RDSRT_LIBRARY.")
+    raise NoLibrary(f"no {NAME} ({'; '.join(faults)}): run ./install PREFIX in the checkout, or name the file of the "
+                    "library in RDSRT_LIBRARY")
