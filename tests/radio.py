@@ -12,10 +12,10 @@ import subprocess
 from tests.support import PROGRAM, path
 
 TRANSMIT, RECEIVE = path("examples/fm/transmit"), path("examples/fm/receive")
-AIR = path("tests/air")
+AIR, DONGLE = path("tests/air"), path("tests/dongle")
 PYTHON = "/usr/bin/python3"                                  # the one that sees Debian's packages
 LOST = "---- ---- ---- ----"
-SECONDS = 100
+SECONDS = 600
 SAMPLES_A_SLOT = 104 * 144
 WORDS = "ABBA WATERLOO NEWS JAZZ WEATHER SONG NIGHT TRAIN SUN MOON RIVER HOUSE".split()
 
@@ -65,10 +65,31 @@ def encoded(programme, seed, slots, dwell):
     return subprocess.run(words, input=rows, stdout=subprocess.PIPE, timeout=SECONDS, check=True).stdout, texts
 
 
-def heard(case, folder):
-    """Returns the groups that a station sent, and the lines that were received."""
+def fades_of(case):
+    """Returns the fades as arguments name them."""
+    return ",".join(f"{first}-{last}" for first, last in case.fades) or "none"
+
+
+def received(case, channel):
+    """Returns the groups that a station sent, and the lines that were received through a channel."""
     log, texts = encoded("C201", case.seed, case.slots, case.dwell)
-    air = [AIR, str(case.seed), str(case.decibels), ",".join(f"{a}-{b}" for a, b in case.fades) or "none"]
+    steps = [TRANSMIT, "--pi", "C201"], channel, [RECEIVE, "--pi", "C201", "--correct", str(case.correct)]
+    call = "set -o pipefail; " + " | ".join(map(shlex.join, steps))
+    done = subprocess.run(["bash", "-c", call], input=log, stdout=subprocess.PIPE, stderr=subprocess.DEVNULL,
+                          timeout=SECONDS, check=True)
+    sent = [line for line in log.decode().splitlines() if line[0] != "#"]
+    return Heard(texts, sent, done.stdout.decode().splitlines())
+
+
+def heard_by_dongle(case, ppm):
+    """Plays a case at radio frequency, where the decibels are the carrier over the noise in 200 kHz. The clock of the
+    dongle is slow by so many millionths."""
+    return received(case, [DONGLE, str(case.seed), str(case.decibels), str(ppm), fades_of(case)])
+
+
+def heard(case, folder):
+    """Plays a case over the multiplex."""
+    air = [AIR, str(case.seed), str(case.decibels), fades_of(case)]
     if case.other:
         theirs, _ = encoded("F201", case.seed + 1, case.slots, case.dwell)
         call = [TRANSMIT, "--pi", "F201"]
@@ -78,12 +99,7 @@ def heard(case, folder):
             # slots of another station begin at other times
             file.write(made[2 * SAMPLES_A_SLOT // 3:])
         air.append(samples)
-    steps = [TRANSMIT, "--pi", "C201"], air, [RECEIVE, "--pi", "C201", "--correct", str(case.correct)]
-    call = "set -o pipefail; " + " | ".join(map(shlex.join, steps))
-    done = subprocess.run(["bash", "-c", call], input=log, stdout=subprocess.PIPE, stderr=subprocess.DEVNULL,
-                          timeout=SECONDS, check=True)
-    sent = [line for line in log.decode().splitlines() if line[0] != "#"]
-    return Heard(texts, sent, done.stdout.decode().splitlines())
+    return received(case, air)
 
 
 def shown(lines, *words):

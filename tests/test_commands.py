@@ -52,6 +52,8 @@ RUN_BY = [
     (r"(?:examples/)?station --m 128 ", "test_guide.Guide.test_the_pipe_of_a_station"),
     (r"split -n l/2 stations|feed \| monitor ", "test_monitor"),
     (r"rdsrt encode --pi C201 < script \| transmit ", "test_fm"),
+    (r"\./rdsrt encode --pi C201 < script \| examples/fm/transmit ", "test_fm.EndToEnd"),
+    (r"\./rdsrt decode --pi C201 < station.log$", "test_fm.EndToEnd"),
     (r"export PKG_CONFIG_PATH=~/rdsrt/lib/pkgconfig\ncc hi\.c", "test_c_library.Install.test_pkg_config_finds_the_library"),
     (r"export PKG_CONFIG_PATH=~/rdsrt/lib/pkgconfig\ncc (?!hi)\w+\.c",
      "test_c_library.Install.test_the_lines_of_each_example_build_and_run_it"),

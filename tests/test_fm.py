@@ -130,6 +130,27 @@ class Fm(Case):
 
 
 @unittest.skipUnless(radio.is_there(), "no numpy here (apt-get install python3-numpy)")
+class EndToEnd(Case):
+    """A script, encode, transmit, the air, a dongle whose clock is 40 ppm slow, receive and decode."""
+
+    def test_no_text_is_shown_that_nobody_set(self):
+        """Fades of 60 dB take 706 of the 1,200 slots, so 494 can be heard."""
+        fades = radio.fades(3, 1200, 20, 130)
+        self.check("slots in fades", sum(last - first + 1 for first, last in fades), 706)
+        for decibels, least in ((30, 479), (18, 446)):
+            case = radio.Case("", 1200, 32, decibels, 3, fades, False)
+            got = radio.heard_by_dongle(case, 40)
+            groups = [line for line in got.lines if line != radio.LOST]
+            self.check(f"{decibels} dB: {len(groups)} groups", len(groups) >= least, True)
+            self.check(f"{decibels} dB: groups in a wrong slot", radio.wrong_places(got.lines, got.sent), 0)
+            texts = radio.shown(got.lines, *radio.once(case))
+            self.check(f"{decibels} dB: texts are shown", len(texts) > 5, True)
+            self.check(f"{decibels} dB: none that was never set", radio.never_set(texts, got.texts), [])
+            mixed = radio.never_set(radio.shown(groups, *radio.once(case)), got.texts)
+            self.check(f"{decibels} dB: some without the lost lines", bool(mixed), True)
+
+
+@unittest.skipUnless(radio.is_there(), "no numpy here (apt-get install python3-numpy)")
 class Live(Case):
     # its samples come by the clock
     alone = True

@@ -124,8 +124,8 @@ class Guide(Case):
         self.check("its first group", [at for at, line in enumerate(slots) if line[0] != "-"][0], 128)
 
     def test_the_pipe_to_another_encoder(self):
-        """The texts that the guide's pipe lets through, without the sender behind it: they are far enough apart."""
-        call = re.search(r"^    (examples/station .*decode --pi C201) \| send$", self.text, re.M)[1]
+        """The texts that the pipe of docs/AIR.md lets through, without the sender behind it, are far enough apart."""
+        call = re.search(r"^    (examples/station .*decode --pi C201) \| send$", text_of("docs/AIR.md"), re.M)[1]
         lines = ran(call.replace("now.txt", "--at-once --slots 1300 <(yes HI | head -1)")).splitlines()
         self.check("texts", [it.split(" ", 1)[1] for it in lines[:2]], ['text ""', 'text "HI"'])
         slots = [int(it.split(" ")[0]) for it in lines]
