@@ -5,6 +5,7 @@ and no text is shown that was never set. The same log without the lines of the l
 tests can fail.
 """
 import itertools
+import math
 import os
 import select
 import shlex
@@ -17,6 +18,12 @@ from tests.support import Case, temporary_folder
 
 BUFFER = 16_384                                              # samples
 DROPPED = {50, *range(80, 87)}
+
+
+def left_whole(decibels):
+    """Returns the share of the groups that white noise leaves whole. Each bit is the difference of two symbols, so the
+    104 bits of a group are right if its 105 symbols are."""
+    return (1 - math.erfc(math.sqrt(10 ** (decibels / 10))) / 2) ** 105
 
 
 def transmitted(log):
@@ -52,6 +59,14 @@ class Fm(Case):
         if case.fades:
             mixed = radio.never_set(radio.shown(groups, *radio.once(case)), got.texts)
             self.check(f"seed {case.seed}: some without the lost lines", bool(mixed), True)
+
+    def test_noise(self):
+        """Nearly as many groups are received as white noise leaves whole, each in its slot."""
+        for decibels in (5, 4):
+            got = radio.heard(radio.Case("noise", 1700, 128, decibels, 5, [], False), temporary_folder(self))
+            count = sum(line != radio.LOST for line in got.lines)
+            self.check(f"{decibels} dB: {count} groups", count > 0.9 * 1700 * left_whole(decibels), True)
+            self.check(f"{decibels} dB: groups in a wrong slot", radio.wrong_places(got.lines, got.sent), 0)
 
     def test_corrected_bits(self):
         """At 5 dB correction gives nearly every group, and no wrong text is shown by a receiver that hears twice."""
@@ -94,7 +109,7 @@ class Fm(Case):
         samples = transmitted(log)[:2 * 60 * radio.SAMPLES_A_SLOT]
         pauses = samples, bytes(2 * 40 * radio.SAMPLES_A_SLOT)
         with subprocess.Popen([radio.RECEIVE, "--pi", "C201"], stdin=subprocess.PIPE, stdout=subprocess.PIPE,
-                              bufsize=0) as program:
+                              stderr=subprocess.DEVNULL, bufsize=0) as program:
             lines, given = b"", 0
             for part in pauses:
                 program.stdin.write(part)
@@ -163,7 +178,7 @@ class Live(Case):
         steps = {}
         for words in (("--live",), ()):
             with subprocess.Popen([radio.RECEIVE, *words, "--pi", "C201"], stdin=subprocess.PIPE,
-                                  stdout=subprocess.PIPE) as program:
+                                  stdout=subprocess.PIPE, stderr=subprocess.DEVNULL) as program:
                 begins = time.monotonic()
                 for number, data in enumerate(buffers):
                     time.sleep(max(0, begins + number * BUFFER / 171_000 - time.monotonic()))
