@@ -3,6 +3,7 @@
 The radios here are computed: their drivers drop blocks, give wrong ones and corrected ones, and the program reads late at
 times. `bench/v4l2` plays the virtual radio of the kernel (vivid).
 """
+import errno
 import importlib.machinery
 import importlib.util
 import itertools
@@ -16,10 +17,11 @@ import time
 from tests.slot import SLOT
 from tests.support import PROGRAM, PROMPT, SECONDS, Case, path, temporary_folder
 
-V4L2 = path("examples/v4l2")
+V4L2, BENCH = path("examples/v4l2"), path("bench/v4l2")
 CORRECTED, ERROR, INVALID = 0x40, 0x80, 7
 RADIOS, GROUPS = 60, 400
 STEP = 0.005                                                 # seconds between two reads
+STALLS, SLEEP = (0.02, 0.04, 0.07, 0.09, 0.2, 1.5), (5,)     # seconds
 
 
 def loaded():
@@ -44,7 +46,7 @@ def marks_of(words):
 class Driver:
     """A radio in place of the program's: its blocks come by a computed clock, and a reader takes them late at times."""
 
-    def __init__(self, seed, chance, stalls):
+    def __init__(self, seed, chance, stalls, pauses=STALLS):
         rng = random.Random(seed)
         self.sent = [words_of(number, rng) for number in range(GROUPS)]
         self.whole, self.corrected, came = set(), set(), []
@@ -69,7 +71,7 @@ class Driver:
                 self.corrected.add(number)
                 if touched:
                     self.whole.add(number)
-        self.came, self.stalls, self.rng = came, stalls, rng
+        self.came, self.stalls, self.pauses, self.rng = came, stalls, pauses, rng
 
     def is_tuned_away(self):
         return False
@@ -85,7 +87,14 @@ class Driver:
             empty = clock
             clock += STEP
             if self.rng.random() < self.stalls:
-                clock += self.rng.choice([0.02, 0.04, 0.07, 0.09, 0.2, 1.5])
+                clock += self.rng.choice(self.pauses)
+
+
+def ending(reads, fault):
+    """Yields some reads, and then raises the fault, if there is one."""
+    yield from itertools.islice(reads, 1000)
+    if fault:
+        raise fault
 
 
 def slots_of(lines):
@@ -119,8 +128,8 @@ class V4l2(Case):
     def test_no_slot_is_counted_too_few(self):
         extra = total = 0
         for _, seed in self.cases(range(RADIOS)):
-            for stalls in (0, 0.003):
-                driver = Driver(seed, 0.1, stalls)
+            for stalls, pauses in ((0, STALLS), (0.003, STALLS), (0.001, SLEEP)):
+                driver = Driver(seed, 0.1, stalls, pauses)
                 numbers = numbers_of(slots_of(loaded().lines(driver, False)))
                 steps = [(place - before, sent - earlier)
                          for (before, earlier), (place, sent) in itertools.pairwise(numbers)]
@@ -150,9 +159,23 @@ class V4l2(Case):
                 self.check("gone after the dwell", program.stdout.readline()[-10:], "text none\n")
             self.check("at the end of the pipe", program.wait(PROMPT), 0)
 
+    def test_a_radio_that_goes_away(self):
+        """Another program tunes it, or somebody pulls it out."""
+        for away, fault, said in ((True, None, "the radio was tuned to another frequency"),
+                                  (False, OSError(errno.ENODEV, "No such device"), "No such device")):
+            module, driver = loaded(), Driver(1, 0.1, 0)
+            module.now, reads = lambda: 0.0, driver.reads
+            driver.is_tuned_away = lambda away=away: away
+            driver.reads = lambda reads=reads, fault=fault: ending(reads(), fault)
+            with self.assertRaises(OSError) as raised:
+                list(module.lines(driver, False))
+            self.check(said, raised.exception.strerror, said)
+
     def test_what_is_no_radio(self):
         for words, status, said in [(["/dev/null"], 1, "Inappropriate ioctl for device"),
                                     (["/dev/radio-none"], 1, "No such file or directory"), ([], 2, "file"),
                                     (["--frequency", "x", "/dev/null"], 2, "--frequency")]:
             done = subprocess.run([V4L2, *words], capture_output=True, text=True, timeout=SECONDS)
             self.check(f"{words}", (done.returncode, said in done.stderr), (status, True))
+        done = subprocess.run([BENCH, "/dev/radio-none"], capture_output=True, text=True, timeout=SECONDS)
+        self.check("bench/v4l2 without a radio", (done.returncode, "modprobe vivid" in done.stderr), (1, True))
