@@ -126,7 +126,8 @@ class Fm(Case):
     def test_wrong_arguments_and_full_output_are_refused(self):
         rows = [([radio.TRANSMIT], b"", 2), ([radio.TRANSMIT, "--pi", "C20"], b"", 2),
                 ([radio.RECEIVE, "--pi", "x"], b"", 2), ([radio.RECEIVE, "--pi", "C201", "--correct", "6"], b"", 2),
-                ([radio.TRANSMIT, "--pi", "C201"], b"C201 2140 4849\n", 1), ([radio.TRANSMIT, "--pi", "C201", "--name", "NINE CHAR"], b"", 2),
+                ([radio.TRANSMIT, "--pi", "C201"], b"C201 2140 4849\n", 1),
+                ([radio.TRANSMIT, "--pi", "C201", "--name", "NINE CHAR"], b"", 2),
                 ([radio.RECEIVE, "--pi", "C201"], b"", 0), ([radio.TRANSMIT, "--help"], b"", 0),
                 ([radio.RECEIVE, "--help"], b"", 0)]
         for words, given, status in rows:
