@@ -2,7 +2,6 @@
 
 test_c_library has the tests for this machine, test_arm and test_microcontrollers those for other processors.
 """
-import glob
 import itertools
 import os
 import random
@@ -19,13 +18,13 @@ ABI = int(re.search(r"#define RDSRT_ABI (\d+)", text_of(HEADER)).group(1))
 PROGRAMS = ["examples/c/decode.c", "examples/c/encode.c", "examples/c/audit.c", "examples/c/receive.c",
             "examples/c/tuner.c", "tests/c/calls.c", "tests/c/any_bytes.c", "tests/c/threads.c"]
 LIBC = {"memcpy", "memset", "memmove", "memcmp"}
-INSTALLED = {"bin/rdsrt", "include/rdsrt.h", "lib/librdsrt.a", "lib/librdsrt.so", f"lib/librdsrt.so.{ABI}",
-             "lib/pkgconfig/rdsrt.pc", "lib/cmake/rdsrt/rdsrt-config.cmake",
-             "lib/cmake/rdsrt/rdsrt-config-version.cmake", "share/man/man1/rdsrt.1",
-             "share/bash-completion/completions/rdsrt", "share/zsh/site-functions/_rdsrt",
-             "share/fish/vendor_completions.d/rdsrt.fish",
-             *(f"share/doc/rdsrt/{os.path.relpath(it, path('.'))}" for it in glob.glob(path("examples/c/*"))),
-             "share/doc/rdsrt/DEFINITIONS.md", "share/doc/rdsrt/FORMATS.md"}
+# the files that tools/stage lays out, also in a release, and those of ./install
+STAGED = {"bin/rdsrt", "include/rdsrt.h", "lib/librdsrt.a", "lib/librdsrt.so", f"lib/librdsrt.so.{ABI}",
+          "lib/pkgconfig/rdsrt.pc", "lib/cmake/rdsrt/rdsrt-config.cmake", "lib/cmake/rdsrt/rdsrt-config-version.cmake",
+          "share/man/man1/rdsrt.1", "share/doc/rdsrt/DEFINITIONS.md", "share/doc/rdsrt/FORMATS.md",
+          "share/bash-completion/completions/rdsrt", "share/zsh/site-functions/_rdsrt",
+          "share/fish/vendor_completions.d/rdsrt.fish"}
+INSTALLED = STAGED | {f"share/doc/rdsrt/examples/c/{it}" for it in os.listdir(path("examples/c"))}
 # a project that finds the library by CMake
 PROJECT = """cmake_minimum_required(VERSION 3.13)
 project(trial C)
