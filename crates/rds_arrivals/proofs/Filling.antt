@@ -259,40 +259,41 @@ record EndsWith {X : Type 0} (least ahead spread : ℕ) (d : Delivery X) (s : St
 begins_with : {X : Type 0} (least ahead spread : ℕ) (d : Delivery X) → IsOnItsWay least ahead spread d → EndsWith least ahead spread d (begun_at d.arrival.time)
 begins_with least ahead spread d way = record { oldest = d; way = way; first = refl; last = refl; slots = omega arith }
 
-ends_with : {X : Type 0} (grain spread least ahead : ℕ) (d : Delivery X) (before : List (Delivery X)) → AreBelowASlot grain spread → spread ≤ grain
-    → EachTwo IsLater (d ∷ before) → All (IsOnItsWay least ahead spread) (d ∷ before)
-    → EndsWith least ahead spread d (followed_by grain (newest_stretch grain (arrivals before)) d.arrival.time)
-ends_with {X} grain spread least ahead d [] wide small later ways = begins_with least ahead spread d (All-head (IsOnItsWay {X = X} least ahead spread) d [] ways)
-ends_with {X} grain spread least ahead d (e ∷ before) wide small later ways =
+ends_with : {X : Type 0} (grain spread m least ahead : ℕ) (d : Delivery X) (before : List (Delivery X)) → AreBelowASlot grain spread → spread ≤ grain
+    → EachTwo IsLater (d ∷ before) → All (IsOnItsWay least ahead spread) (d ∷ before) → AreToldInTime grain m (d ∷ before)
+    → EndsWith least ahead spread d (followed_by grain (newest_stretch grain (arrivals before)) d.arrival.told d.arrival.time)
+ends_with {X} grain spread m least ahead d [] wide small later ways told = begins_with least ahead spread d (All-head (IsOnItsWay {X = X} least ahead spread) d [] ways)
+ends_with {X} grain spread m least ahead d (e ∷ before) wide small later ways told =
     let way = All-head (IsOnItsWay {X = X} least ahead spread) d (e ∷ before) ways in
     let rest = All-tail (IsOnItsWay {X = X} least ahead spread) d (e ∷ before) ways in
     let way_before = All-head (IsOnItsWay {X = X} least ahead spread) e before rest in
-    let older = ends_with grain spread least ahead e before wide small later.1 rest in
-    goes_on (followed_by grain (newest_stretch grain (arrivals before)) e.arrival.time) older way way_before (break_cases e.arrival.time d.arrival.time)
+    let older = ends_with grain spread m least ahead e before wide small later.1 rest told.1 in
+    goes_on (followed_by grain (newest_stretch grain (arrivals before)) e.arrival.told e.arrival.time) older way way_before (break_cases e.arrival.time d.arrival.time)
   where
     goes_on : (s : Stretch) → EndsWith least ahead spread e s → IsOnItsWay least ahead spread d → IsOnItsWay least ahead spread e
         → ((is_break e.arrival.time d.arrival.time ≡ true) × IsBreak e.arrival.time d.arrival.time)
         ⊎ ((is_break e.arrival.time d.arrival.time ≡ false) × (e.arrival.time ≤ d.arrival.time) × (d.arrival.time ≤ e.arrival.time + day))
-        → EndsWith least ahead spread d (followed_by grain (Some s) d.arrival.time)
+        → EndsWith least ahead spread d (followed_by grain (Some s) d.arrival.told d.arrival.time)
     goes_on s older way way_before (inl b) = rw (older.last, b.0) (begins_with least ahead spread d way)
     goes_on s older way way_before (inr w) =
         let whole : IsBreak e.arrival.time d.arrival.time → ⊥ = λ b. omega (arith, b, w.1) in
         let count : d.slot ≡ e.slot + lost_between grain 0 e.arrival.time d.arrival.time + 1 =
         same_between grain spread 0 least ahead d e wide small later.0 whole way way_before in
         let lost : d.slot ≡ e.slot + lost_within grain (d.arrival.time - e.arrival.time) + 1 = rw w.0 at count in
+        let in_time : d.arrival.told ≤ lost_within grain (d.arrival.time - e.arrival.time) = rw w.0 at told.0 in
         let slots = older.slots in
-        rw (older.last, w.0) record { oldest = older.oldest; way = older.way; first = older.first; last = refl; slots = omega (arith, lost, slots) }
+        rw (older.last, w.0, max-eq_right in_time) record { oldest = older.oldest; way = older.way; first = older.first; last = refl; slots = omega (arith, lost, slots) }
 
 not_coarse : {X : Type 0} (grain spread least ahead : ℕ) (d : Delivery X) (s : Stretch) → spread ≤ grain → IsOnItsWay least ahead spread d → EndsWith least ahead spread d s → IsCoarse grain s → ⊥
 not_coarse grain spread least ahead d s small way ends coarse = omega (arith, small, way.at_most, way.at_least, ends.way.at_least, ends.way.at_most, ends.first, ends.last, ends.slots, coarse)
 
-pub fine : {X : Type 0} (grain spread least ahead : ℕ) (given : List (Delivery X)) → AreBelowASlot grain spread → spread ≤ grain → EachTwo IsLater given
-    → All (IsOnItsWay least ahead spread) given → AreCoarse grain (arrivals given) → ⊥
-fine grain spread least ahead [] wide small later ways coarse = coarse
-fine {X} grain spread least ahead (d ∷ before) wide small later ways (inl now) =
-    not_coarse grain spread least ahead d _ small (All-head (IsOnItsWay {X = X} least ahead spread) d before ways) (ends_with grain spread least ahead d before wide small later ways) now
-fine {X} grain spread least ahead (d ∷ before) wide small later ways (inr earlier) =
-    fine grain spread least ahead before wide small (shorter IsLater d before later) (All-tail (IsOnItsWay {X = X} least ahead spread) d before ways) earlier
+pub fine : {X : Type 0} (grain spread m least ahead : ℕ) (given : List (Delivery X)) → AreBelowASlot grain spread → spread ≤ grain → EachTwo IsLater given
+    → All (IsOnItsWay least ahead spread) given → AreToldInTime grain m given → AreCoarse grain (arrivals given) → ⊥
+fine grain spread m least ahead [] wide small later ways told coarse = coarse
+fine {X} grain spread m least ahead (d ∷ before) wide small later ways told (inl now) =
+    not_coarse grain spread least ahead d _ small (All-head (IsOnItsWay {X = X} least ahead spread) d before ways) (ends_with grain spread m least ahead d before wide small later ways told) now
+fine {X} grain spread m least ahead (d ∷ before) wide small later ways told (inr earlier) =
+    fine grain spread m least ahead before wide small (shorter IsLater d before later) (All-tail (IsOnItsWay {X = X} least ahead spread) d before ways) told.1 earlier
 
 -- ---- the bound is needed: 19 slots are 1,664,000 µs; the first of two groups is late by the spread
 

@@ -1,7 +1,9 @@
 -- Worked examples of the definitions, calculated by hand. A slot is 87,578 and 18/19 µs. Lists have the newest first.
 use Rattle.std.proofs.Common.{◌≡◌, ℕ, [], ◌∷◌, Some, None, codes, refl}
 use Rattle.rds_arrivals.specs.Arrivals.{Arrival, filled, lost_between, lost_within}
+use Rattle.rds_arrivals.specs.Coarse.{begun_at, followed_by, room}
 use Rattle.rds_arrivals.specs.Stamps.{days_to, stamp_in}
+use Rattle.rds_arrivals.specs.declared.stretch.Stretch.{Stretch}
 
 -- a grain of 20,000 µs: one slot and the grain are 107,578 and 18/19 µs
 one_slot : lost_within 20000 87600 ≡ 0
@@ -53,6 +55,22 @@ three = refl
 -- three lost slots were known before the second group came; by its own time it is one
 known_before : filled 20000 2 (record { entry = 2; time = 150000; told = 3 } ∷ at 1 0 ∷ []) ≡ Some 2 ∷ None ∷ None ∷ None ∷ Some 1 ∷ []
 known_before = refl
+
+-- ---- coarse times
+
+-- eleven lost slots were known before a group that came 90,000 µs after the one before it: twelve slots, and one fits
+abbrev told_too_early : Stretch
+told_too_early = followed_by 20000 (Some (begun_at 0)) 11 90000
+
+too_many : told_too_early.slots ≡ 12
+too_many = refl
+
+one_fits : room 20000 told_too_early ≡ 1
+one_fits = refl
+
+-- a break begins anew, whatever was known before
+after_a_break : followed_by 20000 (Some (begun_at 90000)) 11 0 ≡ begun_at 0
+after_a_break = refl
 
 -- ---- times
 

@@ -1,26 +1,28 @@
 -- Times that are too coarse to count slots by: in a stretch of a log without a break, more slots are counted than its
 -- clock has room for (this project's own rule). Lists have the newest first.
-use Rattle.std.specs.Prelude.{◌+◌, ◌-◌, ◌*◌, ◌/◌, ◌<◌, ◌≤◌, ◌⊎◌, ℕ, List, [], ◌∷◌, IfSome, None, Option, Some, if◌then◌else◌}
+use Rattle.std.specs.Prelude.{◌+◌, ◌-◌, ◌*◌, ◌/◌, ◌<◌, ◌≤◌, ◌⊎◌, ℕ, List, [], ◌∷◌, IfSome, None, Option, Some, max}
+use Rattle.std.specs.Prelude.{if◌then◌else◌}
 use Rattle.std.specs.List.{All}
 use Rattle.rds_arrivals.specs.Arrivals.{Arrival, is_break, lost_within, nineteen_slots}
-use Rattle.rds_arrivals.specs.Delivered.{AreBelowASlot, Delivery, EachTwo, IsLater, IsOnItsWay, arrivals}
+use Rattle.rds_arrivals.specs.Delivered.{AreBelowASlot, AreToldInTime, Delivery, EachTwo, IsLater, IsOnItsWay, arrivals}
 use Rattle.rds_arrivals.specs.declared.stretch.Stretch.{Stretch}
 
 -- a stretch of one group
 abbrev pub begun_at : ℕ → Stretch
 begun_at time = record { first = time; last = time; slots = 0 }
 
--- the stretch of a group that follows one of this stretch
-abbrev pub followed_by : ℕ → Option Stretch → ℕ → Stretch
-followed_by grain None time = begun_at time
-followed_by grain (Some s) time =
+-- the stretch of a group that follows one of this stretch, with its lost slots: those by its time, and no fewer than
+-- were known before
+abbrev pub followed_by : ℕ → Option Stretch → ℕ → ℕ → Stretch
+followed_by grain None told time = begun_at time
+followed_by grain (Some s) told time =
     if is_break s.last time then begun_at time
-    else record { first = s.first; last = time; slots = s.slots + lost_within grain (time - s.last) + 1 }
+    else record { first = s.first; last = time; slots = s.slots + max told (lost_within grain (time - s.last)) + 1 }
 
 -- the stretch of the newest arrival
 abbrev pub newest_stretch : {X : Type 0} → ℕ → List (Arrival X) → Option Stretch
 newest_stretch grain [] = None
-newest_stretch grain (a ∷ before) = Some (followed_by grain (newest_stretch grain before) a.time)
+newest_stretch grain (a ∷ before) = Some (followed_by grain (newest_stretch grain before) a.told a.time)
 
 -- the number of slots that fit between its times, which are off by at most the grain
 abbrev pub room : ℕ → Stretch → ℕ
@@ -35,8 +37,9 @@ abbrev pub AreCoarse : {X : Type 0} → ℕ → List (Arrival X) → Type 0
 AreCoarse grain [] = ⊥
 AreCoarse grain (a ∷ before) = IfSome (newest_stretch grain (a ∷ before)) (IsCoarse grain) ⊎ AreCoarse grain before
 
--- if the delays of the groups vary by at most the grain, their times are not coarse
+-- if the delays of the groups vary by at most the grain, and no slot was told too early, their times are not coarse
 abbrev pub EvenLogsAreNotCoarse : Type 0 → Type 0
 EvenLogsAreNotCoarse X =
-    (grain spread least ahead : ℕ) (given : List (Delivery X)) → AreBelowASlot grain spread → spread ≤ grain
-    → EachTwo IsLater given → All (IsOnItsWay least ahead spread) given → AreCoarse grain (arrivals given) → ⊥
+    (grain spread m least ahead : ℕ) (given : List (Delivery X)) → AreBelowASlot grain spread → spread ≤ grain
+    → EachTwo IsLater given → All (IsOnItsWay least ahead spread) given → AreToldInTime grain m given
+    → AreCoarse grain (arrivals given) → ⊥

@@ -26,8 +26,8 @@ pub fn filled_logs_are_safe()
     safe_by_plans();
 }
 
-/// States that a receiver of a filled log is on time if the delays vary by no more than the grain, and no time breaks. With
-/// such delays the times are not coarse, whether or not a time breaks.
+/// States that a receiver of a filled log is on time if the delays vary by no more than the grain, no slot was told too
+/// early, and no time breaks. Without the last premise, the times are still not coarse.
 pub fn filled_logs_are_on_time()
     ensures groups { EvenLogsAreOnTime Group }
     ensures messages { EvenLogsAreOnTime Message }

@@ -29,10 +29,11 @@ impl Stretch {
     }
 
     /// Returns the stretch of a group of this time, which follows a group of that stretch. A break begins a new one. The
-    /// count of slots stops at 2^64 - 1, which only a coarse stretch reaches.
-    pub fn after(before: Option<Stretch>, time: u64, grain: Grain) -> Stretch
+    /// lost slots between the two groups are those by their times, and no fewer than `told`: so many were known before the
+    /// group came. The count of slots stops at 2^64 - 1, which only a coarse stretch reaches.
+    pub fn after(before: Option<Stretch>, told: u32, time: u64, grain: Grain) -> Stretch
         ensures last { result.last ≡ time }
-        ensures value { IfSome before (λ s. IsCoarse grain s → ⊥) → result ≡ followed_by grain before time }
+        ensures value { IfSome before (λ s. IsCoarse grain s → ⊥) → result ≡ followed_by grain before told time }
     {
         let Some(stretch) = before else {
             return Stretch::new(time);
@@ -41,7 +42,7 @@ impl Stretch {
             Ok(lost) => Stretch {
                 first: stretch.first,
                 last: time,
-                slots: stretch.slots.saturating_add(u64::from(lost) + 1),
+                slots: stretch.slots.saturating_add(u64::from(lost.max(told)) + 1),
             },
             Err(_) => Stretch::new(time),
         }
