@@ -3,5 +3,6 @@ pub mod Told
 pub mod Puts
 pub mod ReadFailed
 pub mod Alike
+pub mod Wrapped
 -- Hexadecimal digits.
 pub mod Digits

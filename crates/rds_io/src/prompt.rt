@@ -18,8 +18,12 @@ pub struct Prompting<R: Read, N> {
 }
 
 impl<R: Read, N> Prompting<R, N> {
+    ghost use Rattle.rds_io.specs.Wrapped.{prompting};
+
     /// Wraps a reader, with the line and the writer for it.
-    pub fn new(reader: R, line: Option<&'static [u8]>, screen: N) -> Self {
+    pub fn new(reader: R, line: Option<&'static [u8]>, screen: N) -> Self
+        ensures { prompting result ≡ reader }
+    {
         Prompting {
             reader,
             line,
@@ -30,7 +34,9 @@ impl<R: Read, N> Prompting<R, N> {
 }
 
 impl<R: Read, N: TellingWrite> Read for Prompting<R, N> {
-    ghost remaining = { λ prompting. R.remaining prompting.reader };
+    ghost use Rattle.rds_io.specs.Wrapped.{prompting};
+
+    ghost remaining = { λ it. R.remaining (prompting it) };
 
     fn read(&mut self, buf: &mut [u8]) -> io::Result<usize> {
         if self.ended {

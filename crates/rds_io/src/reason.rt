@@ -1,5 +1,8 @@
 //! Readers and writers that keep the system's error of a failed call for a later note.
 
+ghost use Rattle.std.specs.Prelude.{◌≡◌};
+ghost use Rattle.rds_io.specs.Wrapped.{reasoned};
+
 use std::io::{self, ErrorKind, Read, Write};
 
 /// A reader or a writer that keeps the error of its last failed call.
@@ -11,7 +14,9 @@ pub struct Reasoned<T> {
 
 impl<T> Reasoned<T> {
     /// Wraps a reader or a writer. No call failed yet.
-    pub fn new(inner: T) -> Self {
+    pub fn new(inner: T) -> Self
+        ensures { reasoned result ≡ inner }
+    {
         Reasoned {
             inner,
             reason: None,
@@ -31,7 +36,7 @@ fn keep(reason: &mut Option<io::Error>, error: io::Error) -> io::Error {
 }
 
 impl<T: Read> Read for Reasoned<T> {
-    ghost remaining = { λ reasoned. T.remaining reasoned.inner };
+    ghost remaining = { λ it. T.remaining (reasoned it) };
 
     fn read(&mut self, buf: &mut [u8]) -> io::Result<usize> {
         match self.inner.read(buf) {
@@ -42,7 +47,7 @@ impl<T: Read> Read for Reasoned<T> {
 }
 
 impl<T: Write> Write for Reasoned<T> {
-    ghost contents = { λ reasoned. T.contents reasoned.inner };
+    ghost contents = { λ it. T.contents (reasoned it) };
 
     fn write(&mut self, buf: &[u8]) -> io::Result<usize> {
         match self.inner.write(buf) {

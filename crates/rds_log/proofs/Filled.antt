@@ -1,11 +1,11 @@
 -- How the output of a filler goes on: it waits, it is written, or the writer fails at it.
-use Rattle.std.proofs.Common.{◌≡◌, ◌⊎◌, ◌+◌, ◌-◌, ◌<◌, ◌≤◌, ℕ, zero, suc, List, [], ◌∷◌, ◌++◌, Option, Some, None, append_assoc, add-one, ap, sym, subst, ◌∙◌, refl, inl, inr, arith, codes, false, is_some, max, take, true}
+use Rattle.std.proofs.Common.{◌≡◌, ◌⊎◌, ◌+◌, ◌-◌, ◌<◌, ◌≤◌, ℕ, zero, suc, List, [], ◌∷◌, ◌++◌, Option, Some, None, append_assoc, add-one, ap, sym, subst, ◌∙◌, refl, inl, inr, arith, codes, cond, false, is_some, max, take, true, Bool, ◌↔◌}
 use Rattle.std.specs.Prelude.{Err, MatchResult, Ok, OnOk, Result}
 use Rattle.rds_io.specs.declared.told.WriteFault.{WriteFault}
 use Rattle.std.proofs.lemmas.Bool.{cases_lt}
 use Rattle.std.proofs.lemmas.Bool.Decides.{nat_tests}
 use Rattle.std.proofs.lemmas.List.{append-nil}
-use Rattle.std.proofs.Math.Nat.{max-eq_left, max-eq_right, max-zero}
+use Rattle.std.proofs.Math.Nat.{max-zero}
 use Rattle.std.proofs.KnownBytes.{Appends-trans}
 use Rattle.std.specs.Io.KnownBytes.{Appends}
 use Rattle.rds_block.specs.declared.group.Group.{Group}
@@ -18,13 +18,15 @@ use Rattle.rds_arrivals.specs.declared.lost.Break.TheVariants.{Back, Day}
 use Rattle.rds_arrivals.specs.declared.stamp.Stamp.{Stamp}
 use Rattle.rds_log.specs.LogLines.{Line}
 use Rattle.rds_log.specs.LineSays.{LineSays, deciding}
-use Rattle.rds_log.specs.Fill.{AddsNothing, AreFilled, IsOfAnother, SoFar, WroteFilled, WroteFilledPart, break_line, gap_lines, lost_lines, more_lines, newest_time, shown, time_of}
+use Rattle.rds_log.specs.Fill.{AddsNothing, AreFilled, HasUntimed, IsOfAnother, IsUntimed, SoFar, WroteFilled, WroteFilledPart, break_line, gap_lines, lost_lines, more_lines, newest_time, shown, time_of}
 use Rattle.rds_log.specs.Inside.Filler.{HasFilled, HasOutput, KeepsPace, KeepsTime, LostOutput, last_time, told_after}
 use Rattle.rds_log.specs.Inside.Pace.{PaceStandsAt}
 use Rattle.rds_log.specs.declared.pace.Pace.{Pace}
 use Rattle.rds_log.specs.declared.filler.Filling.{Filling}
 use Rattle.rds_log.specs.declared.filler.Filler.{Filler}
-use Rattle.rds_log.specs.declared.log_line.LogLine.TheVariants.{Slot}
+use Rattle.rds_log.specs.declared.log_line.LogLine.{LogLine}
+use Rattle.rds_log.specs.declared.log_line.LogLine.TheVariants.{Skip, Slot}
+use Rattle.rds_log.proofs.OneOutput.{same_said}
 
 -- the output of some lost slots begins that of more
 pub lost_split : (i n : ℕ) → i ≤ n → (rest : List ℕ) × (lost_lines n ≡ lost_lines i ++ rest)
@@ -91,37 +93,28 @@ lost_longer w total more lost = record { wrote = AppendsPrefix-longer w.before w
 -- ---- the output before a group
 
 -- no break
-pub gap_within : (f : Filling) (last told time lost : ℕ) → (IsBreak last time → ⊥) → lost ≡ lost_within f.grain (time - last)
-    → (gap_lines f (Some last) told time ≡ more_lines None told lost) × (lost_between f.grain f.dwell last time ≡ lost)
-gap_within f last told time lost whole count =
+pub gap_within : (f : Filling) (came : Bool) (last told time lost : ℕ) → (IsBreak last time → ⊥) → lost ≡ lost_within f.grain (time - last)
+    → (gap_lines f came (Some last) told time ≡ more_lines None told lost) × (lost_between f.grain f.dwell last time ≡ lost)
+gap_within f came last told time lost whole count =
     let (none, some) = no_break last time f.grain f.dwell whole in
     let is : lost_between f.grain f.dwell last time ≡ lost = some ∙ sym count in
-    (rw (none, is) refl, is)
+    (rw (none, is) (either came), is)
   where
+    either : (b : Bool) → more_lines (cond b None None) told lost ≡ more_lines None told lost
+    either true = refl
+    either false = refl
+
     no_break : (last time grain m : ℕ) → (IsBreak last time → ⊥) → (break_of last time ≡ None) × (lost_between grain m last time ≡ lost_within grain (time - last))
     no_break last time grain m whole = grind (arith, nat_tests)
 
 -- a break
-pub gap_across : (f : Filling) (last told time : ℕ) (why : Break) → IsBreakOf last time why
-    → (gap_lines f (Some last) told time ≡ more_lines (Some why) told f.dwell) × (lost_between f.grain f.dwell last time ≡ f.dwell)
-gap_across f last told time why is = (let (some, m) = a_break last time f.grain f.dwell why is in (rw (some, m) refl, m))
+pub gap_across : (f : Filling) (came : Bool) (last told time : ℕ) (why : Break) → IsBreakOf last time why
+    → (gap_lines f came (Some last) told time ≡ more_lines (cond came (Some why) None) told f.dwell) × (lost_between f.grain f.dwell last time ≡ f.dwell)
+gap_across f came last told time why is = (let (some, m) = a_break last time f.grain f.dwell why is in (rw (some, m) refl, m))
   where
     a_break : (last time grain m : ℕ) (why : Break) → IsBreakOf last time why → (break_of last time ≡ Some why) × (lost_between grain m last time ≡ m)
     a_break last time grain m Back is = grind (arith, nat_tests)
     a_break last time grain m Day is = grind (arith, nat_tests)
-
--- nothing more is lost than was written, or something is
-pub nothing_more : (why : Option Break) (told lost : ℕ) → lost ≤ told → (more_lines why told lost ≡ []) × (max told lost ≡ told)
-nothing_more why told lost few = (none why, max-eq_left few)
-  where
-    none : (why : Option Break) → more_lines why told lost ≡ []
-    none why = grind (arith, few, nat_tests)
-
-pub something_more : (why : Option Break) (told lost : ℕ) → told < lost → (more_lines why told lost ≡ break_line why ++ lost_lines (lost - told)) × (max told lost ≡ lost)
-something_more why told lost more = (some why, max-eq_right (omega (arith, more)))
-  where
-    some : (why : Option Break) → more_lines why told lost ≡ break_line why ++ lost_lines (lost - told)
-    some why = grind (arith, more, nat_tests)
 
 -- the lost slots are those from the newest group
 pub told_is : (f : Filling) (came : List (Arrival Group)) (told time : ℕ) → told_after f (newest_time came) told time ≡ max told (lost_until f.grain f.dwell came time)
@@ -137,20 +130,47 @@ same_pushed d w r total other same out = subst (λ (l : List ℕ). MatchResult r
 
 -- a line that adds nothing
 pub adds_none : (s after : Filler) (w : Traffic) (lines : List Line) (line : Line) → AddsNothing s.filling line
-    → after.filling ≡ s.filling → after.pace ≡ s.pace → after.told ≡ s.told → after.output ≡ s.output → HasFilled s w lines → HasFilled after w (line ∷ lines)
-adds_none s after w lines line none f p d o has = record {
+    → after.filling ≡ s.filling → after.pace ≡ s.pace → after.told ≡ s.told → (0 < after.untimed) ↔ HasUntimed (line ∷ lines) → after.output ≡ s.output
+    → HasFilled s w lines → HasFilled after w (line ∷ lines)
+adds_none s after w lines line none f p d u o has = record {
   so_far = has.so_far;
   fill = subst (λ (g : Filling). AreFilled g (line ∷ lines) has.so_far) (sym f) (inl (none, has.fill));
   pace = rw p has.pace;
   grain = ap (λ (x : Pace). x.grain) p ∙ has.grain ∙ ap (λ (g : Filling). g.grain) (sym f);
   told = d ∙ has.told;
+  untimed = u;
   output = same_output s after w has.so_far.written has.output o;
 }
 
-same_gap : (s : Filler) (w : Traffic) (lines : List Line) (has : HasFilled s w lines) (time : ℕ)
-    → gap_lines s.filling (last_time s) s.told time ≡ gap_lines s.filling (newest_time has.so_far.came) has.so_far.told time
-same_gap s w lines has time =
-    ap (λ (o : Option ℕ). gap_lines s.filling o s.told time) has.pace.last ∙ ap (λ (n : ℕ). gap_lines s.filling (newest_time has.so_far.came) n time) has.told
+same_gap : (s : Filler) (w : Traffic) (lines : List Line) (has : HasFilled s w lines) (came : Bool) (time : ℕ)
+    → gap_lines s.filling came (last_time s) s.told time ≡ gap_lines s.filling came (newest_time has.so_far.came) has.so_far.told time
+same_gap s w lines has came time =
+    ap (λ (o : Option ℕ). gap_lines s.filling came o s.told time) has.pace.last ∙ ap (λ (n : ℕ). gap_lines s.filling came (newest_time has.so_far.came) n time) has.told
+
+-- a line with a time, or one without a group, is not a group without a time
+pub no_untimed : (line : Line) (lines : List Line) (n : ℕ) → (IsUntimed line → ⊥) → (0 < n) ↔ HasUntimed lines → (0 < n) ↔ HasUntimed (line ∷ lines)
+no_untimed line lines n not same = (λ some. inr (same.0 some), λ any. elim any [ inl here ↦ absurd (not here) | inr before ↦ same.1 before ])
+
+-- no line is two things
+said_other : (line : Line) (said : LogLine) → LineSays line said → ((group : Group) → said ≡ Slot (Some group) → ⊥) → IsUntimed line → ⊥
+said_other line said says other untimed = other untimed.group (same_said line said (Slot (Some untimed.group)) says untimed.says)
+
+pub skipped : (line : Line) → LineSays line Skip → IsUntimed line → ⊥
+skipped line says = said_other line Skip says (λ group same. absurd (cc))
+
+-- a slot without a time is one more group without a time, if it has a group
+pub untimed_now : (line : Line) (lines : List Line) (slot : Option Group) (n after : ℕ) → LineSays line (Slot slot) → time_of (take deciding line) ≡ None
+    → (0 < after) ↔ ((0 < n) ⊎ (is_some slot ≡ true)) → (0 < n) ↔ HasUntimed lines → (0 < after) ↔ HasUntimed (line ∷ lines)
+untimed_now line lines (Some group) n after says none count same =
+    (λ some. inl (record { group = group; says = says; untimed = none }), λ any. count.1 (inr refl))
+untimed_now line lines None n after says none count same =
+    (λ some. elim (count.0 some) [ inl before ↦ inr (same.0 before) | inr bad ↦ absurd (cc) ],
+    λ any. elim any [ inl here ↦ absurd (said_other line (Slot None) says (λ group bad. absurd (cc)) here) | inr before ↦ count.1 (inl (same.1 before)) ])
+
+pub timed : (line : Line) (stamp : Stamp) (first : List ℕ) → first ≡ take deciding line → time_of first ≡ Some stamp → IsUntimed line → ⊥
+timed line stamp first is found untimed =
+    let bad : None ≡ Some stamp = sym untimed.untimed ∙ ap time_of (sym is) ∙ found in
+    cc
 
 -- what is so far after a line with a whole group, and after one without
 abbrev pub after_group : SoFar → Group → ℕ → List ℕ → SoFar
@@ -162,7 +182,7 @@ after_time f s time written = record { came = s.came; told = max s.told (lost_un
 -- a line that adds a group, and all its output
 pub adds_group : (s : Filler) (w : Traffic) (lines : List Line) (line : Line) (group : Group) (stamp : Stamp) (first : List ℕ)
     → LineSays line (Slot (Some group)) → first ≡ take deciding line → time_of first ≡ Some stamp → (IsOfAnother s.filling.pi first → ⊥) → (has : HasFilled s w lines)
-    → AreFilled s.filling (line ∷ lines) (after_group has.so_far group stamp.time (has.so_far.written ++ gap_lines s.filling (last_time s) s.told stamp.time ++ shown first stamp))
+    → AreFilled s.filling (line ∷ lines) (after_group has.so_far group stamp.time (has.so_far.written ++ gap_lines s.filling true (last_time s) s.told stamp.time ++ shown first stamp))
 adds_group s w lines line group stamp first says is timed own has = inr (
   has.so_far,
   has.fill,
@@ -174,15 +194,15 @@ adds_group s w lines line group stamp first says is timed own has = inr (
     own = rw is at own;
     came = refl;
     told = refl;
-    writes = ap (λ (l : List ℕ). has.so_far.written ++ l ++ shown first stamp) (same_gap s w lines has stamp.time)
-        ∙ ap (λ (l : List ℕ). has.so_far.written ++ gap_lines s.filling (newest_time has.so_far.came) has.so_far.told stamp.time ++ shown l stamp) is;
+    writes = ap (λ (l : List ℕ). has.so_far.written ++ l ++ shown first stamp) (same_gap s w lines has true stamp.time)
+        ∙ ap (λ (l : List ℕ). has.so_far.written ++ gap_lines s.filling true (newest_time has.so_far.came) has.so_far.told stamp.time ++ shown l stamp) is;
   },
 )
 
 -- a line that tells a time
 pub adds_time : (s : Filler) (w : Traffic) (lines : List Line) (line : Line) (stamp : Stamp) (first : List ℕ)
     → LineSays line (Slot None) → first ≡ take deciding line → time_of first ≡ Some stamp → (IsOfAnother s.filling.pi first → ⊥) → (has : HasFilled s w lines)
-    → AreFilled s.filling (line ∷ lines) (after_time s.filling has.so_far stamp.time (has.so_far.written ++ gap_lines s.filling (last_time s) s.told stamp.time))
+    → AreFilled s.filling (line ∷ lines) (after_time s.filling has.so_far stamp.time (has.so_far.written ++ gap_lines s.filling false (last_time s) s.told stamp.time))
 adds_time s w lines line stamp first says is timed own has = inr (
   has.so_far,
   has.fill,
@@ -193,18 +213,18 @@ adds_time s w lines line stamp first says is timed own has = inr (
     own = rw is at own;
     came = refl;
     told = refl;
-    writes = ap (λ (l : List ℕ). has.so_far.written ++ l) (same_gap s w lines has stamp.time);
+    writes = ap (λ (l : List ℕ). has.so_far.written ++ l) (same_gap s w lines has false stamp.time);
   },
 )
 
 -- the writer failed at a first part of the output of a line
 pub fails_at_group : (s : Filler) (w v : Traffic) (lines : List Line) (line : Line) (group : Group) (stamp : Stamp) (first : List ℕ)
     → LineSays line (Slot (Some group)) → first ≡ take deciding line → time_of first ≡ Some stamp → (IsOfAnother s.filling.pi first → ⊥) → (has : HasFilled s w lines)
-    → LostOutput v (has.so_far.written ++ gap_lines s.filling (last_time s) s.told stamp.time) → WroteFilledPart s.filling v (line ∷ lines)
+    → LostOutput v (has.so_far.written ++ gap_lines s.filling true (last_time s) s.told stamp.time) → WroteFilledPart s.filling v (line ∷ lines)
 fails_at_group s w v lines line group stamp first says is timed own has lose =
-    let more = lost_longer v (has.so_far.written ++ gap_lines s.filling (last_time s) s.told stamp.time) (shown first stamp) lose in
+    let more = lost_longer v (has.so_far.written ++ gap_lines s.filling true (last_time s) s.told stamp.time) (shown first stamp) lose in
     record {
-      so_far = after_group has.so_far group stamp.time (has.so_far.written ++ gap_lines s.filling (last_time s) s.told stamp.time ++ shown first stamp);
+      so_far = after_group has.so_far group stamp.time (has.so_far.written ++ gap_lines s.filling true (last_time s) s.told stamp.time ++ shown first stamp);
       fill = adds_group s w lines line group stamp first says is timed own has;
       wrote = more.wrote;
       failed = more.failed;
@@ -212,10 +232,10 @@ fails_at_group s w v lines line group stamp first says is timed own has lose =
 
 pub fails_at_slot : (s : Filler) (w v : Traffic) (lines : List Line) (line : Line) (slot : Option Group) (stamp : Stamp) (first : List ℕ)
     → LineSays line (Slot slot) → first ≡ take deciding line → time_of first ≡ Some stamp → (IsOfAnother s.filling.pi first → ⊥) → (has : HasFilled s w lines)
-    → LostOutput v (has.so_far.written ++ gap_lines s.filling (last_time s) s.told stamp.time) → WroteFilledPart s.filling v (line ∷ lines)
+    → LostOutput v (has.so_far.written ++ gap_lines s.filling (is_some slot) (last_time s) s.told stamp.time) → WroteFilledPart s.filling v (line ∷ lines)
 fails_at_slot s w v lines line (Some group) stamp first says is timed own has lose = fails_at_group s w v lines line group stamp first says is timed own has lose
 fails_at_slot s w v lines line None stamp first says is timed own has lose = record {
-  so_far = after_time s.filling has.so_far stamp.time (has.so_far.written ++ gap_lines s.filling (last_time s) s.told stamp.time);
+  so_far = after_time s.filling has.so_far stamp.time (has.so_far.written ++ gap_lines s.filling false (last_time s) s.told stamp.time);
   fill = adds_time s w lines line stamp first says is timed own has;
   wrote = lose.wrote;
   failed = lose.failed;
@@ -225,42 +245,44 @@ fails_at_slot s w v lines line None stamp first says is timed own has lose = rec
 pub time_done : (s after : Filler) (w v : Traffic) (lines : List Line) (line : Line) (slot : Option Group) (stamp : Stamp) (first : List ℕ)
     → LineSays line (Slot slot) → is_some slot ≡ false → first ≡ take deciding line → time_of first ≡ Some stamp → (IsOfAnother s.filling.pi first → ⊥) → (has : HasFilled s w lines)
     → KeepsPace s after → after.told ≡ told_after s.filling (last_time s) s.told stamp.time
-    → HasOutput v after (has.so_far.written ++ gap_lines s.filling (last_time s) s.told stamp.time) → HasFilled after v (line ∷ lines)
+    → HasOutput v after (has.so_far.written ++ gap_lines s.filling false (last_time s) s.told stamp.time) → HasFilled after v (line ∷ lines)
 time_done s after w v lines line (Some group) stamp first says none is timed own has keeps told out = absurd (cc)
-time_done s after w v lines line None stamp first says none is timed own has keeps told out =
-    let written = has.so_far.written ++ gap_lines s.filling (last_time s) s.told stamp.time in
+time_done s after w v lines line None stamp first says none is timed_at own has keeps told out =
+    let written = has.so_far.written ++ gap_lines s.filling false (last_time s) s.told stamp.time in
     record {
       so_far = after_time s.filling has.so_far stamp.time written;
       fill = subst (λ (g : Filling). AreFilled g (line ∷ lines) (after_time s.filling has.so_far stamp.time written)) (sym keeps.filling)
-          (adds_time s w lines line stamp first says is timed own has);
+          (adds_time s w lines line stamp first says is timed_at own has);
       pace = rw keeps.pace has.pace;
       grain = ap (λ (x : Pace). x.grain) keeps.pace ∙ has.grain ∙ ap (λ (g : Filling). g.grain) (sym keeps.filling);
       told = told ∙ ap (λ (o : Option ℕ). told_after s.filling o s.told stamp.time) has.pace.last ∙ ap (λ (n : ℕ). told_after s.filling (newest_time has.so_far.came) n stamp.time) has.told
           ∙ told_is s.filling has.so_far.came has.so_far.told stamp.time;
+      untimed = no_untimed line lines after.untimed (timed line stamp first is timed_at) (rw keeps.untimed has.untimed);
       output = out;
     }
 
 -- the output of a line with a group was added, or the writer failed at it
 pub group_done : (s after : Filler) (w v : Traffic) (lines : List Line) (line : Line) (slot : Option Group) (stamp : Stamp) (first : List ℕ) (r : Result (Unit {0}) WriteFault)
     → LineSays line (Slot slot) → is_some slot ≡ true → first ≡ take deciding line → time_of first ≡ Some stamp → (IsOfAnother s.filling.pi first → ⊥) → (has : HasFilled s w lines)
-    → after.filling ≡ s.filling → ((a : Arrival Group) → a.time ≡ stamp.time → PaceStandsAt after.pace (a ∷ has.so_far.came)) → after.pace.grain ≡ s.pace.grain → after.told ≡ 0
-    → MatchResult r (λ _. HasOutput v after (has.so_far.written ++ gap_lines s.filling (last_time s) s.told stamp.time ++ shown first stamp))
-    (λ _. LostOutput v (has.so_far.written ++ gap_lines s.filling (last_time s) s.told stamp.time ++ shown first stamp))
+    → after.filling ≡ s.filling → ((a : Arrival Group) → a.told ≡ s.told → a.time ≡ stamp.time → PaceStandsAt after.pace (a ∷ has.so_far.came)) → after.pace.grain ≡ s.pace.grain → after.told ≡ 0 → after.untimed ≡ s.untimed
+    → MatchResult r (λ _. HasOutput v after (has.so_far.written ++ gap_lines s.filling true (last_time s) s.told stamp.time ++ shown first stamp))
+    (λ _. LostOutput v (has.so_far.written ++ gap_lines s.filling true (last_time s) s.told stamp.time ++ shown first stamp))
     → MatchResult r (λ _. HasFilled after v (line ∷ lines)) (λ _. WroteFilledPart s.filling v (line ∷ lines))
-group_done s after w v lines line None stamp first r says some is timed own has f p k d out = absurd (cc)
-group_done s after w v lines line (Some group) stamp first (Ok done) says some is timed own has f p k d out =
-    let so_far = after_group has.so_far group stamp.time (has.so_far.written ++ gap_lines s.filling (last_time s) s.told stamp.time ++ shown first stamp) in
+group_done s after w v lines line None stamp first r says some is timed_at own has f p k d u out = absurd (cc)
+group_done s after w v lines line (Some group) stamp first (Ok done) says some is timed_at own has f p k d u out =
+    let so_far = after_group has.so_far group stamp.time (has.so_far.written ++ gap_lines s.filling true (last_time s) s.told stamp.time ++ shown first stamp) in
     record {
       so_far = so_far;
-      fill = subst (λ (g : Filling). AreFilled g (line ∷ lines) so_far) (sym f) (adds_group s w lines line group stamp first says is timed own has);
-      pace = p _ refl;
+      fill = subst (λ (g : Filling). AreFilled g (line ∷ lines) so_far) (sym f) (adds_group s w lines line group stamp first says is timed_at own has);
+      pace = p _ (sym has.told) refl;
       grain = k ∙ has.grain ∙ ap (λ (g : Filling). g.grain) (sym f);
       told = d;
+      untimed = no_untimed line lines after.untimed (timed line stamp first is timed_at) (rw u has.untimed);
       output = out;
     }
-group_done s after w v lines line (Some group) stamp first (Err fault) says some is timed own has f p k d out = record {
-  so_far = after_group has.so_far group stamp.time (has.so_far.written ++ gap_lines s.filling (last_time s) s.told stamp.time ++ shown first stamp);
-  fill = adds_group s w lines line group stamp first says is timed own has;
+group_done s after w v lines line (Some group) stamp first (Err fault) says some is timed_at own has f p k d u out = record {
+  so_far = after_group has.so_far group stamp.time (has.so_far.written ++ gap_lines s.filling true (last_time s) s.told stamp.time ++ shown first stamp);
+  fill = adds_group s w lines line group stamp first says is timed_at own has;
   wrote = out.wrote;
   failed = out.failed;
 }
@@ -277,6 +299,7 @@ flushed s after w v lines (Ok done) has keeps out = record {
   pace = rw keeps.pace has.pace;
   grain = ap (λ (x : Pace). x.grain) keeps.pace ∙ has.grain ∙ ap (λ (g : Filling). g.grain) (sym keeps.filling);
   told = keeps.told ∙ has.told;
+  untimed = rw keeps.untimed has.untimed;
   output = out;
 }
 flushed s after w v lines (Err fault) has keeps out = record { so_far = has.so_far; fill = has.fill; wrote = out.wrote; failed = out.failed }

@@ -1,8 +1,7 @@
 -- The output of `slots` is a log of the filled slots, and what a receiver of it shows is safe.
 use Rattle.std.proofs.Common.{◌≡◌, ◌≢◌, ◌+◌, ◌-◌, ◌==◌, ◌≤◌, ℕ, zero, suc, Bool, true, false, not, cond, List, [], ◌∷◌, ◌++◌, Option, Some, None, append_assoc, ap, codes, drop, length, max, take, refl, sym, subst, ◌∙◌, arith, inl, inr}
 use Rattle.std.specs.Prelude.{All, nat_lt}
-use Rattle.std.proofs.Math.Nat.{max-zero}
-use Rattle.rds_log.proofs.Filled.{nothing_more, something_more}
+use Rattle.std.proofs.Math.Nat.{max-eq_left, max-eq_right, max-zero}
 use Rattle.std.specs.List.{list_all}
 use Rattle.std.proofs.lemmas.Bool.{and_parts, cases_lt}
 use Rattle.std.proofs.lemmas.Bool.Decides.{eqb_tells}
@@ -20,7 +19,7 @@ use Rattle.rds_arrivals.specs.Stamps.{stamp_in}
 use Rattle.rds_arrivals.specs.declared.lost.Break.{Break}
 use Rattle.rds_arrivals.specs.declared.lost.Break.TheVariants.{Back, Day}
 use Rattle.rds_arrivals.specs.declared.stamp.Stamp.{Stamp}
-use Rattle.rds_log.specs.Fill.{AreFilled, SoFar, break_line, gap_lines, lost_lines, more_lines, newest_time, time_of}
+use Rattle.rds_log.specs.Fill.{AreFilled, SoFar, break_line, ended_within, gap_lines, lost_lines, more_lines, newest_time, time_of}
 use Rattle.rds_log.specs.FilledLog.{FilledTextsAreLogs, FilledTextsAreSafe}
 use Rattle.rds_log.specs.LineSays.{LineSays}
 use Rattle.rds_log.specs.LogLines.{IsLine, Line, line_feed, text_of}
@@ -50,9 +49,9 @@ goes_on first stamp timed = elim (cases_lt 20 (length first)) [
         let none : stamp_in (drop 20 first) ≡ None = ap stamp_in (drop_all 20 first few) ∙ no_stamp in
         by (nat_lt (length first) 20) none timed
       where
-        by : (b : Bool) → stamp_in (drop 20 first) ≡ None → cond b None (stamp_in (drop 20 first)) ≡ Some stamp → ⊥
+        by : (b : Bool) → stamp_in (drop 20 first) ≡ None → cond b None (ended_within (stamp_in (drop 20 first))) ≡ Some stamp → ⊥
         by true none e = cc
-        by false none e = (let bad : None ≡ Some stamp = sym none ∙ e in cc)
+        by false none e = (let bad : None ≡ Some stamp = sym (ap ended_within none) ∙ e in cc)
 
 -- it is the same slot as far as its time
 pub cut_says : (line : Line) (slot : Option Group) (stamp : Stamp) → LineSays line (Slot slot) → time_of (take 60 line) ≡ Some stamp
@@ -149,20 +148,22 @@ more_and_lost (suc n) k (suc sum) slots is = ap (λ (l : List (Option _)). None 
 -- lost slots that follow others
 with_more : (why : Option Break) (told lost : ℕ) (text : List ℕ) (slots : List (Option Group)) → HasCut text (and_lost told slots)
     → HasCut (text ++ more_lines why told lost) (and_lost (max told lost) slots)
-with_more why told lost text slots had = elim (cases_lt told lost) [
-  | inl more ↦ (let (is, m) = something_more why told lost more in
-      let sum : lost - told + told ≡ lost = omega (arith, more) in
-      rw (is, m) (subst (λ (l : List (Option Group)). HasCut (text ++ (break_line why ++ lost_lines (lost - told))) l) (more_and_lost (lost - told) told lost slots sum)
-      (same_text _ _ _ (append_assoc text (break_line why) (lost_lines (lost - told)))
-      (with_lost (lost - told) (text ++ break_line why) (and_lost told slots) (with_break why text (and_lost told slots) had)))))
-  | inr few ↦ (let (is, m) = nothing_more why told lost few in
-      rw (is, m) (same_text text (text ++ []) _ (sym (append-nil text)) had))
-]
+with_more why told lost text slots had =
+    subst (λ (l : List (Option Group)). HasCut (text ++ (break_line why ++ lost_lines (lost - told))) l) (more_and_lost (lost - told) told (max told lost) slots sum)
+    (same_text _ _ _ (append_assoc text (break_line why) (lost_lines (lost - told)))
+    (with_lost (lost - told) (text ++ break_line why) (and_lost told slots) (with_break why text (and_lost told slots) had)))
+  where
+    sum : lost - told + told ≡ max told lost
+    sum = elim (cases_lt told lost) [
+      | inl more ↦ (let is : max told lost ≡ lost = max-eq_right (omega (arith, more)) in omega (arith, is, more))
+      | inr few ↦ (let is : max told lost ≡ told = max-eq_left few in omega (arith, is, few))
+    ]
 
-with_gap : (f : Filling) (came : List (Arrival Group)) (told time : ℕ) (text : List ℕ) (slots : List (Option Group)) → HasCut text (and_lost told slots)
-    → HasCut (text ++ gap_lines f (newest_time came) told time) (and_lost (max told (lost_until f.grain f.dwell came time)) slots)
-with_gap f [] told time text slots had = rw (max-zero told) (same_text text (text ++ []) (and_lost told slots) (sym (append-nil text)) had)
-with_gap f (last ∷ before) told time text slots had = with_more (break_of last.time time) told (lost_between f.grain f.dwell last.time time) text slots had
+with_gap : (f : Filling) (is_group : Bool) (came : List (Arrival Group)) (told time : ℕ) (text : List ℕ) (slots : List (Option Group)) → HasCut text (and_lost told slots)
+    → HasCut (text ++ gap_lines f is_group (newest_time came) told time) (and_lost (max told (lost_until f.grain f.dwell came time)) slots)
+with_gap f is_group [] told time text slots had = rw (max-zero told) (same_text text (text ++ []) (and_lost told slots) (sym (append-nil text)) had)
+with_gap f is_group (last ∷ before) told time text slots had =
+    with_more (cond is_group (break_of last.time time) None) told (lost_between f.grain f.dwell last.time time) text slots had
 
 -- ---- the whole output
 
@@ -172,15 +173,15 @@ cut_of f [] s all (none, untold, empty) =
 cut_of f (line ∷ before) s all (inl (none, rest)) = cut_of f before s (All-tail IsLine line before all) rest
 cut_of f (line ∷ before) s all (inr (old, rest, inl adds)) =
     let had = cut_of f before old (All-tail IsLine line before all) rest in
-    let gap = gap_lines f (newest_time old.came) old.told adds.stamp.time in
+    let gap = gap_lines f true (newest_time old.came) old.told adds.stamp.time in
     let first = take (20 + adds.stamp.end) (take 60 line) in
     let is : IsLine first = All-take (λ x. x ≢ line_feed) (20 + adds.stamp.end) (take 60 line) (All-take (λ x. x ≢ line_feed) 60 line (All-head IsLine line before all)) in
-    let lost = with_gap f old.came old.told adds.stamp.time old.written (filled f.grain f.dwell old.came) had in
+    let lost = with_gap f true old.came old.told adds.stamp.time old.written (filled f.grain f.dwell old.came) had in
     let all_of = with_slot (old.written ++ gap) first (Some adds.group) _ lost is (cut_says line (Some adds.group) adds.stamp adds.says adds.timed) in
     rw (adds.came, adds.told, adds.writes) all_of
 cut_of f (line ∷ before) s all (inr (old, rest, inr adds)) =
     let had = cut_of f before old (All-tail IsLine line before all) rest in
-    rw (adds.came, adds.told, adds.writes) (with_gap f old.came old.told adds.stamp.time old.written (filled f.grain f.dwell old.came) had)
+    rw (adds.came, adds.told, adds.writes) (with_gap f false old.came old.told adds.stamp.time old.written (filled f.grain f.dwell old.came) had)
 
 pub are_logs : FilledTextsAreLogs
 are_logs f lines s all fill =

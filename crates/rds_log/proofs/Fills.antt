@@ -1,43 +1,33 @@
 -- How filling ends: what the source gives, and what the filler writes of it.
-use Rattle.std.proofs.Common.{◌≡◌, ◌≢◌, ◌↔◌, ◌^◌, ◌∙◌, ap, Bool, ℕ, false, true, List, [], None, Option, Some, Err, Ok, inl, refl}
-use Rattle.std.specs.Prelude.{IsTrue, MatchOption, is_some}
-use Rattle.rds_arrivals.specs.Coarse.{AreCoarse}
-use Rattle.rds_arrivals.specs.declared.stretch.Stretch.{Stretch}
+use Rattle.std.proofs.Common.{◌≡◌, ◌≢◌, ◌^◌, ℕ, List, [], None, Option, Err, Ok, inl, subst}
 use Rattle.rds_io.specs.Told.{Traffic}
 use Rattle.rds_log.specs.LogLines.{Line}
-use Rattle.rds_log.specs.Fill.{Fills, WroteFilledPart}
+use Rattle.rds_log.specs.Fill.{Fills, TimesAre, WroteFilledPart}
 use Rattle.rds_log.specs.Inside.Filler.{HasFilled}
 use Rattle.rds_log.specs.Inside.Source.{GivesNext, HasNoNext, IsBadLineFault, ReaderState, SourceStandsAt, since}
 use Rattle.rds_io.specs.declared.fault.LogFault.{LogFault}
 use Rattle.rds_io.specs.declared.fault.LogFault.TheVariants.{BadLine, BadRow, Read, Write, TooLong, Memory}
 use Rattle.rds_log.specs.declared.filler.Filler.{Filler}
 use Rattle.rds_log.specs.declared.filler.Filling.{Filling}
+use Rattle.rds_log.specs.declared.filler.Times.{Times}
 use Rattle.rds_log.specs.declared.source.Source.{Source}
 use Rattle.rds_log.proofs.Decodes.{begins_with}
 use Rattle.rds_log.proofs.Filled.{wrote_filled}
 
 -- the log ended, and the output was written
 pub fills_all : (f : Filling) (d : Filler) (s : Source) (start now : ReaderState) (w : Traffic) (lines : List Line) → GivesNext s (2 ^ 32) start now lines None
-    → d.filling ≡ f → HasFilled d w lines → d.output ≡ [] → (coarse : Bool) → coarse ≡ is_some d.pace.coarse → Fills f (since start now) w (Ok coarse)
+    → d.filling ≡ f → (has : HasFilled d w lines) → d.output ≡ [] → (times : Times) → TimesAre d.filling.grain lines has.so_far.came times → Fills f (since start now) w (Ok times)
 unfolding wrote_filled
-fills_all f d s start now w lines (stands, through) same has none coarse is = record {
+fills_all f d s start now w lines (stands, through) same has none times are = record {
   text = through.text;
   lines = lines;
   read = through.read;
   end = through.end;
   are = through.are;
   wrote = wrote_filled f d w lines same has none;
-  answer = rw is (by d.pace.coarse has.pace.coarse);
+  answer = subst (λ (g : Filling). TimesAre g.grain lines has.so_far.came times) same are;
   calm = stands.reads.calm;
 }
-  where
-    grain : d.pace.grain ≡ f.grain
-    grain = has.grain ∙ ap (λ (g : Filling). g.grain) same
-
-    by : (o : Option Stretch) → MatchOption o (AreCoarse d.pace.grain has.so_far.came → ⊥) (λ s. AreCoarse d.pace.grain has.so_far.came)
-        → IsTrue (is_some o) ↔ AreCoarse f.grain has.so_far.came
-    by None fine = (λ yes. absurd (let bad : false ≡ true = yes in cc), λ coarse. absurd (fine (rw (← grain) at coarse)))
-    by (Some s) coarse = (λ _. rw grain at coarse, λ _. refl)
 
 -- the source had no further line, and the output was written
 pub ends_by_fault : (f : Filling) (d : Filler) (start now : ReaderState) (w : Traffic) (lines : List Line) (first : List ℕ) (fault : LogFault) → HasNoNext (2 ^ 32) start now lines first fault

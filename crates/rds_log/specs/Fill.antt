@@ -1,6 +1,8 @@
 -- What `slots` writes: each group with its time, and before it a line for each slot that the log lacks. Lists of lines and
 -- of arrivals have the newest first. r is the traffic with the reader, w the traffic with the writer.
-use Rattle.std.specs.Prelude.{◌≡◌, ◌≢◌, ◌⊎◌, ◌+◌, ◌-◌, ◌^◌, ◌++◌, ◌↔◌, [], ◌∷◌, ℕ, zero, suc, Bool, IsTrue, List, Ok, Err, Result, Option, Some, None, codes, drop, length, max, nat_lt, take, if◌then◌else◌}
+use Rattle.std.specs.Prelude.{◌≡◌, ◌≢◌, ◌⊎◌, ◌+◌, ◌-◌, ◌^◌, ◌++◌, [], ◌∷◌, ℕ, zero, suc, Bool, false, true, List}
+use Rattle.std.specs.Prelude.{Ok, Err, Result, Option, Some, None, codes, drop, length, max, nat_lt, option_and_then}
+use Rattle.std.specs.Prelude.{take, if◌then◌else◌}
 use Rattle.std.specs.Io.KnownBytes.{Appends, Consumes, IsAtEnd}
 use Rattle.rds_block.specs.declared.group.Group.{Group}
 use Rattle.rds_io.specs.Digits.{HasWord}
@@ -19,12 +21,18 @@ use Rattle.rds_io.specs.declared.fault.LogFault.{LogFault}
 use Rattle.rds_io.specs.declared.fault.LogFault.TheVariants.{BadLine, BadRow, Read, Write, TooLong, Memory}
 use Rattle.rds_log.specs.declared.filler.Filling.{Filling}
 use Rattle.rds_log.specs.declared.log_line.LogLine.TheVariants.{Skip, Slot}
+use Rattle.rds_log.specs.declared.filler.Times.{Times}
+use Rattle.rds_log.specs.declared.filler.Times.TheVariants.{Coarse, Fine, NotUnderstood}
 
 -- ---- a line, by its first bytes
 
+-- this time, if it ends before the last of the bytes that are kept of a line, so that the line shows where it ends
+abbrev pub ended_within : Option Stamp → Option Stamp
+ended_within found = option_and_then (λ stamp. if nat_lt (20 + stamp.end) deciding then Some stamp else None) found
+
 -- the time of a slot's line: that of its text after the blocks and a space, in the bytes that are kept of a line
 abbrev pub time_of : List ℕ → Option Stamp
-time_of first = if nat_lt (length first) 20 then None else stamp_in (drop 20 first)
+time_of first = if nat_lt (length first) 20 then None else ended_within (stamp_in (drop 20 first))
 
 -- the first block is a word other than the wanted PI; if no PI is wanted, each programme is
 abbrev pub IsOfAnother : Option ℕ → List ℕ → Type 0
@@ -48,15 +56,17 @@ break_line None = []
 break_line (Some Back) = codes "# time went back\n"
 break_line (Some Day) = codes "# more than a day passed\n"
 
--- the output when `lost` slots are lost since the last group and `told` of them are written: the comment, if there is a
--- break, and the lost slots that are not written
+-- the output when `lost` slots are lost since the last group and `told` of them are written: the comment of a break, and
+-- the lost slots that are not written
 abbrev pub more_lines : Option Break → ℕ → ℕ → List ℕ
-more_lines why told lost = if nat_lt told lost then break_line why ++ lost_lines (lost - told) else []
+more_lines why told lost = break_line why ++ lost_lines (lost - told)
 
--- the output from the time of the last group to this one, if `told` lost slots are written since
-abbrev pub gap_lines : Filling → Option ℕ → ℕ → ℕ → List ℕ
-gap_lines f None told time = []
-gap_lines f (Some last) told time = more_lines (break_of last time) told (lost_between f.grain f.dwell last time)
+-- the output from the time of the last group to this one, if `told` lost slots are written since. A break is told when a
+-- group came
+abbrev pub gap_lines : Filling → Bool → Option ℕ → ℕ → ℕ → List ℕ
+gap_lines f came None told time = []
+gap_lines f came (Some last) told time =
+    more_lines (if came then break_of last time else None) told (lost_between f.grain f.dwell last time)
 
 abbrev pub newest_time : List (Arrival Group) → Option ℕ
 newest_time [] = None
@@ -80,7 +90,7 @@ pub record AddsGroup (f : Filling) (line : Line) (old new : SoFar) : Type 0 wher
   pub came : new.came ≡ record { entry = group; time = stamp.time; told = old.told } ∷ old.came
   pub told : new.told ≡ 0
   pub writes : new.written
-      ≡ old.written ++ gap_lines f (newest_time old.came) old.told stamp.time ++ shown (take deciding line) stamp
+      ≡ old.written ++ gap_lines f true (newest_time old.came) old.told stamp.time ++ shown (take deciding line) stamp
 
 -- the line has a time and no whole group: no group came up to this time. It adds the lost slots that are not written
 pub record AddsTime (f : Filling) (line : Line) (old new : SoFar) : Type 0 where
@@ -90,7 +100,7 @@ pub record AddsTime (f : Filling) (line : Line) (old new : SoFar) : Type 0 where
   pub own : IsOfAnother f.pi (take deciding line) → ⊥
   pub came : new.came ≡ old.came
   pub told : new.told ≡ max old.told (lost_until f.grain f.dwell old.came stamp.time)
-  pub writes : new.written ≡ old.written ++ gap_lines f (newest_time old.came) old.told stamp.time
+  pub writes : new.written ≡ old.written ++ gap_lines f false (newest_time old.came) old.told stamp.time
 
 -- the line adds nothing: it is no slot, or it has no time, or it is of another programme
 abbrev pub AddsNothing : Filling → Line → Type 0
@@ -119,20 +129,38 @@ pub record WroteFilledPart (f : Filling) (w : Traffic) (lines : List Line) : Typ
   pub wrote : AppendsPrefix w.before w.after so_far.written
   pub failed : HasFailed w
 
--- the output of a whole log was written, and the answer says whether its times are coarse
-pub record FillsAll (f : Filling) (r w : Traffic) (coarse : Bool) : Type 0 where
+-- the line is a group without a time
+pub record IsUntimed (line : Line) : Type 0 where
+  pub group : Group
+  pub says : LineSays line (Slot (Some group))
+  pub untimed : time_of (take deciding line) ≡ None
+
+-- one of these lines is so
+abbrev pub HasUntimed : List Line → Type 0
+HasUntimed [] = ⊥
+HasUntimed (line ∷ before) = IsUntimed line ⊎ HasUntimed before
+
+-- whether the slots of the log can be counted by the times of these lines, which have these groups: no time was
+-- understood, or the times are coarse, or neither
+abbrev pub TimesAre : ℕ → List Line → List (Arrival Group) → Times → Type 0
+TimesAre grain lines came Fine = ((came ≡ []) × HasUntimed lines → ⊥) × (AreCoarse grain came → ⊥)
+TimesAre grain lines came Coarse = AreCoarse grain came
+TimesAre grain lines came NotUnderstood = (came ≡ []) × HasUntimed lines
+
+-- the output of a whole log was written, and the answer says what its times are
+pub record FillsAll (f : Filling) (r w : Traffic) (times : Times) : Type 0 where
   pub text : List ℕ
   pub lines : List Line
   pub read : Consumes r.before r.after text
   pub end : IsAtEnd r.after
   pub are : AreLines text lines
   pub wrote : WroteFilled f w lines
-  pub answer : IsTrue coarse ↔ AreCoarse f.grain wrote.so_far.came
+  pub answer : TimesAre f.grain lines wrote.so_far.came times
   pub calm : IsCalm r
 
 -- the result of `slots`: each fault has its cause
-abbrev pub Fills : Filling → Traffic → Traffic → Result Bool LogFault → Type 0
-Fills f r w (Ok coarse) = FillsAll f r w coarse
+abbrev pub Fills : Filling → Traffic → Traffic → Result Times LogFault → Type 0
+Fills f r w (Ok times) = FillsAll f r w times
 Fills f r w (Err (BadLine n)) =
     (text : List ℕ) × (lines : List Line) × Consumes r.before r.after text × NextIsBad n lines text r.after
     × WroteFilled f w lines × IsCalm r

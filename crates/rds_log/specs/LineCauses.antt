@@ -9,7 +9,7 @@ use Rattle.rds_log.specs.LogLines.{Line, content_length}
 use Rattle.rds_log.specs.LineSays.{IsBlock}
 use Rattle.rds_log.specs.declared.log_line.Block.{Block}
 use Rattle.rds_log.specs.declared.line_cause.LineCause.{LineCause}
-use Rattle.rds_log.specs.declared.line_cause.LineCause.TheVariants.{Json, Script, NoSpace, EndsAfter, Length, Digit}
+use Rattle.rds_log.specs.declared.line_cause.LineCause.TheVariants.{Json, Mark, Script, NoSpace, EndsAfter, Length, Digit}
 
 abbrev pub brace : ℕ
 brace = 0x7B
@@ -46,9 +46,21 @@ HasCommaBeforeSpace line = (place : ℕ) × IsFirstByte (is_byte comma) line (So
     × (IsFirstByte (is_byte space) line None
     ⊎ ((after : ℕ) × IsFirstByte (is_byte space) line (Some after) × (place < after)))
 
--- the line has the form of a slot line: it begins with no brace, has no comma before any space, and has a space
-pub record HasSlotForm (line : Line) : Type 0 where
+-- the line begins with a byte order mark: of UTF-8, or of UTF-16 in either byte order
+abbrev pub HasMark : Line → Type 0
+HasMark line =
+    ((slice_index line 0 ≡ 0xEF) × (slice_index line 1 ≡ 0xBB) × (slice_index line 2 ≡ 0xBF))
+    ⊎ (((slice_index line 0 ≡ 0xFF) × (slice_index line 1 ≡ 0xFE))
+    ⊎ ((slice_index line 0 ≡ 0xFE) × (slice_index line 1 ≡ 0xFF)))
+
+-- the line begins with no brace and no mark
+pub record HasPlainStart (line : Line) : Type 0 where
   pub no_brace : slice_index line 0 ≢ brace
+  pub no_mark : HasMark line → ⊥
+
+-- the line has the form of a slot line: a plain start, no comma before any space, and a space
+pub record HasSlotForm (line : Line) : Type 0 where
+  pub start : HasPlainStart line
   pub no_comma : HasCommaBeforeSpace line → ⊥
   pub has_space : IsFirstByte (is_byte space) line None → ⊥
 
@@ -70,8 +82,9 @@ pub record IsFirstBad (line : Line) (block : ℕ) : Type 0 where
 -- this is the cause; a line has at most one
 abbrev pub IsLineCause : Line → LineCause → Type 0
 IsLineCause line Json = slice_index line 0 ≡ brace
-IsLineCause line Script = (slice_index line 0 ≢ brace) × HasCommaBeforeSpace line
-IsLineCause line NoSpace = (slice_index line 0 ≢ brace) × (HasCommaBeforeSpace line → ⊥)
+IsLineCause line Mark = HasMark line
+IsLineCause line Script = HasPlainStart line × HasCommaBeforeSpace line
+IsLineCause line NoSpace = HasPlainStart line × (HasCommaBeforeSpace line → ⊥)
     × IsFirstByte (is_byte space) line None
 IsLineCause line (EndsAfter n) = IsFirstBad line n × (content_length line < 5 * n)
 IsLineCause line (Length n count) = (block : ℕ) × (n ≡ block + 1) × IsFirstBad line block

@@ -1,14 +1,14 @@
 //! The lines of a filled log: each group with its time, and a line for each slot that was lost before it.
-ghost use Rattle.std.specs.Prelude.{◌≡◌, ◌≤◌, ◌+◌, ◌++◌, ◌∷◌, ◌↔◌, [], ℕ, List, Option};
-ghost use Rattle.std.specs.Prelude.{IfSome, IsOk, IsTrue, MatchResult, None, OnOk, Some, codes, is_some, length, max, take};
+ghost use Rattle.std.specs.Prelude.{◌≡◌, ◌⊎◌, ◌<◌, ◌≤◌, ◌+◌, ◌++◌, ◌∷◌, ◌↔◌, [], ℕ, List, Option};
+ghost use Rattle.std.specs.Prelude.{IfSome, IsOk, IsTrue, MatchResult, None, OnOk, Some, codes, is_some, length, max, take, true};
 ghost use Rattle.rds_block.specs.declared.group.Group.{Group};
 ghost use Rattle.rds_io.specs.Told.{IsCalm, Traffic, traffic};
-ghost use Rattle.rds_log.specs.Fill.{AreFilled, IsOfAnother, WroteFilledPart, break_line, gap_lines, lost_lines, more_lines, time_of};
+ghost use Rattle.rds_log.specs.Fill.{AreFilled, IsOfAnother, TimesAre, WroteFilledPart, break_line, ended_within, gap_lines, lost_lines, more_lines, time_of};
 ghost use Rattle.rds_log.specs.LineSays.{LineSays, deciding};
 ghost use Rattle.rds_log.specs.LogLines.{Line};
 ghost use Rattle.rds_log.specs.declared.filler.TheConstants.{FILLED_ROOM, LINE_ROOM};
 
-use crate::log_line::LogLine;
+use crate::log_line::{DECIDING, LogLine};
 use crate::pace::Pace;
 use rds_arrivals::{Break, Grain, Stamp, lost_between, stamp_in};
 use rds_fields::Dwell;
@@ -36,6 +36,17 @@ pub struct Filling {
     pub dwell: Dwell,
 }
 
+/// Whether the lost slots of a log can be counted by its times (this project's own rule).
+#[derive(Clone, Copy, Debug, PartialEq, Eq)]
+pub enum Times {
+    /// They can, or there is no group whose time could be missing.
+    Fine,
+    /// The times are too coarse: more slots were counted than a station sends in that time.
+    Coarse,
+    /// There are groups without a time, and none of the programme with one.
+    NotUnderstood,
+}
+
 /// Takes the lines of a log with times, and keeps their output until it is written.
 #[derive(Drop)]
 pub(crate) struct Filler {
@@ -43,7 +54,7 @@ pub(crate) struct Filler {
     pub(crate) pace: Pace,
     /// How many lost slots are written since the last group.
     told: u32,
-    /// The number of slot lines without a time.
+    /// The number of groups without a time.
     pub(crate) untimed: u64,
     /// The number of lines of other programmes with a time.
     pub(crate) others: u64,
@@ -70,6 +81,20 @@ impl Filler {
             breaks: 0,
             output: Lines::new(),
         }
+    }
+
+    /// Returns whether the lost slots so far can be counted by the times.
+    pub(crate) fn times(&self) -> Times
+        ensures { (w : Traffic) (lines : List Line) (has : HasFilled self.now w lines)
+            → TimesAre self.now.filling.grain lines has.so_far.came result }
+    {
+        if self.pace.coarse.is_some() {
+            return Times::Coarse;
+        }
+        if self.pace.stretch.is_none() && self.untimed > 0 {
+            return Times::NotUnderstood;
+        }
+        Times::Fine
     }
 
     /// Takes a line with this meaning, from its first bytes.
@@ -114,44 +139,64 @@ impl Filler {
             (traffic W.contents W.failures start writer.new) (line ∷ lines)) }
     {
         let Some(stamp) = stamp_of(first) else {
-            self.untimed = self.untimed.saturating_add(1);
+            self.count_untimed(is_group);
             return Ok(());
         };
         if is_of_another(self.filling.pi, first) {
             self.others = self.others.saturating_add(1);
             return Ok(());
         }
-        self.push_gap(stamp.time, writer)?;
+        let told = self.told;
+        self.push_gap(is_group, stamp.time, writer)?;
         if !is_group {
             return Ok(());
         }
-        self.pace.add(stamp.time);
+        self.pace.add(told, stamp.time);
         self.told = 0;
         self.push_line(&first[..TIME + stamp.end], writer)
     }
 
-    /// Appends what is lost from the last group to this time, and is not written yet.
-    fn push_gap<W: TellingWrite>(&mut self, time: u64, writer: &mut W) -> Result<(), WriteFault>
+    /// Counts a line of a slot without a time, if it has a group.
+    fn count_untimed(&mut self, is_group: bool)
+        ensures count { (0 < self.new.untimed) ↔ ((0 < self.old.untimed) ⊎ (is_group ≡ true)) }
+        ensures kept { self.new ≡ record self.old { untimed = self.new.untimed } }
+    {
+        if is_group {
+            self.untimed = self.untimed.saturating_add(1);
+        }
+    }
+
+    /// Appends the slots that are lost from the last group to this time and are not written yet, and before them the comment
+    /// of a break, if a group came at this time.
+    fn push_gap<W: TellingWrite>(
+        &mut self,
+        is_group: bool,
+        time: u64,
+        writer: &mut W,
+    ) -> Result<(), WriteFault>
         ensures keeps { KeepsPace self.old self.new }
         ensures told { self.new.told ≡ told_after self.old.filling (last_time self.old) self.old.told time }
         ensures pushed { (start : W) (total : List ℕ)
             → HasOutput (traffic W.contents W.failures start writer.old) self.old total
             → MatchResult result
             (λ _. HasOutput (traffic W.contents W.failures start writer.new) self.new
-            (total ++ gap_lines self.old.filling (last_time self.old) self.old.told time))
+            (total ++ gap_lines self.old.filling is_group (last_time self.old) self.old.told time))
             (λ _. LostOutput (traffic W.contents W.failures start writer.new)
-            (total ++ gap_lines self.old.filling (last_time self.old) self.old.told time)) }
+            (total ++ gap_lines self.old.filling is_group (last_time self.old) self.old.told time)) }
     {
         let Some(stretch) = self.pace.stretch else {
             return Ok(());
         };
         match lost_between(stretch.last, time, self.filling.grain) {
             Ok(lost) => self.push_more(None, lost, writer),
-            Err(why) => self.push_more(Some(why), u32::from(self.filling.dwell.get()), writer),
+            Err(why) => {
+                let told = is_group.then_some(why);
+                self.push_more(told, u32::from(self.filling.dwell.get()), writer)
+            }
         }
     }
 
-    /// Appends the lost slots of these that are not written yet, and before them the comment of a break.
+    /// Appends the comment of a break, and the lost slots of these that are not written yet.
     fn push_more<W: TellingWrite>(
         &mut self,
         why: Option<Break>,
@@ -168,11 +213,8 @@ impl Filler {
             (λ _. LostOutput (traffic W.contents W.failures start writer.new)
             (total ++ more_lines why self.old.told lost)) }
     {
-        if lost <= self.told {
-            return Ok(());
-        }
-        let more = lost - self.told;
-        self.told = lost;
+        let more = lost.saturating_sub(self.told);
+        self.told = self.told.max(lost);
         self.push_comment(why, writer)?;
         self.push_lost(more, writer)
     }
@@ -276,7 +318,18 @@ fn stamp_of(start: &[u8]) -> Option<Stamp>
     if start.len() < TIME {
         return None;
     }
-    stamp_in(&start[TIME..])
+    ended_within(stamp_in(&start[TIME..]))
+}
+
+/// Returns this time if it ends before the last of the bytes that are kept of a line, so that the line shows where it ends.
+fn ended_within(found: Option<Stamp>) -> Option<Stamp>
+    ensures value { result ≡ ended_within found }
+    ensures same { IfSome result (λ stamp. found ≡ Some stamp) }
+{
+    match found {
+        Some(stamp) if stamp.end < DECIDING - TIME => Some(stamp),
+        Some(_) | None => None,
+    }
 }
 
 /// Returns whether the first block is a word other than this PI.
@@ -293,8 +346,8 @@ fn is_of_another(pi: Option<u16>, first: &[u8]) -> bool
     }
 }
 
-/// Returns the comment of a break, without its line feed.
-fn comment_of(why: Break) -> &'static [u8]
+/// Returns the comment that `slots` writes at a break, without its line feed.
+pub fn comment_of(why: Break) -> &'static [u8]
     ensures line { result.now ++ codes "\n" ≡ break_line (Some why) }
     ensures short { length result.now ≤ 60 }
 {

@@ -4,7 +4,7 @@ ghost use Rattle.rds_log.specs.LogLines.{content_length};
 ghost use Rattle.rds_log.specs.LineSays.{IsSkipped};
 ghost use Rattle.memchr.specs.Find.{IsFirstByte, is_byte};
 ghost use Rattle.rds_assembly.specs.Body as chars;
-ghost use Rattle.rds_log.specs.LineCauses.{AreGoodBlocks, EndsAfterFour, HasCommaBeforeSpace, HasSlotForm};
+ghost use Rattle.rds_log.specs.LineCauses.{AreGoodBlocks, EndsAfterFour, HasCommaBeforeSpace, HasMark, HasSlotForm};
 ghost use Rattle.rds_log.specs.LineCauses.{IsGoodAt, IsGoodBlock, IsLineCause, StandBeforeSpace};
 
 use crate::log_line::{block_at, content_length, is_skipped};
@@ -20,6 +20,9 @@ pub enum LineCause {
     /// The line begins with a brace, as in JSON.
     #[error("it looks like JSON")]
     Json,
+    /// The line begins with a byte order mark, of UTF-8 or UTF-16.
+    #[error("it begins with a byte order mark: save the log as plain ASCII")]
+    Mark,
     /// A comma comes before any space, as in a row of a script.
     #[error("it looks like a row of a script, which encode and sim read")]
     Script,
@@ -62,6 +65,9 @@ fn form_cause(line: &[u8]) -> Option<LineCause>
     if line[0] == b'{' {
         return Some(LineCause::Json);
     }
+    if has_mark(line) {
+        return Some(LineCause::Mark);
+    }
     let space = memchr(b' ', line);
     if has_comma_before(line, space) {
         return Some(LineCause::Script);
@@ -70,6 +76,17 @@ fn form_cause(line: &[u8]) -> Option<LineCause>
         Some(_) => None,
         None => Some(LineCause::NoSpace),
     }
+}
+
+/// Returns whether the line begins with a byte order mark: `EF BB BF` of UTF-8, `FF FE` or `FE FF` of UTF-16.
+fn has_mark(line: &[u8]) -> bool
+    ensures { IsTrue result ↔ HasMark line.now }
+{
+    if line.len() >= 3 && line[0] == 0xEF {
+        return line[1] == 0xBB && line[2] == 0xBF;
+    }
+    line.len() >= 2
+        && ((line[0] == 0xFF && line[1] == 0xFE) || (line[0] == 0xFE && line[1] == 0xFF))
 }
 
 /// Returns whether a comma comes before the first space, or anywhere if there is no space.

@@ -28,13 +28,13 @@ impl Pace {
         }
     }
 
-    /// Adds a group of this time.
-    pub(crate) fn add(&mut self, time: u64)
+    /// Adds a group of this time. So many lost slots before it were known before it came.
+    pub(crate) fn add(&mut self, told: u32, time: u64)
         ensures grain { self.new.grain ≡ self.old.grain }
-        ensures stands { (arrivals : List (Arrival Group)) (a : Arrival Group) → a.time ≡ time
+        ensures stands { (arrivals : List (Arrival Group)) (a : Arrival Group) → a.told ≡ told → a.time ≡ time
             → PaceStandsAt self.old arrivals → PaceStandsAt self.new (a ∷ arrivals) }
     {
-        let stretch = Stretch::after(self.stretch, time, self.grain);
+        let stretch = Stretch::after(self.stretch, told, time, self.grain);
         self.stretch = Some(stretch);
         if stretch.is_coarse(self.grain) {
             self.coarse = Some(stretch);

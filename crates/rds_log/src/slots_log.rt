@@ -6,7 +6,7 @@ ghost use Rattle.rds_log.specs.Notes.{NotesFault};
 ghost use Rattle.rds_log.specs.Reads.{MadeReads};
 
 use crate::decode_log::MOST_READS;
-use crate::filler::{Filler, Filling};
+use crate::filler::{Filler, Filling, Times};
 use crate::log_line::{LineStart, LogLine};
 use crate::notes::BadStart;
 use crate::source::Source;
@@ -17,7 +17,7 @@ use rds_io::{LogFault, TellingRead, TellingWrite};
 /// Notes of `slots` for a person.
 #[derive(Drop)]
 pub struct SlotNotes {
-    /// The number of slot lines without a time, which were left out.
+    /// The number of groups without a time, which were left out.
     pub untimed: u64,
     /// The number of lines with a time that were left out, since they are of another programme.
     pub others: u64,
@@ -47,7 +47,7 @@ impl SlotNotes {
 /// Writes the log with a line for each slot: each group with its time, and the slots that were lost before it. Takes notes
 /// for a person. The new notes replace the old content of `notes`.
 ///
-/// Returns whether the times are too coarse to count slots by. The output is complete in any case. The output for the lines
+/// Returns whether the slots can be counted by the times. The output is complete in any case. The output for the lines
 /// of one read is written before the next read.
 ///
 /// # Errors
@@ -58,7 +58,7 @@ pub fn fill_with_notes<R: TellingRead, W: TellingWrite>(
     writer: &mut W,
     filling: Filling,
     notes: &mut SlotNotes,
-) -> Result<bool, LogFault>
+) -> Result<Times, LogFault>
     ensures fills { Fills filling (traffic R.remaining R.failures reader.old reader.new)
         (traffic W.contents W.failures writer.old writer.new) result }
     ensures reads { MadeReads (2 ^ 32) (R.reads reader.old) (R.reads reader.new) result }
@@ -78,7 +78,7 @@ pub fn fill_with_notes<R: TellingRead, W: TellingWrite>(
                 notes.others = filler.others;
                 notes.breaks = filler.breaks;
                 notes.coarse = filler.pace.coarse;
-                return Ok(notes.coarse.is_some());
+                return Ok(filler.times());
             }
             Err(fault) => {
                 filler.write(writer)?;

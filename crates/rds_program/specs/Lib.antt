@@ -1,3 +1,4 @@
 pub mod Run
 pub mod RunsBy
 pub mod Timing
+pub mod Breaks

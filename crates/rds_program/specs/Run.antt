@@ -8,7 +8,7 @@ use Rattle.clap.specs.declared.error.Error.{Error}
 use Rattle.clap.specs.declared.error.kind.ErrorKind.{ErrorKind}
 use Rattle.clap.specs.declared.error.kind.ErrorKind.TheVariants.{OutOfMemory}
 use Rattle.rds_io.specs.Puts.{Puts}
-use Rattle.rds_io.specs.Told.{HasFailed, PutsNothing, Traffic}
+use Rattle.rds_io.specs.Told.{HasFailed, IsCalm, PutsNothing, Traffic, traffic}
 use Rattle.rds_io.specs.declared.told.WriteFault.{WriteFault}
 use Rattle.rds_receiver.specs.Receipts.{Tuning}
 use Rattle.rds_world.specs.Premise.{Premise, lateness_in}
@@ -21,6 +21,8 @@ use Rattle.rds_log.specs.Decode.{Decodes}
 use Rattle.rds_log.specs.Fill.{Fills}
 use Rattle.rds_log.specs.LogWrites.{tuned}
 use Rattle.rds_log.specs.declared.filler.Filling.{Filling}
+use Rattle.rds_log.specs.declared.filler.Times.{Times}
+use Rattle.rds_log.specs.declared.filler.Times.TheVariants.{Coarse, Fine, NotUnderstood}
 use Rattle.rds_io.specs.ReadFailed.{SomeReadFailed}
 use Rattle.rds_script.specs.Play.{Plays, Reading}
 use Rattle.rds_io.specs.declared.fault.LogFault.{LogFault}
@@ -45,6 +47,19 @@ pub record IsUntouched {X : Type 0} (remaining : X → Option (List ℕ)) (failu
   pub bytes_are : remaining new ≡ remaining old
   pub failures_are : failures new ≡ failures old
   pub reads_are : reads new ≡ reads old
+
+-- a reader over a run: its traffic, the fact that one of its reads failed, and the fact that it is untouched
+pub record ReaderOver : Type 1 where
+  pub traffic : Traffic
+  pub ReadFailed : Type 0
+  pub Untouched : Type 0
+
+abbrev pub reader_over : {R : Type 0} → (R → Option (List ℕ)) → (R → ℕ) → (R → ℕ) → R → R → ReaderOver
+reader_over remaining failures reads old new = record {
+  traffic = traffic remaining failures old new;
+  ReadFailed = SomeReadFailed failures;
+  Untouched = IsUntouched remaining failures reads old new;
+}
 
 -- ---- faults
 
@@ -92,9 +107,11 @@ verdict_status passed = if passed then 0 else 1
 abbrev pub witness_status : Bool → ℕ
 witness_status found = if found then 1 else 0
 
--- the status if the times of a log are too coarse, and if not
-abbrev pub coarse_status : Bool → ℕ
-coarse_status coarse = if coarse then 1 else 0
+-- the status if the slots of a log can be counted by its times, and if not
+abbrev pub times_status : Times → ℕ
+times_status Fine = 0
+times_status Coarse = 1
+times_status NotUnderstood = 1
 
 -- an engine ran, and its outcome gave the status; `mid` and `failures` are the writer's between the two
 pub record Runs {X : Type 0} (Engine : Traffic → Result X LogFault → Type 0) (status_of : X → ℕ) (task : Task)
@@ -139,9 +156,9 @@ abbrev pub filling_of : Tuning → ℕ → Bool → Filling
 filling_of t grain only =
     record { pi = if only then Some t.programme else None; grain = grain; dwell = t.dwell }
 
--- the traffic with the reader of a script, and the fact that one of its reads failed
-abbrev pub script_in : Traffic → Type 0 → Reading
-script_in r ReadFailed = record { known = r.before; Failed = ReadFailed }
+-- the bytes of the reader of a script, and the fact that one of its reads failed
+abbrev pub script_in : ReaderOver → Reading
+script_in r = record { known = r.traffic.before; Failed = r.ReadFailed }
 
 -- ---- the whole program
 
@@ -150,29 +167,29 @@ pub record RefusesWindow (task : Task) (w : Traffic) (status : ℕ) : Type 0 whe
   pub status_is : status ≡ 2
   pub told : TellsFault task (codes "fault confirm") w
 
--- the simulation of this station ran, with reasons or without; without a station its window was refused
-abbrev pub SimulationRuns : Bool → Option Config → Task → Reading → Traffic → ℕ → Type 0
-SimulationRuns why None task reading w status = RefusesWindow task w status
-SimulationRuns why (Some station) task reading w status =
-    Runs (Plays (Simulation why) station (2 ^ 32) reading) done task w status
+-- the simulation of this station ran, with reasons or without; without a station its window was refused, and nothing was
+-- read
+abbrev pub SimulationRuns : Bool → Option Config → Task → ReaderOver → Traffic → ℕ → Type 0
+SimulationRuns why None task r w status = RefusesWindow task w status × r.Untouched
+SimulationRuns why (Some station) task r w status =
+    Runs (Plays (Simulation why) station (2 ^ 32) (script_in r)) done task w status
 
--- the engine of the task ran, with receivers that are tuned so; the receiver of `decode` has the window of the task.
--- ReadFailed says that a read of the reader failed
-abbrev pub TaskRuns : Task → Tuning → Traffic → Type 0 → Traffic → ℕ → Type 0
-TaskRuns (Decode window why) t r ReadFailed w status =
-    Runs (Decodes why (record t { window = window }) (2 ^ 32) r) done (Decode window why) w status
-TaskRuns (Encode programme late) t r ReadFailed w status =
-    Runs (Plays Log (station_of t programme (once late) WithDwell) (2 ^ 32) (script_in r ReadFailed)) done
+-- the engine of the task ran, with receivers that are tuned so; the receiver of `decode` has the window of the task
+abbrev pub TaskRuns : Task → Tuning → ReaderOver → Traffic → ℕ → Type 0
+TaskRuns (Decode window why) t r w status =
+    Runs (Decodes why (record t { window = window }) (2 ^ 32) r.traffic) done (Decode window why) w status
+TaskRuns (Encode programme late) t r w status =
+    Runs (Plays Log (station_of t programme (once late) WithDwell) (2 ^ 32) (script_in r)) done
     (Encode programme late) w status
-TaskRuns (Simulate programme late window alone why) t r ReadFailed w status =
-    SimulationRuns why (simulated_station t programme late window alone) (Simulate programme late window alone why)
-    (script_in r ReadFailed) w status
-TaskRuns (Audit late running) t r ReadFailed w status =
-    Runs (Audits (start_if running) t.programme (t.dwell + late) (2 ^ 32) r) verdict_status (Audit late running) w
+TaskRuns (Simulate programme late window alone why) t r w status =
+    SimulationRuns why (simulated_station t programme late window alone) (Simulate programme late window alone why) r w
     status
-TaskRuns Witness t r ReadFailed w status = Runs (Witnesses t r) witness_status Witness w status
-TaskRuns (Slots grain only) t r ReadFailed w status =
-    Runs (Fills (filling_of t (1000 * grain) only) r) coarse_status (Slots grain only) w status
+TaskRuns (Audit late running) t r w status =
+    Runs (Audits (start_if running) t.programme (t.dwell + late) (2 ^ 32) r.traffic) verdict_status
+    (Audit late running) w status
+TaskRuns Witness t r w status = Runs (Witnesses t r.traffic) witness_status Witness w status
+TaskRuns (Slots grain only) t r w status =
+    Runs (Fills (filling_of t (1000 * grain) only) r.traffic) times_status (Slots grain only) w status
 
 -- the programme identification is refused
 pub record RefusesPi (task : Task) (w : Traffic) (status : ℕ) : Type 0 where
@@ -200,7 +217,8 @@ pub record RunsFrom (reader : ReaderBefore) (w : Traffic) (status : ℕ) (task :
   pub r : Traffic
   pub starts : StartsFrom r reader.bytes reader.failures
   pub fails : HasFailed r → reader.ReadFailed
-  pub ran : TaskRuns task t r reader.ReadFailed w status
+  pub ran : TaskRuns task t
+      (record { traffic = r; ReadFailed = reader.ReadFailed; Untouched = (r.after ≡ r.before) × IsCalm r }) w status
 
 -- the status of an answer of `clap`: 1 if the program is out of memory, 0 for help and the version, and 2 for a refusal
 abbrev pub status_of : ErrorKind → ℕ

@@ -58,27 +58,28 @@ script_by says form config task known w status ran = record {
   ended = ran.ended;
 }
 
--- the run of a simulation, with another statement about its reads
-simulation_by : {P Q : Type 0} → (P → Q) → (why : Bool) (station : Option Config) (task : Task)
-    (known : Option (List ℕ)) (w : Traffic) (status : ℕ)
-    → SimulationRuns why station task record { known = known; Failed = P } w status
-    → SimulationRuns why station task record { known = known; Failed = Q } w status
-simulation_by says why None task known w status ran = ran
-simulation_by says why (Some station) task known w status ran =
-    script_by says (Simulation why) station task known w status ran
+-- the run of a simulation, with other statements about its reads
+simulation_by : {P Q U V : Type 0} → (P → Q) → (U → V) → (why : Bool) (station : Option Config) (task : Task)
+    (r w : Traffic) (status : ℕ)
+    → SimulationRuns why station task (record { traffic = r; ReadFailed = P; Untouched = U }) w status
+    → SimulationRuns why station task (record { traffic = r; ReadFailed = Q; Untouched = V }) w status
+simulation_by says rests why None task r w status ran = (ran.0, rests ran.1)
+simulation_by says rests why (Some station) task r w status ran =
+    script_by says (Simulation why) station task r.before w status ran
 
--- the run of a task, with another statement about its reads
-pub task_by : {P Q : Type 0} → (P → Q) → (task : Task) (t : Tuning) (r w : Traffic) (status : ℕ)
-    → TaskRuns task t r P w status → TaskRuns task t r Q w status
-task_by says (Decode window why) t r w status ran = ran
-task_by says (Audit late running) t r w status ran = ran
-task_by says Witness t r w status ran = ran
-task_by says (Slots grain only) t r w status ran = ran
-task_by says (Encode programme late) t r w status ran =
+-- the run of a task, with other statements about its reads
+pub task_by : {P Q U V : Type 0} → (P → Q) → (U → V) → (task : Task) (t : Tuning) (r w : Traffic) (status : ℕ)
+    → TaskRuns task t (record { traffic = r; ReadFailed = P; Untouched = U }) w status
+    → TaskRuns task t (record { traffic = r; ReadFailed = Q; Untouched = V }) w status
+task_by says rests (Decode window why) t r w status ran = ran
+task_by says rests (Audit late running) t r w status ran = ran
+task_by says rests Witness t r w status ran = ran
+task_by says rests (Slots grain only) t r w status ran = ran
+task_by says rests (Encode programme late) t r w status ran =
     script_by says Log (station_of t programme (once late) WithDwell) (Encode programme late) r.before w status ran
-task_by says (Simulate programme late window alone why) t r w status ran =
-    simulation_by says why (simulated_station t programme late window alone)
-    (Simulate programme late window alone why) r.before w status ran
+task_by says rests (Simulate programme late window alone why) t r w status ran =
+    simulation_by says rests why (simulated_station t programme late window alone)
+    (Simulate programme late window alone why) r w status ran
 
 -- a reader whose count of failures is always 0 never fails
 pub never_fails : Failed 0 0 → ⊥

@@ -1,29 +1,55 @@
 //! A writer that tells each break of the log of `slots` at once.
 
-ghost use Rattle.std.specs.Prelude.{◌≤◌, length};
+ghost use Rattle.std.specs.Prelude.{◌≡◌, ◌≤◌, length};
+ghost use Rattle.rds_program.specs.Breaks.{writer_of};
 
 use crate::note_lines::print_break;
-use memchr::{memchr, memchr_iter};
+use memchr::memchr_iter;
+use rds_arrivals::Break;
 use rds_io::TellingWrite;
+use rds_log::comment_of;
 use std::io::{self, Write};
+use std::mem;
 
-/// A writer that prints a note on its screen for each comment that says a break. Its contents are those of the writer
-/// inside.
+/// A writer that prints a note on its screen at the first comment of each kind of break. Its contents are those of the
+/// writer inside.
 #[derive(Drop)]
 pub struct Breaks<W, N> {
     writer: W,
     screen: N,
-    /// Whether the command tells breaks.
-    tells: bool,
+    left: Left,
+}
+
+/// Which kinds of breaks are still to be noted.
+#[derive(Clone, Copy)]
+struct Left {
+    back: bool,
+    day: bool,
+}
+
+impl Left {
+    /// Takes a kind out. Returns whether it was left.
+    fn take(&mut self, why: Break) -> bool {
+        match why {
+            Break::Back => mem::take(&mut self.back),
+            Break::Day => mem::take(&mut self.day),
+        }
+    }
 }
 
 impl<W, N: TellingWrite> Breaks<W, N> {
     /// Wraps the writer of a command with these arguments, with the writer for its notes.
-    pub fn new(writer: W, screen: N, words: &[&str]) -> Self {
+    pub fn new(writer: W, screen: N, words: &[&str]) -> Self
+        ensures { writer_of result ≡ writer }
+    {
+        let tells = tells_breaks(words);
         Breaks {
             writer,
             screen,
-            tells: tells_breaks(words),
+            left: Left {
+                back: tells,
+                day: tells,
+            },
         }
     }
 
@@ -34,12 +60,12 @@ impl<W, N: TellingWrite> Breaks<W, N> {
 }
 
 impl<W: Write, N: TellingWrite> Write for Breaks<W, N> {
-    ghost contents = { λ breaks. W.contents breaks.writer };
+    ghost contents = { λ breaks. W.contents (writer_of breaks) };
 
     fn write(&mut self, buf: &[u8]) -> io::Result<usize> {
         let written = self.writer.write(buf)?;
-        if self.tells {
-            tell(buf, written, &mut self.screen);
+        if self.left.back || self.left.day {
+            note_breaks(&buf[..written], &mut self.left, &mut self.screen);
         }
         Ok(written)
     }
@@ -49,26 +75,30 @@ impl<W: Write, N: TellingWrite> Write for Breaks<W, N> {
     }
 }
 
-/// Prints the breaks whose comments begin in the first of these bytes. A number sign begins each comment in the output of
-/// `slots`, and stands nowhere else.
-fn tell<N: TellingWrite>(bytes: &[u8], written: usize, screen: &mut N)
-    requires { written ≤ length bytes.now }
-{
-    for place in memchr_iter(b'#', &bytes[..written]) {
-        if let Some(why) = bytes.get(place..).and_then(break_in) {
+/// Prints those of the breaks left whose comments begin in these bytes, and takes them out. A number sign begins each
+/// comment in the output of `slots`, and is nowhere else in it.
+fn note_breaks<N: TellingWrite>(bytes: &[u8], left: &mut Left, screen: &mut N) {
+    for place in memchr_iter(b'#', bytes) {
+        if let Some(why) = break_at(bytes, place)
+            && left.take(why)
+        {
             print_break(why, screen);
         }
     }
 }
 
-/// Returns what the comment at the start of these bytes says of a break. `None` for the comment of a fault.
-fn break_in(bytes: &[u8]) -> Option<&[u8]> {
-    let end = memchr(b'\n', bytes)?;
-    let line = &bytes[..end];
-    if line.len() < 2 || line.starts_with(b"# fault") {
-        return None;
-    }
-    Some(&line[2..])
+/// Returns the break whose comment begins at this place, as far as the bytes go.
+pub(crate) fn break_at(bytes: &[u8], place: usize) -> Option<Break> {
+    let rest = bytes.get(place..)?;
+    [Break::Back, Break::Day]
+        .into_iter()
+        .find(|why| begin_alike(rest, comment_of(*why)))
+}
+
+/// Returns whether the bytes begin with this comment, or the comment with them.
+fn begin_alike(bytes: &[u8], comment: &[u8]) -> bool {
+    let count = bytes.len().min(comment.len());
+    bytes[..count] == comment[..count]
 }
 
 /// Returns whether the command of these arguments fills a log, and may warn.

@@ -7,14 +7,15 @@ mod note_lines;
 mod notes;
 mod program;
 mod status;
+mod streams;
 mod times;
 mod words;
 
-pub use breaks::Breaks;
-pub use note_lines::{print_input, print_notes, print_refusal};
+pub use note_lines::print_notes;
 pub use notes::{End, Options, RunNotes};
 pub use program::{run, run_with_notes};
 pub use status::{FAULT, REFUSED, no_words, write_no_memory};
+pub use streams::{Input, Output, input_of, output_of, run_over};
 pub use times::{LogTimes, Timing};
 pub use words::{texts, words_of};
 

@@ -3,7 +3,7 @@
 use crate::notes::{End, RunNotes};
 use arrayvec::ArrayVec;
 use memchr::memchr;
-use rds_arrivals::Grain;
+use rds_arrivals::{Break, Grain};
 use rds_audit::AuditFault;
 use rds_cli::Task;
 use rds_encoder::Refusal;
@@ -148,7 +148,9 @@ fn reads_nothing(notes: &RunNotes) -> bool {
 fn push_second(count: u64, judges: bool, is_begun: bool, note: &mut Note) {
     let join = if is_begun { "; " } else { "" };
     let verb = if judges { "judged" } else { "read" };
-    let _ = write!(note, "{join}{count} groups 2B were not {verb}");
+    let _ = write!(note, "{join}");
+    push_count(count, "group 2B was", "groups 2B were", note);
+    let _ = write!(note, " not {verb}");
 }
 
 /// Appends what an audit judged.
@@ -199,10 +201,8 @@ fn print_wait<N: TellingWrite>(notes: &RunNotes, screen: &mut N) {
     let slot = wait.slot;
     let from = slot.saturating_add(u64::from(slots));
     let mut note = begun();
-    let _ = write!(
-        note,
-        "slot {slot}: {thing} refused, {why} for {slots} slots more"
-    );
+    let _ = write!(note, "slot {slot}: {thing} refused, {why} for ");
+    push_count(u64::from(slots), "slot more", "slots more", &mut note);
     let _ = write!(note, "; accepted from slot {from} on");
     print(note, screen);
 }
@@ -217,7 +217,8 @@ fn print_no_group<N: TellingWrite>(task: Task, notes: &RunNotes, screen: &mut N)
     let mut note = begun();
     let _ = write!(note, "no group of ");
     push(notes.pi.as_slice(), &mut note);
-    let _ = write!(note, " in {slots} slots");
+    let _ = write!(note, " in ");
+    push_count(slots, "slot", "slots", &mut note);
     let count = heard.of_first;
     let others = heard.groups.saturating_sub(count);
     if let Some(first) = heard.first {
@@ -249,53 +250,76 @@ fn print_times<N: TellingWrite>(notes: &RunNotes, screen: &mut N) {
 /// Prints that a log spans more slots by its times than it has lines.
 pub(crate) fn print_lack<N: TellingWrite>(slots: u64, lines: u64, screen: &mut N) {
     let mut note = begun();
-    let _ = write!(
-        note,
-        "the log spans {slots} slots by its times and has {lines} lines: put rdsrt slots before this command"
-    );
+    let _ = write!(note, "the log spans {slots} slots by its times and has ");
+    push_count(lines, "line", "lines", &mut note);
+    let _ = write!(note, ": put rdsrt slots before this command");
     print(note, screen);
 }
 
 /// Prints that nobody knows how many slots were lost at a break of a log, and why.
-pub(crate) fn print_break<N: TellingWrite>(why: &[u8], screen: &mut N) {
+pub(crate) fn print_break<N: TellingWrite>(why: Break, screen: &mut N) {
+    let what = match why {
+        Break::Back => "time went back",
+        Break::Day => "more than a day passed",
+    };
     let mut note = begun();
-    push(why, &mut note);
     let _ = write!(
         note,
-        ": nobody knows how many slots were lost, so M lost slots stand for them"
+        "{what}: nobody knows how many slots were lost, so M lost slots stand for them"
     );
     print(note, screen);
 }
 
 /// Prints how many lines were left out, and how often nobody knows how many slots were lost.
 fn print_slots<N: TellingWrite>(task: Task, notes: &RunNotes, screen: &mut N) {
-    let untimed = notes.slots.untimed;
-    if untimed > 0 {
-        let mut note = begun();
-        let _ = write!(
-            note,
-            "groups without a time, left out: {untimed}. A time looks like @2024/06/01 07:58:12.08 or 12.5"
-        );
-        print(note, screen);
-    }
+    print_untimed(notes.slots.untimed, screen);
     let others = notes.slots.others;
     if others > 0 {
         let mut note = begun();
-        let _ = write!(note, "lines of other programmes than ");
+        push_count(
+            others,
+            "line of another programme than ",
+            "lines of other programmes than ",
+            &mut note,
+        );
         push(notes.pi.as_slice(), &mut note);
-        let _ = write!(note, ", left out: {others}");
+        push_left_out(others, &mut note);
         print(note, screen);
     }
     print_coarse(task, notes, screen);
     let breaks = notes.slots.breaks;
     if breaks > 0 {
         let mut note = begun();
+        push_count(breaks, "time", "times", &mut note);
         let _ = write!(
             note,
-            "times that went back, or on by more than a day: {breaks}. M lost slots stand for each"
+            " went back, or on by more than a day: M lost slots stand for each"
         );
         print(note, screen);
     }
+}
+
+/// Prints how many groups have no time, and what a time looks like.
+fn print_untimed<N: TellingWrite>(untimed: u64, screen: &mut N) {
+    if untimed == 0 {
+        return;
+    }
+    let mut note = begun();
+    push_count(
+        untimed,
+        "group without a time",
+        "groups without a time",
+        &mut note,
+    );
+    push_left_out(untimed, &mut note);
+    let _ = write!(note, ". A time looks like @2024/06/01 07:58:12.08 or 12.5");
+    print(note, screen);
+}
+
+/// Appends that so many things were left out.
+fn push_left_out(count: u64, note: &mut Note) {
+    let verb = if count == 1 { "was" } else { "were" };
+    let _ = write!(note, " {verb} left out");
 }
 
 /// Prints that the times of a log are too coarse, with the slots of the newest stretch that shows it.
@@ -309,10 +333,12 @@ fn print_coarse<N: TellingWrite>(task: Task, notes: &RunNotes, screen: &mut N) {
     let slots = stretch.slots;
     let room = stretch.room(Grain::of_milliseconds(grain));
     let mut note = begun();
+    let _ = write!(note, "the times vary by more than the grain: ");
+    push_count(slots, "slot was", "slots were", &mut note);
     let _ = write!(
         note,
-        "the times vary by more than the grain: {slots} slots were counted where a station sends {room} at most, so slots \
-         may be missing elsewhere. Use finer times"
+        " counted where a station sends {room} at most, so slots may be missing elsewhere. Do not audit this output. If the \
+         recording lost nothing, audit the log itself"
     );
     print(note, screen);
 }
@@ -340,11 +366,15 @@ fn print_no<N: TellingWrite>(notes: &RunNotes, screen: &mut N) {
     print(note, screen);
 }
 
-/// Appends the option for a recording, if the fault may be one of its beginning.
+/// Appends the option for a recording if the fault goes with it: tags that came before any text, or soon after slot 0 as
+/// the start of their text.
 fn push_running(no: NoNote, task: Task, note: &mut Note) {
     let may_be_old = match no.fault {
-        AuditFault::EarlyFlag | AuditFault::EarlyTag => no.slot < u64::from(no.spacing),
-        AuditFault::Changed | AuditFault::NotOneText | AuditFault::TagOutside => false,
+        AuditFault::EarlyTag => no.earlier.unwrap_or(0) == 0,
+        AuditFault::EarlyFlag
+        | AuditFault::Changed
+        | AuditFault::NotOneText
+        | AuditFault::TagOutside => false,
     };
     let takes_it = match task {
         Task::Audit(_, running) => !running,

@@ -3,13 +3,13 @@ ghost use Rattle.std.specs.Prelude.{◌≡◌, ◌⊎◌, ◌≤◌, ◌+◌, �
 ghost use Rattle.std.specs.Prelude.{None, codes, decimal, false, true, if◌then◌else◌, length, map};
 ghost use Rattle.rds_io.specs.Told.{PutsNothing, Traffic, traffic};
 ghost use Rattle.rds_log.specs.LogWrites.{tuned};
-ghost use Rattle.rds_io.specs.ReadFailed.{SomeReadFailed};
 ghost use Rattle.clap.specs.Words.{kind_of};
 ghost use Rattle.rds_audit.specs.AuditState.{start_if};
 ghost use Rattle.rds_cli.specs.CommandLine.{IsPi};
 ghost use Rattle.rds_program.specs.Run as specs;
 ghost use Rattle.rds_program.specs.Run.{EndsWith, IsUntouched, PutsAfter, PutsLine, RefusesPi, RunsFrom, RunsRead, RunsWords};
-ghost use Rattle.rds_program.specs.Run.{SimulationRuns, TaskRuns, TellsFault, done, mark_of, reader_before, script_in, status_of};
+ghost use Rattle.rds_program.specs.Run.{SimulationRuns, TaskRuns, TellsFault, done, mark_of, reader_before, reader_over};
+ghost use Rattle.rds_program.specs.Run.{script_in, status_of, times_status};
 ghost use Rattle.rds_script.specs.Play.{Plays};
 
 use crate::notes::{End, Options, RunNotes};
@@ -22,7 +22,7 @@ use rds_cli::{Programme, Request, Task, identification_of, read_words};
 use rds_fields::{Dwell, Head, Late};
 use rds_io::{Lines, LogFault, TellingRead, TellingWrite, put};
 use rds_log::{
-    Decoding, Filling, MOST_READS, audit_with_notes, decode_with_notes, fill_with_notes,
+    Decoding, Filling, MOST_READS, Times, audit_with_notes, decode_with_notes, fill_with_notes,
 };
 use rds_receiver::Window;
 use rds_script::{Form, MOST_RECORDS, play_script};
@@ -73,8 +73,8 @@ pub fn run_with_notes<R: TellingRead, W: TellingWrite>(
     notes: &mut RunNotes,
 ) -> u8
     ensures { RunsWords (map (λ w. w.now) words.entry.now)
-        (λ task t. TaskRuns task t (traffic R.remaining R.failures reader.old reader.new)
-        (SomeReadFailed R.failures) (traffic W.contents W.failures writer.old writer.new) result)
+        (λ task t. TaskRuns task t (reader_over R.remaining R.failures R.reads reader.old reader.new)
+        (traffic W.contents W.failures writer.old writer.new) result)
         (IsUntouched R.remaining R.failures R.reads reader.old reader.new)
         (traffic W.contents W.failures writer.old writer.new) result }
 {
@@ -91,8 +91,8 @@ fn run_read<R: TellingRead, W: TellingWrite>(
     notes: &mut RunNotes,
 ) -> u8
     ensures { RunsRead read.entry
-        (λ task t. TaskRuns task t (traffic R.remaining R.failures reader.old reader.new)
-        (SomeReadFailed R.failures) (traffic W.contents W.failures writer.old writer.new) result)
+        (λ task t. TaskRuns task t (reader_over R.remaining R.failures R.reads reader.old reader.new)
+        (traffic W.contents W.failures writer.old writer.new) result)
         (IsUntouched R.remaining R.failures R.reads reader.old reader.new)
         (traffic W.contents W.failures writer.old writer.new) result }
 {
@@ -134,7 +134,7 @@ fn answer<R: TellingRead, W: TellingWrite>(
 ) -> u8
     ensures runs { (pi : ℕ) → IsPi request.now.pi.now pi
         → TaskRuns request.now.task (tuned pi request.now.dwell)
-        (traffic R.remaining R.failures reader.old reader.new) (SomeReadFailed R.failures)
+        (reader_over R.remaining R.failures R.reads reader.old reader.new)
         (traffic W.contents W.failures writer.old writer.new) result }
     ensures fault_pi { ((pi : ℕ) → IsPi request.now.pi.now pi → ⊥)
         → RefusesPi request.now.task (traffic W.contents W.failures writer.old writer.new) result
@@ -172,8 +172,8 @@ fn run_task<R: TellingRead, W: TellingWrite>(
     writer: &mut W,
     notes: &mut RunNotes,
 ) -> u8
-    ensures { TaskRuns task (tuned pi dwell) (traffic R.remaining R.failures reader.old reader.new)
-        (SomeReadFailed R.failures) (traffic W.contents W.failures writer.old writer.new) result }
+    ensures { TaskRuns task (tuned pi dwell) (reader_over R.remaining R.failures R.reads reader.old reader.new)
+        (traffic W.contents W.failures writer.old writer.new) result }
 {
     // Prover: a matched value is copied by a new name before its second use (docs/PROVER.md, "Workarounds").
     let asked = task;
@@ -216,7 +216,7 @@ fn run_task<R: TellingRead, W: TellingWrite>(
         Task::Slots(grain, only) => {
             let filling = filling_of(pi, dwell, Grain::of_milliseconds(grain), only);
             match fill_with_notes(reader, writer, filling, &mut notes.slots) {
-                Ok(coarse) => answer_by(coarse, NO, OK, &mut notes.end),
+                Ok(times) => answer_by(can_count(times), OK, NO, &mut notes.end),
                 Err(fault) => fail_with(asked, fault, writer, &mut notes.end),
             }
         }
@@ -229,7 +229,8 @@ fn run_task<R: TellingRead, W: TellingWrite>(
     }
 }
 
-/// Simulates a station and its receivers, and says why texts and names are not shown any more, if that is asked for. Without a station the window is refused.
+/// Simulates a station and its receivers, and says why texts and names are not shown any more, if that is asked for.
+/// Without a station the window is refused.
 fn simulate<R: TellingRead, W: TellingWrite>(
     alloc: Global,
     task: Task,
@@ -240,7 +241,7 @@ fn simulate<R: TellingRead, W: TellingWrite>(
     notes: &mut RunNotes,
 ) -> u8
     ensures { SimulationRuns says_why station task
-        (script_in (traffic R.remaining R.failures reader.old reader.new) (SomeReadFailed R.failures))
+        (reader_over R.remaining R.failures R.reads reader.old reader.new)
         (traffic W.contents W.failures writer.old writer.new) result }
 {
     let Some(station) = station else {
@@ -263,7 +264,7 @@ fn run_script<R: TellingRead, W: TellingWrite>(
     notes: &mut RunNotes,
 ) -> Result<(), LogFault>
     ensures { Plays form station (2 ^ 32)
-        (script_in (traffic R.remaining R.failures reader.old reader.new) (SomeReadFailed R.failures))
+        (script_in (reader_over R.remaining R.failures R.reads reader.old reader.new))
         (traffic W.contents W.failures writer.old writer.new) result }
 {
     let notes_on = &mut notes.script;
@@ -338,6 +339,16 @@ fn start_of(running: bool) -> LogStart
         LogStart::Running
     } else {
         LogStart::Complete
+    }
+}
+
+/// Returns whether the slots of a log can be counted by its times.
+fn can_count(times: Times) -> bool
+    ensures { times_status times ≡ if result then 0 else 1 }
+{
+    match times {
+        Times::Fine => true,
+        Times::Coarse | Times::NotUnderstood => false,
     }
 }
 

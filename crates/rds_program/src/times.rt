@@ -3,10 +3,11 @@
 ghost use Rattle.std.specs.Prelude.{◌≡◌, ◌<◌, IsTrue, length};
 ghost use Rattle.rds_program.specs.Timing.{inner_of};
 
+use crate::breaks::break_at;
 use crate::note_lines::print_lack;
 use arrayvec::ArrayVec;
 use memchr::{memchr_iter, memrchr};
-use rds_arrivals::{slots_in, stamp_in};
+use rds_arrivals::{Grain, lost_between, slots_in, stamp_in};
 use rds_io::{TellingRead, TellingWrite};
 use std::io::{self, Read};
 
@@ -33,6 +34,9 @@ pub struct LogTimes {
     last: ArrayVec<u8, LONGEST>,
     /// The bytes of the log so far.
     bytes: usize,
+    /// Whether `slots` told a break, or a time went back or on by more than a day from one read to the next. Then only the
+    /// first bytes before it are compared.
+    is_broken: bool,
     /// The lines in the first bytes, and the last time in them.
     lines: u64,
     early: u64,
@@ -45,6 +49,7 @@ impl LogTimes {
             first: None,
             last: ArrayVec::new(),
             bytes: 0,
+            is_broken: false,
             lines: 0,
             early: 0,
         }
@@ -52,14 +57,25 @@ impl LogTimes {
 
     /// Takes the bytes of a read.
     fn take(&mut self, bytes: &[u8]) {
+        if self.is_broken {
+            return;
+        }
         if self.bytes < EARLY {
             let count = bytes.len().min(EARLY - self.bytes);
-            self.take_early(&bytes[..count]);
+            self.take_before_break(&bytes[..count]);
         }
         self.bytes = self.bytes.saturating_add(bytes.len());
         if self.first.is_some() {
             self.keep_last(bytes);
         }
+    }
+
+    /// Takes those of the first bytes that come before the comment of a break.
+    fn take_before_break(&mut self, bytes: &[u8]) {
+        let end = memchr_iter(b'#', bytes).find(|place| break_at(bytes, *place).is_some());
+        self.is_broken = end.is_some();
+        let count = end.unwrap_or(bytes.len()).min(bytes.len());
+        self.take_early(&bytes[..count]);
     }
 
     /// Counts the lines of the first bytes, and looks for the first time and the last time in them.
@@ -74,9 +90,11 @@ impl LogTimes {
         }
     }
 
-    /// Keeps the first bytes of the last line.
+    /// Keeps the first bytes of the last line, and compares its time with the one before.
     fn keep_last(&mut self, bytes: &[u8]) {
         if let Some(line) = last_line(bytes) {
+            let before = time_of(self.last.as_slice()).or(self.first);
+            self.is_broken = self.is_broken || is_break_between(before, time_of(line));
             self.last.clear();
             let _ = self
                 .last
@@ -89,8 +107,12 @@ impl LogTimes {
         self.lack_until(self.early, self.lines)
     }
 
-    /// Returns whether so many lines are too few by the times of the log: the slots and the lines.
+    /// Returns whether so many lines are too few by the times of the log: the slots and the lines. After a break the first
+    /// lines decide.
     pub(crate) fn lack(&self, lines: u64) -> Option<(u64, u64)> {
+        if self.is_broken {
+            return self.early_lack();
+        }
         let last = time_of(self.last.as_slice())?;
         self.lack_until(last, lines)
     }
@@ -104,6 +126,16 @@ impl LogTimes {
         } else {
             None
         }
+    }
+}
+
+/// Returns whether the time goes back, or on by more than a day.
+fn is_break_between(earlier: Option<u64>, later: Option<u64>) -> bool {
+    match (earlier, later) {
+        (Some(earlier), Some(later)) => {
+            Grain::new(0).is_some_and(|grain| lost_between(earlier, later, grain).is_err())
+        }
+        (Some(_), None) | (None, _) => false,
     }
 }
 
@@ -185,7 +217,9 @@ impl<R, N: TellingWrite> Timing<R, N> {
     }
 
     /// Takes the times of the log out. `None` if the command does not want them, or they were noted.
-    pub fn take_times(&mut self) -> Option<LogTimes> {
+    pub fn take_times(&mut self) -> Option<LogTimes>
+        ensures { inner_of self.new ≡ inner_of self.old }
+    {
         self.times.take()
     }
 

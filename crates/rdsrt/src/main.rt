@@ -1,20 +1,16 @@
 //! `rdsrt` encodes, decodes, simulates and audits the text services of RDS.
 //!
 //! The program is the crate `rds_program`. `main` passes it the arguments of the command line, standard input and standard
-//! output, each counted by a `Told`. The contract of `run_with_notes` says what it writes. Notes for a person go to
-//! standard error.
+//! output. The contract of `run_over` says what it writes. Notes for a person go to standard error.
 //!
 //! ```text
 //! rdsrt decode --pi C201
 //! ```
 #![tactic(auto)]
 
-use rds_io::{Prompting, Reasoned, Told, prompt_for};
-use rds_program::{
-    Breaks, RunNotes, Timing, no_words, print_input, print_notes, print_refusal, run_with_notes,
-    texts, words_of,
-};
-use std::io::{ErrorKind, IsTerminal};
+use rds_io::Told;
+use rds_program::{input_of, no_words, output_of, run_over, texts, words_of};
+use std::io::{ErrorKind, IsTerminal, Stderr};
 use std::process::ExitCode;
 
 fn main(rt: HostRuntime) -> ExitCode {
@@ -32,32 +28,24 @@ fn main(rt: HostRuntime) -> ExitCode {
     ExitCode::from(status)
 }
 
-/// Runs the program over its arguments and the standard streams, and prints its notes.
+/// Runs the program over its arguments and the standard streams.
 fn run(rt: &HostRuntime, words: &[&str]) -> u8 {
-    let line = if rt.stdin().is_terminal() {
-        prompt_for(words)
-    } else {
-        None
-    };
-    let prompting = Prompting::new(rt.stdin(), line, Told::new(rt.stderr()));
-    let counted = Told::new(Reasoned::new(prompting));
-    let mut input = Timing::new(counted, Some(Told::new(rt.stderr())), words);
-    let printed = Reasoned::new(rt.stdout());
-    let mut output = Told::new(Breaks::new(printed, Told::new(rt.stderr()), words));
-    let mut notes = RunNotes::new();
-    let status = run_with_notes(rt.alloc(), words, &mut input, &mut output, &mut notes);
-    let mut screen = Told::new(rt.stderr());
+    let types = rt.stdin().is_terminal();
+    let mut input = input_of(rt.stdin(), types, words, notes(rt), notes(rt));
+    let mut output = output_of(rt.stdout(), words, notes(rt));
     // A terminal shows the reason for refused arguments already: it is standard output.
-    if !rt.stdout().is_terminal() {
-        print_refusal(&notes, &mut screen);
-    }
-    print_input(&notes, words, &mut screen);
-    notes.times = input.take_times();
-    let reason = output
-        .inner()
-        .inner()
-        .reason()
-        .or(input.inner().inner().reason());
-    print_notes(&notes, reason, &mut screen);
-    status
+    let explains = !rt.stdout().is_terminal();
+    run_over(
+        rt.alloc(),
+        words,
+        &mut input,
+        &mut output,
+        explains,
+        &mut notes(rt),
+    )
+}
+
+/// Returns standard error, for notes.
+fn notes(rt: &HostRuntime) -> Told<Stderr> {
+    Told::new(rt.stderr())
 }

@@ -21,7 +21,7 @@ returns-in-Ok-false-clause-fills g c =
     fills_all c.args.filling c.loop-filler.filler c.next_with_start.new.self
     (state_of g.R.Read.remaining g.R.TellingRead.failures g.R.TellingRead.reads c.args.reader.now) (state_of g.R.Read.remaining g.R.TellingRead.failures g.R.TellingRead.reads c.next_with_start.new.reader)
     (traffic g.W.Write.contents g.W.TellingWrite.failures c.args.writer.now c.loop-filler.writer) lines
-    (rw c.in-Ok-false.field-0-test at (c.in-Ok-false.ensures.gives _ _ lines stands)) c.loop-filler.invariant.filling has (c.loop-filler.invariant.empty none) c.is_some.result c.is_some.ensures
+    (rw c.in-Ok-false.field-0-test at (c.in-Ok-false.ensures.gives _ _ lines stands)) c.loop-filler.invariant.filling has (c.loop-filler.invariant.empty none) c.times.result (c.times.ensures _ lines has)
 
 pub returns-in_err-write-in-Err-clause-fills : goal.returns-in_err-write-in-Err-clause-fills
 returns-in_err-write-in-Err-clause-fills g c =

@@ -1,6 +1,6 @@
 use Rattle.std.proofs.Common.{refl}
 use Rattle.rds_io.specs.Told.{traffic}
-use Rattle.rds_program.specs.RunsBy.{runs_by}
+use Rattle.rds_program.specs.RunsBy.{runs_by, task_by}
 use Rattle.rds_program.proofs.program.run.Goals as goal
 
 pub returns : goal.returns
@@ -9,6 +9,6 @@ returns g c = runs_by _ _ _ _ c.run_with_notes.result
       r = traffic g.R.Read.remaining g.R.TellingRead.failures c.args.reader c.run_with_notes.new.reader;
       starts = record { bytes_are = refl; failures_are = refl };
       fails = λ failed. ∣ (c.args.reader, c.run_with_notes.new.reader, failed) ∣₁;
-      ran = ran;
+      ran = task_by (λ failed. failed) (λ rests. (rests.bytes_are, rests.failures_are)) task t _ _ c.run_with_notes.result ran;
     })
     (λ _. tt) c.run_with_notes.ensures

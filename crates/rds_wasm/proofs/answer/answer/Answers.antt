@@ -18,6 +18,6 @@ returns-clause-text g c text =
       r = traffic (λ given. Some (inner_of {R = SliceReader} given).rest.now) (λ given. 0) c.new-given.result c.run_with_notes-status.new.reader;
       starts = record { bytes_are = search rules; failures_are = refl };
       fails = never_fails;
-      ran = task_by none_failed task t _ _ c.run_with_notes-status.result ran;
+      ran = task_by none_failed (λ rests. (rests.bytes_are, rests.failures_are)) task t _ _ c.run_with_notes-status.result ran;
     })
     (λ _. tt) c.run_with_notes-status.ensures)

@@ -1,7 +1,9 @@
-use Rattle.std.proofs.Common.{◌∙◌, ap, refl, sym}
+use Rattle.std.proofs.Common.{◌∙◌, ap, inl, inr, refl, sym}
 use Rattle.std.proofs.lemmas.Result.{err_from_is_err_and}
 use Rattle.rds_io.specs.Told.{traffic}
-use Rattle.rds_log.proofs.Filled.{fails_at_slot, group_done, same_output, time_done}
+use Rattle.rds_log.proofs.Filled.{adds_none, fails_at_slot, group_done, same_output, time_done, untimed_now}
+use Rattle.rds_log.specs.Fill.{time_of}
+use Rattle.rds_log.specs.declared.filler.Filler.{Filler}
 use Rattle.rds_log.specs.declared.pace.Pace.{Pace}
 use Rattle.rds_log.proofs.filler.Filler.slot.Goals as goal
 
@@ -11,7 +13,7 @@ returns-in_err-push_gap-clause-filled g c start lines line slot says is_group fi
     let w = traffic g.W.Write.contents g.W.TellingWrite.failures start c.args.writer.now in
     rw p.1 (fails_at_slot c.args.self.now w _ lines line slot c.in-Some.stamp c.args.first.now says first (sym c.stamp_of.ensures.value ∙ c.in-Some.is)
     (λ other. (let yes = c.is_of_another.ensures.1 other in let no = c.if-is_of_another.false in cc)) has
-    (c.in_err-push_gap.ensures.pushed start has.so_far.written has.output))
+    (rw is_group at (c.in_err-push_gap.ensures.pushed start has.so_far.written has.output)))
 
 pub returns-then-not-is_group-clause-filled : goal.returns-then-not-is_group-clause-filled
 returns-then-not-is_group-clause-filled g c start lines line slot says is_group first has =
@@ -19,7 +21,7 @@ returns-then-not-is_group-clause-filled g c start lines line slot says is_group 
     time_done c.args.self.now c.push_gap.new.self w _ lines line slot c.in-Some.stamp c.args.first.now says (sym is_group ∙ c.if-not-is_group.true) first
     (sym c.stamp_of.ensures.value ∙ c.in-Some.is)
     (λ other. (let yes = c.is_of_another.ensures.1 other in let no = c.if-is_of_another.false in cc)) has
-    c.in_ok-push_gap.ensures.keeps c.in_ok-push_gap.ensures.told (c.in_ok-push_gap.ensures.pushed start has.so_far.written has.output)
+    c.in_ok-push_gap.ensures.keeps c.in_ok-push_gap.ensures.told (rw c.if-not-is_group.true at (c.in_ok-push_gap.ensures.pushed start has.so_far.written has.output))
 
 pub returns-clause-filled : goal.returns-clause-filled
 returns-clause-filled g c start lines line slot says is_group first has =
@@ -28,7 +30,16 @@ returns-clause-filled g c start lines line slot says is_group first has =
     (sym c.stamp_of.ensures.value ∙ c.in-Some.is)
     (λ other. (let yes = c.is_of_another.ensures.1 other in let no = c.if-is_of_another.false in cc)) has
     (c.push_line.ensures.keeps.filling ∙ c.in_ok-push_gap.ensures.keeps.filling)
-    (λ a time. rw c.push_line.ensures.keeps.pace (c.add.ensures.stands has.so_far.came a time (rw c.in_ok-push_gap.ensures.keeps.pace has.pace)))
+    (λ a told time. rw c.push_line.ensures.keeps.pace (c.add.ensures.stands has.so_far.came a told time (rw c.in_ok-push_gap.ensures.keeps.pace has.pace)))
     (ap (λ (x : Pace). x.grain) c.push_line.ensures.keeps.pace ∙ c.add.ensures.grain ∙ ap (λ (x : Pace). x.grain) c.in_ok-push_gap.ensures.keeps.pace)
-    c.push_line.ensures.keeps.told
-    (c.push_line.ensures.pushed start _ (same_output c.push_gap.new.self _ _ _ (c.in_ok-push_gap.ensures.pushed start has.so_far.written has.output) refl))
+    c.push_line.ensures.keeps.told (c.push_line.ensures.keeps.untimed ∙ c.in_ok-push_gap.ensures.keeps.untimed)
+    (c.push_line.ensures.pushed start _ (same_output c.push_gap.new.self _ _ _ (rw c.if-not-is_group.false at (c.in_ok-push_gap.ensures.pushed start has.so_far.written has.output)) refl))
+
+pub returns-in_default-clause-filled : goal.returns-in_default-clause-filled
+returns-in_default-clause-filled g c start lines line slot says is_group first has =
+    let none = ap time_of (sym first) ∙ sym c.stamp_of.ensures.value ∙ c.in_default.is in
+    let kept = c.count_untimed.ensures.kept in
+    adds_none c.args.self.now c.count_untimed.new.self _ lines line (inr (slot, says, inl none))
+    (ap (λ (f : Filler). f.filling) kept) (ap (λ (f : Filler). f.pace) kept) (ap (λ (f : Filler). f.told) kept)
+    (untimed_now line lines slot c.args.self.now.untimed _ says none (rw is_group at c.count_untimed.ensures.count) has.untimed)
+    (ap (λ (f : Filler). f.output) kept) has
