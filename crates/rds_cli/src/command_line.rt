@@ -173,11 +173,14 @@ fn flag_alone<'a>(alloc: Global) -> Arg<'a>
 {
     let help = "The receivers follow the A/B flag alone, as radios without a dwell do";
     flag(alloc, "flag-alone", help).long_help(
-        "The receivers follow the A/B flag alone, as radios without a dwell do. The station\n\
-         stays as it is: it keeps its M, and its W if there is one. Such a receiver shows\n\
-         what `decode --m 65535` shows of its groups. Prints too what is on air, as in\n\
-         `9 air text \"HI\"`, and `12 r0 text off air` if what a receiver shows was not on air\n\
-         in the last M + K slots, with --confirm in the last M + K + W - 1.",
+        "The receivers follow the A/B flag alone, as radios without a dwell do: they drop a\n\
+         text only after 65,535 slots without a part of it. The station keeps its M, and with\n\
+         --confirm its spacing. The receivers have no window then, and they may get wrong\n\
+         groups. Prints too what is on air, as in `9 air text \"HI\"`. If what a receiver shows\n\
+         was not on air in the last M + K slots, with --confirm in the last M + K + W - 1, a\n\
+         line says which it is: `12 r0 text mix` if nobody sent it so far, `old` if it was on\n\
+         air before, `replaced` if it is a tag in whose place the station sent another one for\n\
+         the same text.",
     )
 }
 
