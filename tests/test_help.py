@@ -55,6 +55,7 @@ DECIDED = [
     *(([*DECODE, "--confirm", given], 2) for given in ("0", "1", "256", "-2", "", "x")), ([*DECODE, "--confirm"], 2),
     ([*DECODE, "--confirm", "2", "--confirm", "2"], 2),
     *(([name, "--pi", "C201", "--confirm", "65"], 2) for name in COMMANDS if name not in ("decode", "sim")),
+    (["sim", "--pi", "C201", "--k", "1023", "--confirm", "3"], 2),
     ([*DECODE, "--running"], 2), (["audit", "--pi", "C201", "--running", "--running"], 2),
     *(([name, "--pi", given], 2) for name in OF_A_STATION for given in ("", "C20", " C201", "C2011", "C20G")),
 ]

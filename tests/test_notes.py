@@ -39,6 +39,8 @@ LINES = [
     ("-,,1,GG", "it looks like a row of a script, which encode and sim read"),
     ('{"pi":"0xC201"}', "it looks like JSON"),
 ]
+# the first bytes of a log that is no ASCII
+MARKS = [b"\xEF\xBB\xBF" + HI, ("\uFEFF" + HI.decode()).encode("utf-16-le"), ("\uFEFF" + HI.decode()).encode("utf-16-be")]
 ROWS = [
     (ENCODE, "text,HI,1", "expected 4 fields (COMMAND,ARGUMENT,FREE,RECEPTIONS), found 3"),
     (ENCODE, "TEXT,HI,1,", "COMMAND is not one of -, restart, text, name, tags (lower case)"),
@@ -147,6 +149,10 @@ class Faults(ProgramCase):
                     got = noted(words, before + line.encode() + b"\n")[2]
                     self.check(f"note on {line!r} after {number - 1} lines: {words}", got,
                                note(f'fault line {number}: "{line}": {why}{LOOKS}'))
+        for log in MARKS:
+            for words in (DECODE, AUDIT, WITNESS, "slots"):
+                self.check(f"{words} of {log[:6]}", "it begins with a byte order mark" in noted(words, log)[2], True)
+        self.check("two bytes of three", "block 1 has 6 characters" in noted(DECODE, MARKS[0].replace(b"\xBF", b""))[2], True)
         shown = noted(DECODE, b"C201\t2140\t4849\t0D20\r\n")[2]
         self.check("note on tabs", shown,
                    note(f'fault line 1: "C201\\x092140\\x094849\\x090D20\\x0D": it has no space{LOOKS}'))
@@ -231,7 +237,7 @@ class Warnings(ProgramCase):
         for number, groups in self.cases(logs):
             log = b"".join(b"%04X 0000 0000 0000\n" % it if it else LOST for it in groups)
             heard = [it for it in groups if it]
-            told = f"no group of ABCD in {len(groups)} slots"
+            told = f"no group of ABCD in {len(groups)} slot{'s' * (len(groups) != 1)}"
             if heard:
                 others = len(heard) - heard.count(heard[0])
                 told += f" ({heard[0]:04X}: {heard.count(heard[0])}{f', others: {others}' if others else ''})"
@@ -241,7 +247,7 @@ class Warnings(ProgramCase):
         for log, slot, line, m, k, rule in NOES:
             got = noted(f"{AUDIT} --m {m} --k {k}", log)
             told = f"slot {slot} (line {line}): {rule}{NEXT}{m}"
-            may_be_old = ("reused" in rule or "RT+ tags came" in rule) and slot < m + k
+            may_be_old = "RT+ tags came" in rule and rule.endswith(("in slot 0", "any text"))
             self.check(f"note on a no: {rule}", (got[0], got[2]), (1, note(told + RUNNING * may_be_old)))
         running = noted(f"{AUDIT} --m 8 --running", worked_rows.FLAG_AFTER_FIVE)[2]
         self.check("--running is not named again", RUNNING in running, False)
@@ -270,7 +276,7 @@ class Warnings(ProgramCase):
                 continue
             fault, is_name, slot, where = wanted
             rule = re.fullmatch(r"rdsrt: slot (\d+) \(line \d+\): (.*?)(, in slot .*)?\. To look .*?\n", told)
-            may_be_old = fault in ("EarlyFlag", "EarlyTag") and slot < m + k
+            may_be_old = fault == "EarlyTag" and (not where or where.startswith(", in slot 0"))
             got = rule and (int(rule[1]), rule[3] or "", "name (PTYN)" in rule[2], told.endswith(RUNNING + "\n"))
             self.check(f"{name}: {fault}", got, (slot, where, is_name, may_be_old), log)
             seen.update(word for word in ("in slot", "earliest", "no segment from") if word in where)
@@ -293,10 +299,10 @@ class Warnings(ProgramCase):
                 (plain * 2, AUDIT, "no 2A, 10A or 11A group of C201: the yes says nothing"),
                 (plain, WITNESS, "no 2A, 10A or 11A group of C201: the search says nothing"),
                 (second, WITNESS,
-                 "no 2A, 10A or 11A group of C201: the search says nothing; 1 groups 2B were not read"),
+                 "no 2A, 10A or 11A group of C201: the search says nothing; 1 group 2B was not read"),
                 (plain, DECODE, "no 2A, 10A or 11A group of C201"),
                 (second * 2, DECODE, "no 2A, 10A or 11A group of C201; 2 groups 2B were not read"),
-                (text + second, DECODE, "1 groups 2B were not read")):
+                (text + second, DECODE, "1 group 2B was not read")):
             got = noted(words, log)
             self.check(f"{words} of {log}", (got[0], got[2]), (0, note(told)))
             self.check(f"{words} --quiet", noted(f"{words} --quiet", log), (0, got[1], ""))

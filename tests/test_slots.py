@@ -104,9 +104,49 @@ class Worked(ProgramCase):
         for more in UNTIMED:
             status, slots, _, notes = filled([f"{HI} 1.00", HI + more, f"{HI} 1.09\r"])
             self.check(f"{more!r}", (status, slots), (0, [f"{HI} 1.00", f"{HI} 1.09"]))
-            self.check(f"the note on {more!r}", "without a time, left out: 1" in notes, True, notes)
+            self.check(f"the note on {more!r}", "1 group without a time was left out" in notes, True, notes)
         for line in SKIPPED:
             self.check(f"{line!r}", filled([f"{HI} 1.00", line])[:3], (0, [f"{HI} 1.00"], []))
+
+    def test_a_log_whose_times_nobody_understands_ends_with_status_1(self):
+        """Groups alone count, and one group with a time is enough."""
+        for times in (["07:58:12"], ["1717228692080"], ["12,5", "", "soon"]):
+            lines = [f"{HI} {time}" for time in times]
+            for words in ([], ["--quiet"], ["--pi", "C201"]):
+                status, slots, _, notes = filled([LOST, *lines, LOST], *words)
+                self.check(f"{times} {words}", (status, slots), (1, []))
+                self.check(f"the note on {times} {words}", notes.startswith(f"rdsrt: {len(times)} group"),
+                           words != ["--quiet"], notes)
+            self.check(f"{times} and one time", filled([*lines, f"{HI} 1"])[:2], (0, [f"{HI} 1"]))
+        self.check("no group", filled([LOST, "# note"])[:2], (0, []))
+        self.check("no log", filled([])[:2], (0, []))
+
+    def test_a_time_ends_within_the_first_59_bytes(self):
+        for zeros, count in ((19, 1), (20, 0)):
+            line = f"{HI} 2024-06-01T07:58:12.{'0' * zeros}"
+            for more in ("", " 57", "+01:00"):
+                self.check(f"{zeros} zeros and {more!r}", len(filled([line + more])[1]), count * (more != "+01:00"))
+
+    def test_lost_slots_that_were_told_too_early_count(self):
+        """Eleven lost slots, and the next group is 0.09 s after the last one. Without the line between them the times are fine.
+        """
+        for words, between, before in (([], "2", 11), (["--m", "4"], "0.5", 4)):
+            status, slots, comments, notes = filled([f"{HI} 1", f"{LOST} {between}", f"{HI} 1.09"], *words)
+            wanted = [f"{HI} 1", *[LOST] * before, f"{HI} 1.09"]
+            self.check(f"a line at {between}", (status, slots, comments), (1, wanted, []))
+            self.check(f"the note on a line at {between}", f" {before + 1} slots were counted" in notes, True, notes)
+        self.check("no line between", filled([f"{HI} 1", f"{HI} 1.09"])[::3], (0, ""))
+
+    def test_each_group_whose_time_breaks_has_a_comment(self):
+        """Also if as many slots are lost before it anyway. A line without a group has none."""
+        _, slots, comments, notes = filled([f"{HI} 100", f"{LOST} 103", f"{HI} 99"], "--m", "8")
+        self.check("M slots were told", (slots, comments),
+                   ([f"{HI} 100", *[LOST] * 34, f"{HI} 99"], ["# time went back"]))
+        self.check("the notes on it", notes.count("went back"), 2, notes)
+        self.check("no group", filled([f"{HI} 9", f"{LOST} 1"], "--m", "2")[1:], ([f"{HI} 9", LOST, LOST], [], ""))
+        _, _, comments, notes = filled([f"{HI} {time}" for time in (5, 4, 3, 2)], "--m", "2")
+        self.check("three breaks have one note and a count", (len(comments), notes.count("\n")), (3, 2), notes)
+        self.check("the count", "3 times went back, or on by more than a day" in notes, True, notes)
 
     def test_a_line_without_a_whole_group_only_tells_the_time(self):
         """Slots 1 to 11 are over after 1 s, less the grain. The next group changes none of them."""
@@ -243,6 +283,14 @@ class Live(ProgramCase):
         for name, given, wanted in (("whole", whole, 0), ("long", many, 1), ("no times", f"{HI}\n".encode() * 9, 0)):
             done = subprocess.run([PROGRAM, *DECODE], input=given, capture_output=True, timeout=SECONDS)
             self.check(f"a {name} log", done.stderr.count(b"put rdsrt slots"), wanted)
+        for day in ("2024-06-01", "2024-06-03"):
+            times = [f"2024-06-01T00:00:{second:02}Z" for second in range(9)] + [f"{day}T00:00:09Z"]
+            _, slots, comments, _ = filled([f"{HI} {time}" for time in times], "--m", "8")
+            log = "".join(f"{line}\n" for line in [*slots[:-9], *comments, *slots[-9:]]).encode()
+            for command in ("decode", "audit", "witness"):
+                done = subprocess.run([PROGRAM, command, "--pi", "C201", "--m", "8"], input=log, capture_output=True,
+                                      timeout=SECONDS)
+                self.check(f"{command} of a filled log to {day}", done.stderr.count(b"put rdsrt slots"), 0)
         quiet = subprocess.run([PROGRAM, *DECODE, "--quiet"], input=many, capture_output=True, timeout=SECONDS)
         self.check("--quiet", quiet.stderr, b"")
 
