@@ -34,7 +34,7 @@ FAULTY = [HI, YO, HA, YO, *[LOST] * 200, HI, HA, *[LOST] * 200, YO, HI, YO.repla
 RUN = [
     ("./rdsrt slots < spy.log > station.log", {"spy.log": SPY}, {}, "", ("station.log", SLOTS)),
     ("capture | redsea ", {}, {"capture": "true", "redsea": f"printf '{SPY}'"}, "", ("station.log", SLOTS)),
-    ("sed -E 's/^([0-9A-F]{4} B", {"station.log": OTHER}, {},
+    ("sed -E 's/^([0-9A-Fa-f]{4} [Bb]", {"station.log": OTHER}, {},
      "yes 4\nrdsrt: judged in 4 slots: 1 text, 0 names, 0 pairs of tags\n", None),
     ("grep -E '^[0-9A-Fa-f-]{4} ' station.log",
      {"station.log": "# time went back\n" + "".join(f"{it} @{at}\n" for at, it in enumerate(FAULTY))}, {},
