@@ -27,7 +27,7 @@ LOST = "---- ---- ---- ----"
 SPY = f"{HI} @2024/06/01 07:58:12.000\n{YO} @2024/06/01 07:58:12.176\n"
 SLOTS = f"{HI} @2024/06/01 07:58:12.000\n{LOST}\n{YO} @2024/06/01 07:58:12.176\n"
 # 11A of another application: a text, that application announced, and its groups
-OTHER = f"{HI}\nC201 3156 1234 ABCD\nC201 B140 2008 1234\n{LOST}\n"
+OTHER = f"{HI}\nC201 3156 1234 ABCD\nC201 B140 2008 1234\nc201 b148 2002 0000\n{LOST}\n"
 # a station with three faults: a flag that comes back at once, a text without a flip, a flag that comes back again
 FAULTY = [HI, YO, HA, YO, *[LOST] * 200, HI, HA, *[LOST] * 200, YO, HI, YO.replace("594F", "4142")]
 # the first words of a command in a page, the files and programs of the reader, its output, and a file that it writes
@@ -35,7 +35,7 @@ RUN = [
     ("./rdsrt slots < spy.log > station.log", {"spy.log": SPY}, {}, "", ("station.log", SLOTS)),
     ("capture | redsea ", {}, {"capture": "true", "redsea": f"printf '{SPY}'"}, "", ("station.log", SLOTS)),
     ("sed -E 's/^([0-9A-Fa-f]{4} [Bb]", {"station.log": OTHER}, {},
-     "yes 4\nrdsrt: judged in 4 slots: 1 text, 0 names, 0 pairs of tags\n", None),
+     "yes 5\nrdsrt: judged in 5 slots: 1 text, 0 names, 0 pairs of tags\n", None),
     ("grep -E '^[0-9A-Fa-f-]{4} ' station.log",
      {"station.log": "# time went back\n" + "".join(f"{it} @{at}\n" for at, it in enumerate(FAULTY))}, {},
      "      1 Changed\n      2 EarlyFlag\n",
